@@ -1,0 +1,234 @@
+ghost use Rattle.std.specs.Prelude.{◌≡◌, ℕ, ◌+◌, ◌-◌, ◌*◌, ◌/◌, ◌%◌, ◌^◌, ◌<◌, ◌≤◌, ◌==◌, ◌≢◌, ◌↔◌, min, true, Bool, List, [], ◌∷◌, ◌++◌, length, take, slice_get, IsTrue, IsSome, IfSome, IfNone, Some, None};
+ghost use Rattle.tree_keys.specs.Bits.{bits_of, bit_value, number_of};
+ghost use Rattle.tree_keys.specs.Path.{side, IsBelow, is_prefix, same_path, common, word_of, path_in_word};
+
+use std::marker::Model;
+
+/// The number of bits of a key: a path of so many bits is a data path.
+pub const KEY_BITS: u8 = 64;
+
+/// A path of the tree: 0 to 64 bits, the first bit most significant.
+#[derive(Clone, Copy, Debug, PartialEq, Eq)]
+#[tactic(auto, using(crate::proofs::BitsLemmas::path_view))]
+pub struct Path {
+    len: u8,
+    // the path's bits as the low bits of a number, those above them 0
+    bits: u64,
+}
+
+impl Model for Path {
+    ghost use Rattle.std.specs.Prelude.{◌≤◌, ◌<◌, ◌^◌, Bool, List, length};
+    ghost use Rattle.tree_keys.specs.Bits.{bits_of, number_of};
+    ghost use Rattle.tree_keys.specs.BitsLaws.{fields_back};
+
+    ghost Value = { List Bool };
+
+    ghost view = { λ p. bits_of p.len p.bits };
+
+    ghost invariant = { λ p. (p.len ≤ 64) × (p.bits < 2 ^ p.len) };
+
+    ghost inverse = { λ path. record { len = length path; bits = number_of path } };
+
+    ghost inverse_ok = { λ p small. fields_back (λ len bits. record { len = len; bits = bits }) p.len p.bits small.1 };
+}
+
+#[tactic(auto, using(crate::proofs::BitsLemmas::path_view))]
+impl Path {
+    /// The path of no bits.
+    #[tactic(auto, unfolding(crate::specs::Bits::bits_of))]
+    pub fn root() -> Self
+        ensures empty { result ≡ [] }
+    {
+        Path { len: 0, bits: 0 }
+    }
+
+    /// The data path of a key: its 64 bits.
+    pub fn of_key(key: u64) -> Self
+        ensures bits { result ≡ bits_of 64 key }
+    {
+        Path {
+            len: KEY_BITS,
+            bits: key,
+        }
+    }
+
+    /// The number of bits.
+    pub fn len(&self) -> u8
+        ensures value { result ≡ length self.now }
+        ensures fits { result ≤ 64 }
+    {
+        self.len
+    }
+
+    /// The key of a data path. A shorter path has none.
+    pub fn key(&self) -> Option<u64>
+        ensures node { IfNone result (length self.now < 64) }
+        ensures spelled { IfSome result (λ key. self.now ≡ bits_of 64 key) }
+    {
+        if self.len == KEY_BITS {
+            Some(self.bits)
+        } else {
+            None
+        }
+    }
+
+    /// The path one bit longer on this side.
+    #[tactic(auto, using(crate::proofs::BitsLemmas::child_view))]
+    pub fn child(&self, side: bool) -> Self
+        requires short { length self.now < 64 }
+        ensures appended { result ≡ self.now ++ side ∷ [] }
+    {
+        Path {
+            len: self.len + 1,
+            bits: with_digit(self.bits, self.len, side),
+        }
+    }
+
+    /// The first bits, so many of them.
+    #[tactic(auto, using(crate::proofs::BitsLemmas::front_view))]
+    pub fn front(&self, len: u8) -> Self
+        requires within { len ≤ length self.now }
+        ensures bits { result ≡ take len self.now }
+    {
+        Path {
+            len,
+            bits: first_bits(self.bits, self.len, len),
+        }
+    }
+
+    /// The bit at this place, counted from 0.
+    #[tactic(auto, using(crate::proofs::BitsLemmas::bit_view))]
+    pub fn bit(&self, index: u8) -> bool
+        requires within { index < length self.now }
+        ensures value { slice_get self.now index ≡ Some result }
+    {
+        (self.bits >> (self.len - 1 - index)) % 2 == 1
+    }
+
+    /// The side of this path on which the other lies properly below it, or none where it doesn't.
+    #[tactic(auto, using(crate::proofs::PathLemmas::side_view))]
+    pub fn side(&self, other: &Path) -> Option<bool>
+        ensures value { result ≡ side self.now other.now }
+    {
+        if other.len <= self.len {
+            return None;
+        }
+        if first_bits(other.bits, other.len, self.len) != self.bits {
+            return None;
+        }
+        Some(other.bit(self.len))
+    }
+
+    /// Whether the other path lies properly below this one: this is a proper prefix of it.
+    pub fn is_below(&self, other: &Path) -> bool
+        ensures prefix { IsTrue result ↔ IsBelow self.now other.now }
+    {
+        self.side(other).is_some()
+    }
+
+    /// The side on which a path below this one lies.
+    pub fn side_below(&self, other: &Path) -> bool
+        requires below { IsBelow self.now other.now }
+        ensures value { side self.now other.now ≡ Some result }
+    {
+        self.side(other).unwrap()
+    }
+
+    /// Whether this path begins with the other, or is the other.
+    #[tactic(auto, using(crate::proofs::PathLemmas::prefix_view))]
+    pub fn starts_with(&self, other: &Path) -> bool
+        ensures value { result ≡ is_prefix other.now self.now }
+    {
+        if other.len > self.len {
+            return false;
+        }
+        first_bits(self.bits, self.len, other.len) == other.bits
+    }
+
+    /// Whether both are the same path.
+    #[tactic(auto, using(crate::proofs::PathLemmas::same_view))]
+    pub fn is_same(&self, other: &Path) -> bool
+        ensures value { result ≡ same_path self.now other.now }
+    {
+        if self.len != other.len {
+            return false;
+        }
+        self.bits == other.bits
+    }
+
+    /// The longest path that both begin with.
+    #[tactic(auto, using(crate::proofs::CommonLemmas::common_view))]
+    pub fn common(&self, other: &Path) -> Self
+        ensures prefix { result ≡ common self.now other.now }
+    {
+        let within = self.len.min(other.len);
+        let own = first_bits(self.bits, self.len, within);
+        let others = first_bits(other.bits, other.len, within);
+        let shared = shared_bits(within, own, others);
+        self.front(shared)
+    }
+
+    /// The path in a word of 64 bits: its own bits first, the unused bits 0.
+    #[tactic(auto, using(crate::proofs::WordLemmas::word_view))]
+    pub fn word(&self) -> u64
+        ensures value { result ≡ word_of 64 self.now }
+    {
+        if self.len == 0 {
+            return 0;
+        }
+        self.bits << (KEY_BITS - self.len)
+    }
+
+    /// The path of so many bits in a word of 64 bits. There is none past 64 bits, and none where an
+    /// unused bit isn't 0.
+    #[tactic(auto, using(crate::proofs::WordLemmas::of_word_view))]
+    pub fn of_word(len: u8, word: u64) -> Option<Self>
+        ensures value { result ≡ path_in_word 64 len word }
+    {
+        if len > KEY_BITS {
+            return None;
+        }
+        let bits = first_bits(word, KEY_BITS, len);
+        let path = Path { len, bits };
+        if path.word() == word {
+            Some(path)
+        } else {
+            None
+        }
+    }
+}
+
+// How many first bits two numbers of so many bits share.
+#[tactic(auto, using(crate::proofs::CommonLemmas::shared_view))]
+fn shared_bits(count: u8, first: u64, second: u64) -> u8
+    requires fits { count ≤ 64 }
+    requires first_small { first < 2 ^ count }
+    requires second_small { second < 2 ^ count }
+    ensures within { result ≤ count }
+    ensures same { first / 2 ^ (count - result) ≡ second / 2 ^ (count - result) }
+    ensures apart { result < count → first / 2 ^ (count - result - 1) % 2 ≢ second / 2 ^ (count - result - 1) % 2 }
+{
+    let unlike = (first ^ second).leading_zeros() as u8;
+    unlike - (KEY_BITS - count)
+}
+
+// A number with one bit more at its end.
+fn with_digit(bits: u64, len: u8, bit: bool) -> u64
+    requires short { len < 64 }
+    requires small { bits < 2 ^ len }
+    ensures value { result ≡ 2 * bits + bit_value bit }
+    ensures below { result < 2 ^ (len + 1) }
+{
+    2 * bits + if bit { 1 } else { 0 }
+}
+
+// The first bits of a path, given and asked for by numbers of bits.
+fn first_bits(bits: u64, len: u8, front: u8) -> u64
+    requires fits { len ≤ 64 }
+    requires within { front ≤ len }
+    requires small { bits < 2 ^ len }
+    ensures value { result ≡ bits / 2 ^ (len - front) }
+    ensures below { result < 2 ^ front }
+{
+    if front == 0 { 0 } else { bits >> (len - front) }
+}
