@@ -1,0 +1,6 @@
+pub mod InOrder
+pub mod Follows
+pub mod Header
+pub mod Stamp
+pub mod Reading
+pub mod Clock

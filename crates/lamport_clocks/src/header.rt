@@ -1,0 +1,43 @@
+ghost use Rattle.std.specs.Prelude.{◌↔◌, IsTrue};
+
+/// The fewest verifiers of a bundle.
+pub const LEAST_VERIFIERS: u16 = 1;
+/// The most verifiers of a bundle.
+pub const MOST_VERIFIERS: u16 = 64;
+/// The fewest entries that a verifier's cache may be limited to.
+pub const LEAST_CACHE: u32 = 4;
+/// The most entries that a verifier's cache may be limited to.
+pub const MOST_CACHE: u32 = 65_536;
+/// The least value at which the counters of an epoch may end.
+pub const LEAST_END: u32 = 1;
+/// The greatest value at which the counters of an epoch may end.
+///
+/// It keeps sums small: an add and a deferred evict each raise the counter of their clock, so one
+/// verifier has fewer than 2^25 adds of an epoch.
+pub const MOST_END: u32 = 16_777_215;
+
+/// The numbers that a bundle begins with. They hold for each of its verifiers.
+#[derive(Clone, Copy, Debug, PartialEq, Eq)]
+pub struct Header {
+    /// How many verifiers there are; they are numbered from 0.
+    pub verifiers: u16,
+    /// How many entries the cache of one verifier may hold.
+    pub cache: u32,
+    /// The first epoch.
+    pub first: u32,
+    /// The last value of the counter in an epoch.
+    pub end: u32,
+}
+
+impl Header {
+    ghost use Rattle.lamport_clocks.specs.Header.{IsHeader};
+
+    /// Whether each number is in its range.
+    pub fn is_in_range(&self) -> bool
+        ensures ranges { IsTrue result ↔ IsHeader self.now }
+    {
+        (LEAST_VERIFIERS <= self.verifiers && self.verifiers <= MOST_VERIFIERS)
+            && (LEAST_CACHE <= self.cache && self.cache <= MOST_CACHE)
+            && (LEAST_END <= self.end && self.end <= MOST_END)
+    }
+}

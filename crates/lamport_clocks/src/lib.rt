@@ -1,0 +1,26 @@
+//! The clock that each verifier keeps: Lamport's logical clock, in epochs.
+//!
+//! A stamp is an epoch and a counter in it. A verifier stamps what it hands away, and moves its clock
+//! above the stamp of what it takes in. The crate stands on std alone. It also has the words in which
+//! the crates above state a machine's steps: tests in order (`specs/InOrder.antt`), and an answer
+//! together with the state after it (`specs/Follows.antt`).
+//!
+//! Begin at `clock`, beside `specs/Clock.antt`.
+#![tactic(auto)]
+
+mod clock;
+mod header;
+mod laws;
+mod stamp;
+#[cfg(test)]
+mod tests;
+
+pub use clock::{Clock, ClockFault, LAST_EPOCH};
+pub use header::{
+    Header, LEAST_CACHE, LEAST_END, LEAST_VERIFIERS, MOST_CACHE, MOST_END, MOST_VERIFIERS,
+};
+pub use laws::{
+    clock_keeps_its_bounds, clock_never_falls, receiving_passes_the_stamp, sending_sets_the_stamp,
+    stamps_are_ordered, turning_seals,
+};
+pub use stamp::Stamp;
