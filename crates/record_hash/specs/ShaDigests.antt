@@ -1,0 +1,28 @@
+-- What `ShaDigests` computes. A contract sees the value as its key block.
+use Rattle.std.specs.Prelude.{ℕ, ◌+◌, List, [], ◌∷◌, slice_index}
+use Rattle.std.specs.Int.{w32, from_be_bytes}
+use Rattle.sha2.specs.Sha256.{sha256}
+use Rattle.record_hash.specs.Hmac.{hmac_of_block}
+
+-- the digest of a text: SHA-256 (FIPS 180-4), under no key
+abbrev pub sha_text_digest : List ℕ → List ℕ
+sha_text_digest bytes = sha256 bytes
+
+-- the word at byte i: four bytes, high byte first
+abbrev pub word_at : List ℕ → ℕ → ℕ
+word_at bytes i = from_be_bytes w32
+    (slice_index bytes i ∷ slice_index bytes (i + 1) ∷ slice_index bytes (i + 2) ∷ slice_index bytes (i + 3) ∷ [])
+
+-- 32 bytes as eight words
+abbrev pub words_of : List ℕ → List ℕ
+words_of bytes =
+    word_at bytes 0 ∷ word_at bytes 4 ∷ word_at bytes 8 ∷ word_at bytes 12
+    ∷ word_at bytes 16 ∷ word_at bytes 20 ∷ word_at bytes 24 ∷ word_at bytes 28 ∷ []
+
+-- the lanes of an element: the words of the HMAC of the byte 1 and its text
+abbrev pub sha_element_lanes : List ℕ → List ℕ → List ℕ
+sha_element_lanes block bytes = words_of (hmac_of_block block (1 ∷ bytes))
+
+-- the tag of a text: the HMAC of the byte 2 and the text
+abbrev pub sha_tag : List ℕ → List ℕ → List ℕ
+sha_tag block bytes = hmac_of_block block (2 ∷ bytes)

@@ -1,0 +1,19 @@
+//! The digests that the verifiers keep in place of whole texts and lists.
+//!
+//! `Digests` has three functions of bytes: the digest of a text, the lanes of an element for a multiset
+//! hash, and the tag of a text that a verifier signs. `ShaDigests` computes them with SHA-256 and HMAC
+//! under a key, `ToyDigests` with a sum, for tests. The crate stands on `sha2` alone. Begin with the
+//! trait in `digest_functions.rt` and with `specs/Hmac.antt`.
+#![tactic(auto)]
+
+mod digest_functions;
+mod hmac_sha256;
+mod sha_digests;
+#[cfg(test)]
+mod tests;
+mod toy_digests;
+
+pub use digest_functions::Digests;
+pub use hmac_sha256::hmac;
+pub use sha_digests::ShaDigests;
+pub use toy_digests::ToyDigests;
