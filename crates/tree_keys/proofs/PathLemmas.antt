@@ -1,10 +1,10 @@
 -- How paths lie to each other, by their first bits.
-use Rattle.std.proofs.Common.{◌≡◌, ◌≢◌, ℕ, zero, suc, ◌+◌, ◌-◌, ◌/◌, ◌^◌, ◌<◌, ◌≤◌, Bool, true, false, List, [], ◌∷◌, ◌++◌, length, take, drop, slice_get, Option, Some, None, nat_eq, refl, sym, ◌∙◌, ap, subst, arith}
+use Rattle.std.proofs.Common.{◌≡◌, ◌≢◌, ℕ, zero, suc, ◌-◌, ◌/◌, ◌^◌, ◌<◌, ◌≤◌, Bool, true, false, List, [], ◌∷◌, length, take, drop, slice_get, Some, None, nat_eq, refl, sym, ◌∙◌, ap, subst, arith}
 use Rattle.std.proofs.lemmas.Bool.{false≢true, eqb-true, eq-eqb}
 use Rattle.tree_keys.specs.Bits.{bits_of}
 use Rattle.tree_keys.specs.BitsLaws.{length-bits_of}
 use Rattle.tree_keys.proofs.BitsLemmas.{take-bits_of, bits_of-injective, first_below}
-use Rattle.tree_keys.specs.Path.{side, same_bit, common, is_prefix, same_path}
+use Rattle.tree_keys.specs.Path.{side, common, is_prefix, same_path}
 
 -- nothing that isn't longer lies below
 pub side-short : (p k : List Bool) → length k ≤ length p → side p k ≡ None

@@ -45,6 +45,7 @@ impl Path {
     /// The data path of a key: its 64 bits.
     pub fn of_key(key: u64) -> Self
         ensures bits { result ≡ bits_of 64 key }
+        ensures whole { length result ≡ 64 }
     {
         Path {
             len: KEY_BITS,
