@@ -1,0 +1,3 @@
+-- Laws of this crate's words, for callers too.
+pub mod FaultLaws
+pub mod WrittenLaws

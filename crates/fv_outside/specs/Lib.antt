@@ -1,0 +1,9 @@
+-- The words of this crate's contracts.
+pub mod Calls
+pub mod Errors
+pub mod Faults
+pub mod FileVaultState
+pub mod SinkState
+pub mod SourceState
+pub mod SureSinkState
+pub mod Written

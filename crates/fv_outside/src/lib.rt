@@ -1,0 +1,37 @@
+//! The outside of the store: where its input comes from, where its output and its bundle go, and
+//! what a worker waits at. It stands on std alone, and every engine stands on it.
+//!
+//! Begin with the traits: `Source`, `Sink`, `Vault` (a sink with a name) and `Gate`. Each object
+//! means bytes, where it tells them, and a count of faults, so that a caller who is answered
+//! `Failed` can see that it was the object that failed. `write_all` is the loop over `Sink::write`
+//! that engines share.
+//!
+//! The objects in memory say in their contracts what each call answers, so any run over them can be
+//! computed: `MemorySource`, `MemorySink` and `MemoryVault` fail where they are told to, and
+//! `SureSource`, `SureSink` and `SureVault` never fail. `StdSource`, `StdSink`, `FileVault` and
+//! `FreeGate` are the trusted edge: a few lines over std, which count faults and tell no bytes.
+#![tactic(auto)]
+
+mod calls;
+mod errors;
+mod file_vaults;
+mod gates;
+mod memory_sinks;
+mod memory_sources;
+mod sinks;
+mod sources;
+mod std_streams;
+mod sure_sinks;
+
+pub use errors::{Failed, Memory};
+pub use file_vaults::FileVault;
+pub use gates::{FreeGate, Gate};
+pub use memory_sinks::{MemorySink, MemoryVault};
+pub use memory_sources::{MemorySource, SureSource};
+pub use sinks::{Sink, Vault, write_all};
+pub use sources::Source;
+pub use std_streams::{StdSink, StdSource};
+pub use sure_sinks::{SureSink, SureVault};
+
+#[cfg(test)]
+mod tests;
