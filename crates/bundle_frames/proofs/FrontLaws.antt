@@ -1,0 +1,45 @@
+-- What the fields of a header or a frame are does not depend on the bytes behind them.
+use Rattle.std.proofs.Common.{◌≡◌, ℕ, ◌-◌, ◌≤◌, leb, true, List, ◌++◌, length, take, drop, ap, ◌∙◌, refl, arith, length-append, length-drop}
+use Rattle.std.proofs.lemmas.List.{take-append-le, drop-append-le}
+use Rattle.std.specs.Prelude.{nat_eq}
+use Rattle.std.specs.List.{slice_range, starts_with}
+use Rattle.std.specs.Int.{w16, w32, from_be_bytes}
+use Rattle.std.proofs.lemmas.Bool.{le-leb}
+use Rattle.bundle_frames.specs.Bundle.{magic, header_bytes, header_numbers, header_in, head_bytes, head_verifier, head_length, is_head}
+
+pub slice_range-front : (a b : ℕ) (xs ys : List ℕ) → a ≤ b → b ≤ length xs → slice_range (xs ++ ys) a b ≡ slice_range xs a b
+slice_range-front a b xs ys ordered within =
+    let start : a ≤ length xs = omega arith in
+    let size : b - a ≤ length (drop a xs) = omega (arith, length-drop a xs) in
+    ap (take (b - a)) (drop-append-le a xs ys start) ∙ take-append-le (b - a) (drop a xs) ys size
+
+starts_with-front : (xs ys : List ℕ) → 4 ≤ length xs → starts_with nat_eq (xs ++ ys) magic ≡ starts_with nat_eq xs magic
+starts_with-front xs ys long = rw (take-append-le 4 xs ys long) refl
+
+pub header_numbers-front : (xs ys : List ℕ) → header_bytes ≤ length xs → header_numbers (xs ++ ys) ≡ header_numbers xs
+header_numbers-front xs ys long =
+    let e1 = slice_range-front 4 6 xs ys (omega arith) (omega arith) in
+    let e2 = slice_range-front 6 10 xs ys (omega arith) (omega arith) in
+    let e3 = slice_range-front 10 14 xs ys (omega arith) (omega arith) in
+    let e4 = slice_range-front 14 18 xs ys (omega arith) (omega arith) in
+    cc
+
+pub header_in-front : (xs ys : List ℕ) → header_bytes ≤ length xs → header_in (xs ++ ys) ≡ header_in xs
+header_in-front xs ys long =
+    let whole : leb header_bytes (length (xs ++ ys)) ≡ true = le-leb _ _ (omega (arith, length-append xs ys)) in
+    let whole' : leb header_bytes (length xs) ≡ true = le-leb _ _ long in
+    let spelled = starts_with-front xs ys (omega arith) in
+    let numbers = header_numbers-front xs ys long in
+    cc
+
+pub head_verifier-front : (xs ys : List ℕ) → head_bytes ≤ length xs → head_verifier (xs ++ ys) ≡ head_verifier xs
+head_verifier-front xs ys long = ap (from_be_bytes w16) (slice_range-front 0 2 xs ys (omega arith) (omega arith))
+
+pub head_length-front : (xs ys : List ℕ) → head_bytes ≤ length xs → head_length (xs ++ ys) ≡ head_length xs
+head_length-front xs ys long = ap (from_be_bytes w32) (slice_range-front 2 6 xs ys (omega arith) (omega arith))
+
+pub is_head-front : (verifiers : ℕ) (xs ys : List ℕ) → head_bytes ≤ length xs → is_head verifiers (xs ++ ys) ≡ is_head verifiers xs
+is_head-front verifiers xs ys long =
+    let v = head_verifier-front xs ys long in
+    let l = head_length-front xs ys long in
+    cc

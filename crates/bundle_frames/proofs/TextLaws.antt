@@ -1,0 +1,83 @@
+-- What is written is read back.
+use Rattle.std.proofs.Common.{◌≡◌, ℕ, ◌+◌, ◌^◌, ◌≤◌, ◌<◌, leb, ltb, ◌&&◌, true, List, [], ◌∷◌, ◌++◌, length, take, drop, Some, None, sym, ap, ◌∙◌, refl, arith, length-append}
+use Rattle.std.proofs.Math.Seq.{take-append_seam, drop-append_seam}
+use Rattle.std.proofs.lemmas.Nat.{from_be_bytes-to_be_bytes_2, from_be_bytes-to_be_bytes_4}
+use Rattle.std.proofs.lemmas.Bool.{cond-true, and_from, le-leb, lt-ltb}
+use Rattle.std.specs.Prelude.{nat_eq}
+use Rattle.std.specs.Int.{w32, to_be_bytes, from_be_bytes}
+use Rattle.std.specs.List.{starts_with, flat_map, AllByRecursion}
+use Rattle.lamport_clocks.specs.declared.header.Header.{Header}
+use Rattle.lamport_clocks.specs.Header.{IsHeader}
+use Rattle.bundle_frames.specs.Bundle.{magic, header_bytes, header_text, header_numbers, header_in, is_in_range, head_verifier, head_length, longest_body, frame_text, frame_in, Frame, Frames, Bundle, IsFrame, frame_bytes, frames_behind, with_frame, frames_from, bundle_of, bundle_behind, bundle_text}
+use Rattle.bundle_frames.proofs.FrontLaws.{header_in-front}
+use Rattle.bundle_frames.proofs.BundleLaws.{frames_from-empty, frames_from-first}
+use Rattle.bundle_frames.proofs.PartLaws.{frame_in-whole, is_head-from}
+
+abbrev numbers : ℕ → ℕ → ℕ → ℕ → Header
+numbers v c f e = record { verifiers = v; cache = c; first = f; end = e }
+
+-- a number of four bytes, written and read
+abbrev read : ℕ → ℕ
+read n = from_be_bytes w32 (to_be_bytes w32 n)
+
+-- the test of the ranges passes in the ranges
+pub is_in_range-true : (header : Header) → IsHeader header → is_in_range header ≡ true
+is_in_range-true h ok =
+    and_from _ _ (and_from _ _ (and_from _ _ (and_from _ _ (and_from _ _ (le-leb _ _ ok.some_verifiers) (le-leb _ _ ok.verifiers))
+    (le-leb _ _ ok.some_cache)) (le-leb _ _ ok.cache)) (le-leb _ _ ok.some_end)) (le-leb _ _ ok.end)
+
+header_numbers-text : (header : Header) → IsHeader header → header.first < 2 ^ 32 → header_numbers (header_text header) ≡ header
+header_numbers-text h ok first =
+    let bound = ok.verifiers in
+    let bound' = ok.cache in
+    let bound'' = ok.end in
+    let v = from_be_bytes-to_be_bytes_2 h.verifiers (omega arith) in
+    let c = from_be_bytes-to_be_bytes_4 h.cache (omega arith) in
+    let f = from_be_bytes-to_be_bytes_4 h.first (omega arith) in
+    let e = from_be_bytes-to_be_bytes_4 h.end (omega arith) in
+    ap (λ x. numbers x (read h.cache) (read h.first) (read h.end)) v ∙ ap (λ x. numbers h.verifiers x (read h.first) (read h.end)) c
+    ∙ ap (λ x. numbers h.verifiers h.cache x (read h.end)) f ∙ ap (numbers h.verifiers h.cache h.first) e
+
+pub header_in-text : (header : Header) (more : List ℕ) → IsHeader header → header.first < 2 ^ 32 → header_in (header_text header ++ more) ≡ Some header
+header_in-text header more ok first =
+    let text = header_text header in
+    let numbers_are = header_numbers-text header ok first in
+    let tests = and_from (leb header_bytes (length text) && starts_with nat_eq text magic) _ (and_from (leb header_bytes (length text)) _ refl refl) (ap is_in_range numbers_are ∙ is_in_range-true header ok) in
+    header_in-front text more (omega arith) ∙ cond-true _ _ _ tests ∙ ap Some numbers_are
+
+pub frame_in-text : (verifiers verifier : ℕ) (body more : List ℕ) → verifier < verifiers → verifier < 2 ^ 16 → 1 ≤ length body → length body ≤ longest_body
+    → frame_in verifiers (frame_text verifier body ++ more) ≡ Some (record { verifier = verifier; body = body })
+frame_in-text verifiers verifier body more below fits some bounded =
+    let bytes = frame_text verifier body ++ more in
+    let verifier_is : head_verifier bytes ≡ verifier = from_be_bytes-to_be_bytes_2 verifier fits in
+    let size : head_length bytes ≡ length body = from_be_bytes-to_be_bytes_4 (length body) (omega arith) in
+    let both = length-append body more in
+    let good = is_head-from verifiers verifier (length body) bytes true (sym verifier_is) (sym size)
+    (sym (and_from (ltb verifier verifiers && leb 1 (length body)) _ (and_from (ltb verifier verifiers) _ (lt-ltb _ _ below) (le-leb _ _ some)) (le-leb _ _ bounded))) in
+    frame_in-whole verifiers bytes verifier body (omega arith) good verifier_is (ap (λ k. take k (body ++ more)) size ∙ take-append_seam body more)
+
+-- frames are read back from their texts
+frames_from-text : (verifiers offset : ℕ) (frames : List Frame) → verifiers ≤ 2 ^ 16 → AllByRecursion (IsFrame verifiers) frames
+    → frames_from verifiers offset (flat_map (λ (frame : Frame). frame_text frame.verifier frame.body) frames) ≡ record { frames = frames; bad = None }
+frames_from-text verifiers offset [] fits good = frames_from-empty verifiers offset
+frames_from-text verifiers offset (frame ∷ frames) fits good =
+    let text = frame_text frame.verifier frame.body in
+    let more = flat_map (λ (f : Frame). frame_text f.verifier f.body) frames in
+    let below = good.0.verifier in
+    let is = frame_in-text verifiers frame.verifier frame.body more below (omega arith) good.0.some good.0.bounded in
+    let rest : drop (frame_bytes frame) (text ++ more) ≡ more =
+    ap (λ k. drop k (text ++ more)) (let same : frame_bytes frame ≡ length text = omega arith in same) ∙ drop-append_seam text more in
+    let size = length-append text more in
+    frames_from-first verifiers offset (text ++ more) (omega arith)
+    ∙ ap (λ o. frames_behind offset o (λ f. frames_from verifiers (offset + frame_bytes f) (drop (frame_bytes f) (text ++ more)))) is
+    ∙ ap (λ bytes. with_frame frame (frames_from verifiers (offset + frame_bytes frame) bytes)) rest
+    ∙ ap (with_frame frame) (frames_from-text verifiers (offset + frame_bytes frame) frames fits good.1)
+
+pub bundle_of-text : (header : Header) (frames : List Frame) → IsHeader header → header.first < 2 ^ 32 → AllByRecursion (IsFrame header.verifiers) frames
+    → bundle_of (bundle_text header frames) ≡ record { header = Some header; frames = frames; bad = None }
+bundle_of-text header frames ok first good =
+    let more = flat_map (λ (frame : Frame). frame_text frame.verifier frame.body) frames in
+    let most = ok.verifiers in
+    let with : Frames → Bundle = λ found. record { header = Some header; frames = found.frames; bad = found.bad } in
+    ap (λ o. bundle_behind o (drop header_bytes (bundle_text header frames))) (header_in-text header more ok first)
+    ∙ ap with (frames_from-text header.verifiers header_bytes frames (omega arith) good)

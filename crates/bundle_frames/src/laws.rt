@@ -1,0 +1,38 @@
+//! What follows from the definitions of bundles. These functions do nothing: their contracts are the laws.
+ghost use Rattle.std.specs.Prelude.{◌≡◌, ℕ, ◌^◌, ◌<◌, ◌≤◌, List, ◌++◌, length};
+ghost use Rattle.std.specs.List.{AllByRecursion};
+ghost use Rattle.lamport_clocks.specs.declared.header.Header.{Header};
+ghost use Rattle.lamport_clocks.specs.Header.{IsHeader};
+ghost use Rattle.bundle_frames.specs.Bundle.{Frame, header_text, header_in, frame_text, frame_in, IsFrame, longest_body, bundle_of, bundle_text, frames_up_to, frames_from};
+
+/// A header in its ranges is read back from its text, whatever follows. What is read is in its ranges.
+pub fn headers_are_read_back()
+    ensures read { (header : Header) (more : List ℕ) → IsHeader header → header.first < 2 ^ 32
+        → header_in (header_text header ++ more) ≡ Some header }
+    ensures ranges { (bytes : List ℕ) (header : Header)
+        → header_in bytes ≡ Some header → IsHeader header }
+{}
+
+/// So is a frame: one of 1 to 65,536 bytes, of a verifier that there is.
+pub fn frames_are_read_back()
+    ensures read { (verifiers verifier : ℕ) (body more : List ℕ)
+        → verifier < verifiers → verifier < 2 ^ 16 → 1 ≤ length body → length body ≤ longest_body
+        → frame_in verifiers (frame_text verifier body ++ more)
+        ≡ Some (record { verifier = verifier; body = body }) }
+    ensures ranges { (verifiers : ℕ) (bytes : List ℕ) (frame : Frame)
+        → frame_in verifiers bytes ≡ Some frame → IsFrame verifiers frame }
+{}
+
+/// A header in its ranges and frames of its verifiers are read back from their texts.
+pub fn bundles_are_read_back()
+    ensures read { (header : Header) (frames : List Frame) → IsHeader header → header.first < 2 ^ 32
+        → AllByRecursion (IsFrame header.verifiers) frames
+        → bundle_of (bundle_text header frames)
+        ≡ record { header = Some header; frames = frames; bad = None } }
+{}
+
+/// As many steps as there are bytes are enough to read all frames: more read no others.
+pub fn bytes_bound_the_frames()
+    ensures enough { (count verifiers offset : ℕ) (bytes : List ℕ) → length bytes ≤ count
+        → frames_up_to count verifiers offset bytes ≡ frames_from verifiers offset bytes }
+{}

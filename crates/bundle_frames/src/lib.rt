@@ -1,0 +1,28 @@
+//! Bundles: a header and then frames, each of which is a piece of one verifier's log.
+//!
+//! `Splitter` reads a bundle that comes in pieces, however it is cut, and `write_header` and
+//! `write_frame` write one. The crate stands on lamport_clocks, for the header's numbers, and on
+//! fv_outside, for what is written to and for want of memory.
+//!
+//! Begin at `splitter`, beside `specs/Bundle.antt`, which says what bytes mean as a bundle, and
+//! `specs/Progress.antt`, which says what is left of one.
+#![tactic(auto)]
+
+mod fields;
+mod found;
+mod laws;
+mod parts;
+mod splitter;
+#[cfg(test)]
+mod tests;
+mod whole;
+mod writers;
+
+pub use fields::{HEAD_BYTES, HEADER_BYTES, LONGEST_BODY};
+pub use found::{Fed, Found};
+pub use laws::{
+    bundles_are_read_back, bytes_bound_the_frames, frames_are_read_back, headers_are_read_back,
+};
+pub use splitter::Splitter;
+pub use whole::{WholeBundle, WholeFrame, read_pieces};
+pub use writers::{write_frame, write_header};

@@ -1,0 +1,3 @@
+-- What reading a source comes to, and what is certified.
+pub mod TookLemmas
+pub mod ReportLemmas

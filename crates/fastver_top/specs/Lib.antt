@@ -1,0 +1,5 @@
+-- What the clauses of the top call cite, in reading order.
+pub mod Words
+pub mod Intake
+pub mod Outcomes
+pub mod Report

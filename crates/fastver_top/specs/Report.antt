@@ -1,0 +1,46 @@
+-- What a check answers of a bundle with one verifier: which epochs are certified, and how the report ends.
+use Rattle.std.specs.Prelude.{ℕ, zero, suc, ◌==◌, ◌&&◌, Bool, true, false, List, [], ◌∷◌, drop, Option, Some, None, if◌then◌else◌}
+use Rattle.multiset_sum.specs.Tally.{Tally}
+use Rattle.multiset_sum.specs.declared.part.Part.{Part}
+use Rattle.record_text.specs.declared.refusal.Refusal.{Refusal}
+use Rattle.report_text.specs.declared.status.Status.{Status}
+use Rattle.report_text.specs.declared.status.Status.TheVariants.{Done, Usage, Memory, ReadFault, WriteFault, VaultFault, BadBundle, Refused, Unbalanced, ClockEnd, NotTagged, NotCertified, Exhibit, InputLimit}
+use Rattle.fastver_top.specs.Words.{is_word}
+
+-- two sums are equal, in each lane and in the count
+abbrev pub same_tally : Tally → Tally → Bool
+same_tally a b = is_word a.lanes b.lanes && a.count == b.count
+
+-- what was added of a sealed epoch is what was evicted (Blum et al. 1994)
+abbrev pub is_balanced : Part → Bool
+is_balanced part = same_tally part.added part.evicted
+
+-- how many epochs are certified: those that are sealed, up to the first whose sums differ
+abbrev pub balanced_count : List Part → ℕ
+balanced_count [] = 0
+balanced_count (part ∷ parts) = if is_balanced part then suc (balanced_count parts) else 0
+
+-- How a report ends, by the sealed epochs behind those that are certified, the refusal and what is bad: an
+-- epoch whose sums differ goes before a refused log, and that before a bad frame.
+abbrev pub exit_by : ℕ → List Part → Option (ℕ × Refusal) → Option ℕ → Status
+exit_by certified (part ∷ parts) refused bad = Unbalanced part.epoch part.added part.evicted
+exit_by certified [] (Some refusal) bad = Refused 0 refusal.0 refusal.1
+exit_by certified [] None (Some offset) = BadBundle offset
+exit_by certified [] None None = Done certified
+
+-- a status that ends a report
+abbrev pub IsEnd : Status → Type 0
+IsEnd (Done epochs) = Unit {0}
+IsEnd Usage = ⊥
+IsEnd Memory = ⊥
+IsEnd ReadFault = ⊥
+IsEnd WriteFault = ⊥
+IsEnd VaultFault = ⊥
+IsEnd (BadBundle offset) = Unit {0}
+IsEnd (Refused verifier index refusal) = Unit {0}
+IsEnd (Unbalanced epoch added evicted) = Unit {0}
+IsEnd (ClockEnd worker at) = Unit {0}
+IsEnd NotTagged = ⊥
+IsEnd NotCertified = ⊥
+IsEnd Exhibit = ⊥
+IsEnd (InputLimit taken) = ⊥

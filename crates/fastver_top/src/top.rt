@@ -1,0 +1,120 @@
+ghost use Rattle.std.specs.Prelude.{◌≡◌, ◌↔◌, ◌+◌, ◌≤◌, ◌<◌, ◌^◌, length, map, ℕ, None, ◌≢◌, ◌⊎◌};
+ghost use Rattle.fv_outside.specs.Faults.{Rose};
+ghost use Rattle.fastver_top.specs.Words.{check_key};
+ghost use Rattle.fastver_top.specs.Intake.{TookAtMost, TookJust};
+ghost use Rattle.fastver_top.specs.Outcomes.{IsOutcome};
+ghost use Rattle.fastver_top.specs.Report.{IsEnd};
+
+use crate::intake::{Intake, Stop};
+use crate::reading::read_bundle;
+use crate::report::{certified_count, exit_of, write_report};
+use crate::words::check_digests;
+use fv_outside::{Gate, Sink, Source, Vault};
+use multiset_sum::Part;
+use record_hash::Digests;
+use record_text::Operation;
+use report_text::Status;
+use std::alloc::Global;
+use std::sync::Wait;
+use std::thread::Threads;
+use verifier_run::run_log;
+
+/// The most bytes that the program reads.
+pub const INPUT_LIMIT: u64 = 1 << 40;
+
+/// The program: it takes its words, the name of the program first, and answers how it ended.
+///
+/// `fastver check --key HEX` reads a bundle from the source and writes its report to the sink: a line for
+/// each certified epoch and each certified operation, and a last line. The vault is left as it is.
+pub fn fastver<R: Threads + Wait + Sync, S: Source, O: Sink, V: Vault, G: Gate + Sync>(
+    _rt: &R,
+    alloc: Global,
+    words: &[&str],
+    source: &mut S,
+    out: &mut O,
+    vault: &mut V,
+    _gate: &G,
+) -> Status
+    requires fresh { V.fresh vault.old }
+
+    // Which statuses can come, and that the words are refused exactly where they are no check's.
+    ensures outcomes { IsOutcome result }
+    ensures usage { (result ≡ Status.Usage) ↔ (check_key (map (λ word. word.now) words.now) ≡ None) }
+
+    // Where the words are refused nothing is read or written, and the vault is never named or written.
+    ensures unread { result ≡ Status.Usage → source.new ≡ source.old }
+    ensures unwritten { result ≡ Status.Usage → out.new ≡ out.old }
+    ensures vault { vault.new ≡ vault.old }
+
+    // A fault comes only where the object's count of faults rose.
+    ensures read_fault { result ≡ Status.ReadFault → Rose (S.faults source.old) (S.faults source.new) }
+    ensures write_fault { result ≡ Status.WriteFault → Rose (O.faults out.old) (O.faults out.new) }
+{
+    match check_digests(words) {
+        Some(d) => check(alloc, &d, INPUT_LIMIT, source, out),
+        None => Status::Usage,
+    }
+}
+
+/// Reads a bundle of one verifier, of no more than so many bytes, and writes its report.
+pub fn check<D: Digests, S: Source, O: Sink>(
+    alloc: Global,
+    d: &D,
+    limit: u64,
+    source: &mut S,
+    out: &mut O,
+) -> Status
+    requires limit { limit ≤ 2 ^ 40 }
+    ensures outcomes { IsOutcome result }
+    ensures accepted { result ≢ Status.Usage }
+    ensures limit { (taken : ℕ) → result ≡ Status.InputLimit taken → (taken ≡ limit) × TookJust (limit + 1) (S.left source.old) (S.left source.new) }
+    ensures within { (result ≡ Status.InputLimit limit → ⊥) → result ≢ Status.Memory → result ≢ Status.ReadFault → TookAtMost limit (S.left source.old) (S.left source.new) }
+    ensures read_fault { result ≡ Status.ReadFault → Rose (S.faults source.old) (S.faults source.new) }
+    ensures write_fault { result ≡ Status.WriteFault → Rose (O.faults out.old) (O.faults out.new) }
+{
+    match read_bundle(alloc, limit, source) {
+        Ok(intake) => conclude(alloc, d, &intake, out),
+        Err(Stop::Memory) => Status::Memory,
+        Err(Stop::ReadFault) => Status::ReadFault,
+        Err(Stop::InputLimit) => Status::InputLimit(limit),
+    }
+}
+
+// Checks what was read, and writes the report.
+fn conclude<D: Digests, O: Sink>(alloc: Global, d: &D, intake: &Intake, out: &mut O) -> Status
+    ensures outcome { IsOutcome result }
+    ensures words { result ≢ Status.Usage }
+    ensures no_read { result ≢ Status.ReadFault }
+    ensures no_limit { (taken : ℕ) → result ≢ Status.InputLimit taken }
+    ensures write_fault { result ≡ Status.WriteFault → Rose (O.faults out.old) (O.faults out.new) }
+{
+    let header = match intake.header {
+        Some(header) if header.verifiers == 1 => header,
+        _ => return written(&[], &[], Status::BadBundle(0), out),
+    };
+    let run = match run_log(alloc, d, 0, &header, &intake.log) {
+        Ok(run) => run,
+        Err(_) => return Status::Memory,
+    };
+    let parts = run.parts();
+    let certified = certified_count(parts);
+    let status = exit_of(parts, certified, run.refused(), intake.bad);
+    written(&parts[..certified], run.ops(), status, out)
+}
+
+// Writes a report that ends so, and answers how the run ended.
+fn written<O: Sink>(
+    certified: &[Part],
+    operations: &[Operation],
+    status: Status,
+    out: &mut O,
+) -> Status
+    requires end { IsEnd status }
+    ensures ends { result ≡ status ⊎ result ≡ Status.WriteFault }
+    ensures write_fault { result ≡ Status.WriteFault → Rose (O.faults out.old) (O.faults out.new) }
+{
+    match write_report(certified, operations, &status, out) {
+        Ok(()) => status,
+        Err(_) => Status::WriteFault,
+    }
+}

@@ -1,0 +1,6 @@
+-- Lemmas on commands and logs, in reading order.
+pub mod StepLemmas
+pub mod CommandLemmas
+pub mod CommandKeepsOn
+pub mod ReadLemmas
+pub mod LogLemmas

@@ -1,0 +1,13 @@
+use Rattle.record_text.specs.Format.{short_keys}
+use Rattle.record_text.proofs.FieldLemmas.{wide64}
+use Rattle.log_codec.proofs.CommandLemmas.{command_begins, command_again}
+use Rattle.log_codec.proofs.LogLemmas.{AreBytes-from_all}
+use Rattle.log_codec.proofs.laws.commands_are_read_as_spelled.Goals as goal
+
+pub returns : goal.returns
+returns c = record {
+  spelled = λ bytes command rest fits read.
+      let begins = command_begins short_keys wide64 bytes command rest (AreBytes-from_all bytes fits) read in
+      (begins.0.parts, begins.1);
+  read = command_again short_keys wide64;
+}

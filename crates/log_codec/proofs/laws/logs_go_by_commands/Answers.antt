@@ -1,0 +1,11 @@
+use Rattle.record_text.specs.Format.{short_keys}
+use Rattle.log_codec.proofs.LogLemmas.{read_log-empty, read_log-step, read_log-fault, log_up_to-read}
+use Rattle.log_codec.proofs.laws.logs_go_by_commands.Goals as goal
+
+pub returns : goal.returns
+returns c = record {
+  empty = read_log-empty short_keys;
+  step = read_log-step short_keys;
+  fault = read_log-fault short_keys;
+  count = log_up_to-read short_keys;
+}

@@ -1,0 +1,10 @@
+use Rattle.record_text.specs.Format.{short_keys}
+use Rattle.log_codec.proofs.LogLemmas.{read_log-more, read_log-whole, read_log-malformed}
+use Rattle.log_codec.proofs.laws.logs_keep_on.Goals as goal
+
+pub returns : goal.returns
+returns c = record {
+  more = read_log-more short_keys;
+  whole = read_log-whole short_keys;
+  malformed = read_log-malformed short_keys;
+}

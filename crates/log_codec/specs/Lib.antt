@@ -1,0 +1,5 @@
+-- What the clauses on logs cite, in reading order.
+pub mod Command
+pub mod Decoded
+pub mod Log
+pub use Rattle.record_text.specs

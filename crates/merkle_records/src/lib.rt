@@ -1,0 +1,17 @@
+//! The nodes of a sparse Merkle tree: how a node changes when a path below it comes into a cache or leaves it.
+//!
+//! A node's pointer of a side leads to the highest touched path on that side, with the digest of that
+//! path's value (Merkle 1987), or with a flag that the record there is checked later (Blum et al. 1994).
+//! The crate stands on `tree_keys`, `record_text` and `record_hash`. Begin with `specs/Merkle.antt`, then
+//! `nodes.rt`; `laws.rt` says that values stay of their paths' kinds.
+#![tactic(auto)]
+
+mod cases;
+mod laws;
+mod nodes;
+#[cfg(test)]
+mod tests;
+
+pub use cases::AddCase;
+pub use laws::{one_pointer_changes, records_stay_of_their_kinds};
+pub use nodes::{add_case, after_add, after_evict, defer, digest_of};

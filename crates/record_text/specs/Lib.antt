@@ -1,0 +1,9 @@
+-- What the clauses on texts cite, in reading order.
+pub mod Format
+pub mod Value
+pub mod Element
+pub mod Texts
+pub mod Fields
+pub mod Reading
+pub mod Refusal
+pub use Rattle.tree_keys.specs

@@ -1,0 +1,281 @@
+ghost use Rattle.std.specs.Prelude.{◌≡◌, ℕ, ◌<◌, ◌≤◌, ◌∷◌, [], ◌++◌, length, Ok, Err, IfOk, IfErr, IfSome, IsTrue};
+ghost use Rattle.std.specs.Int.{w64, from_be_bytes};
+ghost use Rattle.record_text.specs.Format.{short_keys};
+ghost use Rattle.tree_keys.specs.Path.{is_prefix};
+ghost use Rattle.record_text.specs.Value.{IsBlob, IsSide, IsOf};
+ghost use Rattle.record_text.specs.Fields.{Takes, field};
+ghost use Rattle.record_text.specs.Reading.{run_at, byte_at, flag_in, count_in, path_at, path_below_at, blob_at, path_in, pointer_tag_in, pointer_at, node_at, value_at, u16_at, u32_at, stamp_at, element_at};
+
+use crate::element::Element;
+use crate::value::{Blob, LONGEST_BLOB, Node, Pointer, Value};
+use crate::writing::PATH_TEXT_LEN;
+use lamport_clocks::Stamp;
+use std::marker::Model;
+use tree_keys::{KEY_BITS, Path};
+
+/// Why bytes are no text: the first fault from left to right.
+#[derive(Clone, Copy, Debug, PartialEq, Eq)]
+pub enum TextFault {
+    /// A field whose bytes are all there is outside its range.
+    Malformed,
+    /// A field is cut short.
+    Truncated,
+}
+
+/// Bytes that are read from left to right, a field or a whole text at a time: contracts see those that
+/// are left. After a fault nothing is said of what is left: read no further.
+#[derive(Drop)]
+pub struct Reader<'a> {
+    rest: &'a [u8],
+}
+
+impl<'a> Model for Reader<'a> {
+    ghost use Rattle.std.specs.Prelude.{ℕ, List};
+
+    ghost Value = { List ℕ };
+
+    ghost view = { λ r. r.rest.now };
+}
+
+impl<'a> Reader<'a> {
+    /// All of these bytes are left.
+    pub fn new(bytes: &'a [u8]) -> Self
+        ensures all { result ≡ bytes.now }
+    {
+        Reader { rest: bytes }
+    }
+
+    /// How many bytes are left.
+    pub fn left(&self) -> usize
+        ensures value { result ≡ length self.now }
+    {
+        self.rest.len()
+    }
+
+    /// One byte.
+    #[tactic(auto, unfolding(crate::specs::Reading::byte_at))]
+    pub fn byte(&mut self) -> Result<u8, TextFault>
+        ensures takes { Takes result self.new (byte_at self.old) }
+    {
+        let bytes = self.run(1)?;
+        Ok(bytes[0])
+    }
+
+    /// A number of two bytes.
+    #[tactic(auto, unfolding(crate::specs::Reading::u16_at))]
+    pub fn u16(&mut self) -> Result<u16, TextFault>
+        ensures takes { Takes result self.new (u16_at self.old) }
+    {
+        let bytes = self.run(2)?;
+        Ok(u16::from_be_bytes([bytes[0], bytes[1]]))
+    }
+
+    /// A number of four bytes.
+    #[tactic(auto, unfolding(crate::specs::Reading::u32_at))]
+    pub fn u32(&mut self) -> Result<u32, TextFault>
+        ensures takes { Takes result self.new (u32_at self.old) }
+    {
+        let bytes = self.run(4)?;
+        Ok(u32::from_be_bytes([bytes[0], bytes[1], bytes[2], bytes[3]]))
+    }
+
+    /// An epoch and a counter.
+    #[tactic(auto, unfolding(crate::specs::Reading::stamp_at))]
+    pub fn stamp(&mut self) -> Result<Stamp, TextFault>
+        ensures takes { Takes result self.new (stamp_at self.old) }
+    {
+        let epoch = self.u32()?;
+        let counter = self.u32()?;
+        Ok(Stamp { epoch, counter })
+    }
+
+    /// A path: at most 64 bits, the unused bits 0.
+    #[tactic(auto, unfolding(crate::specs::Reading::path_at))]
+    pub fn path(&mut self) -> Result<Path, TextFault>
+        ensures takes { Takes result self.new (path_at short_keys self.old) }
+        ensures fits { IfOk result (λ path. length path ≤ KEY_BITS) }
+    {
+        let bytes = self.run(PATH_TEXT_LEN)?;
+        match path_in(bytes) {
+            Some(path) => Ok(path),
+            None => Err(TextFault::Malformed),
+        }
+    }
+
+    /// A path that begins with this prefix.
+    #[tactic(auto, unfolding(crate::specs::Reading::path_below_at))]
+    pub fn path_below(&mut self, prefix: &Path) -> Result<Path, TextFault>
+        ensures takes { Takes result self.new (path_below_at short_keys prefix.now self.old) }
+        ensures fits { IfOk result (λ path. length path ≤ KEY_BITS) }
+        ensures below { IfOk result (λ path. IsTrue (is_prefix prefix.now path)) }
+    {
+        let bytes = self.run(PATH_TEXT_LEN)?;
+        let Some(path) = path_in(bytes) else {
+            return Err(TextFault::Malformed);
+        };
+        if path.starts_with(prefix) {
+            Ok(path)
+        } else {
+            Err(TextFault::Malformed)
+        }
+    }
+
+    /// A data value: none, or its bytes, at most 64.
+    #[tactic(auto, unfolding(crate::specs::Reading::blob_at))]
+    pub fn blob(&mut self) -> Result<Blob, TextFault>
+        ensures takes { Takes result self.new (blob_at short_keys self.old) }
+        ensures kind { IfOk result (IsBlob short_keys) }
+    {
+        if !self.flag()? {
+            return Ok(Blob::none());
+        }
+        let count = self.count()?;
+        let bytes = self.run(count)?;
+        Ok(Blob::of_bytes(bytes).unwrap())
+    }
+
+    /// The pointer of a node's side: empty, or to a path below the node on that side.
+    #[tactic(auto, unfolding(crate::specs::Reading::pointer_at))]
+    pub fn pointer(&mut self, node: &Path, side: bool) -> Result<Option<Pointer>, TextFault>
+        requires short { length node.now < 64 }
+        ensures takes { Takes result self.new
+            (pointer_at short_keys (node.now ++ side ∷ []) self.old) }
+        ensures kind { IfOk result (IsSide short_keys node.now side) }
+    {
+        let Some(deferred) = self.pointer_tag()? else {
+            return Ok(None);
+        };
+        let path = self.path_below(&node.child(side))?;
+        let digest = self.digest()?;
+        Ok(Some(Pointer {
+            path,
+            digest,
+            deferred,
+        }))
+    }
+
+    /// The two pointers of the node at this path.
+    #[tactic(auto, unfolding(crate::specs::Reading::node_at))]
+    pub fn node(&mut self, path: &Path) -> Result<Node, TextFault>
+        requires short { length path.now < 64 }
+        ensures takes { Takes result self.new (node_at short_keys path.now self.old) }
+        ensures kind { IfOk result (λ node. IsOf short_keys path.now (Value.Node node)) }
+    {
+        let side0 = self.pointer(path, false)?;
+        let side1 = self.pointer(path, true)?;
+        Ok(Node { side0, side1 })
+    }
+
+    /// The value of this path: a data value at a key, and a node at a shorter path.
+    pub fn value(&mut self, path: &Path) -> Result<Value, TextFault>
+        ensures takes { Takes result self.new (value_at short_keys path.now self.old) }
+        ensures kind { IfOk result (IsOf short_keys path.now) }
+    {
+        if path.len() == KEY_BITS {
+            let blob = self.blob()?;
+            Ok(Value::Blob(blob))
+        } else {
+            let node = self.node(path)?;
+            Ok(Value::Node(node))
+        }
+    }
+
+    /// An element: its path, its value, its stamp, and the verifier that evicted it.
+    #[tactic(auto, unfolding(crate::specs::Reading::element_at))]
+    pub fn element(&mut self) -> Result<Element, TextFault>
+        ensures takes { Takes result self.new (element_at short_keys self.old) }
+        ensures kind { IfOk result (λ element. IsOf short_keys element.path element.value) }
+    {
+        let path = self.path()?;
+        let value = self.value(&path)?;
+        let stamp = self.stamp()?;
+        let verifier = self.u16()?;
+        Ok(Element {
+            path,
+            value,
+            stamp,
+            verifier,
+        })
+    }
+
+    // A byte that says whether there is something.
+    #[tactic(auto, unfolding(crate::specs::Reading::byte_at))]
+    fn flag(&mut self) -> Result<bool, TextFault>
+        ensures takes { Takes result self.new (field 1 flag_in self.old) }
+    {
+        match self.byte()? {
+            0 => Ok(false),
+            1 => Ok(true),
+            _ => Err(TextFault::Malformed),
+        }
+    }
+
+    // The number of bytes of a data value.
+    #[tactic(auto, unfolding(crate::specs::Reading::byte_at))]
+    fn count(&mut self) -> Result<usize, TextFault>
+        ensures takes { Takes result self.new (field 1 (count_in short_keys) self.old) }
+        ensures fits { IfOk result (λ count. count ≤ LONGEST_BLOB) }
+    {
+        let count = usize::from(self.byte()?);
+        if count > LONGEST_BLOB {
+            return Err(TextFault::Malformed);
+        }
+        Ok(count)
+    }
+
+    // Nothing for an empty pointer, else whether it is deferred.
+    #[tactic(auto, unfolding(crate::specs::Reading::byte_at))]
+    fn pointer_tag(&mut self) -> Result<Option<bool>, TextFault>
+        ensures takes { Takes result self.new (field 1 pointer_tag_in self.old) }
+    {
+        match self.byte()? {
+            0 => Ok(None),
+            1 => Ok(Some(false)),
+            2 => Ok(Some(true)),
+            _ => Err(TextFault::Malformed),
+        }
+    }
+
+    fn digest(&mut self) -> Result<[u8; 32], TextFault>
+        ensures takes { Takes result self.new (run_at 32 self.old) }
+    {
+        let bytes = self.run(32)?;
+        match <[u8; 32]>::try_from(bytes) {
+            Ok(digest) => Ok(digest),
+            Err(_) => unreachable!(),
+        }
+    }
+
+    // The next bytes, so many of them.
+    fn run(&mut self, count: usize) -> Result<&'a [u8], TextFault>
+        ensures found { IfOk result (λ bytes. run_at count self.old ≡ Ok (bytes.now, self.new)) }
+        ensures len { IfOk result (λ bytes. length bytes.now ≡ count) }
+        ensures fault { IfErr result (λ fault. run_at count self.old ≡ Err fault) }
+    {
+        if self.rest.len() < count {
+            return Err(TextFault::Truncated);
+        }
+        let (bytes, rest) = self.rest.split_at(count);
+        self.rest = rest;
+        Ok(bytes)
+    }
+}
+
+// The path that nine bytes spell, if they spell one.
+fn path_in(bytes: &[u8]) -> Option<Path>
+    requires whole { length bytes.now ≡ PATH_TEXT_LEN }
+    ensures value { result ≡ path_in short_keys bytes.now }
+    ensures fits { IfSome result (λ path. length path ≤ KEY_BITS) }
+{
+    Path::of_word(bytes[0], word_in(&bytes[1..]))
+}
+
+// The number of eight bytes.
+fn word_in(bytes: &[u8]) -> u64
+    requires whole { length bytes.now ≡ 8 }
+    ensures value { result ≡ from_be_bytes w64 bytes.now }
+{
+    u64::from_be_bytes([
+        bytes[0], bytes[1], bytes[2], bytes[3], bytes[4], bytes[5], bytes[6], bytes[7],
+    ])
+}

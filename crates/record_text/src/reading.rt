@@ -1,0 +1,71 @@
+ghost use Rattle.std.specs.Prelude.{◌≡◌, ℕ, ◌≤◌, Bool, List, ◌++◌, length, take, Ok, IfOk};
+ghost use Rattle.record_text.specs.declared.value.Value.{Value};
+ghost use Rattle.record_text.specs.declared.element.Element.{Element};
+ghost use Rattle.record_text.specs.Format.{short_keys, path_bits};
+ghost use Rattle.record_text.specs.Value.{IsOf};
+ghost use Rattle.record_text.specs.Element.{IsElement};
+ghost use Rattle.record_text.specs.Fields.{counted};
+ghost use Rattle.record_text.specs.Reading.{path_at, value_at, element_at};
+ghost use Rattle.record_text.specs.Texts.{path_text, value_text, element_text};
+
+use crate::element::Element;
+use crate::reader::{Reader, TextFault};
+use crate::value::Value;
+use tree_keys::Path;
+
+/// The path whose text these bytes begin with, and the length of its text. Others may follow it.
+pub fn read_path(bytes: &[u8]) -> Result<(Path, usize), TextFault>
+    // Which path or fault it is.
+    ensures exact { result ≡ counted bytes.now (path_at short_keys bytes.now) }
+    // What is read is spelled so.
+    ensures found { IfOk result (λ found. take found.1 bytes.now ≡ path_text short_keys found.0) }
+    // What is spelled so is read, whatever follows.
+    ensures only { (path : List Bool) (rest : List ℕ) → length path ≤ path_bits short_keys
+        → bytes.now ≡ path_text short_keys path ++ rest
+        → result ≡ Ok (path, length (path_text short_keys path)) }
+{
+    let mut reader = Reader::new(bytes);
+    match reader.path() {
+        Ok(path) => Ok((path, bytes.len() - reader.left())),
+        Err(fault) => Err(fault),
+    }
+}
+
+/// The value of this path whose text these bytes begin with, and the length of its text: a data value
+/// at a key, and a node at a shorter path. Others may follow it.
+pub fn read_value(path: &Path, bytes: &[u8]) -> Result<(Value, usize), TextFault>
+    // Which value or fault it is.
+    ensures exact { result ≡ counted bytes.now (value_at short_keys path.now bytes.now) }
+    // What is read is spelled so, and of the path's kind.
+    ensures found { IfOk result (λ found. take found.1 bytes.now ≡ value_text short_keys found.0) }
+    ensures kind { IfOk result (λ found. IsOf short_keys path.now found.0) }
+    // What is spelled so is read, whatever follows.
+    ensures only { (value : Value) (rest : List ℕ) → IsOf short_keys path.now value
+        → bytes.now ≡ value_text short_keys value ++ rest
+        → result ≡ Ok (value, length (value_text short_keys value)) }
+{
+    let mut reader = Reader::new(bytes);
+    match reader.value(path) {
+        Ok(value) => Ok((value, bytes.len() - reader.left())),
+        Err(fault) => Err(fault),
+    }
+}
+
+/// The element whose text these bytes begin with, and the length of its text. Others may follow it.
+pub fn read_element(bytes: &[u8]) -> Result<(Element, usize), TextFault>
+    // Which element or fault it is.
+    ensures exact { result ≡ counted bytes.now (element_at short_keys bytes.now) }
+    // What is read is spelled so, and its value is of its path's kind.
+    ensures found { IfOk result (λ found. take found.1 bytes.now ≡ element_text short_keys found.0) }
+    ensures kind { IfOk result (λ found. IsElement short_keys found.0) }
+    // What is spelled so is read, whatever follows.
+    ensures only { (element : Element) (rest : List ℕ) → IsElement short_keys element
+        → bytes.now ≡ element_text short_keys element ++ rest
+        → result ≡ Ok (element, length (element_text short_keys element)) }
+{
+    let mut reader = Reader::new(bytes);
+    match reader.element() {
+        Ok(element) => Ok((element, bytes.len() - reader.left())),
+        Err(fault) => Err(fault),
+    }
+}

@@ -1,0 +1,163 @@
+ghost use Rattle.std.specs.Prelude.{◌≡◌, ◌+◌, ◌≤◌, ◌∷◌, [], ◌++◌, length, Option, Some, None};
+ghost use Rattle.std.specs.Int.{w16, w32, w64, to_be_bytes};
+ghost use Rattle.arrayvec.specs.ArrayVec.{array_vec_len};
+ghost use Rattle.record_text.specs.Format.{short_keys};
+ghost use Rattle.record_text.specs.Texts.{path_text, blob_text, deferred_tag, pointer_text, value_text, stamp_text, element_text};
+
+use crate::element::Element;
+use crate::value::{Blob, Pointer, Value};
+use arrayvec::ArrayVec;
+use lamport_clocks::Stamp;
+use tree_keys::Path;
+
+/// How many bytes the text of a path has.
+pub const PATH_TEXT_LEN: usize = 9;
+
+/// The most bytes of a value's text: a node with two pointers.
+pub const LONGEST_VALUE_TEXT: usize = 84;
+
+/// The most bytes of an element's text.
+pub const LONGEST_ELEMENT_TEXT: usize = 103;
+
+/// The text of a path.
+pub fn path_text(path: &Path) -> ArrayVec<u8, 9>
+    ensures text { result.items ≡ path_text short_keys path.now }
+{
+    let mut text = ArrayVec::new();
+    push_path(&mut text, path);
+    text
+}
+
+/// The text of a value.
+pub fn value_text(value: &Value) -> ArrayVec<u8, 84>
+    ensures text { result.items ≡ value_text short_keys value.now }
+{
+    let mut text = ArrayVec::new();
+    push_value(&mut text, value);
+    text
+}
+
+/// The text of an element.
+pub fn element_text(element: &Element) -> ArrayVec<u8, 103>
+    ensures text { result.items ≡ element_text short_keys element.now }
+{
+    let mut text = ArrayVec::new();
+    push_path(&mut text, &element.path);
+    push_value(&mut text, &element.value);
+    push_stamp(&mut text, element.stamp);
+    push_u16(&mut text, element.verifier);
+    text
+}
+
+/// Appends the text of a path, of 9 bytes.
+pub fn push_path<const CAP: usize>(items: &mut ArrayVec<u8, CAP>, path: &Path)
+    requires room { array_vec_len items.old + PATH_TEXT_LEN ≤ CAP }
+    ensures text { items.new.items ≡ items.old.items ++ path_text short_keys path.now }
+    ensures len { array_vec_len items.new ≡ array_vec_len items.old + PATH_TEXT_LEN }
+{
+    items.push(path.len());
+    push_u64(items, path.word());
+}
+
+/// Appends the text of a value, of at most 84 bytes.
+pub fn push_value<const CAP: usize>(items: &mut ArrayVec<u8, CAP>, value: &Value)
+    requires room { array_vec_len items.old + LONGEST_VALUE_TEXT ≤ CAP }
+    ensures text { items.new.items ≡ items.old.items ++ value_text short_keys value.now }
+    ensures len { array_vec_len items.new ≤ array_vec_len items.old + LONGEST_VALUE_TEXT }
+{
+    match value {
+        Value::Blob(blob) => push_blob(items, blob),
+        Value::Node(node) => {
+            push_pointer(items, &node.side0);
+            push_pointer(items, &node.side1);
+        }
+    }
+}
+
+/// Appends the text of a stamp, of 8 bytes.
+pub fn push_stamp<const CAP: usize>(items: &mut ArrayVec<u8, CAP>, stamp: Stamp)
+    requires room { array_vec_len items.old + 8 ≤ CAP }
+    ensures text { items.new.items ≡ items.old.items ++ stamp_text stamp }
+    ensures len { array_vec_len items.new ≡ array_vec_len items.old + 8 }
+{
+    push_u32(items, stamp.epoch);
+    push_u32(items, stamp.counter);
+}
+
+/// Appends a number of two bytes.
+pub fn push_u16<const CAP: usize>(items: &mut ArrayVec<u8, CAP>, number: u16)
+    requires room { array_vec_len items.old + 2 ≤ CAP }
+    ensures text { items.new.items ≡ items.old.items ++ to_be_bytes w16 number }
+    ensures len { array_vec_len items.new ≡ array_vec_len items.old + 2 }
+{
+    push_all(items, &number.to_be_bytes());
+}
+
+/// Appends a number of four bytes.
+pub fn push_u32<const CAP: usize>(items: &mut ArrayVec<u8, CAP>, number: u32)
+    requires room { array_vec_len items.old + 4 ≤ CAP }
+    ensures text { items.new.items ≡ items.old.items ++ to_be_bytes w32 number }
+    ensures len { array_vec_len items.new ≡ array_vec_len items.old + 4 }
+{
+    push_all(items, &number.to_be_bytes());
+}
+
+// Appends a number of eight bytes.
+fn push_u64<const CAP: usize>(items: &mut ArrayVec<u8, CAP>, number: u64)
+    requires room { array_vec_len items.old + 8 ≤ CAP }
+    ensures text { items.new.items ≡ items.old.items ++ to_be_bytes w64 number }
+    ensures len { array_vec_len items.new ≡ array_vec_len items.old + 8 }
+{
+    push_all(items, &number.to_be_bytes());
+}
+
+// Appends the text of a data value, of at most 66 bytes.
+fn push_blob<const CAP: usize>(items: &mut ArrayVec<u8, CAP>, blob: &Blob)
+    requires room { array_vec_len items.old + 66 ≤ CAP }
+    ensures text { items.new.items ≡ items.old.items ++ blob_text blob.now }
+    ensures len { array_vec_len items.new ≤ array_vec_len items.old + 66 }
+{
+    match blob.bytes() {
+        None => items.push(0),
+        Some(bytes) => {
+            items.push(1);
+            items.push(bytes.len() as u8);
+            push_all(items, bytes);
+        }
+    }
+}
+
+// Appends the text of a side's pointer, of at most 42 bytes.
+fn push_pointer<const CAP: usize>(items: &mut ArrayVec<u8, CAP>, pointer: &Option<Pointer>)
+    requires room { array_vec_len items.old + 42 ≤ CAP }
+    ensures text { items.new.items ≡ items.old.items ++ pointer_text short_keys pointer.now }
+    ensures len { array_vec_len items.new ≤ array_vec_len items.old + 42 }
+{
+    match pointer {
+        None => items.push(0),
+        Some(pointer) => {
+            items.push(deferred_tag(pointer.deferred));
+            push_path(items, &pointer.path);
+            push_all(items, &pointer.digest);
+        }
+    }
+}
+
+// The tag of a pointer that isn't empty.
+fn deferred_tag(deferred: bool) -> u8
+    ensures value { result ≡ deferred_tag deferred }
+{
+    if deferred { 2 } else { 1 }
+}
+
+// Appends bytes that there is room for.
+fn push_all<const CAP: usize>(items: &mut ArrayVec<u8, CAP>, bytes: &[u8])
+    requires room { array_vec_len items.old + length bytes.now ≤ CAP }
+    ensures text { items.new.items ≡ items.old.items ++ bytes.now }
+    ensures len { array_vec_len items.new ≡ array_vec_len items.old + length bytes.now }
+{
+    match items.try_extend_from_slice(bytes) {
+        Ok(()) => {}
+        Err(_) => unreachable!(),
+    }
+}

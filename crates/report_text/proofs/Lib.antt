@@ -1,0 +1,2 @@
+-- Texts that are added one after another.
+pub mod Pushes

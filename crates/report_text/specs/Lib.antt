@@ -1,0 +1,4 @@
+-- What the clauses on reports cite, in reading order.
+pub mod Lines
+pub mod Status
+pub mod Page

@@ -1,0 +1,59 @@
+-- How a run of the program ends: the number and the text of each status.
+use Rattle.std.specs.Prelude.{ℕ, List, [], ◌∷◌, ◌++◌, codes}
+use Rattle.std.specs.Fmt.{decimal}
+use Rattle.record_text.specs.Refusal.{refusal_name}
+use Rattle.record_text.specs.declared.refusal.Refusal.{Refusal}
+use Rattle.report_text.specs.declared.status.Status.{Status}
+use Rattle.report_text.specs.declared.status.Status.TheVariants.{Done, Usage, Memory, ReadFault, WriteFault, VaultFault, BadBundle, Refused, Unbalanced, ClockEnd, NotTagged, NotCertified, Exhibit, InputLimit}
+use Rattle.report_text.specs.Lines.{stamp_words, line_end}
+
+-- the exit status of the program
+abbrev pub status_number : Status → ℕ
+status_number (Done epochs) = 0
+status_number Usage = 1
+status_number Memory = 2
+status_number ReadFault = 3
+status_number WriteFault = 4
+status_number VaultFault = 5
+status_number (BadBundle offset) = 7
+status_number (Refused verifier index refusal) = 8
+status_number (Unbalanced epoch added evicted) = 9
+status_number (ClockEnd worker at) = 10
+status_number NotTagged = 11
+status_number NotCertified = 12
+status_number Exhibit = 13
+status_number (InputLimit taken) = 14
+
+-- which command of which log is refused, and why
+abbrev pub refused_words : ℕ → ℕ → Refusal → List ℕ
+refused_words verifier index refusal =
+    codes "refused v" ++ decimal verifier ++ codes " command " ++ decimal index ++ codes " " ++ refusal_name refusal
+
+-- how many elements were added and evicted, where these differ
+abbrev pub count_words : ℕ → ℕ → List ℕ
+count_words added evicted = codes " unbalanced added " ++ decimal added ++ codes " evicted " ++ decimal evicted
+
+-- which epoch is unbalanced, and how many elements were added and evicted
+abbrev pub unbalanced_words : ℕ → ℕ → ℕ → List ℕ
+unbalanced_words epoch added evicted = codes "epoch " ++ decimal epoch ++ count_words added evicted
+
+-- what a status says; `done` and the number of certified epochs where the whole job is done
+abbrev pub status_words : Status → List ℕ
+status_words (Done epochs) = codes "done " ++ decimal epochs
+status_words Usage = codes "usage"
+status_words Memory = codes "memory"
+status_words ReadFault = codes "read fault"
+status_words WriteFault = codes "write fault"
+status_words VaultFault = codes "vault fault"
+status_words (BadBundle offset) = codes "bad bundle at byte " ++ decimal offset
+status_words (Refused verifier index refusal) = refused_words verifier index refusal
+status_words (Unbalanced epoch added evicted) = unbalanced_words epoch added.count evicted.count
+status_words (ClockEnd worker at) = codes "clock end worker " ++ decimal worker ++ codes " at " ++ stamp_words at
+status_words NotTagged = codes "not tagged"
+status_words NotCertified = codes "not certified"
+status_words Exhibit = codes "exhibit"
+status_words (InputLimit taken) = codes "input limit"
+
+-- the last line of a report
+abbrev pub last_line : Status → List ℕ
+last_line status = status_words status ++ line_end

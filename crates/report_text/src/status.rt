@@ -1,0 +1,157 @@
+ghost use Rattle.std.specs.Prelude.{◌≡◌, ◌+◌, ◌≤◌, ◌++◌, codes};
+ghost use Rattle.std.specs.Fmt.{decimal};
+ghost use Rattle.arrayvec.specs.ArrayVec.{array_vec_len};
+ghost use Rattle.report_text.specs.Status.{refused_words, unbalanced_words, count_words};
+
+use crate::digits::{push_decimal, push_text};
+use crate::lines::push_stamp;
+use arrayvec::ArrayVec;
+use lamport_clocks::Stamp;
+use multiset_sum::Sum;
+use record_text::Refusal;
+
+/// How a run of the program ends.
+#[derive(Clone, Copy, Debug, PartialEq, Eq)]
+pub enum Status {
+    /// The whole job is done, with so many certified epochs.
+    Done(u64),
+    /// The words are refused.
+    Usage,
+    /// Want of memory.
+    Memory,
+    /// The source failed.
+    ReadFault,
+    /// The sink failed.
+    WriteFault,
+    /// The vault failed.
+    VaultFault,
+    /// The bytes at this offset are no whole valid header or frame.
+    BadBundle(u64),
+    /// A verifier's log is refused at this command, counted from 0.
+    Refused(u16, u64, Refusal),
+    /// The sums of an epoch that every verifier sealed differ: those of what was added and evicted.
+    Unbalanced(u32, Sum, Sum),
+    /// A worker's clock came to its end, where it stood.
+    ClockEnd(u16, Stamp),
+    /// A tag isn't that of its text.
+    NotTagged,
+    /// The epoch isn't among those that are certified.
+    NotCertified,
+    /// The answers are not serial, and the exhibit shows why.
+    Exhibit,
+    /// The source gave more than this many bytes.
+    InputLimit(u64),
+}
+
+impl Status {
+    ghost use Rattle.report_text.specs.Status.{status_number, status_words};
+
+    /// The text of the status, without an end of line. `Done` says how many epochs are certified.
+    pub fn line(&self) -> ArrayVec<u8, 224>
+        ensures text { result.items ≡ status_words self.now }
+        ensures short { array_vec_len result ≤ 200 }
+    {
+        let mut line = ArrayVec::new();
+        match self {
+            Status::Done(epochs) => {
+                push_text(&mut line, b"done ");
+                push_decimal(&mut line, *epochs);
+            }
+            Status::Usage => push_text(&mut line, b"usage"),
+            Status::Memory => push_text(&mut line, b"memory"),
+            Status::ReadFault => push_text(&mut line, b"read fault"),
+            Status::WriteFault => push_text(&mut line, b"write fault"),
+            Status::VaultFault => push_text(&mut line, b"vault fault"),
+            Status::BadBundle(offset) => {
+                push_text(&mut line, b"bad bundle at byte ");
+                push_decimal(&mut line, *offset);
+            }
+            Status::Refused(verifier, index, refusal) => {
+                push_refused(&mut line, *verifier, *index, *refusal);
+            }
+            Status::Unbalanced(epoch, added, evicted) => {
+                push_unbalanced(&mut line, *epoch, added.count(), evicted.count());
+            }
+            Status::ClockEnd(worker, at) => {
+                push_text(&mut line, b"clock end worker ");
+                push_decimal(&mut line, u64::from(*worker));
+                push_text(&mut line, b" at ");
+                push_stamp(&mut line, at);
+            }
+            Status::NotTagged => push_text(&mut line, b"not tagged"),
+            Status::NotCertified => push_text(&mut line, b"not certified"),
+            Status::Exhibit => push_text(&mut line, b"exhibit"),
+            Status::InputLimit(_) => push_text(&mut line, b"input limit"),
+        }
+        line
+    }
+
+    /// The exit status of the program.
+    pub fn number(&self) -> u8
+        ensures value { result ≡ status_number self.now }
+    {
+        match self {
+            Status::Done(_) => 0,
+            Status::Usage => 1,
+            Status::Memory => 2,
+            Status::ReadFault => 3,
+            Status::WriteFault => 4,
+            Status::VaultFault => 5,
+            Status::BadBundle(_) => 7,
+            Status::Refused(_, _, _) => 8,
+            Status::Unbalanced(_, _, _) => 9,
+            Status::ClockEnd(_, _) => 10,
+            Status::NotTagged => 11,
+            Status::NotCertified => 12,
+            Status::Exhibit => 13,
+            Status::InputLimit(_) => 14,
+        }
+    }
+}
+
+// Adds which command of which log is refused, and why.
+fn push_refused<const ROOM: usize>(
+    line: &mut ArrayVec<u8, ROOM>,
+    verifier: u16,
+    index: u64,
+    refusal: Refusal,
+)
+    requires room { array_vec_len line.old + 80 ≤ ROOM }
+    ensures appended { line.new.items ≡ line.old.items ++ refused_words verifier index refusal }
+    ensures short { array_vec_len line.new ≤ array_vec_len line.old + 80 }
+{
+    push_text(line, b"refused v");
+    push_decimal(line, u64::from(verifier));
+    push_text(line, b" command ");
+    push_decimal(line, index);
+    push_text(line, b" ");
+    push_text(line, refusal.name().as_bytes());
+}
+
+// Adds which epoch is unbalanced, and how many elements were added and evicted.
+fn push_unbalanced<const ROOM: usize>(
+    line: &mut ArrayVec<u8, ROOM>,
+    epoch: u32,
+    added: u64,
+    evicted: u64,
+)
+    requires room { array_vec_len line.old + 100 ≤ ROOM }
+    ensures appended { line.new.items ≡ line.old.items ++ unbalanced_words epoch added evicted }
+    ensures short { array_vec_len line.new ≤ array_vec_len line.old + 100 }
+{
+    push_text(line, b"epoch ");
+    push_decimal(line, u64::from(epoch));
+    push_counts(line, added, evicted);
+}
+
+// Adds how many elements were added and evicted.
+fn push_counts<const ROOM: usize>(line: &mut ArrayVec<u8, ROOM>, added: u64, evicted: u64)
+    requires room { array_vec_len line.old + 70 ≤ ROOM }
+    ensures appended { line.new.items ≡ line.old.items ++ count_words added evicted }
+    ensures short { array_vec_len line.new ≤ array_vec_len line.old + 70 }
+{
+    push_text(line, b" unbalanced added ");
+    push_decimal(line, added);
+    push_text(line, b" evicted ");
+    push_decimal(line, evicted);
+}

@@ -1,0 +1,2 @@
+-- Lemmas on the entries of a cache.
+pub mod EntriesLemmas

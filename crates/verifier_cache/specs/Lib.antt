@@ -1,0 +1,5 @@
+-- What the clauses on caches cite, in reading order.
+pub mod Entry
+pub mod Cache
+pub mod LendsValue
+pub use Rattle.record_text.specs

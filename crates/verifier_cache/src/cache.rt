@@ -1,0 +1,202 @@
+ghost use Rattle.std.specs.Prelude.{◌≡◌, ℕ, ◌+◌, ◌<◌, ◌≤◌, ◌==◌, ◌↔◌, nat_le, Bool, List, [], ◌∷◌, ◌++◌, length, Some, None, IsTrue, IsSome, IsNone, IfSome, IfNone, IfOk};
+ghost use Rattle.std.specs.Option.{option_map, option_copied};
+ghost use Rattle.std.specs.Borrow.{sem};
+ghost use Rattle.verifier_cache.specs.LendsValue.{LendsValue};
+ghost use Rattle.verifier_cache.specs.Entry.{kid_of, set_kid, new_entry};
+ghost use Rattle.verifier_cache.specs.Cache.{Held, IsHeld, entry_of, without, changed, replaced, AreDistinct, IsPlaceOf};
+
+use crate::entry::{Entry, Hold};
+use record_text::Value;
+use std::alloc::{AllocError, Global};
+use std::marker::Model;
+use tree_keys::Path;
+
+/// The records that a verifier holds at one time: no path twice, and no more than there is room for.
+#[derive(Debug, Drop)]
+pub struct Cache {
+    entries: Vec<Entry>,
+    room: u32,
+}
+
+impl Model for Cache {
+    ghost use Rattle.std.specs.Prelude.{◌≤◌, vec_capacity};
+    ghost use Rattle.verifier_cache.specs.Cache.{Held, IsHeld};
+
+    ghost Value = { Held };
+
+    ghost view = { λ c. record { entries = c.entries.items; room = c.room } };
+
+    ghost invariant = { λ c. IsHeld (record { entries = c.entries.items; room = c.room })
+        × (c.room ≤ vec_capacity c.entries) };
+}
+
+impl Cache {
+    /// A cache that holds nothing, with room for so many entries. It takes all of its memory here.
+    pub fn new(alloc: Global, room: u32) -> Result<Self, AllocError>
+        ensures empty { IfOk result (λ cache. cache.entries ≡ []) }
+        ensures room { IfOk result (λ cache. cache.room ≡ room) }
+    {
+        let entries = Vec::with_capacity(alloc, room as usize)?;
+        Ok(Cache { entries, room })
+    }
+
+    /// The number of entries.
+    pub fn len(&self) -> usize
+        ensures value { result ≡ length self.now.entries }
+        ensures held { IsHeld self.now }
+    {
+        self.entries.len()
+    }
+
+    /// Whether it holds nothing.
+    pub fn is_empty(&self) -> bool
+        ensures value { IsTrue result ↔ (self.now.entries ≡ []) }
+    {
+        self.entries.is_empty()
+    }
+
+    /// The most entries that it may hold.
+    pub fn room(&self) -> u32
+        ensures value { result ≡ self.now.room }
+    {
+        self.room
+    }
+
+    /// Whether there is no room for another entry.
+    pub fn is_full(&self) -> bool
+        ensures value { result ≡ nat_le self.now.room (length self.now.entries) }
+        ensures held { IsHeld self.now }
+    {
+        self.entries.len() >= self.room as usize
+    }
+
+    /// The value of a path, if it is there.
+    pub fn find(&self, k: &Path) -> Option<&Value>
+        ensures value { option_copied result
+            ≡ option_map (λ entry. entry.value) (entry_of k.now self.now.entries) }
+    {
+        match self.entry(k) {
+            Some(entry) => Some(&entry.value),
+            None => None,
+        }
+    }
+
+    /// The entry of a path, if it is there.
+    pub fn entry(&self, k: &Path) -> Option<&Entry>
+        ensures value { option_copied result ≡ entry_of k.now self.now.entries }
+        ensures path { IfSome result (λ entry. entry.now.path ≡ k.now) }
+    {
+        match position(&self.entries, k) {
+            Some(index) => Some(&self.entries[index]),
+            None => None,
+        }
+    }
+
+    /// How the record of a path came in.
+    pub fn hold(&self, k: &Path) -> Hold
+        requires there { IsSome (entry_of k.now self.now.entries) }
+        ensures value { IfSome (entry_of k.now self.now.entries) (λ entry. result ≡ entry.hold) }
+    {
+        self.entry(k).unwrap().hold
+    }
+
+    /// The kid bit of a path's side.
+    pub fn kid(&self, k: &Path, side: bool) -> bool
+        requires there { IsSome (entry_of k.now self.now.entries) }
+        ensures value { IfSome (entry_of k.now self.now.entries)
+            (λ entry. result ≡ kid_of entry side) }
+    {
+        self.entry(k).unwrap().kid(side)
+    }
+
+    /// Takes in a record, with no child under it.
+    pub fn insert(&mut self, k: Path, v: Value, hold: Hold)
+        requires room { length self.old.entries < self.old.room }
+        requires absent { IsNone (entry_of k self.old.entries) }
+        ensures entries { self.new.entries ≡ self.old.entries ++ new_entry k v hold ∷ [] }
+        ensures room { self.new.room ≡ self.old.room }
+    {
+        self.insert_entry(Entry::new(k, v, hold));
+    }
+
+    /// Takes in an entry, behind the others.
+    pub fn insert_entry(&mut self, entry: Entry)
+        requires room { length self.old.entries < self.old.room }
+        requires absent { IsNone (entry_of entry.path self.old.entries) }
+        ensures entries { self.new.entries ≡ self.old.entries ++ entry ∷ [] }
+        ensures room { self.new.room ≡ self.old.room }
+    {
+        self.entries.push_reserved(entry);
+    }
+
+    /// Takes the entry of a path out, and returns its value. The others stay in their order.
+    pub fn remove(&mut self, k: &Path) -> Value
+        requires there { IsSome (entry_of k.now self.old.entries) }
+        ensures value { IfSome (entry_of k.now self.old.entries) (λ entry. result ≡ entry.value) }
+        ensures entries { self.new.entries ≡ without k.now self.old.entries }
+        ensures room { self.new.room ≡ self.old.room }
+    {
+        let index = place(&self.entries, k);
+        let entry = self.entries.remove(index);
+        entry.value
+    }
+
+    /// Puts an entry in the place of the one of its path.
+    pub fn replace(&mut self, entry: Entry)
+        requires there { IsSome (entry_of entry.path self.old.entries) }
+        ensures entries { self.new.entries ≡ replaced entry self.old.entries }
+        ensures room { self.new.room ≡ self.old.room }
+
+        // No path comes in.
+        ensures len { length self.new.entries ≡ length self.old.entries }
+        ensures absent { (k : List Bool) → IsNone (entry_of k self.old.entries)
+            → IsNone (entry_of k self.new.entries) }
+    {
+        let index = place(&self.entries, &entry.path);
+        self.entries[index] = entry;
+    }
+
+    /// The value of a path, to be written.
+    pub fn value_mut(&mut self, k: &Path) -> &mut Value
+        requires there { IsSome (entry_of k.now self.old.entries) }
+        ensures* writes_back { sem 𝓛 (LendsValue self.entry k.now result) }
+        ensures value { IfSome (entry_of k.now self.old.entries) (λ entry. result.now ≡ entry.value) }
+    {
+        let index = place(&self.entries, k);
+        let entry = &mut self.entries[index];
+        &mut entry.value
+    }
+
+    /// Sets or clears the kid bit of a path's side.
+    pub fn set_kid(&mut self, k: &Path, side: bool, on: bool)
+        requires there { IsSome (entry_of k.now self.old.entries) }
+        ensures entries { self.new.entries
+            ≡ changed k.now (λ entry. set_kid entry side on) self.old.entries }
+        ensures room { self.new.room ≡ self.old.room }
+    {
+        let index = place(&self.entries, k);
+        self.entries[index].set_kid(side, on);
+    }
+}
+
+// The index at which a path's entry stands. The search begins at the end, where the latest entries are,
+// which are the soonest to be used again.
+fn position(entries: &[Entry], k: &Path) -> Option<usize>
+    ensures found { IfSome result (IsPlaceOf k.now entries.now) }
+    ensures none { IfNone result (entry_of k.now entries.now ≡ None) }
+{
+    for i in (0..entries.len()).rev() {
+        if k.is_same(&entries[i].path) {
+            return Some(i);
+        }
+    }
+    None
+}
+
+// The index at which the entry of a path stands that is there.
+fn place(entries: &[Entry], k: &Path) -> usize
+    requires there { IsSome (entry_of k.now entries.now) }
+    ensures place { IsPlaceOf k.now entries.now result }
+{
+    position(entries, k).unwrap()
+}

@@ -1,0 +1,21 @@
+//! The bounded cache of a verifier: the records that stand in it, and how each came in.
+//!
+//! A contract sees a `Cache` as a list of entries, no path in two of them, and the most that it may hold;
+//! an entry is a record with its path, how it came in, and which of its children stand in the cache under
+//! it. All memory is taken when a cache is made. The crate stands on `tree_keys` and `record_text`. Begin
+//! with `Entry` in `entry.rt`, then `specs/Cache.antt` and `Cache` in `cache.rt`; `laws.rt` says what is
+//! found after an entry came in, went out or was changed.
+#![tactic(auto)]
+
+mod cache;
+mod entry;
+mod laws;
+#[cfg(test)]
+mod tests;
+
+pub use cache::Cache;
+pub use entry::{Entry, Hold};
+pub use laws::{
+    changing_keeps_the_others, entries_are_found_by_their_paths, inserting_adds_one_entry,
+    removing_takes_one_entry, replacing_changes_one_entry, setting_a_kid_bit_keeps_the_other,
+};

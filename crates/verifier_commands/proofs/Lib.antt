@@ -1,0 +1,6 @@
+-- Lemmas on the tests of the transition.
+pub mod SameLemmas
+pub mod KeyLemmas
+pub mod BelowLemmas
+pub mod CacheLemmas
+pub mod BoundLemmas

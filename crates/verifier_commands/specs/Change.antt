@@ -1,0 +1,22 @@
+-- What an accepted command did, by the entries before and after it.
+use Rattle.std.specs.Prelude.{ℕ, Option}
+use Rattle.record_text.specs.declared.element.Element.{Element}
+use Rattle.verifier_cache.specs.declared.entry.Entry.{Entry}
+
+pub data Change : Type 0 where
+  -- a child came in under its parent, by its digest: the parent before and after, and the child
+  joins : Entry → Entry → Entry → Change
+  -- a child left into its parent: the parent before and after, and the child
+  leaves : Entry → Entry → Entry → Change
+  -- a record came in with the element that it was evicted with
+  comes : Entry → Element → Change
+  -- a record went out with an element
+  goes : Entry → Element → Change
+  -- a child went out of its parent with an element: the parent before and after, the child, the element
+  defers : Entry → Entry → Entry → Element → Change
+  -- a value was read
+  reads : Entry → Change
+  -- a value was written: the entry before and after
+  writes : Entry → Entry → Change
+  -- the epoch turned, and this one is sealed, if any
+  turns : Option ℕ → Change

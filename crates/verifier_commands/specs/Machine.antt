@@ -1,0 +1,104 @@
+-- A verifier as a whole: its number, its state and sums, and how many commands it has accepted.
+use Rattle.std.specs.Prelude.{◌≡◌, ℕ, ◌+◌, ◌<◌, ◌≤◌, Bool, true, false, List, Option, Some, None, Result, Ok, Err}
+use Rattle.lamport_clocks.specs.declared.header.Header.{Header}
+use Rattle.lamport_clocks.specs.declared.header.TheConstants.{MOST_END}
+use Rattle.lamport_clocks.specs.Reading.{Reading}
+use Rattle.lamport_clocks.specs.declared.stamp.Stamp.{Stamp}
+use Rattle.lamport_clocks.specs.InOrder.{and_then}
+use Rattle.record_text.specs.declared.element.Operation.{Operation}
+use Rattle.record_text.specs.declared.refusal.Refusal.{Refusal}
+use Rattle.record_text.specs.Format.{short_keys}
+use Rattle.log_codec.specs.declared.command.Command.{Command}
+use Rattle.verifier_commands.specs.declared.state.State.{State}
+use Rattle.verifier_commands.specs.declared.sums.Sums.{Sums}
+use Rattle.verifier_commands.specs.declared.outcome.Outcome.{Outcome}
+use Rattle.verifier_commands.specs.declared.outcome.Outcome.TheVariants.{Moved, Added, Evicted, Got, Wrote, Turned}
+use Rattle.verifier_commands.specs.declared.effect.Effect.{Effect}
+use Rattle.verifier_commands.specs.declared.effect.Effect.TheVariants.{Plain, Did, Opened, Sealed}
+use Rattle.verifier_commands.specs.State.{opening}
+use Rattle.verifier_commands.specs.Transition.{Rules, transition}
+use Rattle.verifier_commands.specs.Outcome.{told}
+use Rattle.verifier_commands.specs.Sums.{zero_sums, sums_after}
+
+pub record Machine : Type 0 where
+  pub number : ℕ
+  pub verifiers : ℕ
+  pub state : State
+  pub sums : Sums
+  pub accepted : ℕ
+
+-- a verifier before its first command
+abbrev pub opening_machine : ℕ → Header → Machine
+opening_machine number header = record { number = number; verifiers = header.verifiers; state = opening number header; sums = zero_sums; accepted = 0 }
+
+-- an operation of this machine's next command, at this stamp
+abbrev pub operation_by : Machine → Stamp → Bool → ℕ → Option (List ℕ) → Operation
+operation_by machine at put key value = record {
+  stamp = at;
+  verifier = machine.number;
+  index = machine.accepted;
+  put = put;
+  key = key;
+  value = value;
+}
+
+-- what an outcome answers, where the clock then stands so: an operation, or the sums of a sealed epoch
+abbrev pub effect_of : Machine → Stamp → Outcome → Effect
+effect_of machine at Moved = Plain
+effect_of machine at (Added element) = Plain
+effect_of machine at (Evicted element) = Plain
+effect_of machine at (Got key value) = Did (operation_by machine at false key value)
+effect_of machine at (Wrote key value) = Did (operation_by machine at true key value)
+effect_of machine at (Turned None) = Opened
+effect_of machine at (Turned (Some epoch)) =
+    Sealed (record { verifier = machine.number; epoch = epoch; added = machine.sums.added_before; evicted = machine.sums.evicted_before })
+
+-- the machine after a command with this outcome that left this state
+abbrev pub machine_after : Rules → Machine → Outcome → State → Machine
+machine_after rules machine outcome state = record machine {
+  state = state;
+  sums = sums_after rules machine.state.clock.at.epoch machine.sums outcome;
+  accepted = machine.accepted + 1;
+}
+
+-- the answer and the machine after a step of its state
+abbrev pub concluded : Rules → Machine → Result (Outcome × State) Refusal → Result (Effect × Machine) Refusal
+concluded rules machine step =
+    and_then step (λ done. Ok (effect_of machine done.1.clock.at done.0, machine_after rules machine done.0 done.1))
+
+-- the rules for a verifier with these digests
+abbrev pub rules_for : (List ℕ → List ℕ) → (List ℕ → List ℕ) → Machine → Rules
+rules_for digest lanes machine =
+    record { format = short_keys; digest = digest; lanes = lanes; number = machine.number; verifiers = machine.verifiers }
+
+-- One command: its answer and the machine after it, or the first refusal.
+abbrev pub stepped : (List ℕ → List ℕ) → (List ℕ → List ℕ) → Machine → Command → Result (Effect × Machine) Refusal
+stepped digest lanes machine command =
+    concluded (rules_for digest lanes machine) machine (told (transition (rules_for digest lanes machine) machine.state command))
+
+-- ---- why no sum grows too large
+
+-- How the clock moves with an outcome: it stands, or its counter rises, or the counter begins again at 0.
+abbrev pub ClockMoves : Reading → Reading → Outcome → Type 0
+ClockMoves old new Moved = new ≡ old
+ClockMoves old new (Added element) = (new.end ≡ old.end) × (old.at.counter < new.at.counter)
+ClockMoves old new (Evicted element) = (new.end ≡ old.end) × (old.at.counter < new.at.counter)
+ClockMoves old new (Got key value) = new ≡ old
+ClockMoves old new (Wrote key value) = new ≡ old
+ClockMoves old new (Turned sealed) = (new.end ≡ old.end) × (new.at.counter ≡ 0)
+
+-- Each add and each evict raises the counter, which is bounded: so is the number of elements in each sum.
+pub record AreBounded (sums : Sums) (clock : Reading) : Type 0 where
+  pub end : clock.end ≤ MOST_END
+  pub counter : clock.at.counter ≤ clock.end
+  pub added : sums.added.count ≤ clock.at.counter
+  pub evicted : sums.evicted.count ≤ clock.at.counter
+  pub added_before : sums.added_before.count ≤ clock.end + clock.at.counter
+  pub evicted_before : sums.evicted_before.count ≤ clock.end
+
+-- one add more is counted, in one epoch or the other
+pub record CountsAdd (old new : Sums) : Type 0 where
+  pub added : new.added.count ≤ old.added.count + 1
+  pub added_before : new.added_before.count ≤ old.added_before.count + 1
+  pub evicted : new.evicted ≡ old.evicted
+  pub evicted_before : new.evicted_before ≡ old.evicted_before

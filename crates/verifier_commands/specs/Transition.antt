@@ -1,0 +1,153 @@
+-- The transition of one verifier: what each command does, or the first refusal. The tests stand in the one
+-- order in which they are made.
+use Rattle.std.specs.Prelude.{ℕ, ◌==◌, nat_lt, nat_le, Bool, true, false, not, ◌||◌, List, [], ◌∷◌, ◌++◌, length, Option, Some, None, is_some, Result, Ok, Err}
+use Rattle.lamport_clocks.specs.declared.stamp.Stamp.{Stamp}
+use Rattle.lamport_clocks.specs.declared.clock.ClockFault.{ClockFault}
+use Rattle.lamport_clocks.specs.declared.clock.ClockFault.TheVariants as faults
+use Rattle.lamport_clocks.specs.InOrder.{test, need, and_then}
+use Rattle.lamport_clocks.specs.Clock.{received, sent, turned}
+use Rattle.record_text.specs.declared.value.Value.{Value}
+use Rattle.record_text.specs.declared.element.Element.{Element}
+use Rattle.record_text.specs.declared.refusal.Refusal.{Refusal}
+use Rattle.record_text.specs.declared.refusal.Refusal.TheVariants as refusals
+use Rattle.record_text.specs.Format.{Format, path_bits}
+use Rattle.log_codec.specs.declared.command.Command.{Command}
+use Rattle.log_codec.specs.declared.command.Command.TheVariants.{AddM, EvictM, AddB, EvictB, EvictBM, Get, Put, NextEpoch}
+use Rattle.merkle_records.specs.Merkle.{Digest}
+use Rattle.verifier_cache.specs.declared.entry.Entry.{Entry}
+use Rattle.verifier_cache.specs.declared.entry.Hold.TheVariants.{B}
+use Rattle.verifier_cache.specs.Entry.{has_kid, new_entry}
+use Rattle.verifier_cache.specs.Cache.{entry_of, without, replaced}
+use Rattle.verifier_commands.specs.Same.{same_value}
+use Rattle.verifier_commands.specs.declared.state.State.{State}
+use Rattle.verifier_commands.specs.State.{with_entries, at_clock}
+use Rattle.verifier_commands.specs.Change.{Change, joins, leaves, comes, goes, defers, reads, writes, turns}
+use Rattle.verifier_commands.specs.Changes.{add_under, evict_under, defer_under, is_by_stamp}
+
+-- what was done and the state after it, or why nothing was
+abbrev pub Step : Type 0
+Step = Result (Change × State) Refusal
+
+abbrev pub is_root : List Bool → Bool
+is_root [] = true
+is_root (bit ∷ path) = false
+
+abbrev pub is_data : Format → List Bool → Bool
+is_data format path = length path == path_bits format
+
+abbrev pub is_full : State → Bool
+is_full state = nat_le state.cache.room (length state.cache.entries)
+
+-- a clock's fault as a refusal
+abbrev pub refusal_of : ClockFault → Refusal
+refusal_of faults.BadEpoch = refusals.BadEpoch
+refusal_of faults.StampNotLater = refusals.StampNotLater
+refusal_of faults.ClockEnd = refusals.ClockEnd
+
+-- what comes next at the clock's answer, or its fault as a refusal
+abbrev pub timed : {A X : Type 0} → Result A ClockFault → (A → Result X Refusal) → Result X Refusal
+timed (Ok answer) next = next answer
+timed (Err fault) next = Err (refusal_of fault)
+
+-- an entry as an element that this verifier evicts
+abbrev pub evicted_as : ℕ → Entry → Stamp → Element
+evicted_as number entry stamp = record { path = entry.path; value = entry.value; stamp = stamp; verifier = number }
+
+abbrev pub add_m : Format → Digest → State → List Bool → Value → List Bool → Step
+add_m format digest state path value parent =
+    test (is_root path) refusals.IsRoot
+    (test (is_some (entry_of path state.cache.entries)) refusals.AlreadyCached
+    (test (is_full state) refusals.CacheFull
+    (need (entry_of parent state.cache.entries) refusals.ParentNotCached
+    (λ holder. and_then (add_under format digest holder path value)
+    (λ family. Ok (
+      joins holder family.parent family.child,
+      with_entries state (replaced family.parent state.cache.entries ++ family.child ∷ []),
+    ))))))
+
+abbrev pub evict_m : Format → Digest → State → List Bool → List Bool → Step
+evict_m format digest state path parent =
+    test (is_root path) refusals.IsRoot
+    (need (entry_of path state.cache.entries) refusals.NotCached
+    (λ child. need (entry_of parent state.cache.entries) refusals.ParentNotCached
+    (λ holder. and_then (evict_under format digest holder child)
+    (λ after. Ok (
+      leaves holder after child,
+      with_entries state (without path (replaced after state.cache.entries)),
+    )))))
+
+abbrev pub add_b : ℕ → State → List Bool → Value → Stamp → ℕ → Step
+add_b verifiers state path value stamp verifier =
+    test (is_root path) refusals.IsRoot
+    (test (is_some (entry_of path state.cache.entries)) refusals.AlreadyCached
+    (test (is_full state) refusals.CacheFull
+    (test (nat_le verifiers verifier) refusals.NoSuchVerifier
+    (timed (received state.clock stamp)
+    (λ clock. Ok (
+      comes (new_entry path value B) (record { path = path; value = value; stamp = stamp; verifier = verifier }),
+      at_clock state (state.cache.entries ++ new_entry path value B ∷ []) clock,
+    ))))))
+
+abbrev pub evict_b : ℕ → State → List Bool → Stamp → Step
+evict_b number state path stamp =
+    test (is_root path) refusals.IsRoot
+    (need (entry_of path state.cache.entries) refusals.NotCached
+    (λ child. test (has_kid child) refusals.HasChild
+    (test (not (is_by_stamp child.hold)) refusals.WrongHold
+    (timed (sent state.clock stamp)
+    (λ clock. Ok (
+      goes child (evicted_as number child stamp),
+      at_clock state (without path state.cache.entries) clock,
+    ))))))
+
+abbrev pub evict_bm : ℕ → State → List Bool → List Bool → Stamp → Step
+evict_bm number state path parent stamp =
+    test (is_root path) refusals.IsRoot
+    (need (entry_of path state.cache.entries) refusals.NotCached
+    (λ child. need (entry_of parent state.cache.entries) refusals.ParentNotCached
+    (λ holder. and_then (defer_under holder child)
+    (λ after. timed (sent state.clock stamp)
+    (λ clock. Ok (
+      defers holder after child (evicted_as number child stamp),
+      at_clock state (without path (replaced after state.cache.entries)) clock,
+    ))))))
+
+abbrev pub get : Format → State → List Bool → Value → Step
+get format state path value =
+    need (entry_of path state.cache.entries) refusals.NotCached
+    (λ entry. test (not (is_data format path)) refusals.NotData
+    (test (not (same_value entry.value value)) refusals.WrongValue
+    (Ok (reads entry, state))))
+
+abbrev pub put : Format → State → List Bool → Value → Step
+put format state path value =
+    need (entry_of path state.cache.entries) refusals.NotCached
+    (λ entry. test (not (is_data format path)) refusals.NotData
+    (Ok (
+      writes entry (record entry { value = value }),
+      with_entries state (replaced (record entry { value = value }) state.cache.entries),
+    )))
+
+abbrev pub next_epoch : State → Step
+next_epoch state =
+    timed (turned state.clock)
+    (λ turn. Ok (turns turn.0, record state { clock = turn.1 }))
+
+-- What the transition of a verifier stands on: the format, the digest of a text and the lanes of an element,
+-- the verifier's number, and how many verifiers there are.
+pub record Rules : Type 0 where
+  pub format : Format
+  pub digest : Digest
+  pub lanes : List ℕ → List ℕ
+  pub number : ℕ
+  pub verifiers : ℕ
+
+abbrev pub transition : Rules → State → Command → Step
+transition rules state (AddM path value parent) = add_m rules.format rules.digest state path value parent
+transition rules state (EvictM path parent) = evict_m rules.format rules.digest state path parent
+transition rules state (AddB path value stamp verifier) = add_b rules.verifiers state path value stamp verifier
+transition rules state (EvictB path stamp) = evict_b rules.number state path stamp
+transition rules state (EvictBM path parent stamp) = evict_bm rules.number state path parent stamp
+transition rules state (Get path value) = get rules.format state path value
+transition rules state (Put path value) = put rules.format state path value
+transition rules state NextEpoch = next_epoch state

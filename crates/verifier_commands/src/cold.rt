@@ -1,0 +1,73 @@
+//! The commands that come and go by digests: the records that the sparse Merkle tree protects.
+ghost use Rattle.std.specs.Prelude.{◌≡◌, IfOk};
+ghost use Rattle.lamport_clocks.specs.Follows.{Follows};
+ghost use Rattle.record_text.specs.Format.{short_keys};
+ghost use Rattle.verifier_commands.specs.Transition.{add_m, evict_m};
+ghost use Rattle.verifier_commands.specs.Outcome.{told};
+ghost use Rattle.verifier_commands.specs.Machine.{ClockMoves};
+
+use crate::changes::{add_under, evict_under};
+use crate::outcome::Outcome;
+use crate::state::{State, is_root};
+use record_hash::Digests;
+use record_text::{Refusal, Value};
+use tree_keys::Path;
+
+impl State {
+    /// Adds a record under its parent, whose digest vouches for it.
+    pub(crate) fn add_m<D: Digests>(
+        &mut self,
+        d: &D,
+        path: &Path,
+        value: &Value,
+        parent: &Path,
+    ) -> Result<Outcome, Refusal>
+        ensures follows { Follows result self.old self.new
+            (told (add_m short_keys (D.text_digest d.now) self.old path.now value.now parent.now)) }
+        ensures clock { IfOk result (ClockMoves self.old.clock self.new.clock) }
+    {
+        if is_root(path) {
+            return Err(Refusal::IsRoot);
+        }
+        if self.cache.entry(path).is_some() {
+            return Err(Refusal::AlreadyCached);
+        }
+        if self.cache.is_full() {
+            return Err(Refusal::CacheFull);
+        }
+        let Some(holder) = self.cache.entry(parent) else {
+            return Err(Refusal::ParentNotCached);
+        };
+        let family = add_under(d, holder, path, value)?;
+        self.cache.replace(family.parent);
+        self.cache.insert_entry(family.child);
+        Ok(Outcome::Moved)
+    }
+
+    /// Evicts a record into its parent, which keeps its digest.
+    #[tactic(auto, using(crate::proofs::CacheLemmas::replaced_view))]
+    pub(crate) fn evict_m<D: Digests>(
+        &mut self,
+        d: &D,
+        path: &Path,
+        parent: &Path,
+    ) -> Result<Outcome, Refusal>
+        ensures follows { Follows result self.old self.new
+            (told (evict_m short_keys (D.text_digest d.now) self.old path.now parent.now)) }
+        ensures clock { IfOk result (ClockMoves self.old.clock self.new.clock) }
+    {
+        if is_root(path) {
+            return Err(Refusal::IsRoot);
+        }
+        let Some(child) = self.cache.entry(path) else {
+            return Err(Refusal::NotCached);
+        };
+        let Some(holder) = self.cache.entry(parent) else {
+            return Err(Refusal::ParentNotCached);
+        };
+        let after = evict_under(d, holder, child)?;
+        self.cache.replace(after);
+        let _ = self.cache.remove(path);
+        Ok(Outcome::Moved)
+    }
+}

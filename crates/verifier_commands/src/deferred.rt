@@ -1,0 +1,144 @@
+//! The commands that come and go with a stamp: their records are checked by the sums of an epoch.
+ghost use Rattle.std.specs.Prelude.{◌≡◌, ◌≢◌, IsSome, IfSome, IfOk};
+ghost use Rattle.lamport_clocks.specs.Follows.{Follows};
+ghost use Rattle.verifier_commands.specs.Transition.{add_b, evict_b, evict_bm};
+ghost use Rattle.verifier_cache.specs.Cache.{entry_of, without, replaced};
+ghost use Rattle.verifier_commands.specs.Changes.{is_by_stamp};
+ghost use Rattle.verifier_commands.specs.Outcome.{told};
+ghost use Rattle.verifier_commands.specs.Machine.{ClockMoves};
+
+use crate::changes::defer_under;
+use crate::outcome::Outcome;
+use crate::state::{State, is_root, refusal_of};
+use lamport_clocks::Stamp;
+use record_text::{Element, Refusal, Value};
+use tree_keys::Path;
+use verifier_cache::{Cache, Entry, Hold};
+
+impl State {
+    /// Takes back a record that some verifier evicted with this stamp.
+    pub(crate) fn add_b(
+        &mut self,
+        verifiers: u16,
+        path: &Path,
+        value: &Value,
+        stamp: Stamp,
+        verifier: u16,
+    ) -> Result<Outcome, Refusal>
+        ensures follows { Follows result self.old self.new (told (add_b verifiers self.old path.now value.now stamp verifier)) }
+        ensures clock { IfOk result (ClockMoves self.old.clock self.new.clock) }
+    {
+        if is_root(path) {
+            return Err(Refusal::IsRoot);
+        }
+        if self.cache.entry(path).is_some() {
+            return Err(Refusal::AlreadyCached);
+        }
+        if self.cache.is_full() {
+            return Err(Refusal::CacheFull);
+        }
+        if verifier >= verifiers {
+            return Err(Refusal::NoSuchVerifier);
+        }
+        if let Err(fault) = self.clock.on_add(stamp) {
+            return Err(refusal_of(fault));
+        }
+        self.cache.insert(*path, value.copy(), Hold::B);
+        Ok(Outcome::Added(Element {
+            path: *path,
+            value: value.copy(),
+            stamp,
+            verifier,
+        }))
+    }
+
+    /// Evicts a record with a stamp.
+    pub(crate) fn evict_b(
+        &mut self,
+        number: u16,
+        path: &Path,
+        stamp: Stamp,
+    ) -> Result<Outcome, Refusal>
+        ensures follows { Follows result self.old self.new (told (evict_b number self.old path.now stamp)) }
+        ensures clock { IfOk result (ClockMoves self.old.clock self.new.clock) }
+    {
+        if is_root(path) {
+            return Err(Refusal::IsRoot);
+        }
+        let Some(child) = self.cache.entry(path) else {
+            return Err(Refusal::NotCached);
+        };
+        if child.has_kid() {
+            return Err(Refusal::HasChild);
+        }
+        if !is_by_stamp(child.hold) {
+            return Err(Refusal::WrongHold);
+        }
+        if let Err(fault) = self.clock.on_evict(stamp) {
+            return Err(refusal_of(fault));
+        }
+        let value = self.cache.remove(path);
+        Ok(Outcome::Evicted(Element {
+            path: *path,
+            value,
+            stamp,
+            verifier: number,
+        }))
+    }
+
+    /// Evicts a record with a stamp, and marks its parent's pointer as deferred.
+    pub(crate) fn evict_bm(
+        &mut self,
+        number: u16,
+        path: &Path,
+        parent: &Path,
+        stamp: Stamp,
+    ) -> Result<Outcome, Refusal>
+        ensures follows { Follows result self.old self.new (told (evict_bm number self.old path.now parent.now stamp)) }
+        ensures clock { IfOk result (ClockMoves self.old.clock self.new.clock) }
+    {
+        if is_root(path) {
+            return Err(Refusal::IsRoot);
+        }
+        let Some(child) = self.cache.entry(path) else {
+            return Err(Refusal::NotCached);
+        };
+        let Some(holder) = self.cache.entry(parent) else {
+            return Err(Refusal::ParentNotCached);
+        };
+        let after = defer_under(holder, child)?;
+        if let Err(fault) = self.clock.on_evict(stamp) {
+            return Err(refusal_of(fault));
+        }
+        let value = take_out(&mut self.cache, path, after);
+        Ok(Outcome::Evicted(Element {
+            path: *path,
+            value,
+            stamp,
+            verifier: number,
+        }))
+    }
+}
+
+// Whether a record came in with a stamp.
+fn is_by_stamp(hold: Hold) -> bool
+    ensures value { result ≡ is_by_stamp hold }
+{
+    match hold {
+        Hold::B => true,
+        _ => false,
+    }
+}
+
+// Puts a parent in the place of its entry, and takes the record of another path out.
+#[tactic(auto, using(crate::proofs::CacheLemmas::replaced_view))]
+fn take_out(cache: &mut Cache, path: &Path, parent: Entry) -> Value
+    requires parent { IsSome (entry_of parent.path cache.old.entries) }
+    requires child { IsSome (entry_of path.now cache.old.entries) }
+    requires apart { path.now ≢ parent.path }
+    ensures value { IfSome (entry_of path.now cache.old.entries) (λ child. result ≡ child.value) }
+    ensures cache { cache.new ≡ record cache.old { entries = without path.now (replaced parent cache.old.entries) } }
+{
+    cache.replace(parent);
+    cache.remove(path)
+}

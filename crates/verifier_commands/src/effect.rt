@@ -1,0 +1,15 @@
+use multiset_sum::Part;
+use record_text::Operation;
+
+/// What an accepted command answers.
+#[derive(Clone, Debug, PartialEq, Eq, Drop)]
+pub enum Effect {
+    /// A record came or went.
+    Plain,
+    /// A get or a put.
+    Did(Operation),
+    /// The epoch turned, and none is sealed yet.
+    Opened,
+    /// The epoch turned, and the one before is sealed with these sums.
+    Sealed(Part),
+}

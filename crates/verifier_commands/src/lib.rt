@@ -1,0 +1,27 @@
+//! The verifier: it reads the commands of a host's log, and accepts those that keep its records right.
+//!
+//! What each command does, or why it is refused, is `transition` in `specs/Transition.antt`: tests in one
+//! order, over a state of cached entries and a clock. Beside it a verifier keeps sums of what it added and
+//! evicted in two epochs. The crate stands on `log_codec` for the commands, `merkle_records`,
+//! `verifier_cache`, `lamport_clocks` and `multiset_sum`. Begin with `Verifier::step` in `verifier.rt`.
+#![tactic(auto)]
+
+mod changes;
+mod cold;
+mod deferred;
+mod effect;
+mod outcome;
+mod records;
+mod state;
+mod sums;
+mod taking;
+mod verifier;
+
+pub use effect::Effect;
+pub use outcome::Outcome;
+pub use state::State;
+pub use sums::Sums;
+pub use verifier::Verifier;
+
+#[cfg(test)]
+mod tests;

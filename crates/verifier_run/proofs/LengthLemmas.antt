@@ -1,0 +1,197 @@
+-- No command that is cut has all of the bytes that the longest command has.
+use Rattle.std.proofs.Common.{◌≡◌, ℕ, ◌+◌, ◌<◌, ◌≤◌, ◌==◌, Bool, true, false, cond, ltb, List, [], ◌∷◌, ◌++◌, length, take, drop, Option, Some, None, Ok, Err, refl, ap, length-drop, arith}
+use Rattle.std.specs.Int.{w16, w32, from_be_bytes}
+use Rattle.std.specs.Prelude.{nat_le}
+use Rattle.std.proofs.lemmas.Bool.{ltb-true, leb-true}
+use Rattle.lamport_clocks.specs.declared.stamp.Stamp.{Stamp}
+use Rattle.record_text.specs.declared.reader.TextFault.TheVariants as faults
+use Rattle.record_text.specs.declared.value.Pointer.{Pointer}
+use Rattle.record_text.specs.declared.value.Node.{Node}
+use Rattle.record_text.specs.declared.value.Value.TheVariants as values
+use Rattle.record_text.specs.Format.{short_keys, path_bits}
+use Rattle.record_text.specs.Fields.{Parsed, field, ranged}
+use Rattle.record_text.specs.Reading.{first_byte, run_at, path_in, path_at, flag_in, count_in, blob_behind, blob_at, pointer_tag_in, path_below_in, path_below_at, pointer_behind, pointer_at, node_at, value_by, value_at, u16_at, u32_at, stamp_at}
+use Rattle.record_text.proofs.FieldLemmas.{field_ok, Ok-is}
+use Rattle.log_codec.specs.declared.command.Command.TheVariants.{AddM, EvictM, AddB, EvictB, EvictBM, Get, Put, NextEpoch}
+use Rattle.log_codec.specs.Command.{add_m_at, evict_m_at, add_b_at, evict_b_at, evict_bm_at, get_at, put_at, command_behind, command_at}
+use Rattle.log_codec.proofs.StepLemmas.{then_at, then_ok, two_at, three_at, four_at}
+
+-- A reader takes at most n bytes, and has fewer where they are cut.
+record Spans {A : Type 0} (n : ℕ) (read : List ℕ → Parsed A) : Type 0 where
+  pub takes : (bytes : List ℕ) (made : A) (rest : List ℕ) → read bytes ≡ Ok (made, rest) → length bytes ≤ n + length rest
+  pub cut : (bytes : List ℕ) → read bytes ≡ Err faults.Truncated → length bytes < n
+
+-- ---- how readers are made
+
+ranged_whole : {A : Type 0} (o : Option A) (left : List ℕ) → ranged o left ≡ Err faults.Truncated → ⊥
+ranged_whole None left e = absurd (cc)
+ranged_whole (Some x) left e = absurd (cc)
+
+guarded_cut : {A : Type 0} (short : Bool) (o : Option A) (left : List ℕ) → cond short (Err faults.Truncated) (ranged o left) ≡ Err faults.Truncated → short ≡ true
+guarded_cut true o left e = refl
+guarded_cut false o left e = absurd (ranged_whole o left e)
+
+Spans-field : {A : Type 0} (n : ℕ) (value : List ℕ → Option A) → Spans n (λ bytes. field n value bytes)
+Spans-field n value = record {
+  takes = λ bytes made rest e.
+      let f = field_ok n value bytes made rest e in
+      omega (arith, length-drop n bytes, ap (λ (left : List ℕ). length left) f.2);
+  cut = λ bytes e. ltb-true _ _ (guarded_cut (ltb (length bytes) n) (value (take n bytes)) (drop n bytes) e);
+}
+
+Spans-done : {A : Type 0} (n : ℕ) (made : A) → Spans n (λ bytes. Ok (made, bytes))
+Spans-done n made = record {
+  takes = λ bytes x rest e.
+      let same : bytes ≡ rest = ap (λ (found : _ × List ℕ). found.1) (Ok-is (made, bytes) (x, rest) e) in
+      omega (arith, ap (λ (left : List ℕ). length left) same);
+  cut = λ bytes e. absurd (cc);
+}
+
+Spans-malformed : {A : Type 0} (n : ℕ) → Spans {A = A} n (λ bytes. Err faults.Malformed)
+Spans-malformed n = record { takes = λ bytes made rest e. absurd (cc); cut = λ bytes e. absurd (cc) }
+
+then_cut : {A B : Type 0} (first : Parsed A) (second : A → List ℕ → Parsed B) (P : Type 0)
+    → (first ≡ Err faults.Truncated → P)
+    → ((a : A) (left : List ℕ) → first ≡ Ok (a, left) → second a left ≡ Err faults.Truncated → P)
+    → then_at first second ≡ Err faults.Truncated → P
+then_cut (Ok found) second P one two e = two found.0 found.1 refl e
+then_cut (Err faults.Malformed) second P one two e = absurd (cc)
+then_cut (Err faults.Truncated) second P one two e = one refl
+
+-- one reader after another, whose span may rest on what the first one found
+Spans-then_found : {A B : Type 0} (n m : ℕ) (first : List ℕ → Parsed A) (second : A → List ℕ → Parsed B) → Spans n first → ((a : A) (bytes left : List ℕ) → first bytes ≡ Ok (a, left) → Spans m (second a)) → Spans (n + m) (λ bytes. then_at (first bytes) second)
+Spans-then_found n m first second one two = record {
+  takes = λ bytes made rest e.
+      let t = then_ok (first bytes) second made rest e in
+      let begin = one.takes bytes t.0 t.1 t.2 in
+      let end = (two t.0 bytes t.1 t.2).takes t.1 made rest t.3 in
+      omega arith;
+  cut = λ bytes e.
+      then_cut (first bytes) second (length bytes < n + m)
+      (λ c. let short = one.cut bytes c in omega arith)
+      (λ a left is c.
+      let begin = one.takes bytes a left is in
+      let end = (two a bytes left is).cut left c in
+      omega arith) e;
+}
+
+Spans-then : {A B : Type 0} (n m : ℕ) (first : List ℕ → Parsed A) (second : A → List ℕ → Parsed B) → Spans n first → ((a : A) → Spans m (second a)) → Spans (n + m) (λ bytes. then_at (first bytes) second)
+Spans-then n m first second one two = Spans-then_found n m first second one (λ a bytes left is. two a)
+
+Spans-if : {A : Type 0} (n : ℕ) (test : Bool) (first second : List ℕ → Parsed A) → Spans n first → Spans n second → Spans n (λ bytes. cond test (first bytes) (second bytes))
+Spans-if n true first second one two = one
+Spans-if n false first second one two = two
+
+Spans-wider : {A : Type 0} (n m : ℕ) (read : List ℕ → Parsed A) → n ≤ m → Spans n read → Spans m read
+Spans-wider n m read le spans = record {
+  takes = λ bytes made rest e. let most = spans.takes bytes made rest e in omega arith;
+  cut = λ bytes e. let most = spans.cut bytes e in omega arith;
+}
+
+Spans-two : {A B C : Type 0} (n m : ℕ) (make : A → B → C) (first : List ℕ → Parsed A) (second : A → List ℕ → Parsed B) → Spans n first → ((a : A) → Spans m (second a)) → Spans (n + m) (λ bytes. two_at make first second bytes)
+Spans-two n m make first second one two =
+    Spans-then n m first (λ a left. then_at (second a left) (λ b rest. Ok (make a b, rest))) one
+    (λ a. Spans-wider (m + 0) m _ (omega arith) (Spans-then m 0 (second a) (λ b rest. Ok (make a b, rest)) (two a) (λ b. Spans-done 0 (make a b))))
+
+Spans-three : {A B C D : Type 0} (n m k : ℕ) (make : A → B → C → D) (first : List ℕ → Parsed A) (second : A → List ℕ → Parsed B) (third : List ℕ → Parsed C) → Spans n first → ((a : A) → Spans m (second a)) → Spans k third → Spans (n + (m + k)) (λ bytes. three_at make first second third bytes)
+Spans-three n m k make first second third one two three =
+    Spans-then n (m + k) first (λ a left. two_at (make a) (second a) (λ b. third) left) one
+    (λ a. Spans-two m k (make a) (second a) (λ b. third) (two a) (λ b. three))
+
+Spans-four : {A B C D E : Type 0} (n m k j : ℕ) (make : A → B → C → D → E) (first : List ℕ → Parsed A) (second : A → List ℕ → Parsed B) (third : List ℕ → Parsed C) (fourth : List ℕ → Parsed D) → Spans n first → ((a : A) → Spans m (second a)) → Spans k third → Spans j fourth → Spans (n + (m + (k + j))) (λ bytes. four_at make first second third fourth bytes)
+Spans-four n m k j make first second third fourth one two three four =
+    Spans-then n (m + (k + j)) first (λ a left. three_at (make a) (second a) (λ b. third) fourth left) one
+    (λ a. Spans-three m k j (make a) (second a) (λ b. third) fourth (two a) (λ b. three) four)
+
+-- ---- the fields
+
+Spans-path : Spans 9 (λ bytes. path_at short_keys bytes)
+unfolding path_at
+Spans-path = Spans-field 9 (path_in short_keys)
+
+Spans-path_below : (prefix : List Bool) → Spans 9 (λ bytes. path_below_at short_keys prefix bytes)
+unfolding path_below_at
+Spans-path_below prefix = Spans-field 9 (path_below_in short_keys prefix)
+
+Spans-u16 : Spans 2 (λ bytes. u16_at bytes)
+unfolding u16_at
+Spans-u16 = Spans-field 2 (λ run. Some (from_be_bytes w16 run))
+
+Spans-u32 : Spans 4 (λ bytes. u32_at bytes)
+unfolding u32_at
+Spans-u32 = Spans-field 4 (λ run. Some (from_be_bytes w32 run))
+
+Spans-stamp : Spans 8 (λ bytes. stamp_at bytes)
+unfolding stamp_at
+Spans-stamp =
+    let stamp : ℕ → ℕ → Stamp = λ epoch counter. record { epoch = epoch; counter = counter } in
+    Spans-two 4 4 stamp (λ bytes. u32_at bytes) (λ epoch bytes. u32_at bytes) Spans-u32 (λ epoch. Spans-u32)
+
+counted : (within : Bool) (n count : ℕ) → cond within (Some n) None ≡ Some count → (within ≡ true) × (n ≡ count)
+counted true n count e = (refl, cc)
+counted false n count e = absurd (cc)
+
+-- a count that was read is at most the longest
+count_within : (bytes : List ℕ) (count : ℕ) → count_in short_keys bytes ≡ Some count → count ≤ 64
+count_within bytes count e =
+    let is = counted (nat_le (first_byte bytes) 64) (first_byte bytes) count e in
+    let least : first_byte bytes ≤ 64 = leb-true _ _ is.0 in
+    omega (arith, is.1)
+
+Spans-blob_behind : (present : Bool) → Spans 65 (λ bytes. blob_behind short_keys present bytes)
+Spans-blob_behind false = Spans-done 65 None
+Spans-blob_behind true =
+    Spans-then_found 1 64 (λ bytes. field 1 (count_in short_keys) bytes) (λ count left. then_at (run_at count left) (λ text rest. Ok (Some text, rest))) (Spans-field 1 (count_in short_keys))
+    (λ count bytes left is.
+    let f = field_ok 1 (count_in short_keys) bytes count left is in
+    let most : count ≤ 64 = count_within (take 1 bytes) count f.1 in
+    Spans-wider (count + 0) 64 _ (omega arith) (Spans-then count 0 (λ bytes. run_at count bytes) (λ text rest. Ok (Some text, rest)) (Spans-field count (λ run. Some run)) (λ text. Spans-done 0 (Some text))))
+
+Spans-blob : Spans 66 (λ bytes. blob_at short_keys bytes)
+unfolding blob_at
+Spans-blob = Spans-then 1 65 (λ bytes. field 1 flag_in bytes) (λ present bytes. blob_behind short_keys present bytes) (Spans-field 1 flag_in) Spans-blob_behind
+
+Spans-pointer_behind : (prefix : List Bool) (tag : Option Bool) → Spans 41 (λ bytes. pointer_behind short_keys prefix tag bytes)
+Spans-pointer_behind prefix None = Spans-done 41 None
+Spans-pointer_behind prefix (Some deferred) =
+    let pointer : List Bool → List ℕ → Option Pointer = λ path digest. Some (record { path = path; digest = digest; deferred = deferred }) in
+    Spans-two 9 32 pointer (λ bytes. path_below_at short_keys prefix bytes) (λ path bytes. run_at 32 bytes) (Spans-path_below prefix) (λ path. Spans-field 32 (λ run. Some run))
+
+Spans-pointer : (prefix : List Bool) → Spans 42 (λ bytes. pointer_at short_keys prefix bytes)
+unfolding pointer_at
+Spans-pointer prefix = Spans-then 1 41 (λ bytes. field 1 pointer_tag_in bytes) (λ tag bytes. pointer_behind short_keys prefix tag bytes) (Spans-field 1 pointer_tag_in) (Spans-pointer_behind prefix)
+
+Spans-node : (path : List Bool) → Spans 84 (λ bytes. node_at short_keys path bytes)
+unfolding node_at
+Spans-node path =
+    let node : Option Pointer → Option Pointer → Node = λ side0 side1. record { side0 = side0; side1 = side1 } in
+    Spans-two 42 42 node (λ bytes. pointer_at short_keys (path ++ false ∷ []) bytes) (λ side0 bytes. pointer_at short_keys (path ++ true ∷ []) bytes)
+    (Spans-pointer (path ++ false ∷ [])) (λ side0. Spans-pointer (path ++ true ∷ []))
+
+Spans-value_by : (path : List Bool) (data_path : Bool) → Spans 84 (λ bytes. value_by short_keys path data_path bytes)
+Spans-value_by path true =
+    Spans-then 66 18 (λ bytes. blob_at short_keys bytes) (λ blob rest. Ok (values.Blob blob, rest)) Spans-blob (λ blob. Spans-done 18 (values.Blob blob))
+Spans-value_by path false =
+    Spans-then 84 0 (λ bytes. node_at short_keys path bytes) (λ node rest. Ok (values.Node node, rest)) (Spans-node path) (λ node. Spans-done 0 (values.Node node))
+
+Spans-value : (path : List Bool) → Spans 84 (λ bytes. value_at short_keys path bytes)
+Spans-value path = Spans-value_by path (length path == path_bits short_keys)
+
+-- ---- the commands
+
+Spans-behind : (tag : ℕ) → Spans 103 (λ bytes. command_behind short_keys tag bytes)
+Spans-behind tag =
+    Spans-if 103 (tag == 1) (λ bytes. add_m_at short_keys bytes) _ (Spans-wider 102 103 _ (omega arith) (Spans-three 9 84 9 AddM (path_at short_keys) (value_at short_keys) (path_at short_keys) Spans-path Spans-value Spans-path))
+    (Spans-if 103 (tag == 2) (λ bytes. evict_m_at short_keys bytes) _ (Spans-wider 18 103 _ (omega arith) (Spans-two 9 9 EvictM (path_at short_keys) (λ p. path_at short_keys) Spans-path (λ p. Spans-path)))
+    (Spans-if 103 (tag == 3) (λ bytes. add_b_at short_keys bytes) _ (Spans-four 9 84 8 2 AddB (path_at short_keys) (value_at short_keys) stamp_at u16_at Spans-path Spans-value Spans-stamp Spans-u16)
+    (Spans-if 103 (tag == 4) (λ bytes. evict_b_at short_keys bytes) _ (Spans-wider 17 103 _ (omega arith) (Spans-two 9 8 EvictB (path_at short_keys) (λ p. stamp_at) Spans-path (λ p. Spans-stamp)))
+    (Spans-if 103 (tag == 5) (λ bytes. evict_bm_at short_keys bytes) _ (Spans-wider 26 103 _ (omega arith) (Spans-three 9 9 8 EvictBM (path_at short_keys) (λ p. path_at short_keys) stamp_at Spans-path (λ p. Spans-path) Spans-stamp))
+    (Spans-if 103 (tag == 6) (λ bytes. get_at short_keys bytes) _ (Spans-wider 93 103 _ (omega arith) (Spans-two 9 84 Get (path_at short_keys) (value_at short_keys) Spans-path Spans-value))
+    (Spans-if 103 (tag == 7) (λ bytes. put_at short_keys bytes) _ (Spans-wider 93 103 _ (omega arith) (Spans-two 9 84 Put (path_at short_keys) (value_at short_keys) Spans-path Spans-value))
+    (Spans-if 103 (tag == 8) (λ bytes. Ok (NextEpoch, bytes)) (λ bytes. Err faults.Malformed) (Spans-done 103 NextEpoch) (Spans-malformed 103))))))))
+
+-- A command that is cut has fewer than 104 bytes.
+pub cut_is_short : (bytes : List ℕ) → command_at short_keys bytes ≡ Err faults.Truncated → length bytes < 104
+unfolding command_at
+cut_is_short bytes e =
+    (Spans-then 1 103 (λ bytes. field 1 (λ run. Some (first_byte run)) bytes) (λ tag left. command_behind short_keys tag left) (Spans-field 1 (λ run. Some (first_byte run))) Spans-behind).cut bytes e

@@ -1,0 +1,165 @@
+-- A piece behind the bytes of a command that is cut.
+use Rattle.std.proofs.Common.{◌≡◌, ℕ, ◌+◌, ◌-◌, ◌<◌, ◌≤◌, ◌==◌, Bool, false, List, [], ◌++◌, length, take, drop, Option, Some, None, Ok, Err, refl, sym, ap, subst, ◌∙◌, inl, inr, append-nil, length-append, take-append-drop, arith}
+use Rattle.std.specs.Prelude.{IfSome}
+use Rattle.std.proofs.lemmas.Bool.{cases_lt, eqb-false}
+use Rattle.std.proofs.lemmas.List.{take-append-le, take-take, length-take}
+use Rattle.std.proofs.Math.Seq.{take-add, take-append-add, take-append_seam, take-length}
+use Rattle.record_text.specs.declared.refusal.Refusal.{Refusal}
+use Rattle.record_text.specs.declared.refusal.Refusal.TheVariants as refusals
+use Rattle.record_text.specs.declared.reader.TextFault.TheVariants as faults
+use Rattle.record_text.specs.Format.{short_keys}
+use Rattle.record_text.proofs.FieldLemmas.{wide64}
+use Rattle.log_codec.specs.declared.command.Command.{Command}
+use Rattle.log_codec.specs.Command.{command_text, command_at, IsCommand}
+use Rattle.log_codec.proofs.CommandLemmas.{command_again}
+use Rattle.verifier_run.specs.Course.{Course, refuse, after_command}
+use Rattle.verifier_run.specs.Progress.{Progress, between_commands, progress_over, fed, weight, IsBetweenPieces}
+use Rattle.verifier_run.proofs.CourseLemmas.{fed-joined, fed-weight, over-refused, over-malformed, over-cut, over-text, over-between, between-commands}
+use Rattle.verifier_run.proofs.LengthLemmas.{cut_is_short}
+
+-- ---- nothing is held
+
+pub between-held : (course : Course) (held : List ℕ) → held ≡ [] → IsBetweenPieces (record { course = course; held = held })
+between-held course held none = subst (λ (held : List ℕ). IsBetweenPieces (record { course = course; held = held })) (sym none) (between-commands course)
+
+-- ---- what a run that is between two pieces knows
+
+none_refused : (refused : Option (ℕ × Refusal)) (held : List ℕ) → IfSome refused (λ at. held ≡ []) → 0 < length held → refused ≡ None
+none_refused None held idle some = refl
+none_refused (Some at) held idle some = absurd (omega (arith, ap (λ (held : List ℕ). length held) idle))
+
+-- what the test whether bytes are held tells
+pub some_held : (n : ℕ) (empty : Bool) → empty ≡ (n == 0) → empty ≡ false → 0 < n
+some_held n empty is e =
+    let more : (n == 0) ≡ false = sym is ∙ e in omega (arith, eqb-false _ _ more)
+
+-- while bytes are held, no command was refused
+pub none_refused_yet : (course : Course) (held : List ℕ) → IsBetweenPieces (record { course = course; held = held }) → 0 < length held → course.refused ≡ None
+none_refused_yet course held between some = none_refused course.refused held between.idle some
+
+pub held_is_short : (course : Course) (held : List ℕ) → IsBetweenPieces (record { course = course; held = held }) → length held < 104
+held_is_short course held between = cut_is_short held between.cut
+
+nothing_by : (digest lanes : List ℕ → List ℕ) (course : Course) (held : List ℕ) (refused : Option (ℕ × Refusal)) → course.refused ≡ refused → IsBetweenPieces (record { course = course; held = held }) → fed digest lanes (record { course = course; held = held }) [] ≡ record { course = course; held = held }
+nothing_by digest lanes course held None is between =
+    ap (progress_over digest lanes course) (append-nil held) ∙ over-cut digest lanes course held is between.cut
+nothing_by digest lanes course held (Some at) is between =
+    let none : held ≡ [] = subst (λ (refused : Option (ℕ × Refusal)). IfSome refused (λ at. held ≡ [])) is between.idle in
+    over-refused digest lanes course (held ++ []) at is
+    ∙ ap (λ (held : List ℕ). record { course = course; held = held }) (sym none)
+
+-- no bytes do nothing
+pub fed-nothing : (digest lanes : List ℕ → List ℕ) (course : Course) (held : List ℕ) → IsBetweenPieces (record { course = course; held = held }) → fed digest lanes (record { course = course; held = held }) [] ≡ record { course = course; held = held }
+fed-nothing digest lanes course held between = nothing_by digest lanes course held course.refused refl between
+
+-- ---- a piece that begins with a command
+
+pub left_is_short : (digest lanes : List ℕ → List ℕ) (course after : Course) (piece left : List ℕ) → progress_over digest lanes course piece ≡ record { course = after; held = left } → length left < 104
+left_is_short digest lanes course after piece left is = cut_is_short left (subst IsBetweenPieces is (over-between digest lanes course piece)).cut
+
+pub left_between : (digest lanes : List ℕ → List ℕ) (course after : Course) (piece left : List ℕ) → progress_over digest lanes course piece ≡ record { course = after; held = left } → IsBetweenPieces (record { course = after; held = left })
+left_between digest lanes course after piece left is = subst IsBetweenPieces is (over-between digest lanes course piece)
+
+-- behind no held bytes a piece is all that there is
+pub alone : (digest lanes : List ℕ → List ℕ) (course : Course) (held piece : List ℕ) → held ≡ [] → fed digest lanes (record { course = course; held = held }) piece ≡ progress_over digest lanes course piece
+alone digest lanes course held piece none = ap (λ (held : List ℕ). progress_over digest lanes course (held ++ piece)) none
+
+pub gone_on : (digest lanes : List ℕ → List ℕ) (course after : Course) (held piece left longer : List ℕ)
+    → held ≡ [] → progress_over digest lanes course piece ≡ record { course = after; held = left } → longer ≡ held ++ left
+    → record { course = after; held = longer } ≡ fed digest lanes (record { course = course; held = held }) piece
+gone_on digest lanes course after held piece left longer none is is_longer =
+    ap (λ (held : List ℕ). record { course = after; held = held }) (is_longer ∙ ap (λ (held : List ℕ). held ++ left) none)
+    ∙ (sym is ∙ sym (alone digest lanes course held piece none))
+
+-- ---- the rest of a command that was cut
+
+-- the text is longer than the held bytes, since these are cut
+pub longer_than_held : (held more : List ℕ) (command : Command) (len : ℕ) → command_at short_keys held ≡ Err faults.Truncated → IsCommand short_keys command → take len (held ++ more) ≡ command_text short_keys command → length held < len
+longer_than_held held more command len cut is spelled =
+    elim (cases_lt (length held) len) [
+      | inl longer ↦ longer
+      | inr short ↦
+          let front : take len held ≡ command_text short_keys command = sym (take-append-le len held more short) ∙ spelled in
+          let whole : held ≡ command_text short_keys command ++ drop len held = sym (take-append-drop len held) ∙ ap (λ (text : List ℕ). text ++ drop len held) front in
+          let found : command_at short_keys held ≡ Ok (command, drop len held) = ap (command_at short_keys) whole ∙ command_again short_keys wide64 command (drop len held) is in
+          absurd (cc)
+    ]
+
+pub completed : (digest lanes : List ℕ → List ℕ) (course after : Course) (held piece nothing : List ℕ) (room len : ℕ) (command : Command)
+    → course.refused ≡ None → IsCommand short_keys command → take len (held ++ take room piece) ≡ command_text short_keys command
+    → length held < len → len ≤ length held + room → after ≡ after_command digest lanes course command → nothing ≡ []
+    → record { course = after; held = nothing } ≡ fed digest lanes (record { course = course; held = held }) (take (len - length held) piece)
+completed digest lanes course after held piece nothing room len command none is spelled longer within is_after empty =
+    let sum : len ≡ length held + (len - length held) = omega arith in
+    let joined : command_text short_keys command ≡ held ++ take (len - length held) piece =
+    sym spelled
+    ∙ (ap (λ (n : ℕ). take n (held ++ take room piece)) sum
+    ∙ (take-append-add held (take room piece) (len - length held)
+    ∙ ap (λ (rest : List ℕ). held ++ rest) (take-take (len - length held) room piece (omega arith)))) in
+    ap (λ (held : List ℕ). record { course = after; held = held }) empty
+    ∙ (ap between_commands is_after
+    ∙ (sym (over-text digest lanes course command none is) ∙ ap (progress_over digest lanes course) joined))
+
+pub malformed_behind : (digest lanes : List ℕ → List ℕ) (course after : Course) (held piece nothing : List ℕ)
+    → course.refused ≡ None → command_at short_keys (held ++ piece) ≡ Err faults.Malformed → after ≡ refuse course refusals.Malformed → nothing ≡ []
+    → record { course = after; held = nothing } ≡ fed digest lanes (record { course = course; held = held }) piece
+malformed_behind digest lanes course after held piece nothing none is is_after empty =
+    ap (λ (held : List ℕ). record { course = after; held = held }) empty
+    ∙ (ap between_commands is_after ∙ sym (over-malformed digest lanes course (held ++ piece) none is))
+
+pub cut_behind : (digest lanes : List ℕ → List ℕ) (course : Course) (held piece longer : List ℕ)
+    → course.refused ≡ None → command_at short_keys (held ++ piece) ≡ Err faults.Truncated
+    → longer ≡ held ++ piece → record { course = course; held = longer } ≡ fed digest lanes (record { course = course; held = held }) piece
+cut_behind digest lanes course held piece longer none is is_longer =
+    ap (λ (held : List ℕ). record { course = course; held = held }) is_longer ∙ sym (over-cut digest lanes course (held ++ piece) none is)
+
+-- where memory was wanting, all is as it was
+pub restored : (digest lanes : List ℕ → List ℕ) (course after : Course) (held kept more : List ℕ) (n : ℕ)
+    → IsBetweenPieces (record { course = course; held = held }) → after ≡ course → n ≡ length held → kept ≡ take n (held ++ more)
+    → record { course = after; held = kept } ≡ fed digest lanes (record { course = course; held = held }) []
+restored digest lanes course after held kept more n between is_after len is =
+    let same : kept ≡ held = is ∙ (ap (λ (n : ℕ). take n (held ++ more)) len ∙ take-append_seam held more) in
+    ap (λ (course : Course). record { course = course; held = kept }) is_after
+    ∙ (ap (λ (held : List ℕ). record { course = course; held = held }) same
+    ∙ sym (fed-nothing digest lanes course held between))
+
+-- where a command is still cut though there was room for more of the piece, the piece has ended
+pub piece_ended : (held piece : List ℕ) (room : ℕ) → command_at short_keys (held ++ take room piece) ≡ Err faults.Truncated
+    → length held + room ≡ 104 → length piece ≤ room
+piece_ended held piece room cut full =
+    let short : length (held ++ take room piece) < 104 = cut_is_short (held ++ take room piece) cut in
+    omega (arith, short, length-append held (take room piece), length-take room piece)
+
+-- ---- both, one after the other
+
+pub fed_both : (digest lanes : List ℕ → List ℕ) (old mid new : Progress) (piece : List ℕ) (from : ℕ)
+    → mid ≡ fed digest lanes old (take from piece) → new ≡ fed digest lanes mid (drop from piece)
+    → new ≡ fed digest lanes old piece
+fed_both digest lanes old mid new piece from first second =
+    second
+    ∙ (ap (λ (progress : Progress). fed digest lanes progress (drop from piece)) first
+    ∙ (fed-joined digest lanes old (take from piece) (drop from piece)
+    ∙ ap (fed digest lanes old) (take-append-drop from piece)))
+
+pub fed_front : (digest lanes : List ℕ → List ℕ) (old mid new : Progress) (piece : List ℕ) (from more : ℕ)
+    → mid ≡ fed digest lanes old (take from piece) → new ≡ fed digest lanes mid (take more (drop from piece))
+    → new ≡ fed digest lanes old (take (from + more) piece)
+fed_front digest lanes old mid new piece from more first second =
+    second
+    ∙ (ap (λ (progress : Progress). fed digest lanes progress (take more (drop from piece))) first
+    ∙ (fed-joined digest lanes old (take from piece) (take more (drop from piece))
+    ∙ ap (fed digest lanes old) (sym (take-add from more piece))))
+
+pub fed_whole : (digest lanes : List ℕ → List ℕ) (old new : Progress) (piece : List ℕ) (from : ℕ)
+    → new ≡ fed digest lanes old (take from piece) → from ≡ length piece → new ≡ fed digest lanes old piece
+fed_whole digest lanes old new piece from first all =
+    first ∙ ap (fed digest lanes old) (ap (λ (n : ℕ). take n piece) all ∙ take-length piece)
+
+pub weight_all : (digest lanes : List ℕ → List ℕ) (old new : Progress) (piece : List ℕ)
+    → new ≡ fed digest lanes old piece → weight new ≤ weight old + length piece
+weight_all digest lanes old new piece is = subst (λ (progress : Progress). weight progress ≤ weight old + length piece) (sym is) (fed-weight digest lanes old piece)
+
+pub weight_front : (digest lanes : List ℕ → List ℕ) (old new : Progress) (piece : List ℕ) (from : ℕ)
+    → new ≡ fed digest lanes old (take from piece) → weight new + (length piece - from) ≤ weight old + length piece
+weight_front digest lanes old new piece from is =
+    let most = weight_all digest lanes old new (take from piece) is in omega (arith, most, length-take from piece)

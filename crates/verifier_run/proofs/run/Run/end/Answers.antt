@@ -1,0 +1,5 @@
+use Rattle.verifier_run.proofs.PieceLemmas.{between-held}
+use Rattle.verifier_run.proofs.run.Run.end.Goals as goal
+
+pub invariant_of-self : goal.invariant_of-self
+invariant_of-self c = between-held c.refuse.new.self c.clear.new.self.items c.clear.ensures

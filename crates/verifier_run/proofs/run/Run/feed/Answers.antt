@@ -1,0 +1,43 @@
+use Rattle.std.proofs.Common.{◌+◌, List, ℕ, ap, ◌∙◌, take, length, length-drop, arith}
+use Rattle.verifier_run.specs.Progress.{fed}
+use Rattle.verifier_run.proofs.PieceLemmas.{fed_both, fed_front, weight_all, weight_front}
+use Rattle.verifier_run.proofs.run.Run.feed.Goals as goal
+
+pub returns-in_err-from-clause-weight : goal.returns-in_err-from-clause-weight
+returns-in_err-from-clause-weight g c =
+    let most = weight_front (g.D.Digests.text_digest c.args.d.now) (g.D.Digests.element_lanes c.args.d.now) c.args.self.now c.complete.new.self c.args.piece.now c.in_err-from.field-0.0.taken c.in_err-from.ensures.stop in
+    omega (arith, most)
+
+pub returns-then-from-piece-clause-weight : goal.returns-then-from-piece-clause-weight
+returns-then-from-piece-clause-weight g c =
+    let most = weight_front (g.D.Digests.text_digest c.args.d.now) (g.D.Digests.element_lanes c.args.d.now) c.args.self.now c.complete.new.self c.args.piece.now c.in_ok-from.from c.in_ok-from.ensures.ok in
+    omega (arith, most)
+
+pub go_on-requires-clause-room : goal.go_on-requires-clause-room
+go_on-requires-clause-room g c =
+    let most = weight_front (g.D.Digests.text_digest c.args.d.now) (g.D.Digests.element_lanes c.args.d.now) c.args.self.now c.complete.new.self c.args.piece.now c.in_ok-from.from c.in_ok-from.ensures.ok in
+    let rest = ap (λ (bytes : List ℕ). length bytes) c.behind.ensures.value ∙ length-drop c.in_ok-from.from c.args.piece.now in
+    omega (arith, most, rest, c.requires.room)
+
+pub returns-in-Ok-clause-ok : goal.returns-in-Ok-clause-ok
+returns-in-Ok-clause-ok g c =
+    fed_both (g.D.Digests.text_digest c.args.d.now) (g.D.Digests.element_lanes c.args.d.now) c.args.self.now c.complete.new.self c.go_on.new.self c.args.piece.now c.in_ok-from.from c.in_ok-from.ensures.ok
+    (c.in-Ok.ensures.ok ∙ ap (fed (g.D.Digests.text_digest c.args.d.now) (g.D.Digests.element_lanes c.args.d.now) c.complete.new.self) c.behind.ensures.value)
+
+pub returns-in-Ok-clause-weight : goal.returns-in-Ok-clause-weight
+returns-in-Ok-clause-weight g c =
+    weight_all (g.D.Digests.text_digest c.args.d.now) (g.D.Digests.element_lanes c.args.d.now) c.args.self.now c.go_on.new.self c.args.piece.now
+    (fed_both (g.D.Digests.text_digest c.args.d.now) (g.D.Digests.element_lanes c.args.d.now) c.args.self.now c.complete.new.self c.go_on.new.self c.args.piece.now c.in_ok-from.from c.in_ok-from.ensures.ok
+    (c.in-Ok.ensures.ok ∙ ap (fed (g.D.Digests.text_digest c.args.d.now) (g.D.Digests.element_lanes c.args.d.now) c.complete.new.self) c.behind.ensures.value))
+
+pub returns-in-Err-clause-stop : goal.returns-in-Err-clause-stop
+returns-in-Err-clause-stop g c =
+    fed_front (g.D.Digests.text_digest c.args.d.now) (g.D.Digests.element_lanes c.args.d.now) c.args.self.now c.complete.new.self c.go_on.new.self c.args.piece.now c.in_ok-from.from c.in-Err.stop.taken c.in_ok-from.ensures.ok
+    (c.in-Err.ensures.stop ∙ ap (λ (bytes : List ℕ). fed (g.D.Digests.text_digest c.args.d.now) (g.D.Digests.element_lanes c.args.d.now) c.complete.new.self (take c.in-Err.stop.taken bytes)) c.behind.ensures.value)
+
+pub returns-in-Err-clause-weight : goal.returns-in-Err-clause-weight
+returns-in-Err-clause-weight g c =
+    let most = weight_front (g.D.Digests.text_digest c.args.d.now) (g.D.Digests.element_lanes c.args.d.now) c.args.self.now c.go_on.new.self c.args.piece.now (c.in_ok-from.from + c.in-Err.stop.taken)
+    (fed_front (g.D.Digests.text_digest c.args.d.now) (g.D.Digests.element_lanes c.args.d.now) c.args.self.now c.complete.new.self c.go_on.new.self c.args.piece.now c.in_ok-from.from c.in-Err.stop.taken c.in_ok-from.ensures.ok
+    (c.in-Err.ensures.stop ∙ ap (λ (bytes : List ℕ). fed (g.D.Digests.text_digest c.args.d.now) (g.D.Digests.element_lanes c.args.d.now) c.complete.new.self (take c.in-Err.stop.taken bytes)) c.behind.ensures.value)) in
+    omega (arith, most)

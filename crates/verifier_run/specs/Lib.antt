@@ -1,0 +1,5 @@
+-- What the clauses on runs cite, in reading order.
+pub mod Trace
+pub mod Course
+pub mod Progress
+pub mod LogCourse

@@ -1,0 +1,70 @@
+-- What a run has come to over the bytes that it was fed: the course of the commands that were whole, and the
+-- bytes of a command that is cut.
+use Rattle.std.specs.Prelude.{◌≡◌, ℕ, zero, suc, ◌+◌, List, [], ◌∷◌, ◌++◌, length, Option, Some, None, IfSome, Ok, Err}
+use Rattle.lamport_clocks.specs.declared.header.Header.{Header}
+use Rattle.record_text.specs.declared.refusal.Refusal.{Refusal}
+use Rattle.record_text.specs.declared.refusal.Refusal.TheVariants as refusals
+use Rattle.record_text.specs.declared.reader.TextFault.TheVariants as faults
+use Rattle.record_text.specs.Format.{short_keys}
+use Rattle.record_text.specs.Fields.{Parsed}
+use Rattle.log_codec.specs.declared.command.Command.{Command}
+use Rattle.log_codec.specs.Command.{command_at}
+use Rattle.verifier_commands.specs.Machine.{opening_machine}
+use Rattle.verifier_run.specs.Course.{Course, opening_course, refuse, after_command}
+
+pub record Progress : Type 0 where
+  pub course : Course
+  pub held : List ℕ
+
+-- a course with no cut command
+abbrev pub between_commands : Course → Progress
+between_commands course = record { course = course; held = [] }
+
+-- before the first byte, the verifier of this number
+abbrev pub opening_progress : ℕ → Header → Progress
+opening_progress number header = between_commands (opening_course (opening_machine number header))
+
+-- what bytes do by what they begin with: a command and more, bytes that are none, or a command that is cut
+abbrev pub progress_behind : Course → List ℕ → Parsed Command → (Command → List ℕ → Progress) → Progress
+progress_behind course bytes (Ok found) more = more found.0 found.1
+progress_behind course bytes (Err faults.Malformed) more = between_commands (refuse course refusals.Malformed)
+progress_behind course bytes (Err faults.Truncated) more = record { course = course; held = bytes }
+
+-- a course that is refused takes bytes and does nothing
+abbrev pub unless_refused : Option (ℕ × Refusal) → Course → Progress → Progress
+unless_refused None course progress = progress
+unless_refused (Some refused) course progress = between_commands course
+
+-- What bytes, from a command's first byte on, make of a course. The count bounds how many commands are read:
+-- each takes a byte at least, so the number of bytes is enough.
+unfoldable pub read_up_to : ℕ → (List ℕ → List ℕ) → (List ℕ → List ℕ) → Course → List ℕ → Progress
+read_up_to zero digest lanes course bytes = record { course = course; held = bytes }
+read_up_to (suc count) digest lanes course bytes =
+    unless_refused course.refused course
+    (progress_behind course bytes (command_at short_keys bytes)
+    (λ command rest. read_up_to count digest lanes (after_command digest lanes course command) rest))
+
+abbrev pub progress_over : (List ℕ → List ℕ) → (List ℕ → List ℕ) → Course → List ℕ → Progress
+progress_over digest lanes course bytes = read_up_to (length bytes) digest lanes course bytes
+
+-- The progress once these bytes are fed: they go on with the cut command.
+abbrev pub fed : (List ℕ → List ℕ) → (List ℕ → List ℕ) → Progress → List ℕ → Progress
+fed digest lanes progress piece = progress_over digest lanes progress.course (progress.held ++ piece)
+
+-- the course at the end of the log, where the bytes held are so: a command that is cut is refused
+abbrev pub course_at_end : Course → List ℕ → Course
+course_at_end course [] = course
+course_at_end course (byte ∷ held) = refuse course refusals.Truncated
+
+-- The progress once the log has ended.
+abbrev pub ended : Progress → Progress
+ended progress = between_commands (course_at_end progress.course progress.held)
+
+-- the commands that were accepted and the bytes held: at most as many as the bytes fed
+abbrev pub weight : Progress → ℕ
+weight progress = progress.course.machine.accepted + length progress.held
+
+-- Between two pieces the bytes held begin a command that is cut, and a refused course holds none.
+pub record IsBetweenPieces (progress : Progress) : Type 0 where
+  pub cut : command_at short_keys progress.held ≡ Err faults.Truncated
+  pub idle : IfSome progress.course.refused (λ refused. progress.held ≡ [])

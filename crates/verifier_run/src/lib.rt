@@ -1,0 +1,18 @@
+//! A verifier's log, taken in any pieces: what its commands did, and what ended it.
+//!
+//! The trace of a verifier over commands is defined in `specs/Trace.antt`, and what bytes as a log come to
+//! in `specs/LogCourse.antt`. A `Run` is fed a log's bytes piece by piece, and a command may be cut between
+//! two of them: `specs/Progress.antt` says what it has come to, and `laws.rt` that this is what the whole log
+//! comes to, however it is cut. The crate stands on `log_codec` for the commands and on `verifier_commands`
+//! for what each does. Begin with `Run` in `run.rt`.
+#![tactic(auto)]
+
+mod laws;
+mod run;
+mod tracer;
+
+pub use laws::{logs_come_to_their_course, pieces_do_not_matter};
+pub use run::{FeedStop, Run, run_log};
+
+#[cfg(test)]
+mod tests;

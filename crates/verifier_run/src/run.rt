@@ -1,0 +1,242 @@
+//! A verifier's log in any pieces.
+ghost use Rattle.std.specs.Prelude.{◌≡◌, ◌+◌, ◌<◌, ◌≤◌, ◌^◌, ◌++◌, [], length, take, drop, IfOk, IfErr, OnOk, OnErr};
+ghost use Rattle.arrayvec.specs.ArrayVec.{array_vec_len};
+ghost use Rattle.lamport_clocks.specs.Header.{IsHeader};
+ghost use Rattle.verifier_commands.specs.Machine.{opening_machine};
+ghost use Rattle.verifier_run.specs.Progress.{Progress, between_commands, opening_progress, progress_over, fed, ended, weight};
+ghost use Rattle.verifier_run.specs.LogCourse.{log_course};
+
+use crate::tracer::Tracer;
+use arrayvec::ArrayVec;
+use fv_outside::Memory;
+use lamport_clocks::Header;
+use log_codec::{Decoded, LONGEST_COMMAND_TEXT, read};
+use multiset_sum::Part;
+use record_hash::Digests;
+use record_text::{Operation, Refusal};
+use std::alloc::Global;
+use std::marker::Model;
+
+/// Want of memory in the middle of a piece: so many of its bytes are done, and the rest can be fed again.
+#[derive(Clone, Copy, Debug, PartialEq, Eq)]
+pub struct FeedStop {
+    pub taken: usize,
+}
+
+/// A verifier that takes its log in pieces. Contracts see it as a `Progress`.
+#[derive(Drop)]
+pub struct Run {
+    tracer: Tracer,
+    held: ArrayVec<u8, LONGEST_COMMAND_TEXT>,
+}
+
+impl Model for Run {
+    ghost use Rattle.verifier_run.specs.Progress.{Progress, IsBetweenPieces};
+
+    ghost Value = { Progress };
+
+    ghost view = { λ r. record { course = r.tracer; held = r.held.items } };
+
+    ghost invariant = { λ r. IsBetweenPieces (record { course = r.tracer; held = r.held.items }) };
+}
+
+impl Run {
+    /// The run of the verifier of this number, before the first byte of its log.
+    pub fn new(alloc: Global, number: u16, header: &Header) -> Result<Self, Memory>
+        requires header { IsHeader header.now }
+        requires number { number < header.now.verifiers }
+        ensures opening { IfOk result (λ run. run ≡ opening_progress number header.now) }
+    {
+        let tracer = Tracer::new(alloc, number, header)?;
+        Ok(Run {
+            tracer,
+            held: ArrayVec::new(),
+        })
+    }
+
+    /// Takes the next piece of the log: the commands that are whole, up to the first that is refused. The
+    /// bytes of a command that is cut wait for the next piece. After a refusal it takes bytes and does
+    /// nothing. Fewer than 2^63 bytes may be fed in all.
+    ///
+    /// Want of memory is the only error: the bytes before the command for which it was wanting are done.
+    pub fn feed<D: Digests>(&mut self, d: &D, piece: &[u8]) -> Result<(), FeedStop>
+        requires room { weight self.old + length piece.now < 2 ^ 63 }
+
+        // All of the piece is done, or what is said to be.
+        ensures ok { OnOk result (self.new ≡ fed (D.text_digest d.now) (D.element_lanes d.now) self.old piece.now) }
+        ensures stop { IfErr result (λ stop.
+            self.new ≡ fed (D.text_digest d.now) (D.element_lanes d.now) self.old (take stop.taken piece.now)) }
+        ensures within { IfErr result (λ stop. stop.taken ≤ length piece.now) }
+        ensures weight { weight self.new ≤ weight self.old + length piece.now }
+    {
+        let from = self.complete(d, piece)?;
+        if from == piece.len() {
+            return Ok(());
+        }
+        match self.go_on(d, behind(piece, from)) {
+            Ok(()) => Ok(()),
+            Err(stop) => Err(FeedStop {
+                taken: from + stop.taken,
+            }),
+        }
+    }
+
+    // Takes what the cut command lacks, of the front of a piece, and answers how many bytes it took: all of
+    // them, if the command is still cut.
+    fn complete<D: Digests>(&mut self, d: &D, piece: &[u8]) -> Result<usize, FeedStop>
+        requires room { weight self.old + length piece.now < 2 ^ 63 }
+        ensures ok { IfOk result (λ taken.
+            self.new ≡ fed (D.text_digest d.now) (D.element_lanes d.now) self.old (take taken piece.now)) }
+        ensures within { IfOk result (λ taken. taken ≤ length piece.now) }
+        ensures none_held { IfOk result (λ taken. taken < length piece.now → self.new.held ≡ []) }
+        ensures stop { IfErr result (λ stop.
+            self.new ≡ fed (D.text_digest d.now) (D.element_lanes d.now) self.old (take stop.taken piece.now)) }
+        ensures none { IfErr result (λ stop. stop.taken ≡ 0) }
+    {
+        if self.held.is_empty() {
+            return Ok(0);
+        }
+        let held = self.held.len();
+        let room = self.held.remaining_capacity().min(piece.len());
+        append(&mut self.held, front(piece, room));
+        match read(self.held.as_slice()) {
+            Decoded::Read(command, len) => {
+                let Ok(()) = self.tracer.take(d, &command) else {
+                    self.held.truncate(held);
+                    return Err(FeedStop { taken: 0 });
+                };
+                self.held.clear();
+                Ok(len - held)
+            }
+            Decoded::Malformed => {
+                self.tracer.refuse(Refusal::Malformed);
+                self.held.clear();
+                Ok(room)
+            }
+            Decoded::Truncated => Ok(room),
+        }
+    }
+
+    // Takes a piece that begins with a command.
+    fn go_on<D: Digests>(&mut self, d: &D, piece: &[u8]) -> Result<(), FeedStop>
+        requires none_held { self.old.held ≡ [] }
+        requires room { self.old.course.machine.accepted + length piece.now < 2 ^ 63 }
+        ensures ok { OnOk result (self.new ≡ fed (D.text_digest d.now) (D.element_lanes d.now) self.old piece.now) }
+        ensures stop { IfErr result (λ stop.
+            self.new ≡ fed (D.text_digest d.now) (D.element_lanes d.now) self.old (take stop.taken piece.now)) }
+        ensures within { IfErr result (λ stop. stop.taken ≤ length piece.now) }
+    {
+        let taken = follow(&mut self.tracer, d, piece)?;
+        append(&mut self.held, behind(piece, taken));
+        Ok(())
+    }
+
+    /// The end of the log: a command that is cut is refused.
+    pub fn end(&mut self)
+        ensures ended { self.new ≡ ended self.old }
+    {
+        if !self.held.is_empty() {
+            self.held.clear();
+            self.tracer.refuse(Refusal::Truncated);
+        }
+    }
+
+    /// The number of the refused command in the log, from 0, and why it was refused.
+    pub fn refused(&self) -> Option<(u64, Refusal)>
+        ensures value { result ≡ self.now.course.refused }
+    {
+        self.tracer.refused()
+    }
+
+    /// What was handed in for each sealed epoch, in order.
+    pub fn parts(&self) -> &[Part]
+        ensures value { result.now ≡ self.now.course.parts }
+    {
+        self.tracer.parts()
+    }
+
+    /// The gets and puts so far, in order.
+    pub fn ops(&self) -> &[Operation]
+        ensures value { result.now ≡ self.now.course.operations }
+    {
+        self.tracer.operations()
+    }
+}
+
+// Takes the commands that are whole, up to the first that is refused, and answers where the one that is cut
+// begins: at the end, if none is.
+#[tactic(auto, using(crate::proofs::FollowLemmas::following))]
+fn follow<D: Digests>(tracer: &mut Tracer, d: &D, bytes: &[u8]) -> Result<usize, FeedStop>
+    requires room { tracer.old.machine.accepted + length bytes.now < 2 ^ 63 }
+    ensures ok { IfOk result (λ taken.
+        progress_over (D.text_digest d.now) (D.element_lanes d.now) tracer.old bytes.now
+        ≡ record { course = tracer.new; held = drop taken bytes.now }) }
+    ensures within { IfOk result (λ taken. taken ≤ length bytes.now) }
+    ensures stop { IfErr result (λ stop.
+        progress_over (D.text_digest d.now) (D.element_lanes d.now) tracer.old (take stop.taken bytes.now)
+        ≡ between_commands tracer.new) }
+    ensures stop_within { IfErr result (λ stop. stop.taken ≤ length bytes.now) }
+{
+    let mut taken = 0;
+    while tracer.refused().is_none() {
+        match read(behind(bytes, taken)) {
+            Decoded::Read(command, len) => match tracer.take(d, &command) {
+                Ok(()) => taken += len,
+                Err(Memory) => return Err(FeedStop { taken }),
+            },
+            Decoded::Malformed => {
+                tracer.refuse(Refusal::Malformed);
+                return Ok(bytes.len());
+            }
+            Decoded::Truncated => return Ok(taken),
+        }
+    }
+    Ok(bytes.len())
+}
+
+// Appends bytes for which there is room.
+fn append(held: &mut ArrayVec<u8, LONGEST_COMMAND_TEXT>, bytes: &[u8])
+    requires room { array_vec_len held.old + length bytes.now ≤ LONGEST_COMMAND_TEXT }
+    ensures items { held.new.items ≡ held.old.items ++ bytes.now }
+{
+    let _there_is_room = held.try_extend_from_slice(bytes);
+}
+
+// The first so many bytes.
+fn front(bytes: &[u8], len: usize) -> &[u8]
+    requires within { len ≤ length bytes.now }
+    ensures value { result.now ≡ take len bytes.now }
+{
+    &bytes[..len]
+}
+
+// The bytes behind the first so many.
+fn behind(bytes: &[u8], taken: usize) -> &[u8]
+    requires within { taken ≤ length bytes.now }
+    ensures value { result.now ≡ drop taken bytes.now }
+{
+    &bytes[taken..]
+}
+
+/// The run of the verifier of this number over a whole log.
+pub fn run_log<D: Digests>(
+    alloc: Global,
+    d: &D,
+    number: u16,
+    header: &Header,
+    log: &[u8],
+) -> Result<Run, Memory>
+    requires header { IsHeader header.now }
+    requires number { number < header.now.verifiers }
+    ensures course { IfOk result (λ run. run.course
+        ≡ log_course (D.text_digest d.now) (D.element_lanes d.now) (opening_machine number header.now) log.now) }
+    ensures none_held { IfOk result (λ run. run.held ≡ []) }
+{
+    let mut run = Run::new(alloc, number, header)?;
+    match run.feed(d, log) {
+        Ok(()) => {}
+        Err(_) => return Err(Memory),
+    }
+    run.end();
+    Ok(run)
+}
