@@ -6,9 +6,8 @@
 use fastver_top::{Status, fastver};
 use fv_outside::{FileVault, FreeGate, StdSink, StdSource};
 use std::alloc::{AllocError, Global};
-use std::env;
-use std::io;
 use std::process::ExitCode;
+use std::{env, io};
 
 fn main(rt: HostRuntime) -> ExitCode {
     let mut source = StdSource::new(rt.stdin());

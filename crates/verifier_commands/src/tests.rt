@@ -1,44 +1,50 @@
 //! Verifiers that only turn their epochs; logs of every command are tested as bytes, by the crates above.
+ghost use Rattle.std.specs.Prelude.{◌≡◌, ◌<◌, IfOk};
+
 use crate::{Effect, Verifier};
 use lamport_clocks::{Header, Stamp};
 use log_codec::Command;
 use record_hash::ToyDigests;
 use record_text::Refusal;
+use std::alloc::Global;
 use std::test::Fail;
 
-fn header(first: u32) -> Header {
-    Header {
+// A verifier of two, whose caches hold four entries, before its first command.
+fn opened(alloc: Global, number: u16, first: u32) -> Result<Verifier, Fail>
+    requires number { number < 2 }
+    ensures unstepped { IfOk result (λ verifier. verifier.accepted ≡ 0) }
+{
+    let header = Header {
         verifiers: 2,
         cache: 4,
         first,
         end: 5,
+    };
+    match Verifier::new(alloc, number, &header) {
+        Ok(verifier) => Ok(verifier),
+        Err(_) => Err("memory".into()),
     }
 }
 
 #[test]
 fn the_root_is_cached_by_verifier_0_alone(rt: HostRuntime) -> Result<(), Fail> {
-    for (number, entries) in [(0, 1), (1, 0)] {
-        let verifier = Verifier::new(rt.alloc(), number, &header(7))
-            .ok()
-            .ok_or("memory")?;
-        assert_eq!(rt; verifier.entries().len(), entries, "{number}");
-        assert_eq!(rt;
-            verifier.clock(),
-            Stamp {
-                epoch: 7,
-                counter: 0
-            },
-            "{number}"
-        );
-    }
+    let first = opened(rt.alloc(), 0, 7)?;
+    let second = opened(rt.alloc(), 1, 7)?;
+    assert_eq!(rt; first.entries().len(), 1);
+    assert_eq!(rt; second.entries().len(), 0);
+    assert_eq!(rt;
+        second.clock(),
+        Stamp {
+            epoch: 7,
+            counter: 0
+        }
+    );
     Ok(())
 }
 
 #[test]
 fn the_second_turn_seals_the_first_epoch(rt: HostRuntime) -> Result<(), Fail> {
-    let mut verifier = Verifier::new(rt.alloc(), 1, &header(7))
-        .ok()
-        .ok_or("memory")?;
+    let mut verifier = opened(rt.alloc(), 1, 7)?;
     assert!(rt;
         matches!(
             verifier.step(&ToyDigests, &Command::NextEpoch),
@@ -66,9 +72,7 @@ fn the_second_turn_seals_the_first_epoch(rt: HostRuntime) -> Result<(), Fail> {
 
 #[test]
 fn the_last_epoch_does_not_turn(rt: HostRuntime) -> Result<(), Fail> {
-    let mut verifier = Verifier::new(rt.alloc(), 0, &header(u32::MAX))
-        .ok()
-        .ok_or("memory")?;
+    let mut verifier = opened(rt.alloc(), 0, u32::MAX)?;
     match verifier.step(&ToyDigests, &Command::NextEpoch) {
         Err(refusal) => assert_eq!(rt; refusal, Refusal::ClockEnd),
         Ok(_) => return Err("it turned".into()),
