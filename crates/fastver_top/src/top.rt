@@ -46,6 +46,10 @@ pub fn fastver<R: Threads + Wait + Sync, S: Source, O: Sink, V: Vault, G: Gate +
     ensures unwritten { result ≡ Status.Usage → out.new ≡ out.old }
     ensures vault { vault.new ≡ vault.old }
 
+    // `input limit` comes exactly where the source gave a byte more than the limit.
+    ensures limit { (taken : ℕ) → result ≡ Status.InputLimit taken → (taken ≡ 2 ^ 40) × TookJust (2 ^ 40 + 1) (S.left source.old) (S.left source.new) }
+    ensures within { (result ≡ Status.InputLimit (2 ^ 40) → ⊥) → result ≢ Status.Memory → result ≢ Status.ReadFault → TookAtMost (2 ^ 40) (S.left source.old) (S.left source.new) }
+
     // A fault comes only where the object's count of faults rose.
     ensures read_fault { result ≡ Status.ReadFault → Rose (S.faults source.old) (S.faults source.new) }
     ensures write_fault { result ≡ Status.WriteFault → Rose (O.faults out.old) (O.faults out.new) }
