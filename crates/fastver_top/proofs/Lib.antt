@@ -1,3 +1,4 @@
 -- What reading a source comes to, and what is certified.
 pub mod TookLemmas
 pub mod ReportLemmas
+pub mod MeaningLemmas

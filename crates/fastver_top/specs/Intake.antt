@@ -37,9 +37,16 @@ abbrev pub ReadsOn : {E : Type 0} → Option (List ℕ) → Option (List ℕ) �
 ReadsOn old new result room =
     MatchResult result (λ count. Consumes old new (take count room) × (count ≡ 0 → IsAtEnd new)) (λ _. Keeps old new)
 
--- where a source tells its bytes: so many of them were taken, and what is left behind those that were read is its bundle
-abbrev pub IsRead : ℕ → Option (List ℕ) → Option (List ℕ) → List ℕ → Progress → Type 0
-IsRead taken None new log progress = ⊤
-IsRead taken (Some bytes) None log progress = ⊥
-IsRead taken (Some bytes) (Some rest) log progress =
-    (length bytes ≡ taken + length rest) × (behind [] (bundle_of bytes) ≡ behind log (rest_of progress rest))
+-- where a source tells its bytes: what one function says of those that it had, another says of those that are left
+abbrev pub Means : Option (List ℕ) → Option (List ℕ) → (List ℕ → Logged) → (List ℕ → Logged) → Type 0
+Means None new before after = ⊤
+Means (Some bytes) None before after = ⊥
+Means (Some bytes) (Some rest) before after = before bytes ≡ after rest
+
+-- a log so far, and what is left of its bundle at a splitter that has come so far
+abbrev pub behind_at : List ℕ → Progress → List ℕ → Logged
+behind_at log progress left = behind log (rest_of progress left)
+
+-- what bytes mean as a bundle, by its header, the log of verifier 0, and what is bad
+abbrev pub logged_of : List ℕ → Logged
+logged_of bytes = behind [] (bundle_of bytes)

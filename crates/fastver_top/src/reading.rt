@@ -3,7 +3,7 @@ ghost use Rattle.std.specs.Prelude.{◌≡◌, ℕ, ◌+◌, ◌-◌, ◌^◌, �
 ghost use Rattle.fv_outside.specs.Faults.{Counts, Rose};
 ghost use Rattle.bundle_frames.specs.Bundle.{bundle_of};
 ghost use Rattle.bundle_frames.specs.Progress.{position, rest_of};
-ghost use Rattle.fastver_top.specs.Intake.{behind, logged, TookAtMost, TookJust, ReadsOn};
+ghost use Rattle.fastver_top.specs.Intake.{behind, behind_at, logged, logged_of, Means, TookAtMost, TookJust, ReadsOn};
 
 use crate::intake::{Intake, Stop};
 use bundle_frames::{Found, Splitter};
@@ -16,6 +16,7 @@ pub const PIECE_BYTES: usize = 65_536;
 /// Reads a bundle from a source, to its end or to the first bad frame, and no more than so many bytes.
 pub fn read_bundle<S: Source>(alloc: Global, limit: u64, source: &mut S) -> Result<Intake, Stop>
     requires limit { limit ≤ 2 ^ 40 }
+    ensures bundle { IfOk result (λ intake. IfSome (S.left source.old) (λ bytes. logged intake ≡ logged_of bytes)) }
     ensures fault { result ≡ Err Stop.ReadFault → Rose (S.faults source.old) (S.faults source.new) }
     ensures limit { result ≡ Err Stop.InputLimit → TookJust (limit + 1) (S.left source.old) (S.left source.new) }
     ensures within { OnOk result (TookAtMost limit (S.left source.old) (S.left source.new)) }
@@ -66,6 +67,9 @@ fn read_turn<S: Source>(
     ensures position { IfOk result (λ turn. IfSome turn (λ count. position splitter.new ≤ taken + count)) }
     ensures header { OnOk result (intake.new.header ≡ splitter.new.header) }
     ensures took { IfOk result (λ turn. IfSome turn (λ count. TookJust count (S.left source.old) (S.left source.new))) }
+    ensures means { OnOk result (Means (S.left source.old) (S.left source.new)
+        (behind_at intake.old.log.items splitter.old) (behind_at intake.new.log.items splitter.new)) }
+    ensures end { IfOk result (λ turn. IsNone turn → IfSome (S.left source.new) (λ left. rest_of splitter.new left ≡ rest_of splitter.new [])) }
     ensures last { OnOk result (TookAtMost (limit - taken) (S.left source.old) (S.left source.new)) }
     ensures fault { result ≡ Err Stop.ReadFault → Rose (S.faults source.old) (S.faults source.new) }
     ensures limit { result ≡ Err Stop.InputLimit → TookJust (limit + 1 - taken) (S.left source.old) (S.left source.new) }

@@ -1,6 +1,8 @@
 use Rattle.std.proofs.Common.{◌≡◌, ℕ, ◌+◌, ◌-◌, ◌≤◌, arith, refl, sym, subst, ap}
 use Rattle.bundle_frames.specs.Progress.{Progress, position}
+use Rattle.fastver_top.specs.Intake.{behind_at}
 use Rattle.fastver_top.proofs.TookLemmas.{TookJust-none, TookJust-then, TookAtMost-then}
+use Rattle.fastver_top.proofs.MeaningLemmas.{Means-start, Means-then, Means-end}
 use Rattle.fastver_top.proofs.reading.read_bundle.Goals as goal
 
 pub pieces-init : goal.pieces-init
@@ -10,6 +12,7 @@ pieces-init g c = record {
   position = subst (λ (p : Progress). position p ≤ 0) (sym c.in_ok-splitter.ensures.starts) (omega arith);
   header = ap (λ (p : Progress). p.header) (sym c.in_ok-splitter.ensures.starts);
   took = TookJust-none _;
+  means = Means-start _ _ _ c.new-2.ensures.items c.in_ok-splitter.ensures.starts;
   faults = omega arith;
 }
 
@@ -24,8 +27,16 @@ pieces-preserved g c =
       position = position;
       header = c.in-Ok-Some.ensures.header;
       took = TookJust-then _ _ _ _ _ _ c.pieces.invariant.took took refl;
+      means = Means-then _ _ _ _ _ _ c.pieces.invariant.means c.in-Ok-Some.ensures.means;
       faults = omega (arith, c.pieces.invariant.faults, c.read_turn.ensures.never_falls);
     }
 
 pub returns-clause-within : goal.returns-clause-within
 returns-clause-within g c = TookAtMost-then _ _ _ _ _ _ c.pieces.invariant.took c.in-Ok-None.ensures.last (omega (arith, c.pieces.invariant.limit))
+
+pub returns-clause-bundle : goal.returns-clause-bundle
+returns-clause-bundle g c =
+    let p : Progress = c.read_turn.new.splitter in
+    let ends = rw c.in-Ok-None.field-0-is at c.in-Ok-None.ensures.end in
+    let means = Means-then _ _ _ _ _ (behind_at _ p) c.pieces.invariant.means c.in-Ok-None.ensures.means in
+    Means-end _ _ _ p _ _ means (ends refl) c.in-Ok-None.ensures.header c.end-intake.ensures.rest

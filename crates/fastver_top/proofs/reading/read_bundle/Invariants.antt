@@ -1,6 +1,6 @@
 use Rattle.std.proofs.Common.{◌≡◌, ℕ, ◌+◌, ◌-◌, ◌≤◌, List, length, vec_len}
 use Rattle.bundle_frames.specs.Progress.{position}
-use Rattle.fastver_top.specs.Intake.{TookJust}
+use Rattle.fastver_top.specs.Intake.{TookJust, Means, behind_at, logged_of}
 use Rattle.fastver_top.proofs.reading.read_bundle.Given as goal
 
 -- what was read so far
@@ -11,6 +11,7 @@ invariant-pieces g l = record {
   position : position l.splitter ≤ l.taken;
   header : l.intake.header ≡ l.splitter.header;
   took : TookJust l.taken (g.S.Source.left l.fn.source) (g.S.Source.left l.source);
+  means : Means (g.S.Source.left l.fn.source) (g.S.Source.left l.source) logged_of (behind_at l.intake.log.items l.splitter);
   faults : g.S.Source.faults l.fn.source ≤ g.S.Source.faults l.source;
 }
 
