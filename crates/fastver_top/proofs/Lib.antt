@@ -2,3 +2,4 @@
 pub mod TookLemmas
 pub mod ReportLemmas
 pub mod MeaningLemmas
+pub mod PassLemmas

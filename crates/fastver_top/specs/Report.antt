@@ -1,10 +1,14 @@
 -- What a check answers of a bundle with one verifier: which epochs are certified, and how the report ends.
-use Rattle.std.specs.Prelude.{ℕ, zero, suc, ◌==◌, ◌&&◌, Bool, true, false, List, [], ◌∷◌, drop, Option, Some, None, if◌then◌else◌}
+use Rattle.std.specs.Prelude.{ℕ, zero, suc, ◌==◌, ◌&&◌, Bool, true, false, List, [], ◌∷◌, ◌++◌, length, take, drop, Option, Some, None, if◌then◌else◌}
+use Rattle.std.specs.List.{flat_map}
 use Rattle.multiset_sum.specs.Tally.{Tally}
 use Rattle.multiset_sum.specs.declared.part.Part.{Part}
+use Rattle.record_text.specs.declared.element.Operation.{Operation}
 use Rattle.record_text.specs.declared.refusal.Refusal.{Refusal}
 use Rattle.report_text.specs.declared.status.Status.{Status}
 use Rattle.report_text.specs.declared.status.Status.TheVariants.{Done, Usage, Memory, ReadFault, WriteFault, VaultFault, BadBundle, Refused, Unbalanced, ClockEnd, NotTagged, NotCertified, Exhibit, InputLimit}
+use Rattle.report_text.specs.Lines.{epoch_line, operation_line}
+use Rattle.report_text.specs.Status.{last_line}
 use Rattle.fastver_top.specs.Words.{is_word}
 
 -- two sums are equal, in each lane and in the count
@@ -19,6 +23,25 @@ is_balanced part = same_tally part.added part.evicted
 abbrev pub balanced_count : List Part → ℕ
 balanced_count [] = 0
 balanced_count (part ∷ parts) = if is_balanced part then suc (balanced_count parts) else 0
+
+-- how many operations at the front are of an epoch
+abbrev pub front_count : ℕ → List Operation → ℕ
+front_count epoch [] = 0
+front_count epoch (op ∷ ops) = if op.stamp.epoch == epoch then suc (front_count epoch ops) else 0
+
+-- the lines of a certified epoch: how many operations it has, and then these
+abbrev pub epoch_text : ℕ → List Operation → List ℕ
+epoch_text epoch ops = epoch_line epoch (length ops) ++ flat_map operation_line ops
+
+-- The lines of the certified epochs. Operations come epoch by epoch: those of the next stand at the front.
+abbrev pub certified_text : List Part → List Operation → List ℕ
+certified_text [] ops = []
+certified_text (part ∷ parts) ops =
+    epoch_text part.epoch (take (front_count part.epoch ops) ops) ++ certified_text parts (drop (front_count part.epoch ops) ops)
+
+-- A report: the certified epochs, and the last line.
+abbrev pub report_of : List Part → List Operation → Status → List ℕ
+report_of parts ops status = certified_text parts ops ++ last_line status
 
 -- How a report ends, by the sealed epochs behind those that are certified, the refusal and what is bad: an
 -- epoch whose sums differ goes before a refused log, and that before a bad frame.

@@ -1,7 +1,9 @@
 //! What is certified of a verifier's run, and how its report is written.
-ghost use Rattle.std.specs.Prelude.{◌≡◌, ◌≤◌, drop, length};
+ghost use Rattle.std.specs.Prelude.{◌≡◌, ◌≤◌, ◌++◌, drop, length, OnOk, OnErr};
 ghost use Rattle.fv_outside.specs.Faults.{Counts};
-ghost use Rattle.fastver_top.specs.Report.{is_balanced, balanced_count, exit_by, IsEnd};
+ghost use Rattle.fv_outside.specs.Written.{Grows, GrowsByFront};
+ghost use Rattle.report_text.specs.Page.{Passes};
+ghost use Rattle.fastver_top.specs.Report.{is_balanced, balanced_count, exit_by, IsEnd, front_count, epoch_text, report_of};
 ghost use Rattle.fastver_top.specs.Outcomes.{IsOutcome};
 
 use fv_outside::{Failed, Sink};
@@ -61,6 +63,8 @@ pub fn write_report<O: Sink>(
     status: &Status,
     out: &mut O,
 ) -> Result<(), Failed>
+    ensures whole { OnOk result (Grows (O.held out.old) (O.held out.new) (report_of certified.now operations.now status.now)) }
+    ensures front { OnErr result (GrowsByFront (O.held out.old) (O.held out.new) (report_of certified.now operations.now status.now)) }
     ensures counts { Counts (O.faults out.old) (O.faults out.new) result }
 {
     let mut page = Page::new();
@@ -76,6 +80,7 @@ pub fn write_report<O: Sink>(
 
 // How many operations at the front are of this epoch.
 fn count_of(operations: &[Operation], epoch: u32) -> usize
+    ensures value { result ≡ front_count epoch operations.now }
     ensures within { result ≤ length operations.now }
 {
     for (count, op) in operations.iter().enumerate() {
@@ -93,6 +98,8 @@ fn write_epoch<O: Sink>(
     page: &mut Page,
     out: &mut O,
 ) -> Result<(), Failed>
+    ensures whole { OnOk result (Passes (O.held out.old) page.old (epoch_text epoch operations.now) (O.held out.new) page.new) }
+    ensures front { OnErr result (GrowsByFront (O.held out.old) (O.held out.new) (page.old ++ epoch_text epoch operations.now)) }
     ensures counts { Counts (O.faults out.old) (O.faults out.new) result }
 {
     let head = epoch_line(epoch, operations.len() as u64);
