@@ -3,3 +3,4 @@ pub mod Words
 pub mod Intake
 pub mod Outcomes
 pub mod Report
+pub mod Verdict

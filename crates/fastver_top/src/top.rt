@@ -1,15 +1,21 @@
-ghost use Rattle.std.specs.Prelude.{◌≡◌, ◌↔◌, ◌+◌, ◌≤◌, ◌<◌, ◌^◌, length, map, ℕ, None, ◌≢◌, ◌⊎◌};
+ghost use Rattle.std.specs.Prelude.{◌≡◌, ◌↔◌, ◌+◌, ◌≤◌, ◌<◌, ◌^◌, length, map, ℕ, None, IfSome, ◌≢◌, ◌⊎◌};
+ghost use Rattle.lamport_clocks.specs.Header.{IsHeader};
+ghost use Rattle.verifier_commands.specs.Machine.{opening_machine};
+ghost use Rattle.verifier_run.specs.LogCourse.{log_course};
 ghost use Rattle.fv_outside.specs.Faults.{Rose};
+ghost use Rattle.fv_outside.specs.Written.{Grows, GrowsByFront};
 ghost use Rattle.fastver_top.specs.Words.{check_key};
-ghost use Rattle.fastver_top.specs.Intake.{TookAtMost, TookJust};
+ghost use Rattle.fastver_top.specs.Intake.{logged, TookAtMost, TookJust};
 ghost use Rattle.fastver_top.specs.Outcomes.{IsOutcome};
 ghost use Rattle.fastver_top.specs.Report.{IsEnd};
+ghost use Rattle.fastver_top.specs.Verdict.{Reports, verdict, verdict_by, verdict_of, verdict_with};
 
 use crate::intake::{Intake, Stop};
 use crate::reading::read_bundle;
 use crate::report::{certified_count, exit_of, write_report};
 use crate::words::check_digests;
 use fv_outside::{Gate, Sink, Source, Vault};
+use lamport_clocks::Header;
 use multiset_sum::Part;
 use record_hash::Digests;
 use record_text::Operation;
@@ -71,6 +77,17 @@ pub fn check<D: Digests, S: Source, O: Sink>(
     requires limit { limit ≤ 2 ^ 40 }
     ensures outcomes { IsOutcome result }
     ensures accepted { result ≢ Status.Usage }
+
+    // Where it ends with a report, that is the report of the source's bytes, and the status is the report's.
+    ensures status { IsEnd result → IfSome (S.left source.old) (λ bytes. result ≡ (verdict (D.text_digest d.now) (D.element_lanes d.now) bytes).status) }
+    ensures report { IsEnd result → IfSome (S.left source.old) (λ bytes.
+        Grows (O.held out.old) (O.held out.new) (verdict (D.text_digest d.now) (D.element_lanes d.now) bytes).text) }
+
+    // Where the sink failed it took a front of the report, and where the check ended before there was one, nothing.
+    ensures front { result ≡ Status.WriteFault → IfSome (S.left source.old) (λ bytes.
+        GrowsByFront (O.held out.old) (O.held out.new) (verdict (D.text_digest d.now) (D.element_lanes d.now) bytes).text) }
+    ensures unwritten { (IsEnd result → ⊥) → result ≢ Status.WriteFault → out.new ≡ out.old }
+
     ensures limit { (taken : ℕ) → result ≡ Status.InputLimit taken → (taken ≡ limit) × TookJust (limit + 1) (S.left source.old) (S.left source.new) }
     ensures within { (result ≡ Status.InputLimit limit → ⊥) → result ≢ Status.Memory → result ≢ Status.ReadFault → TookAtMost limit (S.left source.old) (S.left source.new) }
     ensures read_fault { result ≡ Status.ReadFault → Rose (S.faults source.old) (S.faults source.new) }
@@ -90,13 +107,36 @@ fn conclude<D: Digests, O: Sink>(alloc: Global, d: &D, intake: &Intake, out: &mu
     ensures words { result ≢ Status.Usage }
     ensures no_read { result ≢ Status.ReadFault }
     ensures no_limit { (taken : ℕ) → result ≢ Status.InputLimit taken }
+    ensures report { Reports result (O.held out.old) (O.held out.new)
+        (verdict_by (D.text_digest d.now) (D.element_lanes d.now) (logged intake.now)) }
+    ensures unwritten { (IsEnd result → ⊥) → result ≢ Status.WriteFault → out.new ≡ out.old }
     ensures write_fault { result ≡ Status.WriteFault → Rose (O.faults out.old) (O.faults out.new) }
 {
-    let header = match intake.header {
-        Some(header) if header.verifiers == 1 => header,
-        _ => return written(&[], &[], Status::BadBundle(0), out),
-    };
-    let run = match run_log(alloc, d, 0, &header, &intake.log) {
+    match intake.header {
+        Some(header) if header.verifiers == 1 => certify(alloc, d, &header, intake, out),
+        _ => written(&[], &[], Status::BadBundle(0), out),
+    }
+}
+
+// Checks the log of the one verifier, and writes the report.
+fn certify<D: Digests, O: Sink>(
+    alloc: Global,
+    d: &D,
+    header: &Header,
+    intake: &Intake,
+    out: &mut O,
+) -> Status
+    requires header { IsHeader header.now }
+    ensures outcome { IsOutcome result }
+    ensures words { result ≢ Status.Usage }
+    ensures no_read { result ≢ Status.ReadFault }
+    ensures no_limit { (taken : ℕ) → result ≢ Status.InputLimit taken }
+    ensures report { Reports result (O.held out.old) (O.held out.new)
+        (verdict_of (log_course (D.text_digest d.now) (D.element_lanes d.now) (opening_machine 0 header.now) intake.now.log.items) intake.now.bad) }
+    ensures unwritten { (IsEnd result → ⊥) → result ≢ Status.WriteFault → out.new ≡ out.old }
+    ensures write_fault { result ≡ Status.WriteFault → Rose (O.faults out.old) (O.faults out.new) }
+{
+    let run = match run_log(alloc, d, 0, header, &intake.log) {
         Ok(run) => run,
         Err(_) => return Status::Memory,
     };
@@ -115,6 +155,7 @@ fn written<O: Sink>(
 ) -> Status
     requires end { IsEnd status }
     ensures ends { result ≡ status ⊎ result ≡ Status.WriteFault }
+    ensures report { Reports result (O.held out.old) (O.held out.new) (verdict_with certified.now operations.now status) }
     ensures write_fault { result ≡ Status.WriteFault → Rose (O.faults out.old) (O.faults out.new) }
 {
     match write_report(certified, operations, &status, out) {

@@ -1,0 +1,51 @@
+-- What a check says of bytes: its report, and the status that ends it.
+use Rattle.std.specs.Prelude.{ℕ, ◌==◌, ◌≡◌, List, [], take, drop, Option, Some, None, if◌then◌else◌}
+use Rattle.lamport_clocks.specs.declared.header.Header.{Header}
+use Rattle.record_text.specs.declared.element.Operation.{Operation}
+use Rattle.multiset_sum.specs.declared.part.Part.{Part}
+use Rattle.verifier_commands.specs.Machine.{opening_machine}
+use Rattle.verifier_run.specs.Course.{Course}
+use Rattle.verifier_run.specs.LogCourse.{log_course}
+use Rattle.report_text.specs.declared.status.Status.{Status}
+use Rattle.report_text.specs.declared.status.Status.TheVariants.{BadBundle, WriteFault}
+use Rattle.fv_outside.specs.Written.{Grows, GrowsByFront}
+use Rattle.fastver_top.specs.Intake.{Logged, logged_of}
+use Rattle.fastver_top.specs.Report.{balanced_count, exit_by, report_of, IsEnd}
+
+pub record Verdict : Type 0 where
+  pub text : List ℕ
+  pub status : Status
+
+-- a report that ends so
+abbrev pub verdict_with : List Part → List Operation → Status → Verdict
+verdict_with parts operations status = record { text = report_of parts operations status; status = status }
+
+-- of what a log came to, in a bundle in which so much is bad
+abbrev pub verdict_of : Course → Option ℕ → Verdict
+verdict_of course bad =
+    verdict_with (take (balanced_count course.parts) course.parts) course.operations
+    (exit_by (balanced_count course.parts) (drop (balanced_count course.parts) course.parts) course.refused bad)
+
+-- of a bundle that isn't taken: nothing is certified, and it is bad from its first byte
+abbrev pub verdict_none : Verdict
+verdict_none = verdict_with [] [] (BadBundle 0)
+
+-- of a bundle with this header, if it is good, and this log of verifier 0: the bundle must have one verifier
+abbrev pub verdict_at : (List ℕ → List ℕ) → (List ℕ → List ℕ) → Option Header → List ℕ → Option ℕ → Verdict
+verdict_at digest lanes None log bad = verdict_none
+verdict_at digest lanes (Some header) log bad =
+    if header.verifiers == 1 then verdict_of (log_course digest lanes (opening_machine 0 header) log) bad else verdict_none
+
+-- of a bundle that was read
+abbrev pub verdict_by : (List ℕ → List ℕ) → (List ℕ → List ℕ) → Logged → Verdict
+verdict_by digest lanes bundle = verdict_at digest lanes bundle.header bundle.log bundle.bad
+
+-- What a check says of bytes, with these digests of texts and lanes of elements.
+abbrev pub verdict : (List ℕ → List ℕ) → (List ℕ → List ℕ) → List ℕ → Verdict
+verdict digest lanes bytes = verdict_by digest lanes (logged_of bytes)
+
+-- A run that ended so wrote the report of a verdict, whose status it has; where the sink failed, a front of it.
+pub record Reports (result : Status) (old new : Option (List ℕ)) (verdict : Verdict) : Type 0 where
+  pub status : IsEnd result → result ≡ verdict.status
+  pub whole : IsEnd result → Grows old new verdict.text
+  pub front : result ≡ WriteFault → GrowsByFront old new verdict.text
