@@ -3,3 +3,4 @@ pub mod TookLemmas
 pub mod ReportLemmas
 pub mod MeaningLemmas
 pub mod PassLemmas
+pub mod VerdictLemmas

@@ -19,11 +19,11 @@ Passes-then a b c waited p q first second h k = record {
   written = h.written ++ k.written;
   grown = Grows-then a b c h.written k.written h.grown k.grown;
   kept =
-    append_assoc h.written k.written q
-    ∙ ap (λ (l : List ℕ). h.written ++ l) k.kept
-    ∙ sym (append_assoc h.written p second)
-    ∙ ap (λ (l : List ℕ). l ++ second) h.kept
-    ∙ append_assoc waited first second;
+      append_assoc h.written k.written q
+      ∙ ap (λ (l : List ℕ). h.written ++ l) k.kept
+      ∙ sym (append_assoc h.written p second)
+      ∙ ap (λ (l : List ℕ). l ++ second) h.kept
+      ∙ append_assoc waited first second;
 }
 
 -- all that waits is written
@@ -36,7 +36,7 @@ pub Passes-front : (a b c : Option (List ℕ)) (waited p text next more whole : 
 Passes-front a b c waited p text next more whole h k all =
     subst (GrowsByFront a c)
     (ap (λ (l : List ℕ). l ++ more) (sym (append_assoc h.written p next) ∙ ap (λ (l : List ℕ). l ++ next) h.kept ∙ append_assoc waited text next)
-      ∙ append_assoc waited (text ++ next) more ∙ ap (λ (l : List ℕ). waited ++ l) all)
+    ∙ append_assoc waited (text ++ next) more ∙ ap (λ (l : List ℕ). waited ++ l) all)
     (GrowsByFront-more a c (h.written ++ (p ++ next)) more (GrowsByFront-then a b c h.written (p ++ next) h.grown k))
 
 -- a part of what waits is written

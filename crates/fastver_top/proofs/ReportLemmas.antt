@@ -50,9 +50,9 @@ front_end epoch ops i op below is other =
     ap (front_count epoch) (next_op ops i op below is)
     ∙ ap (λ (b : Bool). if b then suc (front_count epoch (drop (i + 1) ops)) else 0) (other_epoch (eqb_tells op.stamp.epoch epoch))
   where
-  other_epoch : ((eqb op.stamp.epoch epoch ≡ true) × (op.stamp.epoch ≡ epoch)) ⊎ ((eqb op.stamp.epoch epoch ≡ false) × (op.stamp.epoch ≢ epoch)) → eqb op.stamp.epoch epoch ≡ false
-  other_epoch (inl same) = absurd (other same.1)
-  other_epoch (inr differs) = differs.0
+    other_epoch : ((eqb op.stamp.epoch epoch ≡ true) × (op.stamp.epoch ≡ epoch)) ⊎ ((eqb op.stamp.epoch epoch ≡ false) × (op.stamp.epoch ≢ epoch)) → eqb op.stamp.epoch epoch ≡ false
+    other_epoch (inl same) = absurd (other same.1)
+    other_epoch (inr differs) = differs.0
 
 -- past the last operation nothing is counted
 pub front_past : (epoch : ℕ) (ops : List Operation) (i : ℕ) → length ops ≤ i → front_count epoch (drop i ops) ≡ 0
@@ -66,7 +66,7 @@ pub lines_step : (ops : List Operation) (i : ℕ) (op : Operation) (text line wh
 lines_step ops i op text line whole below is line_is left =
     append_assoc text line (flat_map operation_line (drop (i + 1) ops))
     ∙ ap (λ (l : List ℕ). text ++ l)
-      (ap (λ (l : List ℕ). l ++ flat_map operation_line (drop (i + 1) ops)) line_is ∙ sym (ap (flat_map operation_line) (next_op ops i op below is)))
+    (ap (λ (l : List ℕ). l ++ flat_map operation_line (drop (i + 1) ops)) line_is ∙ sym (ap (flat_map operation_line) (next_op ops i op below is)))
     ∙ left
 
 -- the lines of one certified epoch more
@@ -79,15 +79,15 @@ epochs_step parts ops i done count part slice text whole below is count_is slice
     let front = front_count part.epoch rest in
     append_assoc text (epoch_text part.epoch slice) (certified_text (drop (i + 1) parts) (drop (done + count) ops))
     ∙ ap (λ (l : List ℕ). text ++ l)
-      (ap (λ (s : List Operation). epoch_text part.epoch s ++ certified_text (drop (i + 1) parts) (drop (done + count) ops))
-        (slice_is ∙ ap (λ (n : ℕ). take n rest) count_is)
-      ∙ ap (λ (s : List Operation). epoch_text part.epoch (take front rest) ++ certified_text (drop (i + 1) parts) s)
-        (drop_sum ∙ ap (λ (n : ℕ). drop n rest) count_is)
-      ∙ sym (ap (λ (ps : List Part). certified_text ps rest) (next_part parts i part below is)))
+    (ap (λ (s : List Operation). epoch_text part.epoch s ++ certified_text (drop (i + 1) parts) (drop (done + count) ops))
+    (slice_is ∙ ap (λ (n : ℕ). take n rest) count_is)
+    ∙ ap (λ (s : List Operation). epoch_text part.epoch (take front rest) ++ certified_text (drop (i + 1) parts) s)
+    (drop_sum ∙ ap (λ (n : ℕ). drop n rest) count_is)
+    ∙ sym (ap (λ (ps : List Part). certified_text ps rest) (next_part parts i part below is)))
     ∙ left
   where
-  drop_sum : drop (done + count) ops ≡ drop count (drop done ops)
-  drop_sum = sym (drop-drop count done ops)
+    drop_sum : drop (done + count) ops ≡ drop count (drop done ops)
+    drop_sum = sym (drop-drop count done ops)
 
 -- the lines of all certified epochs
 pub epochs_end : (parts : List Part) (ops : List Operation) (i : ℕ) (text whole : List ℕ) → length parts ≤ i

@@ -1,5 +1,7 @@
 -- What a check says of bytes: its report, and the status that ends it.
 use Rattle.std.specs.Prelude.{ℕ, ◌==◌, ◌≡◌, List, [], take, drop, Option, Some, None, if◌then◌else◌}
+use Rattle.record_hash.specs.Hmac.{key_block}
+use Rattle.record_hash.specs.ShaDigests.{sha_text_digest, sha_element_lanes}
 use Rattle.lamport_clocks.specs.declared.header.Header.{Header}
 use Rattle.record_text.specs.declared.element.Operation.{Operation}
 use Rattle.multiset_sum.specs.declared.part.Part.{Part}
@@ -43,6 +45,10 @@ verdict_by digest lanes bundle = verdict_at digest lanes bundle.header bundle.lo
 -- What a check says of bytes, with these digests of texts and lanes of elements.
 abbrev pub verdict : (List ℕ → List ℕ) → (List ℕ → List ℕ) → List ℕ → Verdict
 verdict digest lanes bytes = verdict_by digest lanes (logged_of bytes)
+
+-- the same with SHA-256, and with HMAC under a key
+abbrev pub sha_verdict : List ℕ → List ℕ → Verdict
+sha_verdict key bytes = verdict sha_text_digest (sha_element_lanes (key_block key)) bytes
 
 -- A run that ended so wrote the report of a verdict, whose status it has; where the sink failed, a front of it.
 pub record Reports (result : Status) (old new : Option (List ℕ)) (verdict : Verdict) : Type 0 where

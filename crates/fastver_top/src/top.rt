@@ -1,4 +1,4 @@
-ghost use Rattle.std.specs.Prelude.{◌≡◌, ◌↔◌, ◌+◌, ◌≤◌, ◌<◌, ◌^◌, length, map, ℕ, None, IfSome, ◌≢◌, ◌⊎◌};
+ghost use Rattle.std.specs.Prelude.{◌≡◌, ◌↔◌, ◌+◌, ◌≤◌, ◌<◌, ◌^◌, length, map, ℕ, List, Some, None, IfSome, ◌≢◌, ◌⊎◌};
 ghost use Rattle.lamport_clocks.specs.Header.{IsHeader};
 ghost use Rattle.verifier_commands.specs.Machine.{opening_machine};
 ghost use Rattle.verifier_run.specs.LogCourse.{log_course};
@@ -8,7 +8,7 @@ ghost use Rattle.fastver_top.specs.Words.{check_key};
 ghost use Rattle.fastver_top.specs.Intake.{logged, TookAtMost, TookJust};
 ghost use Rattle.fastver_top.specs.Outcomes.{IsOutcome};
 ghost use Rattle.fastver_top.specs.Report.{IsEnd};
-ghost use Rattle.fastver_top.specs.Verdict.{Reports, verdict, verdict_by, verdict_of, verdict_with};
+ghost use Rattle.fastver_top.specs.Verdict.{Reports, sha_verdict, verdict, verdict_by, verdict_of, verdict_with};
 
 use crate::intake::{Intake, Stop};
 use crate::reading::read_bundle;
@@ -47,9 +47,19 @@ pub fn fastver<R: Threads + Wait + Sync, S: Source, O: Sink, V: Vault, G: Gate +
     ensures outcomes { IsOutcome result }
     ensures usage { (result ≡ Status.Usage) ↔ (check_key (map (λ word. word.now) words.now) ≡ None) }
 
-    // Where the words are refused nothing is read or written, and the vault is never named or written.
+    // Where it ends with a report, that is the report of the source's bytes under the key, and the status is the
+    // report's. Where the sink failed it took a front of the report.
+    ensures status { (key : List ℕ) → check_key (map (λ word. word.now) words.now) ≡ Some key → IsEnd result
+        → IfSome (S.left source.old) (λ bytes. result ≡ (sha_verdict key bytes).status) }
+    ensures report { (key : List ℕ) → check_key (map (λ word. word.now) words.now) ≡ Some key → IsEnd result
+        → IfSome (S.left source.old) (λ bytes. Grows (O.held out.old) (O.held out.new) (sha_verdict key bytes).text) }
+    ensures front { (key : List ℕ) → check_key (map (λ word. word.now) words.now) ≡ Some key → result ≡ Status.WriteFault
+        → IfSome (S.left source.old) (λ bytes. GrowsByFront (O.held out.old) (O.held out.new) (sha_verdict key bytes).text) }
+
+    // Where it ends with no report nothing is written, and where the words are refused nothing is read. The vault
+    // is never named or written.
+    ensures unwritten { (IsEnd result → ⊥) → result ≢ Status.WriteFault → out.new ≡ out.old }
     ensures unread { result ≡ Status.Usage → source.new ≡ source.old }
-    ensures unwritten { result ≡ Status.Usage → out.new ≡ out.old }
     ensures vault { vault.new ≡ vault.old }
 
     // `input limit` comes exactly where the source gave a byte more than the limit.

@@ -20,7 +20,7 @@ returns-in_err-write_epoch-clause-front g c =
     let text : List ℕ = c.loop-part.invariant.text in
     let whole = certified_text parts ops in
     let left = epochs_step parts ops c.loop-part.part-index done count c.part-item.result slice text whole
-      c.loop-part-test.true c.part-item.is count_is slice_is c.loop-part.invariant.left in
+    c.loop-part-test.true c.part-item.is count_is slice_is c.loop-part.invariant.left in
     let next = epoch_text c.part-item.result.epoch slice in
     let behind = certified_text (drop (c.loop-part.part-index + 1) parts) (drop (done + count) ops) in
     let last = last_line c.args.status.now in
@@ -40,7 +40,7 @@ loop-part-preserved g c =
     let text : List ℕ = c.loop-part.invariant.text in
     let whole = certified_text parts ops in
     let left = epochs_step parts ops c.loop-part.part-index done count c.part-item.result slice text whole
-      c.loop-part-test.true c.part-item.is count_is slice_is c.loop-part.invariant.left in
+    c.loop-part-test.true c.part-item.is count_is slice_is c.loop-part.invariant.left in
     record {
       text = text ++ epoch_text c.part-item.result.epoch slice;
       within = omega (arith, c.loop-part.invariant.within, c.count_of-count.ensures.within, ap length rest, length-drop done ops);
