@@ -30,7 +30,7 @@ node_of (values.Node node) = Some node
 
 -- the parent on a side with its node, if there are both
 abbrev pub above_on : Option Bool → Option Node → Option Parent
-above_on None node = None
+above_on None _ = None
 above_on (Some on) None = None
 above_on (Some on) (Some node) = Some (record { on = on; node = node })
 
