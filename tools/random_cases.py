@@ -4,7 +4,7 @@
 usage: random_cases.py FOLDER COUNT SEED
 
 A host is played that walks over few keys: most of its commands are right, some are anything, and some
-bundles are cut or have a byte changed. `rt try --cases FOLDER` then compares the program with the reports.
+bundles are cut or have a byte changed. The first bundle is longer than what a program reads at a time.
 """
 import copy
 import os
@@ -57,6 +57,11 @@ class Host:
         if command[0] == "addB":
             self.away.pop(command[1], None)
         return True
+
+    def read_often(self, path, times):
+        self.give(("addM", path, None, ""))
+        for _ in range(times):
+            self.give(("get", path, None))
 
     def any_command(self):
         chance, verifier = self.chance, self.verifier
@@ -133,9 +138,15 @@ def main():
     for number in range(count):
         key = chance.randbytes(chance.choice([16, 32, 64]))
         header = (1, chance.choice([4, 5, 8]), chance.choice([0, 3, 2**32 - 4]), chance.choice([40, 500, 16777215]))
+        if number == 0:
+            header = (1, 8, 0, 16777215)
         host = Host(chance, key, header)
+        if number == 0:
+            host.read_often(KEYS[0], 10000)
         host.play(chance.choice([10, 60, 200]))
-        bundle = marred(chance, framed(chance, header, host.log))
+        bundle = framed(chance, header, host.log)
+        if number > 0:
+            bundle = marred(chance, bundle)
         words = ["check", "--key", key.hex()]
         report, status, said = slow.fastver(words, bundle)
         base = os.path.join(folder, f"random-{number:04}")

@@ -101,10 +101,7 @@ fn wanted(limit: u64, taken: u64) -> usize
     ensures room { result ≤ PIECE_BYTES }
     ensures limit { taken + result ≤ limit + 1 }
 {
-    let left = limit - taken;
-    if left >= PIECE_BYTES as u64 {
-        return PIECE_BYTES;
-    }
+    let left = (limit - taken).min(PIECE_BYTES as u64);
     (left as usize).max(1)
 }
 
