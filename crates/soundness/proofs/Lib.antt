@@ -1,0 +1,2 @@
+-- How soundness is proved, in reading order.
+pub mod SideLemmas

@@ -1,0 +1,100 @@
+-- What soundness knows of a step of a verifier: what its cache shows before and after, by what was done.
+use Rattle.std.specs.Prelude.{◌≡◌, ℕ, Bool, false, List, Option, Some, None, Ok, length, if◌then◌else◌}
+use Rattle.tree_keys.specs.Path.{same_path}
+use Rattle.record_text.specs.declared.value.Value.{Value}
+use Rattle.record_text.specs.declared.element.Element.{Element}
+use Rattle.record_text.specs.Format.{Format, path_bits}
+use Rattle.record_text.specs.Value.{IsOf}
+use Rattle.merkle_records.specs.Merkle.{Digest}
+use Rattle.verifier_cache.specs.declared.entry.Entry.{Entry}
+use Rattle.verifier_cache.specs.declared.entry.Hold.TheVariants.{B}
+use Rattle.verifier_cache.specs.Entry.{has_kid, new_entry, with_value}
+use Rattle.verifier_cache.specs.Cache.{entry_of}
+use Rattle.verifier_commands.specs.declared.state.State.{State}
+use Rattle.verifier_commands.specs.Changes.{add_under, evict_under, defer_under}
+use Rattle.verifier_commands.specs.Change.{Change, joins, leaves, comes, goes, defers, reads, writes, turns}
+
+-- what a cache shows of each path
+abbrev pub Shown : Type 0
+Shown = List Bool → Option Entry
+
+-- what the cache of a state shows
+abbrev pub shown_by : State → Shown
+shown_by state = λ path. entry_of path state.cache.entries
+
+-- with this entry of a path, or none
+abbrev pub showing : Shown → List Bool → Option Entry → Shown
+showing shown path entry = λ other. if same_path path other then entry else shown other
+
+-- they show the same of each path
+abbrev pub ShowSame : Shown → Shown → Type 0
+ShowSame a b = (path : List Bool) → a path ≡ b path
+
+-- with this child under this parent
+abbrev pub showing_both : Shown → Entry → List Bool → Option Entry → Shown
+showing_both shown parent path child = showing (showing shown parent.path (Some parent)) path child
+
+-- a child came in under its parent, with this value
+pub record DidJoin (format : Format) (digest : Digest) (old new : Shown) (parent after child : Entry) : Type 0 where
+  pub value : Value
+  pub parent : old parent.path ≡ Some parent
+  pub kind : IsOf format child.path value
+  pub added : add_under format digest parent child.path value ≡ Ok (record { parent = after; child = child })
+  pub shown : ShowSame new (showing_both old after child.path (Some child))
+
+-- a child left into its parent
+pub record DidLeave (format : Format) (digest : Digest) (old new : Shown) (parent after child : Entry) : Type 0 where
+  pub parent : old parent.path ≡ Some parent
+  pub child : old child.path ≡ Some child
+  pub evicted : evict_under format digest parent child ≡ Ok after
+  pub shown : ShowSame new (showing_both old after child.path None)
+
+-- a record came in with its element
+pub record DidCome (format : Format) (old new : Shown) (child : Entry) (element : Element) : Type 0 where
+  pub child : child ≡ new_entry element.path element.value B
+  pub kind : IsOf format element.path element.value
+  pub shown : ShowSame new (showing old child.path (Some child))
+
+-- a record went out with an element
+pub record DidGo (old new : Shown) (child : Entry) (element : Element) : Type 0 where
+  pub child : old child.path ≡ Some child
+  pub kids : has_kid child ≡ false
+  pub hold : child.hold ≡ B
+  pub path : element.path ≡ child.path
+  pub value : element.value ≡ child.value
+  pub shown : ShowSame new (showing old child.path None)
+
+-- a child went out of its parent with an element
+pub record DidDefer (old new : Shown) (parent after child : Entry) (element : Element) : Type 0 where
+  pub parent : old parent.path ≡ Some parent
+  pub child : old child.path ≡ Some child
+  pub deferred : defer_under parent child ≡ Ok after
+  pub path : element.path ≡ child.path
+  pub value : element.value ≡ child.value
+  pub shown : ShowSame new (showing_both old after child.path None)
+
+-- a data value was read
+pub record DidRead (format : Format) (old new : Shown) (entry : Entry) : Type 0 where
+  pub entry : old entry.path ≡ Some entry
+  pub data : length entry.path ≡ path_bits format
+  pub shown : ShowSame new old
+
+-- a data value was written
+pub record DidWrite (format : Format) (old new : Shown) (before after : Entry) : Type 0 where
+  pub value : Value
+  pub before : old before.path ≡ Some before
+  pub data : length before.path ≡ path_bits format
+  pub kind : IsOf format before.path value
+  pub after : after ≡ with_value before value
+  pub shown : ShowSame new (showing old before.path (Some after))
+
+-- what a step did, by the change
+abbrev pub Did : Format → Digest → Shown → Shown → Change → Type 0
+Did format digest old new (joins parent after child) = DidJoin format digest old new parent after child
+Did format digest old new (leaves parent after child) = DidLeave format digest old new parent after child
+Did format digest old new (comes child element) = DidCome format old new child element
+Did format digest old new (goes child element) = DidGo old new child element
+Did format digest old new (defers parent after child element) = DidDefer old new parent after child element
+Did format digest old new (reads entry) = DidRead format old new entry
+Did format digest old new (writes before after) = DidWrite format old new before after
+Did format digest old new (turns sealed) = ShowSame new old

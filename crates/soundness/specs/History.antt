@@ -1,0 +1,57 @@
+-- The history of a verifier: what each accepted command of its log did, in order.
+use Rattle.std.specs.Prelude.{ℕ, suc, List, [], ◌∷◌, ◌++◌, Result, Ok, Err}
+use Rattle.lamport_clocks.specs.declared.header.Header.{Header}
+use Rattle.lamport_clocks.specs.declared.stamp.Stamp.{Stamp}
+use Rattle.record_text.specs.declared.refusal.Refusal.{Refusal}
+use Rattle.record_text.specs.Format.{short_keys}
+use Rattle.log_codec.specs.declared.command.Command.{Command}
+use Rattle.merkle_records.specs.Merkle.{Digest}
+use Rattle.verifier_commands.specs.declared.state.State.{State}
+use Rattle.verifier_commands.specs.State.{opening}
+use Rattle.verifier_commands.specs.Change.{Change}
+use Rattle.verifier_commands.specs.Transition.{Rules, transition}
+
+-- an accepted command: whose, its number in the log, the clock after it, and what it did
+pub record Event : Type 0 where
+  pub verifier : ℕ
+  pub index : ℕ
+  pub at : Stamp
+  pub change : Change
+
+-- What is told of commands of any kind: what each does to a state, and the clock that a state shows.
+pub record Machinery (S C : Type 0) : Type 0 where
+  pub step : S → C → Result (Change × S) Refusal
+  pub clock : S → Stamp
+
+-- the event of a step and those behind it; a refused step ends them
+abbrev pub events_behind : {S C : Type 0} → Machinery S C → ℕ → ℕ → Result (Change × S) Refusal → (S → List Event) → List Event
+events_behind machinery verifier index (Ok done) more =
+    record { verifier = verifier; index = index; at = machinery.clock done.1; change = done.0 } ∷ more done.1
+events_behind machinery verifier index (Err refusal) more = []
+
+-- The events of a verifier's commands, from the one with this number on and from this state on.
+unfoldable pub events_from : {S C : Type 0} → Machinery S C → ℕ → ℕ → S → List C → List Event
+events_from machinery verifier index state [] = []
+events_from machinery verifier index state (command ∷ commands) =
+    events_behind machinery verifier index (machinery.step state command)
+    (λ after. events_from machinery verifier (suc index) after commands)
+
+-- the rules for a verifier of this number under a header
+abbrev pub rules_under : Digest → (List ℕ → List ℕ) → Header → ℕ → Rules
+rules_under digest lanes header number =
+    record { format = short_keys; digest = digest; lanes = lanes; number = number; verifiers = header.verifiers }
+
+-- the machinery of a verifier: the command table, and its state's clock
+abbrev pub machinery_under : Rules → Machinery State Command
+machinery_under rules = record { step = transition rules; clock = λ state. state.clock.at }
+
+-- the events of a whole log of the verifier of this number
+abbrev pub log_events : Digest → (List ℕ → List ℕ) → Header → ℕ → List Command → List Event
+log_events digest lanes header number commands =
+    events_from (machinery_under (rules_under digest lanes header number)) number 0 (opening number header) commands
+
+-- the events of logs, the first of which is of the verifier of this number: log by log
+abbrev pub events_of_logs : Digest → (List ℕ → List ℕ) → Header → ℕ → List (List Command) → List Event
+events_of_logs digest lanes header number [] = []
+events_of_logs digest lanes header number (log ∷ logs) =
+    log_events digest lanes header number log ++ events_of_logs digest lanes header (suc number) logs

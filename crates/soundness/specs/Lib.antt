@@ -1,0 +1,5 @@
+-- The definitions of soundness, in reading order.
+pub mod History
+pub mod Exhibit
+pub mod Spot
+pub mod Deeds
