@@ -76,14 +76,14 @@ pub record DidDefer (old new : Shown) (parent after child : Entry) (element : El
 -- a data value was read
 pub record DidRead (format : Format) (old new : Shown) (entry : Entry) : Type 0 where
   pub entry : old entry.path ≡ Some entry
-  pub data : length entry.path ≡ path_bits format
+  pub at_data : length entry.path ≡ path_bits format
   pub shown : ShowSame new old
 
 -- a data value was written
 pub record DidWrite (format : Format) (old new : Shown) (before after : Entry) : Type 0 where
   pub value : Value
   pub before : old before.path ≡ Some before
-  pub data : length before.path ≡ path_bits format
+  pub at_data : length before.path ≡ path_bits format
   pub kind : IsOf format before.path value
   pub after : after ≡ with_value before value
   pub shown : ShowSame new (showing old before.path (Some after))
