@@ -37,27 +37,27 @@ showing_both shown parent path child = showing (showing shown parent.path (Some 
 -- a child came in under its parent, with this value
 pub record DidJoin (format : Format) (digest : Digest) (old new : Shown) (parent after child : Entry) : Type 0 where
   pub value : Value
-  pub parent : old parent.path ≡ Some parent
+  pub had_parent : old parent.path ≡ Some parent
   pub kind : IsOf format child.path value
   pub added : add_under format digest parent child.path value ≡ Ok (record { parent = after; child = child })
   pub shown : ShowSame new (showing_both old after child.path (Some child))
 
 -- a child left into its parent
 pub record DidLeave (format : Format) (digest : Digest) (old new : Shown) (parent after child : Entry) : Type 0 where
-  pub parent : old parent.path ≡ Some parent
-  pub child : old child.path ≡ Some child
+  pub had_parent : old parent.path ≡ Some parent
+  pub had_child : old child.path ≡ Some child
   pub evicted : evict_under format digest parent child ≡ Ok after
   pub shown : ShowSame new (showing_both old after child.path None)
 
 -- a record came in with its element
 pub record DidCome (format : Format) (old new : Shown) (child : Entry) (element : Element) : Type 0 where
-  pub child : child ≡ new_entry element.path element.value B
+  pub came_as : child ≡ new_entry element.path element.value B
   pub kind : IsOf format element.path element.value
   pub shown : ShowSame new (showing old child.path (Some child))
 
 -- a record went out with an element
 pub record DidGo (old new : Shown) (child : Entry) (element : Element) : Type 0 where
-  pub child : old child.path ≡ Some child
+  pub had_child : old child.path ≡ Some child
   pub kids : has_kid child ≡ false
   pub hold : child.hold ≡ B
   pub path : element.path ≡ child.path
@@ -66,8 +66,8 @@ pub record DidGo (old new : Shown) (child : Entry) (element : Element) : Type 0 
 
 -- a child went out of its parent with an element
 pub record DidDefer (old new : Shown) (parent after child : Entry) (element : Element) : Type 0 where
-  pub parent : old parent.path ≡ Some parent
-  pub child : old child.path ≡ Some child
+  pub had_parent : old parent.path ≡ Some parent
+  pub had_child : old child.path ≡ Some child
   pub deferred : defer_under parent child ≡ Ok after
   pub path : element.path ≡ child.path
   pub value : element.value ≡ child.value
@@ -75,17 +75,17 @@ pub record DidDefer (old new : Shown) (parent after child : Entry) (element : El
 
 -- a data value was read
 pub record DidRead (format : Format) (old new : Shown) (entry : Entry) : Type 0 where
-  pub entry : old entry.path ≡ Some entry
+  pub had : old entry.path ≡ Some entry
   pub at_data : length entry.path ≡ path_bits format
   pub shown : ShowSame new old
 
 -- a data value was written
 pub record DidWrite (format : Format) (old new : Shown) (before after : Entry) : Type 0 where
   pub value : Value
-  pub before : old before.path ≡ Some before
+  pub had : old before.path ≡ Some before
   pub at_data : length before.path ≡ path_bits format
   pub kind : IsOf format before.path value
-  pub after : after ≡ with_value before value
+  pub wrote : after ≡ with_value before value
   pub shown : ShowSame new (showing old before.path (Some after))
 
 -- what a step did, by the change
