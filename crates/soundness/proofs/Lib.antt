@@ -1,2 +1,4 @@
 -- How soundness is proved, in reading order.
 pub mod SideLemmas
+pub mod MovedLemmas
+pub mod PairLemmas
