@@ -2,3 +2,4 @@
 pub mod SideLemmas
 pub mod MovedLemmas
 pub mod PairLemmas
+pub mod FamilyLemmas

@@ -1,0 +1,178 @@
+-- What an accepted add, evict or deferral of a child under its parent tells, and what it makes of the two.
+use Rattle.std.proofs.Common.{◌≡◌, ◌≢◌, ◌⊎◌, ℕ, ◌==◌, Bool, true, false, not, ◌||◌, List, [], ◌∷◌, length, Option, Some, None, is_some, Result, Ok, Err, refl, sym, ◌∙◌, ap, subst, inl, inr, if◌then◌else◌}
+use Rattle.std.specs.Option.{option_map}
+use Rattle.std.proofs.lemmas.Bool.{false≢true, true≢false}
+use Rattle.std.proofs.lemmas.Option.{none-some, same_Some}
+use Rattle.tree_keys.specs.Path.{side, same_path}
+use Rattle.tree_keys.proofs.PathLemmas.{same_path-true}
+use Rattle.lamport_clocks.specs.InOrder.{test, need}
+use Rattle.record_text.specs.declared.value.Pointer.{Pointer}
+use Rattle.record_text.specs.declared.value.Node.{Node}
+use Rattle.record_text.specs.declared.value.Value.{Value}
+use Rattle.record_text.specs.declared.value.Value.TheVariants as values
+use Rattle.record_text.specs.declared.refusal.Refusal.{Refusal}
+use Rattle.record_text.specs.declared.refusal.Refusal.TheVariants as refusals
+use Rattle.record_text.specs.Format.{Format, path_bits}
+use Rattle.record_text.specs.Value.{node_side, with_side, empty_node, initial_value}
+use Rattle.record_text.specs.Texts.{value_text}
+use Rattle.merkle_records.specs.declared.cases.AddCase.{AddCase}
+use Rattle.merkle_records.specs.declared.cases.AddCase.TheVariants as cases
+use Rattle.merkle_records.specs.Merkle.{Digest, case_of, pointing, Added, added_by, after_add, after_evict, after_defer, taken_over, deferred_pointer}
+use Rattle.verifier_cache.specs.declared.entry.Entry.{Entry}
+use Rattle.verifier_cache.specs.Entry.{kid_of, set_kid, has_kid}
+use Rattle.verifier_commands.specs.declared.changes.Parent.{Parent}
+use Rattle.verifier_commands.specs.declared.changes.Family.{Family}
+use Rattle.verifier_commands.specs.Same.{same_value, same_bytes}
+use Rattle.verifier_commands.proofs.SameLemmas.{same_value-true, same_bytes-true}
+use Rattle.verifier_commands.specs.Changes.{node_of, above_on, above, leads_to, is_deferred, has_digest, leads_below, family_of, add_by, add_under, holds_wrong, left_by, evict_under, is_by_digest, defer_under}
+
+-- ---- tests in order, from their outcome back
+
+err_ok : {A E : Type 0} (fault : E) (answer : A) → Err fault ≡ Ok answer → ⊥
+err_ok fault answer is = false≢true (ap (λ (r : Result _ _). got r) is)
+  where
+    got : {A E : Type 0} → Result A E → Bool
+    got (Ok value) = true
+    got (Err fault) = false
+
+same_Ok : {A E : Type 0} (x y : A) → ◌≡◌ {A = Result A E} (Ok x) (Ok y) → x ≡ y
+same_Ok x y is = ap (value_or x) is
+  where
+    value_or : {A E : Type 0} → A → Result A E → A
+    value_or other (Ok value) = value
+    value_or other (Err fault) = other
+
+test_passed : {E X : Type 0} (b : Bool) (refusal : E) (next : Result X E) (x : X) → test b refusal next ≡ Ok x → (b ≡ false) × (next ≡ Ok x)
+test_passed true refusal next x is = absurd (err_ok refusal x is)
+test_passed false refusal next x is = (refl, is)
+
+-- ---- what an add tells
+
+-- The parent's pointer of the child's side leads nowhere, to the child, or below it; and what the two become.
+pub data IsAdd (format : Format) (digest : Digest) (parent : Entry) (path : List Bool) (value : Value) (on : Bool) (at : Node) (family : Family) : Type 0 where
+  on_empty : node_side at on ≡ None → value ≡ initial_value format path
+      → family ≡ family_of parent (record { on = on; node = at }) (record { node = pointing format digest at on path value; value = value }) path None
+      → IsAdd format digest parent path value on at family
+  on_same : (pointer : Pointer) → node_side at on ≡ Some pointer → pointer.path ≡ path → pointer.deferred ≡ false
+      → pointer.digest ≡ digest (value_text format value) → kid_of parent on ≡ false
+      → family ≡ family_of parent (record { on = on; node = at }) (record { node = at; value = value }) path None
+      → IsAdd format digest parent path value on at family
+  on_split : (pointer : Pointer) → node_side at on ≡ Some pointer → (which : Bool) → side path pointer.path ≡ Some which → value ≡ initial_value format path
+      → family ≡ family_of parent (record { on = on; node = at })
+      (record { node = pointing format digest at on path (initial_value format path); value = values.Node (with_side empty_node which (Some pointer)) }) path (Some which)
+      → IsAdd format digest parent path value on at family
+
+-- the parent is a node, and the child lies below it on a side
+pub record IsAdded (format : Format) (digest : Digest) (parent : Entry) (path : List Bool) (value : Value) (family : Family) : Type 0 where
+  pub on : Bool
+  pub at : Node
+  pub below : side parent.path path ≡ Some on
+  pub is_node : node_of parent.value ≡ Some at
+  pub how : IsAdd format digest parent path value on at family
+
+pub added_how : (format : Format) (digest : Digest) (parent : Entry) (path : List Bool) (value : Value) (family : Family)
+    → add_under format digest parent path value ≡ Ok family → IsAdded format digest parent path value family
+added_how format digest parent path value family is = by_side (side parent.path path) refl is
+  where
+    initial : (next : Result Family Refusal) → test (not (same_value value (initial_value format path))) refusals.NotInitial next ≡ Ok family
+        → (value ≡ initial_value format path) × (next ≡ Ok family)
+    initial next is = go (same_value value (initial_value format path)) refl is
+      where
+        go : (b : Bool) → same_value value (initial_value format path) ≡ b → test (not b) refusals.NotInitial next ≡ Ok family → (value ≡ initial_value format path) × (next ≡ Ok family)
+        go true same is = (same_value-true value (initial_value format path) same, is)
+        go false same is = absurd (err_ok refusals.NotInitial family is)
+
+    empty : (on : Bool) (at : Node) (pointer : Option Pointer) → node_side at on ≡ pointer → pointer ≡ None
+        → test (not (same_value value (initial_value format path))) refusals.NotInitial
+        (Ok (family_of parent (record { on = on; node = at }) (added_by format digest at on path value pointer cases.Empty) path None)) ≡ Ok family
+        → IsAdd format digest parent path value on at family
+    empty on at pointer there none is =
+        let told = initial (Ok (family_of parent (record { on = on; node = at }) (added_by format digest at on path value pointer cases.Empty) path None)) is in
+        on_empty (there ∙ none) told.0 (sym (same_Ok _ family told.1))
+
+    same : (on : Bool) (at : Node) (pointer : Pointer) → node_side at on ≡ Some pointer → same_path pointer.path path ≡ true
+        → test pointer.deferred refusals.Deferred
+        (test (not (same_bytes pointer.digest (digest (value_text format value)))) refusals.WrongDigest
+        (test (kid_of parent on) refusals.HasChild
+        (Ok (family_of parent (record { on = on; node = at }) (record { node = at; value = value }) path None)))) ≡ Ok family
+        → IsAdd format digest parent path value on at family
+    same on at pointer there is_path is =
+        let first = test_passed pointer.deferred refusals.Deferred _ family is in
+        let second = test_passed (not (same_bytes pointer.digest (digest (value_text format value)))) refusals.WrongDigest _ family first.1 in
+        let third = test_passed (kid_of parent on) refusals.HasChild _ family second.1 in
+        on_same pointer there (same_path-true pointer.path path is_path) first.0
+        (same_bytes-true pointer.digest (digest (value_text format value)) (passed (same_bytes pointer.digest (digest (value_text format value))) second.0))
+        third.0 (sym (same_Ok _ family third.1))
+      where
+        passed : (b : Bool) → not b ≡ false → b ≡ true
+        passed true h = refl
+        passed false h = absurd (true≢false h)
+
+    split : (on : Bool) (at : Node) (pointer : Pointer) → node_side at on ≡ Some pointer → (s : Option Bool) → side path pointer.path ≡ s
+        → add_by format digest parent (record { on = on; node = at }) path value (if is_some s then cases.Split else cases.Foreign) ≡ Ok family
+        → case_of (node_side at on) path ≡ (if is_some s then cases.Split else cases.Foreign)
+        → IsAdd format digest parent path value on at family
+    split on at pointer there None below is by = absurd (err_ok refusals.Foreign family is)
+    split on at pointer there (Some which) below is by =
+        let told = initial _ is in
+        on_split pointer there which below told.0 (sym (same_Ok _ family told.1) ∙ family_is)
+      where
+        family_is : family_of parent (record { on = on; node = at }) (after_add format digest at on path value) path (leads_below path (node_side at on))
+            ≡ family_of parent (record { on = on; node = at })
+            (record { node = pointing format digest at on path (initial_value format path); value = values.Node (with_side empty_node which (Some pointer)) }) path (Some which)
+        family_is =
+            ap (λ (c : AddCase). family_of parent (record { on = on; node = at }) (added_by format digest at on path value (node_side at on) c) path (leads_below path (node_side at on))) by
+            ∙ ap (λ (o : Option Pointer). family_of parent (record { on = on; node = at }) (added_by format digest at on path value o cases.Split) path (leads_below path o)) there
+            ∙ ap (λ (s : Option Bool). family_of parent (record { on = on; node = at })
+            (record { node = pointing format digest at on path (initial_value format path); value = values.Node (taken_over s pointer) }) path s) below
+
+    by_pointer : (on : Bool) (at : Node) (pointer : Option Pointer) → node_side at on ≡ pointer
+        → add_by format digest parent (record { on = on; node = at }) path value (case_of (node_side at on) path) ≡ Ok family
+        → IsAdd format digest parent path value on at family
+    by_pointer on at None there is =
+        empty on at None there refl
+        (subst (λ (a : Added). test (not (same_value value (initial_value format path))) refusals.NotInitial
+        (Ok (family_of parent (record { on = on; node = at }) a path None)) ≡ Ok family) (as_added None there)
+        (subst (λ (c : AddCase). add_by format digest parent (record { on = on; node = at }) path value c ≡ Ok family) (ap (λ (o : Option Pointer). case_of o path) there) is))
+      where
+        as_added : (o : Option Pointer) → node_side at on ≡ o → after_add format digest at on path value ≡ added_by format digest at on path value o (case_of o path)
+        as_added o there = ap (λ (q : Option Pointer). added_by format digest at on path value q (case_of q path)) there
+    by_pointer on at (Some pointer) there is = by_same (same_path pointer.path path) refl
+      where
+        by_same : (b : Bool) → same_path pointer.path path ≡ b → IsAdd format digest parent path value on at family
+        by_same true is_path =
+            same on at pointer there is_path
+            (subst (λ (a : Added). test pointer.deferred refusals.Deferred
+            (test (not (same_bytes pointer.digest (digest (value_text format value)))) refusals.WrongDigest
+            (test (kid_of parent on) refusals.HasChild
+            (Ok (family_of parent (record { on = on; node = at }) a path None)))) ≡ Ok family) added
+            (subst (λ (o : Option Pointer). test (is_deferred o) refusals.Deferred
+            (test (not (has_digest o (digest (value_text format value)))) refusals.WrongDigest
+            (test (kid_of parent on) refusals.HasChild
+            (Ok (family_of parent (record { on = on; node = at }) (after_add format digest at on path value) path None)))) ≡ Ok family) there
+            (subst (λ (c : AddCase). add_by format digest parent (record { on = on; node = at }) path value c ≡ Ok family) case_same is)))
+          where
+            case_same : case_of (node_side at on) path ≡ cases.Same
+            case_same = ap (λ (o : Option Pointer). case_of o path) there ∙ ap (λ (b : Bool). if b then cases.Same else if is_some (side path pointer.path) then cases.Split else cases.Foreign) is_path
+
+            added : after_add format digest at on path value ≡ record { node = at; value = value }
+            added = ap (λ (c : AddCase). added_by format digest at on path value (node_side at on) c) case_same
+        by_same false apart =
+            split on at pointer there (side path pointer.path) refl
+            (subst (λ (c : AddCase). add_by format digest parent (record { on = on; node = at }) path value c ≡ Ok family) case_split is) case_split
+          where
+            case_split : case_of (node_side at on) path ≡ (if is_some (side path pointer.path) then cases.Split else cases.Foreign)
+            case_split = ap (λ (o : Option Pointer). case_of o path) there ∙ ap (λ (b : Bool). if b then cases.Same else if is_some (side path pointer.path) then cases.Split else cases.Foreign) apart
+
+    by_node : (on : Bool) → side parent.path path ≡ Some on → (o : Option Node) → node_of parent.value ≡ o
+        → need (above_on (Some on) o) refusals.NotBelow (λ above. add_by format digest parent above path value (case_of (node_side above.node above.on) path)) ≡ Ok family
+        → IsAdded format digest parent path value family
+    by_node on below None there is = absurd (err_ok refusals.NotBelow family is)
+    by_node on below (Some at) there is =
+        record { on = on; at = at; below = below; is_node = there; how = by_pointer on at (node_side at on) refl is }
+
+    by_side : (s : Option Bool) → side parent.path path ≡ s
+        → need (above_on s (node_of parent.value)) refusals.NotBelow (λ above. add_by format digest parent above path value (case_of (node_side above.node above.on) path)) ≡ Ok family
+        → IsAdded format digest parent path value family
+    by_side None below is = absurd (err_ok refusals.NotBelow family is)
+    by_side (Some on) below is = by_node on below (node_of parent.value) refl is
