@@ -176,3 +176,126 @@ added_how format digest parent path value family is = by_side (side parent.path 
         → IsAdded format digest parent path value family
     by_side None below is = absurd (err_ok refusals.NotBelow family is)
     by_side (Some on) below is = by_node on below (node_of parent.value) refl is
+
+-- ---- what an evict and a deferral tell
+
+-- The parent's pointer of the child's side leads to the child, and no child of its own stands under it.
+pub record IsLeft (parent child after : Entry) (changed : Node → Bool → Pointer → Node) : Type 0 where
+  pub on : Bool
+  pub at : Node
+  pub pointer : Pointer
+  pub below : side parent.path child.path ≡ Some on
+  pub is_node : node_of parent.value ≡ Some at
+  pub points : node_side at on ≡ Some pointer
+  pub leads : pointer.path ≡ child.path
+  pub kids : has_kid child ≡ false
+  pub after_is : after ≡ left_by parent (record { on = on; node = at }) (changed at on pointer)
+
+-- the tests that an evict and a deferral begin with, and what comes behind them
+left_how : (parent child after : Entry) (changed : Node → Bool → Pointer → Node) (then_do : Bool → Node → Result Entry Refusal)
+    → ((on : Bool) (at : Node) (pointer : Pointer) → node_side at on ≡ Some pointer → then_do on at ≡ Ok after
+    → after ≡ left_by parent (record { on = on; node = at }) (changed at on pointer))
+    → need (above parent child.path) refusals.NotBelow
+    (λ above.
+    test (not (leads_to (node_side above.node above.on) child.path)) refusals.NotChild
+    (test (has_kid child) refusals.HasChild (then_do above.on above.node))) ≡ Ok after
+    → IsLeft parent child after changed
+left_how parent child after changed then_do ends is = by_side (side parent.path child.path) refl is
+  where
+    by_pointer : (on : Bool) (at : Node) → side parent.path child.path ≡ Some on → node_of parent.value ≡ Some at → (o : Option Pointer) → node_side at on ≡ o
+        → test (not (leads_to o child.path)) refusals.NotChild (test (has_kid child) refusals.HasChild (then_do on at)) ≡ Ok after → IsLeft parent child after changed
+    by_pointer on at below is_node None there is = absurd (err_ok refusals.NotChild after is)
+    by_pointer on at below is_node (Some pointer) there is = go (same_path pointer.path child.path) refl is
+      where
+        go : (b : Bool) → same_path pointer.path child.path ≡ b → test (not b) refusals.NotChild (test (has_kid child) refusals.HasChild (then_do on at)) ≡ Ok after
+            → IsLeft parent child after changed
+        go false apart is = absurd (err_ok refusals.NotChild after is)
+        go true leads is =
+            let told = test_passed (has_kid child) refusals.HasChild (then_do on at) after is in
+            record {
+              on = on;
+              at = at;
+              pointer = pointer;
+              below = below;
+              is_node = is_node;
+              points = there;
+              leads = same_path-true pointer.path child.path leads;
+              kids = told.0;
+              after_is = ends on at pointer there told.1;
+            }
+
+    by_node : (on : Bool) → side parent.path child.path ≡ Some on → (o : Option Node) → node_of parent.value ≡ o
+        → need (above_on (Some on) o) refusals.NotBelow
+        (λ above.
+        test (not (leads_to (node_side above.node above.on) child.path)) refusals.NotChild
+        (test (has_kid child) refusals.HasChild (then_do above.on above.node))) ≡ Ok after
+        → IsLeft parent child after changed
+    by_node on below None there is = absurd (err_ok refusals.NotBelow after is)
+    by_node on below (Some at) there is = by_pointer on at below there (node_side at on) refl is
+
+    by_side : (s : Option Bool) → side parent.path child.path ≡ s
+        → need (above_on s (node_of parent.value)) refusals.NotBelow
+        (λ above.
+        test (not (leads_to (node_side above.node above.on) child.path)) refusals.NotChild
+        (test (has_kid child) refusals.HasChild (then_do above.on above.node))) ≡ Ok after
+        → IsLeft parent child after changed
+    by_side None below is = absurd (err_ok refusals.NotBelow after is)
+    by_side (Some on) below is = by_node on below (node_of parent.value) refl is
+
+-- an evict gives the pointer the digest of the value that goes out
+abbrev pub evicted_into : Format → Digest → Entry → Node → Bool → Pointer → Node
+evicted_into format digest child at on pointer = pointing format digest at on child.path child.value
+
+pub evicted_how : (format : Format) (digest : Digest) (parent child after : Entry) → evict_under format digest parent child ≡ Ok after
+    → IsLeft parent child after (evicted_into format digest child)
+evicted_how format digest parent child after is =
+    left_how parent child after (evicted_into format digest child)
+    (λ on at. test (holds_wrong child.hold (kid_of parent on) (is_deferred (node_side at on))) refusals.WrongHold
+    (Ok (left_by parent (record { on = on; node = at }) (after_evict format digest at on child.path child.value))))
+    (λ on at pointer there passed. sym (same_Ok _ after (test_passed (holds_wrong child.hold (kid_of parent on) (is_deferred (node_side at on))) refusals.WrongHold _ after passed).1))
+    is
+
+-- a deferral sets the pointer's flag
+abbrev pub deferred_in : Node → Bool → Pointer → Node
+deferred_in at on pointer = with_side at on (Some (deferred_pointer pointer))
+
+pub deferred_how : (parent child after : Entry) → defer_under parent child ≡ Ok after → IsLeft parent child after deferred_in
+deferred_how parent child after is =
+    left_how parent child after deferred_in
+    (λ on at. test (not (is_by_digest child.hold) || not (kid_of parent on)) refusals.WrongHold
+    (Ok (left_by parent (record { on = on; node = at }) (after_defer at on))))
+    (λ on at pointer there passed.
+    sym (same_Ok _ after (test_passed (not (is_by_digest child.hold) || not (kid_of parent on)) refusals.WrongHold _ after passed).1)
+    ∙ ap (λ (o : Option Pointer). left_by parent (record { on = on; node = at }) (with_side at on (option_map deferred_pointer o))) there)
+    is
+
+-- ---- kid bits and pointers, once changed
+
+pub kid_set : (entry : Entry) (on kid : Bool) → kid_of (set_kid entry on kid) on ≡ kid
+kid_set entry true kid = refl
+kid_set entry false kid = refl
+
+pub kid_set_other : (entry : Entry) (on kid which : Bool) → which ≢ on → kid_of (set_kid entry on kid) which ≡ kid_of entry which
+kid_set_other entry true kid true other = absurd (other refl)
+kid_set_other entry true kid false other = refl
+kid_set_other entry false kid true other = refl
+kid_set_other entry false kid false other = absurd (other refl)
+
+pub pointer_set : (at : Node) (on : Bool) (pointer : Option Pointer) → node_side (with_side at on pointer) on ≡ pointer
+pointer_set at true pointer = refl
+pointer_set at false pointer = refl
+
+pub pointer_set_other : (at : Node) (on which : Bool) (pointer : Option Pointer) → which ≢ on → node_side (with_side at on pointer) which ≡ node_side at which
+pointer_set_other at true true pointer other = absurd (other refl)
+pointer_set_other at true false pointer other = refl
+pointer_set_other at false true pointer other = refl
+pointer_set_other at false false pointer other = absurd (other refl)
+
+pub no_kids : (entry : Entry) (on : Bool) → has_kid entry ≡ false → kid_of entry on ≡ false
+no_kids entry on none = go (kid_of entry false) (kid_of entry true) refl refl none on
+  where
+    go : (a b : Bool) → kid_of entry false ≡ a → kid_of entry true ≡ b → (a || b) ≡ false → (on : Bool) → kid_of entry on ≡ false
+    go false false first second none true = second
+    go false false first second none false = first
+    go true b first second none on = absurd (true≢false none)
+    go false true first second none on = absurd (true≢false none)

@@ -3,3 +3,4 @@ pub mod SideLemmas
 pub mod MovedLemmas
 pub mod PairLemmas
 pub mod FamilyLemmas
+pub mod UnderLemmas
