@@ -4,6 +4,8 @@
 mod laws;
 mod merging;
 mod moment;
+mod plain_map;
+mod serial;
 
 pub use laws::{
     merged_order_is_one, merging_goes_by_parts, merging_keeps_what_is_in_order, merging_sorts,
@@ -11,3 +13,5 @@ pub use laws::{
 };
 pub use merging::merge;
 pub use moment::Moment;
+pub use plain_map::PlainMap;
+pub use serial::is_serial;
