@@ -44,7 +44,7 @@ pub fn merging_goes_by_parts<T, U>()
         → filter test (merged at xs) ≡ merged at (filter test xs) }
     ensures epochs { (at : T → Moment) (epoch : ℕ) (xs : List T)
         → merged at (up_to at (epoch + 1) xs)
-            ≡ merged at (up_to at epoch xs) ++ merged at (of_epoch at (epoch + 1) xs) }
+        ≡ merged at (up_to at epoch xs) ++ merged at (of_epoch at (epoch + 1) xs) }
     ensures blocks { (at : T → Moment) (of_block : U → Moment) (block : T → List U)
         → ((x : T) → AllByRecursion (λ y. of_block y ≡ at x) (block x))
         → (xs : List T) → flat_map block (merged at xs) ≡ merged of_block (flat_map block xs) }
