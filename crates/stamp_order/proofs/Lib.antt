@@ -1,0 +1,5 @@
+pub mod InOrderLemmas
+pub mod OneOrderLemmas
+pub mod JoinLemmas
+pub mod MomentLemmas
+pub mod MergedLemmas

@@ -1,0 +1,5 @@
+use Rattle.stamp_order.proofs.MergedLemmas.{merged-one}
+use Rattle.stamp_order.proofs.laws.merged_order_is_one.Goals as goal
+
+pub returns : goal.returns
+returns g c = record { only = merged-one }

@@ -1,0 +1,14 @@
+-- A stable sort by the moments leaves the merged list, whether or not moments tie.
+use Rattle.std.proofs.Common.{rules, ap, ◌∙◌}
+use Rattle.std.proofs.lemmas.List.Sorted.{answers_always}
+use Rattle.stamp_order.specs.Merged.{moment_of, merged}
+use Rattle.stamp_order.proofs.MergedLemmas.{merged-from_stable}
+use Rattle.stamp_order.proofs.merging.merge.Goals as goal
+
+pub returns : goal.returns
+returns c = record {
+  merged =
+      merged-from_stable moment_of _ _ (c.in_ok-sort_by_key.ensures.sorted moment_of (answers_always _ _ _ (λ f a r g h. search rules)))
+      (c.in_ok-sort_by_key.ensures.stable moment_of (answers_always _ _ _ (λ f a r g h. search rules)))
+      ∙ ap (merged moment_of) c.in_ok-kept.ensures.kept;
+}

@@ -1,0 +1,5 @@
+pub mod InOrder
+pub mod Moment
+pub mod Merged
+pub mod Serial
+pub mod PlainMap

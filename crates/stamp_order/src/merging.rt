@@ -1,0 +1,30 @@
+ghost use Rattle.std.specs.Prelude.{◌≡◌, IfOk};
+ghost use Rattle.stamp_order.specs.Merged.{moment_of, up_to, merged_up_to};
+
+use crate::moment::Moment;
+use fv_outside::Memory;
+use record_text::Operation;
+use std::alloc::Global;
+
+/// All operations up to an epoch, in one order: by the clock, then the verifier, then the number in its log.
+/// It keeps the order of each verifier.
+pub fn merge(alloc: Global, ops: &[Operation], epoch: u32) -> Result<Vec<Operation>, Memory>
+    ensures merged { IfOk result (λ v. v.items ≡ merged_up_to epoch ops.now) }
+{
+    let mut kept = kept_up_to(alloc, ops, epoch)?;
+    kept.sort_by_key(Moment::of)?;
+    Ok(kept)
+}
+
+// Copies of the operations up to an epoch, as they stand.
+fn kept_up_to(alloc: Global, ops: &[Operation], epoch: u32) -> Result<Vec<Operation>, Memory>
+    ensures kept { IfOk result (λ v. v.items ≡ up_to moment_of epoch ops.now) }
+{
+    let mut kept = Vec::new(alloc);
+    for op in ops {
+        if op.stamp.epoch <= epoch {
+            kept.push(op.copy())?;
+        }
+    }
+    Ok(kept)
+}

@@ -1,0 +1,59 @@
+ghost use Rattle.std.specs.Prelude.{◌≡◌, nat_eq, OnOk, OnErr};
+ghost use Rattle.std.specs.Map.{update};
+ghost use Rattle.stamp_order.specs.Serial.{none_everywhere};
+ghost use Rattle.stamp_order.specs.PlainMap.{value_at};
+
+use fv_outside::Memory;
+use record_text::Blob;
+use std::alloc::Global;
+use std::collections::BTreeMap;
+use std::marker::Model;
+
+/// A map from keys to data values, none at every key at first. Contracts see it as its entries, and read them
+/// as a function by `value_at`.
+#[derive(Drop)]
+pub struct PlainMap {
+    values: BTreeMap<u64, Blob>,
+}
+
+impl Model for PlainMap {
+    ghost use Rattle.std.specs.Prelude.{ℕ, List, Option};
+
+    ghost Value = { List (ℕ × Option (List ℕ)) };
+
+    ghost view = { λ m. m.values.entries };
+}
+
+impl PlainMap {
+    /// The map that is none at every key. It takes memory from `alloc` as it grows.
+    pub fn new(alloc: Global) -> Self
+        ensures none { value_at result ≡ none_everywhere }
+    {
+        PlainMap {
+            values: BTreeMap::new(alloc),
+        }
+    }
+
+    /// Sets the value of a key, and leaves the others. For want of memory the map is as before.
+    pub fn put(&mut self, key: u64, value: Blob) -> Result<(), Memory>
+        ensures ok { OnOk result (value_at self.new ≡ update nat_eq (value_at self.old) key value) }
+        ensures err { OnErr result (self.new ≡ self.old) }
+    {
+        if value.bytes().is_some() {
+            self.values.insert(key, value)?;
+        } else {
+            self.values.remove(&key);
+        }
+        Ok(())
+    }
+
+    /// The value of a key.
+    pub fn get(&self, key: u64) -> Blob
+        ensures value { result ≡ value_at self.now key }
+    {
+        match self.values.get(&key) {
+            Some(value) => value.copy(),
+            None => Blob::none(),
+        }
+    }
+}
