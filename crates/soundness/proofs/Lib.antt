@@ -4,3 +4,4 @@ pub mod MovedLemmas
 pub mod PairLemmas
 pub mod FamilyLemmas
 pub mod UnderLemmas
+pub mod WorldLemmas
