@@ -5,3 +5,4 @@ pub mod PairLemmas
 pub mod FamilyLemmas
 pub mod UnderLemmas
 pub mod WorldLemmas
+pub mod JoinLemmas

@@ -71,7 +71,7 @@ pair_moves format digest old new before k on home at now kid spot pointer tree w
 -- ---- where the pointer led nowhere
 
 -- nothing is touched there
-nothing_there : (format : Format) (digest : Digest) (old : Spots) (p : List Bool) (on : Bool) → IsTree format digest old → is_touched (old p) ≡ true
+pub nothing_there : (format : Format) (digest : Digest) (old : Spots) (p : List Bool) (on : Bool) → IsTree format digest old → is_touched (old p) ≡ true
     → pointer_at (old p) on ≡ None → (j : List Bool) → is_touched (old j) ≡ true → side p j ≡ Some on → ⊥
 nothing_there format digest old p on tree above none j touched below =
     subst (λ (o : Option Pointer). Covers o j) none (tree.cover p j on above touched below)

@@ -1,0 +1,282 @@
+-- A child that comes in under its parent keeps the world; or it is what the exhibit shows, and that collides.
+use Rattle.std.proofs.Common.{◌≡◌, ◌≢◌, ◌⊎◌, ℕ, Bool, true, false, List, [], ◌∷◌, length, Option, Some, None, Ok, refl, sym, ◌∙◌, ap, subst, inl, inr, if◌then◌else◌, ◌==◌, arith}
+use Rattle.std.proofs.lemmas.Bool.{false≢true, true≢false}
+use Rattle.std.proofs.lemmas.Option.{none-some, same_Some}
+use Rattle.tree_keys.specs.Path.{side, same_path}
+use Rattle.tree_keys.proofs.PathLemmas.{same_path-self}
+use Rattle.record_text.specs.declared.value.Pointer.{Pointer}
+use Rattle.record_text.specs.declared.value.Node.{Node}
+use Rattle.record_text.specs.declared.value.Value.{Value}
+use Rattle.record_text.specs.declared.value.Value.TheVariants as values
+use Rattle.record_text.specs.Format.{Format, path_bits}
+use Rattle.record_text.specs.Value.{IsOf, IsPointer, node_side, with_side, empty_node, initial_value}
+use Rattle.record_text.specs.Texts.{value_text}
+use Rattle.merkle_records.specs.Merkle.{Digest, GivesDigests, pointer_to, pointing}
+use Rattle.merkle_records.proofs.KindLemmas.{IsOf-after_evict, IsOf-with_side, is_prefix-side, length-side}
+use Rattle.verifier_cache.specs.declared.entry.Entry.{Entry}
+use Rattle.verifier_cache.specs.declared.entry.Hold.TheVariants.{M}
+use Rattle.verifier_cache.specs.Entry.{kid_of, set_kid, new_entry}
+use Rattle.verifier_commands.specs.declared.changes.Family.{Family}
+use Rattle.verifier_commands.specs.declared.changes.Parent.{Parent}
+use Rattle.verifier_commands.specs.Same.{same_bytes}
+use Rattle.verifier_commands.proofs.SameLemmas.{same_bytes-self, same_bytes-true}
+use Rattle.verifier_commands.specs.Changes.{node_of, above, above_on, set_kid_on}
+use Rattle.verifier_commands.specs.Outcome.{blob_of}
+use Rattle.verifier_commands.specs.Change.{joins}
+use Rattle.soundness.specs.Exhibit.{Taken, Strings, is_known, differing, clash_at, clash_of, IsCollision}
+use Rattle.soundness.specs.Deeds.{Shown, ShowSame, showing_both, DidJoin}
+use Rattle.soundness.specs.Spot.{Spot, untouched, cached, merkle, waiting, Spots, is_touched, side_of, pointer_at, home_of, LeadsBy, IsKeptBy, Leads, Covers, IsKind, IsTree}
+use Rattle.soundness.proofs.SideLemmas.{above_apart, above_no_prefix}
+use Rattle.soundness.proofs.MovedLemmas.{this_or_other, pointer_kind, pointer_touched}
+use Rattle.soundness.proofs.FamilyLemmas.{IsAdd, on_empty, on_same, on_split, IsAdded, added_how, pointer_set, pointer_set_other, kid_set, kid_set_other}
+use Rattle.soundness.proofs.UnderLemmas.{FitsUnder, pair_moves, changed_parent, nothing_there, fits_empty, fits_known, fits_split}
+use Rattle.soundness.proofs.WorldLemmas.{cached_in, cached_here, cached_elsewhere, spot_of_shown, blob_in, blob_at, AllShown, with_shown, Stored, IsWorld, with_pair, with_pair_parent, with_pair_other, with_spot_at, with_spot, world_pair}
+
+-- ---- what the parts of a spot tell
+
+abbrev pub is_merkle : Spot → Bool
+is_merkle untouched = false
+is_merkle (cached verifier entry) = false
+is_merkle (merkle value) = true
+is_merkle (waiting element) = false
+
+pub untouched_is : (spot : Spot) → is_touched spot ≡ false → spot ≡ untouched
+untouched_is untouched is = refl
+untouched_is (cached verifier entry) is = absurd (true≢false is)
+untouched_is (merkle value) is = absurd (true≢false is)
+untouched_is (waiting element) is = absurd (true≢false is)
+
+-- what isn't touched, where touching leads nowhere
+pub untouched_since : (spot : Spot) → (is_touched spot ≡ true → ⊥) → spot ≡ untouched
+untouched_since spot never = go (is_touched spot) refl
+  where
+    go : (b : Bool) → is_touched spot ≡ b → spot ≡ untouched
+    go true touched = absurd (never touched)
+    go false is = untouched_is spot is
+
+pub node_is : (value : Value) (at : Node) → node_of value ≡ Some at → value ≡ values.Node at
+node_is (values.Blob blob) at is = absurd (none-some at is)
+node_is (values.Node held) at is = ap values.Node (same_Some held at is)
+
+pub node_blob : (value : Value) (at : Node) → node_of value ≡ Some at → blob_of value ≡ None
+node_blob value at is = ap blob_of (node_is value at is)
+
+initial_blob : (format : Format) (path : List Bool) → blob_of (initial_value format path) ≡ None
+initial_blob format path = go (length path == path_bits format)
+  where
+    go : (b : Bool) → blob_of (if b then values.Blob None else values.Node empty_node) ≡ None
+    go true = refl
+    go false = refl
+
+initial_bare : (format : Format) (path : List Bool) (which : Bool) → side_of (node_of (initial_value format path)) which ≡ None
+initial_bare format path which = go (length path == path_bits format) which
+  where
+    go : (b : Bool) (which : Bool) → side_of (node_of (if b then values.Blob None else values.Node empty_node)) which ≡ None
+    go true which = refl
+    go false true = refl
+    go false false = refl
+
+-- what is kept by a digest
+kept_value : (format : Format) (digest : Digest) (kept : List ℕ) (spot : Spot) → IsKeptBy format digest kept spot
+    → (value : Value) × (spot ≡ merkle value) × (kept ≡ digest (value_text format value))
+kept_value format digest kept untouched is = absurd is
+kept_value format digest kept (cached verifier entry) is = absurd is
+kept_value format digest kept (merkle value) is = (value, refl, is)
+kept_value format digest kept (waiting element) is = absurd is
+
+-- ---- what was taken, where a parent and a child that isn't kept by its digest change
+
+pub taken_pair : (taken : Taken) (spots : Spots) (home : ℕ) (after : Entry) (k : List Bool) (spot : Spot) → after.path ≢ k → is_merkle spot ≡ false
+    → ((path : List Bool) (value : Value) → spots path ≡ merkle value → taken path ≡ Some value)
+    → (path : List Bool) (value : Value) → with_pair spots home after k spot path ≡ merkle value → taken path ≡ Some value
+taken_pair taken spots home after k spot apart not_merkle was path value is = go (this_or_other k path) (this_or_other after.path path)
+  where
+    go : (k ≡ path) ⊎ (k ≢ path) → (after.path ≡ path) ⊎ (after.path ≢ path) → taken path ≡ Some value
+    go (inl same) either =
+        absurd (false≢true (sym not_merkle ∙ ap is_merkle (sym (with_spot_at (with_spot spots after.path (cached home after)) k spot)
+        ∙ ap (with_pair spots home after k spot) same ∙ is)))
+    go (inr further) (inl same) =
+        absurd (false≢true (ap is_merkle (sym (with_pair_parent spots home after k spot apart) ∙ ap (with_pair spots home after k spot) same ∙ is)))
+    go (inr further) (inr away) = was path value (sym (with_pair_other spots home after k path spot away further) ∙ is)
+
+-- ---- a child joins
+
+-- the world behind a step, whatever the spots are
+abbrev pub WorldAfter : Format → Digest → AllShown → Taken → Stored → Type 0
+WorldAfter format digest shown taken stored = (spots : Spots) × IsWorld format digest shown taken stored spots
+
+-- What all joins have in common.
+join_world : (format : Format) (digest : Digest) (shown : AllShown) (taken : Taken) (stored : Stored) (spots : Spots) (home : ℕ) (next : Shown) (parent child : Entry)
+    → (on : Bool) (at now : Node) (pointer : Pointer)
+    → IsWorld format digest shown taken stored spots
+    → spots parent.path ≡ cached home parent → node_of parent.value ≡ Some at → side parent.path child.path ≡ Some on
+    → ShowSame next (showing_both (shown home) (changed_parent parent now on true) child.path (Some child))
+    → node_side now on ≡ Some pointer → pointer.path ≡ child.path → pointer.deferred ≡ false
+    → ((which : Bool) → which ≢ on → node_side now which ≡ node_side at which)
+    → IsOf format parent.path (values.Node now) → IsOf format child.path child.value → child.hold ≡ M
+    → FitsUnder format digest spots parent.path child.path on (cached home child)
+    → ((other : ℕ) → cached_in other (spots child.path) ≡ None)
+    → blob_of child.value ≡ blob_at (spots child.path)
+    → WorldAfter format digest (with_shown shown home next) taken stored
+join_world format digest shown taken stored spots home next parent child on at now pointer world was is_node below shows points to flag others kind child_kind hold fits hidden blob =
+    (new, world_pair format digest shown taken taken stored spots home next parent after child.path (cached home child) world tree was apart
+    (subst (λ (e : Option Entry). ShowSame next (showing_both (shown home) after child.path e)) (sym (cached_here home child)) shows)
+    (λ other away. cached_elsewhere home other child away ∙ sym (hidden other))
+    (sym (node_blob parent.value at is_node)) blob
+    (taken_pair taken spots home after child.path (cached home child) apart refl world.was_taken))
+  where
+    after : Entry
+    after = changed_parent parent now on true
+
+    new : Spots
+    new = with_pair spots home after child.path (cached home child)
+
+    apart : parent.path ≢ child.path
+    apart = above_apart parent.path child.path on below
+
+    tree : IsTree format digest new
+    tree =
+        pair_moves format digest spots new parent child.path on home at now true (cached home child) pointer world.tree was is_node below points to others
+        kind (refl, child_kind) refl
+        (subst (λ (b : Bool). LeadsBy format digest b (Some home) pointer.digest (cached home child)) (sym flag) (refl, hold))
+        fits
+        (with_pair_parent spots home after child.path (cached home child) apart)
+        (with_spot_at (with_spot spots after.path (cached home after)) child.path (cached home child))
+        (λ j first second. with_pair_other spots home after child.path j (cached home child) first second)
+
+-- What is known of a join: where the parent stands, and how the child was added.
+pub record Joining (format : Format) (digest : Digest) (shown : AllShown) (spots : Spots) (home : ℕ) (next : Shown) (parent after child : Entry) : Type 0 where
+  pub value : Value
+  pub kind : IsOf format child.path value
+  pub was : spots parent.path ≡ cached home parent
+  pub shows : ShowSame next (showing_both (shown home) after child.path (Some child))
+  pub added : IsAdded format digest parent child.path value (record { parent = after; child = child })
+
+joining : (format : Format) (digest : Digest) (shown : AllShown) (taken : Taken) (stored : Stored) (spots : Spots) (home : ℕ) (next : Shown) (parent after child : Entry)
+    → IsWorld format digest shown taken stored spots → DidJoin format digest (shown home) next parent after child
+    → Joining format digest shown spots home next parent after child
+joining format digest shown taken stored spots home next parent after child world did = record {
+  value = did.value;
+  kind = did.kind;
+  was = spot_of_shown home (spots parent.path) parent (sym (world.shows home parent.path) ∙ did.had_parent);
+  shows = did.shown;
+  added = added_how format digest parent child.path did.value (record { parent = after; child = child }) did.added;
+}
+
+-- the pointer of a side of what a cached parent holds
+parent_pointer : (spots : Spots) (home : ℕ) (parent : Entry) (at : Node) (on : Bool) → spots parent.path ≡ cached home parent → node_of parent.value ≡ Some at
+    → pointer_at (spots parent.path) on ≡ node_side at on
+parent_pointer spots home parent at on was is_node =
+    ap (λ (s : Spot). pointer_at s on) was ∙ ap (λ (o : Option Node). side_of o on) is_node
+
+-- what the parent is, is of its path's kind
+parent_kind : (format : Format) (digest : Digest) (spots : Spots) (home : ℕ) (parent : Entry) (at : Node) → IsTree format digest spots → spots parent.path ≡ cached home parent
+    → node_of parent.value ≡ Some at → IsOf format parent.path (values.Node at)
+parent_kind format digest spots home parent at tree was is_node =
+    subst (IsOf format parent.path) (node_is parent.value at is_node)
+    (subst (IsKind format parent.path) was (tree.kind parent.path)).1
+
+-- Where the pointer led nowhere.
+join_empty : (format : Format) (digest : Digest) (shown : AllShown) (taken : Taken) (stored : Stored) (spots : Spots) (home : ℕ) (next : Shown) (parent after child : Entry)
+    → GivesDigests digest → IsWorld format digest shown taken stored spots → (j : Joining format digest shown spots home next parent after child)
+    → node_side j.added.at j.added.on ≡ None → j.value ≡ initial_value format child.path
+    → after ≡ changed_parent parent (pointing format digest j.added.at j.added.on child.path j.value) j.added.on true
+    → child ≡ new_entry child.path j.value M
+    → WorldAfter format digest (with_shown shown home next) taken stored
+join_empty format digest shown taken stored spots home next parent after child digests world j none initial after_is child_is =
+    join_world format digest shown taken stored spots home next parent child on at now (pointer_to format digest child.path j.value) world j.was j.added.is_node j.added.below
+    (subst (λ (a : Entry). ShowSame next (showing_both (shown home) a child.path (Some child))) after_is j.shows)
+    (pointer_set at on _) refl refl (λ which other. pointer_set_other at on which _ other)
+    (IsOf-after_evict format digest parent.path child.path on at j.value digests j.added.below (parent_kind format digest spots home parent at world.tree j.was j.added.is_node) j.kind)
+    (subst (IsOf format child.path) (sym value_is) j.kind)
+    (ap (λ (e : Entry). e.hold) child_is)
+    (fits_empty format digest spots parent.path child.path on (cached home child) world.tree above bare_side j.added.below
+    (λ which. ap (λ (v : Value). side_of (node_of v) which) (value_is ∙ initial) ∙ initial_bare format child.path which))
+    (λ other. ap (cached_in other) was_untouched)
+    (ap blob_of (value_is ∙ initial) ∙ initial_blob format child.path ∙ ap blob_at (sym was_untouched))
+  where
+    on : Bool
+    on = j.added.on
+
+    at : Node
+    at = j.added.at
+
+    now : Node
+    now = pointing format digest at on child.path j.value
+
+    value_is : child.value ≡ j.value
+    value_is = ap (λ (e : Entry). e.value) child_is
+
+    above : is_touched (spots parent.path) ≡ true
+    above = ap is_touched j.was
+
+    bare_side : pointer_at (spots parent.path) on ≡ None
+    bare_side = parent_pointer spots home parent at on j.was j.added.is_node ∙ none
+
+    was_untouched : spots child.path ≡ untouched
+    was_untouched =
+        untouched_since (spots child.path)
+        (λ touched. nothing_there format digest spots parent.path on world.tree above bare_side child.path touched j.added.below)
+
+-- Where the pointer led below the child.
+join_split : (format : Format) (digest : Digest) (shown : AllShown) (taken : Taken) (stored : Stored) (spots : Spots) (home : ℕ) (next : Shown) (parent after child : Entry)
+    → GivesDigests digest → IsWorld format digest shown taken stored spots → (j : Joining format digest shown spots home next parent after child)
+    → (pointer : Pointer) → node_side j.added.at j.added.on ≡ Some pointer → (which : Bool) → side child.path pointer.path ≡ Some which
+    → j.value ≡ initial_value format child.path
+    → after ≡ changed_parent parent (pointing format digest j.added.at j.added.on child.path (initial_value format child.path)) j.added.on true
+    → child ≡ set_kid (new_entry child.path (values.Node (with_side empty_node which (Some pointer))) M) which (kid_of parent j.added.on)
+    → WorldAfter format digest (with_shown shown home next) taken stored
+join_split format digest shown taken stored spots home next parent after child digests world j pointer there which further initial after_is child_is =
+    join_world format digest shown taken stored spots home next parent child on at now (pointer_to format digest child.path (initial_value format child.path)) world j.was j.added.is_node j.added.below
+    (subst (λ (a : Entry). ShowSame next (showing_both (shown home) a child.path (Some child))) after_is j.shows)
+    (pointer_set at on _) refl refl (λ side other. pointer_set_other at on side _ other)
+    (IsOf-after_evict format digest parent.path child.path on at (initial_value format child.path) digests j.added.below
+    (parent_kind format digest spots home parent at world.tree j.was j.added.is_node) (subst (IsOf format child.path) initial j.kind))
+    (subst (IsOf format child.path) (sym value_is) taken_kind)
+    (ap (λ (e : Entry). e.hold) child_is)
+    (fits_split format digest spots parent.path child.path on (cached home child) pointer which world.tree points j.added.below further
+    (ap (λ (v : Value). side_of (node_of v) which) value_is ∙ pointer_set empty_node which (Some pointer))
+    (λ side other. ap (λ (v : Value). side_of (node_of v) side) value_is ∙ pointer_set_other empty_node which side (Some pointer) other ∙ bare side)
+    home_is)
+    (λ other. ap (cached_in other) was_untouched)
+    (ap blob_of value_is ∙ ap blob_at (sym was_untouched))
+  where
+    on : Bool
+    on = j.added.on
+
+    at : Node
+    at = j.added.at
+
+    now : Node
+    now = pointing format digest at on child.path (initial_value format child.path)
+
+    value_is : child.value ≡ values.Node (with_side empty_node which (Some pointer))
+    value_is = ap (λ (e : Entry). e.value) child_is
+
+    points : pointer_at (spots parent.path) on ≡ Some pointer
+    points = parent_pointer spots home parent at on j.was j.added.is_node ∙ there
+
+    fits : IsPointer format parent.path on pointer
+    fits = pointer_kind format parent.path (spots parent.path) on pointer (world.tree.kind parent.path) points
+
+    taken_kind : IsOf format child.path (values.Node (with_side empty_node which (Some pointer)))
+    taken_kind =
+        IsOf-with_side format child.path empty_node which (Some pointer) (omega (arith, length-side child.path pointer.path which further, fits.fits), tt, tt)
+        (record { below = is_prefix-side child.path pointer.path which further; fits = fits.fits; digest = fits.digest })
+
+    bare : (side : Bool) → node_side empty_node side ≡ None
+    bare true = refl
+    bare false = refl
+
+    home_is : home_of (cached home child) which ≡ home_of (spots parent.path) on
+    home_is =
+        ap (λ (e : Entry). if kid_of e which then Some home else None) child_is
+        ∙ ap (λ (b : Bool). if b then Some home else None) (kid_set (new_entry child.path (values.Node (with_side empty_node which (Some pointer))) M) which (kid_of parent on))
+        ∙ ap (λ (s : Spot). home_of s on) (sym j.was)
+
+    was_untouched : spots child.path ≡ untouched
+    was_untouched =
+        untouched_since (spots child.path)
+        (λ touched. above_no_prefix child.path pointer.path which further
+        (subst (λ (o : Option Pointer). Covers o child.path) points
+        (world.tree.cover parent.path child.path on (ap is_touched j.was) touched j.added.below)))
