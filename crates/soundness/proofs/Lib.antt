@@ -1,5 +1,8 @@
 -- How soundness is proved, in reading order.
 pub mod SideLemmas
+pub mod InvertLemmas
+pub mod ShownLemmas
+pub mod LawfulLemmas
 pub mod MovedLemmas
 pub mod PairLemmas
 pub mod FamilyLemmas

@@ -1,0 +1,359 @@
+-- Each accepted command did what its change tells, and left the entries of the cache distinct.
+use Rattle.std.proofs.Common.{◌≡◌, ◌≢◌, ℕ, suc, ◌==◌, Bool, true, false, not, ◌||◌, nat_le, List, [], ◌∷◌, length, if◌then◌else◌, Option, Some, None, is_some, IsNone, Ok, Err, refl, sym, ◌∙◌, ap, subst}
+use Rattle.std.specs.List.{AllByRecursion}
+use Rattle.std.proofs.lemmas.Bool.{true≢false, not-false, eqb-true, ne_eqb}
+use Rattle.std.proofs.lemmas.Result.{IfOk-at_ok}
+use Rattle.lamport_clocks.specs.declared.header.Header.{Header}
+use Rattle.lamport_clocks.specs.declared.stamp.Stamp.{Stamp}
+use Rattle.lamport_clocks.specs.Clock.{received, sent, turned}
+use Rattle.lamport_clocks.proofs.InOrder.{test-ok}
+use Rattle.record_text.specs.declared.value.Value.{Value}
+use Rattle.record_text.specs.Format.{Format, path_bits}
+use Rattle.record_text.specs.Texts.{value_text}
+use Rattle.record_text.specs.Value.{IsOf, node_side, initial_value}
+use Rattle.log_codec.specs.declared.command.Command.{Command}
+use Rattle.log_codec.specs.declared.command.Command.TheVariants.{AddM, EvictM, AddB, EvictB, EvictBM, Get, Put, NextEpoch}
+use Rattle.log_codec.specs.Command.{IsCommand}
+use Rattle.merkle_records.specs.declared.cases.AddCase.{AddCase}
+use Rattle.merkle_records.specs.declared.cases.AddCase.TheVariants as cases
+use Rattle.merkle_records.specs.Merkle.{Digest, case_of}
+use Rattle.verifier_cache.specs.declared.entry.Entry.{Entry}
+use Rattle.verifier_cache.specs.declared.entry.Hold.{Hold}
+use Rattle.verifier_cache.specs.declared.entry.Hold.TheVariants.{Root, M, B}
+use Rattle.verifier_cache.specs.Entry.{kid_of, has_kid, new_entry, with_value}
+use Rattle.verifier_cache.specs.Cache.{entry_of, AreDistinct}
+use Rattle.verifier_cache.proofs.EntriesLemmas.{entry_of-path, AreDistinct-without, AreDistinct-append}
+use Rattle.verifier_commands.specs.declared.changes.Parent.{Parent}
+use Rattle.verifier_commands.specs.declared.changes.Family.{Family}
+use Rattle.verifier_commands.specs.declared.state.State.{State}
+use Rattle.verifier_commands.specs.State.{opening, root_entry}
+use Rattle.verifier_commands.specs.Change.{Change}
+use Rattle.verifier_commands.specs.Changes.{above, leads_to, is_deferred, has_digest, holds_wrong, is_by_digest, set_kid_on, add_by, add_under, evict_under, defer_under, is_by_stamp}
+use Rattle.verifier_commands.specs.Same.{same_value}
+use Rattle.verifier_commands.specs.Transition.{Rules, Step, is_root, is_data, is_full, transition, add_m, evict_m, add_b, evict_b, evict_bm, get, put, next_epoch}
+use Rattle.soundness.specs.History.{Event, events_behind, events_from, machinery_under}
+use Rattle.soundness.specs.Deeds.{Shown, Did, shown_by, showing, ShowSame}
+use Rattle.soundness.proofs.InvertLemmas.{need-ok, and_then-ok, timed-ok}
+use Rattle.soundness.proofs.ShownLemmas.{found_own, shown-replaced, shown-without, shown-append, distinct-replaced, shown-joined, distinct-joined, shown-left, distinct-left}
+
+-- ---- each keeps its path
+
+-- a kid bit that is taken over leaves the path
+set_kid_on-path : (entry : Entry) (which : Option Bool) (on : Bool) → (set_kid_on entry which on).path ≡ entry.path
+set_kid_on-path entry None on = refl
+set_kid_on-path entry (Some which) on = refl
+
+-- the parent keeps its path, and the child has the path that was added
+abbrev pub IsFamily : List Bool → List Bool → Family → Type 0
+IsFamily parent path family = (family.parent.path ≡ parent) × (family.child.path ≡ path)
+
+-- an add keeps the parent's path, by where the pointer leads
+pub add_by-paths : (format : Format) (digest : Digest) (parent : Entry) (place : Parent) (path : List Bool)
+    (value : Value) (leads : AddCase) (family : Family)
+    → add_by format digest parent place path value leads ≡ Ok family → IsFamily parent.path path family
+add_by-paths format digest parent place path value cases.Foreign family is = absurd (cc)
+add_by-paths format digest parent place path value cases.Empty family is =
+    let made = test-ok (not (same_value value (initial_value format path))) _ _ family is in
+    IfOk-at_ok (IsFamily parent.path path) made.1 (refl, refl)
+add_by-paths format digest parent place path value cases.Split family is =
+    let made = test-ok (not (same_value value (initial_value format path))) _ _ family is in
+    IfOk-at_ok (IsFamily parent.path path) made.1 (refl, set_kid_on-path _ _ _)
+add_by-paths format digest parent place path value cases.Same family is =
+    let pointer = node_side place.node place.on in
+    let checked = test-ok (is_deferred pointer) _ _ family is in
+    let digested = test-ok (not (has_digest pointer (digest (value_text format value)))) _ _ family checked.1 in
+    let lone = test-ok (kid_of parent place.on) _ _ family digested.1 in
+    IfOk-at_ok (IsFamily parent.path path) lone.1 (refl, refl)
+
+-- an add under a parent keeps the paths
+pub add_under-paths : (format : Format) (digest : Digest) (parent : Entry) (path : List Bool) (value : Value)
+    (family : Family)
+    → add_under format digest parent path value ≡ Ok family → IsFamily parent.path path family
+add_under-paths format digest parent path value family is =
+    let place = need-ok (above parent path) _ _ family is in
+    let leads = case_of (node_side place.0.node place.0.on) path in
+    add_by-paths format digest parent place.0 path value leads family place.2
+
+-- an evict keeps the parent's path
+pub evict_under-path : (format : Format) (digest : Digest) (parent child after : Entry)
+    → evict_under format digest parent child ≡ Ok after → after.path ≡ parent.path
+evict_under-path format digest parent child after is =
+    let place = need-ok (above parent child.path) _ _ after is in
+    let pointer = node_side place.0.node place.0.on in
+    let led = test-ok (not (leads_to pointer child.path)) _ _ after place.2 in
+    let lone = test-ok (has_kid child) _ _ after led.1 in
+    let held = test-ok (holds_wrong child.hold (kid_of parent place.0.on) (is_deferred pointer)) _ _ after lone.1 in
+    IfOk-at_ok (λ (entry : Entry). entry.path ≡ parent.path) held.1 refl
+
+-- and so does a deferred one
+pub defer_under-path : (parent child after : Entry) → defer_under parent child ≡ Ok after → after.path ≡ parent.path
+defer_under-path parent child after is =
+    let place = need-ok (above parent child.path) _ _ after is in
+    let led = test-ok (not (leads_to (node_side place.0.node place.0.on) child.path)) _ _ after place.2 in
+    let lone = test-ok (has_kid child) _ _ after led.1 in
+    let held = test-ok (not (is_by_digest child.hold) || not (kid_of parent place.0.on)) _ _ after lone.1 in
+    IfOk-at_ok (λ (entry : Entry). entry.path ≡ parent.path) held.1 refl
+
+-- ---- each command
+
+-- what was done is lawful, and the entries are distinct after it
+abbrev pub IsLawful : Rules → State → Change × State → Type 0
+IsLawful rules state done =
+    Did rules.format rules.digest (shown_by state) (shown_by done.1) done.0 × AreDistinct done.1.cache.entries
+
+-- an entry that came in deferred
+by_stamp : (hold : Hold) → not (is_by_stamp hold) ≡ false → hold ≡ B
+by_stamp Root is = absurd (true≢false is)
+by_stamp M is = absurd (true≢false is)
+by_stamp B is = refl
+
+-- what is found of one path is found of any other that is its own
+found_at : (p k : List Bool) (xs : List Entry) (e : Entry) → p ≡ e.path → entry_of k xs ≡ Some e
+    → entry_of p xs ≡ Some e
+found_at p k xs e path found = ap (λ (q : List Bool). entry_of q xs) path ∙ found_own k xs e found
+
+lawful_add_m : (rules : Rules) (state : State) (path : List Bool) (value : Value) (parent : List Bool)
+    (done : Change × State)
+    → IsOf rules.format path value → AreDistinct state.cache.entries
+    → add_m rules.format rules.digest state path value parent ≡ Ok done → IsLawful rules state done
+lawful_add_m rules state path value parent done kind distinct is =
+    let xs = state.cache.entries in
+    let inner = test-ok (is_root path) _ _ done is in
+    let fresh = test-ok (is_some (entry_of path xs)) _ _ done inner.1 in
+    let room = test-ok (is_full state) _ _ done fresh.1 in
+    let holder = need-ok (entry_of parent xs) _ _ done room.1 in
+    let family = and_then-ok (add_under rules.format rules.digest holder.0 path value) _ done holder.2 in
+    let paths = add_under-paths rules.format rules.digest holder.0 path value family.0 family.1 in
+    let child_path : path ≡ family.0.child.path = sym paths.1 in
+    let found = found_at family.0.parent.path parent xs holder.0 paths.0 holder.1 in
+    let none : IsNone (entry_of family.0.child.path xs) = subst (λ p. IsNone (entry_of p xs)) child_path fresh.0 in
+    IfOk-at_ok (IsLawful rules state) family.2 (
+      record {
+        value = value;
+        had_parent = found_own parent xs holder.0 holder.1;
+        kind = subst (λ (p : List Bool). IsOf rules.format p value) child_path kind;
+        added = ap (λ (p : List Bool). add_under rules.format rules.digest holder.0 p value) paths.1 ∙ family.1;
+        shown = λ j. shown-joined j xs family.0.parent holder.0 family.0.child found none;
+      },
+      distinct-joined xs family.0.parent family.0.child distinct none,
+    )
+
+lawful_evict_m : (rules : Rules) (state : State) (path parent : List Bool) (done : Change × State)
+    → AreDistinct state.cache.entries
+    → evict_m rules.format rules.digest state path parent ≡ Ok done → IsLawful rules state done
+lawful_evict_m rules state path parent done distinct is =
+    let xs = state.cache.entries in
+    let inner = test-ok (is_root path) _ _ done is in
+    let child = need-ok (entry_of path xs) _ _ done inner.1 in
+    let holder = need-ok (entry_of parent xs) _ _ done child.2 in
+    let after = and_then-ok (evict_under rules.format rules.digest holder.0 child.0) _ done holder.2 in
+    let child_path : path ≡ child.0.path = sym (entry_of-path path xs child.0 child.1) in
+    let kept = evict_under-path rules.format rules.digest holder.0 child.0 after.0 after.1 in
+    let found = found_at after.0.path parent xs holder.0 kept holder.1 in
+    IfOk-at_ok (IsLawful rules state) after.2 (
+      record {
+        had_parent = found_own parent xs holder.0 holder.1;
+        had_child = found_own path xs child.0 child.1;
+        evicted = after.1;
+        shown = λ j. shown-left j path child.0.path xs after.0 holder.0 distinct found child_path;
+      },
+      distinct-left path xs after.0 distinct,
+    )
+
+lawful_add_b : (rules : Rules) (state : State) (path : List Bool) (value : Value) (stamp : Stamp) (verifier : ℕ)
+    (done : Change × State)
+    → IsOf rules.format path value → AreDistinct state.cache.entries
+    → add_b rules.verifiers state path value stamp verifier ≡ Ok done → IsLawful rules state done
+lawful_add_b rules state path value stamp verifier done kind distinct is =
+    let xs = state.cache.entries in
+    let inner = test-ok (is_root path) _ _ done is in
+    let fresh = test-ok (is_some (entry_of path xs)) _ _ done inner.1 in
+    let room = test-ok (is_full state) _ _ done fresh.1 in
+    let known = test-ok (nat_le rules.verifiers verifier) _ _ done room.1 in
+    let clock = timed-ok (received state.clock stamp) _ done known.1 in
+    IfOk-at_ok (IsLawful rules state) clock.2 (
+      record {
+        came_as = refl;
+        kind = kind;
+        shown = λ j. shown-append j xs (new_entry path value B) fresh.0;
+      },
+      AreDistinct-append xs (new_entry path value B) distinct fresh.0,
+    )
+
+lawful_evict_b : (rules : Rules) (state : State) (path : List Bool) (stamp : Stamp) (done : Change × State)
+    → AreDistinct state.cache.entries → evict_b rules.number state path stamp ≡ Ok done → IsLawful rules state done
+lawful_evict_b rules state path stamp done distinct is =
+    let xs = state.cache.entries in
+    let inner = test-ok (is_root path) _ _ done is in
+    let child = need-ok (entry_of path xs) _ _ done inner.1 in
+    let lone = test-ok (has_kid child.0) _ _ done child.2 in
+    let held = test-ok (not (is_by_stamp child.0.hold)) _ _ done lone.1 in
+    let clock = timed-ok (sent state.clock stamp) _ done held.1 in
+    let child_path : path ≡ child.0.path = sym (entry_of-path path xs child.0 child.1) in
+    IfOk-at_ok (IsLawful rules state) clock.2 (
+      record {
+        had_child = found_own path xs child.0 child.1;
+        kids = lone.0;
+        hold = by_stamp child.0.hold held.0;
+        path = refl;
+        value = refl;
+        shown = λ j. shown-without j path child.0.path xs distinct child_path;
+      },
+      AreDistinct-without path xs distinct,
+    )
+
+lawful_evict_bm : (rules : Rules) (state : State) (path parent : List Bool) (stamp : Stamp) (done : Change × State)
+    → AreDistinct state.cache.entries
+    → evict_bm rules.number state path parent stamp ≡ Ok done → IsLawful rules state done
+lawful_evict_bm rules state path parent stamp done distinct is =
+    let xs = state.cache.entries in
+    let inner = test-ok (is_root path) _ _ done is in
+    let child = need-ok (entry_of path xs) _ _ done inner.1 in
+    let holder = need-ok (entry_of parent xs) _ _ done child.2 in
+    let after = and_then-ok (defer_under holder.0 child.0) _ done holder.2 in
+    let clock = timed-ok (sent state.clock stamp) _ done after.2 in
+    let child_path : path ≡ child.0.path = sym (entry_of-path path xs child.0 child.1) in
+    let kept = defer_under-path holder.0 child.0 after.0 after.1 in
+    let found = found_at after.0.path parent xs holder.0 kept holder.1 in
+    IfOk-at_ok (IsLawful rules state) clock.2 (
+      record {
+        had_parent = found_own parent xs holder.0 holder.1;
+        had_child = found_own path xs child.0 child.1;
+        deferred = after.1;
+        path = refl;
+        value = refl;
+        shown = λ j. shown-left j path child.0.path xs after.0 holder.0 distinct found child_path;
+      },
+      distinct-left path xs after.0 distinct,
+    )
+
+-- the test of a data path tells its length
+data_length : (format : Format) (path own : List Bool) → own ≡ path → not (is_data format path) ≡ false
+    → length own ≡ path_bits format
+data_length format path own same is = ap (λ (p : List Bool). length p) same ∙ eqb-true _ _ (not-false _ is)
+
+lawful_get : (rules : Rules) (state : State) (path : List Bool) (value : Value) (done : Change × State)
+    → AreDistinct state.cache.entries → get rules.format state path value ≡ Ok done → IsLawful rules state done
+lawful_get rules state path value done distinct is =
+    let xs = state.cache.entries in
+    let entry = need-ok (entry_of path xs) _ _ done is in
+    let data_path = test-ok (not (is_data rules.format path)) _ _ done entry.2 in
+    let same = test-ok (not (same_value entry.0.value value)) _ _ done data_path.1 in
+    IfOk-at_ok (IsLawful rules state) same.1 (
+      record {
+        had = found_own path xs entry.0 entry.1;
+        at_data = data_length rules.format path entry.0.path (entry_of-path path xs entry.0 entry.1) data_path.0;
+        shown = λ j. refl;
+      },
+      distinct,
+    )
+
+lawful_put : (rules : Rules) (state : State) (path : List Bool) (value : Value) (done : Change × State)
+    → IsOf rules.format path value → AreDistinct state.cache.entries
+    → put rules.format state path value ≡ Ok done → IsLawful rules state done
+lawful_put rules state path value done kind distinct is =
+    let xs = state.cache.entries in
+    let entry = need-ok (entry_of path xs) _ _ done is in
+    let data_path = test-ok (not (is_data rules.format path)) _ _ done entry.2 in
+    let own : entry.0.path ≡ path = entry_of-path path xs entry.0 entry.1 in
+    let found = found_own path xs entry.0 entry.1 in
+    IfOk-at_ok (IsLawful rules state) data_path.1 (
+      record {
+        value = value;
+        had = found;
+        at_data = data_length rules.format path entry.0.path own data_path.0;
+        kind = subst (λ (p : List Bool). IsOf rules.format p value) (sym own) kind;
+        wrote = refl;
+        shown = λ j. shown-replaced j xs (with_value entry.0 value) entry.0 found;
+      },
+      distinct-replaced xs (with_value entry.0 value) distinct,
+    )
+
+lawful_next_epoch : (rules : Rules) (state : State) (done : Change × State)
+    → AreDistinct state.cache.entries → next_epoch state ≡ Ok done → IsLawful rules state done
+lawful_next_epoch rules state done distinct is =
+    let turn = timed-ok (turned state.clock) _ done is in
+    IfOk-at_ok (IsLawful rules state) turn.2 (λ j. refl, distinct)
+
+-- ---- any command
+
+lawful_step : (rules : Rules) (state : State) (command : Command) (done : Change × State)
+    → IsCommand rules.format command → AreDistinct state.cache.entries
+    → transition rules state command ≡ Ok done → IsLawful rules state done
+lawful_step rules state (AddM path value parent) done ranges distinct is =
+    lawful_add_m rules state path value parent done ranges.0 distinct is
+lawful_step rules state (EvictM path parent) done ranges distinct is =
+    lawful_evict_m rules state path parent done distinct is
+lawful_step rules state (AddB path value stamp verifier) done ranges distinct is =
+    lawful_add_b rules state path value stamp verifier done ranges.0 distinct is
+lawful_step rules state (EvictB path stamp) done ranges distinct is =
+    lawful_evict_b rules state path stamp done distinct is
+lawful_step rules state (EvictBM path parent stamp) done ranges distinct is =
+    lawful_evict_bm rules state path parent stamp done distinct is
+lawful_step rules state (Get path value) done ranges distinct is =
+    lawful_get rules state path value done distinct is
+lawful_step rules state (Put path value) done ranges distinct is =
+    lawful_put rules state path value done ranges distinct is
+lawful_step rules state NextEpoch done ranges distinct is =
+    lawful_next_epoch rules state done distinct is
+
+-- An accepted command did what its change tells, and left the entries distinct.
+pub lawful : (rules : Rules) (state : State) (command : Command) (change : Change) (after : State)
+    → IsCommand rules.format command → AreDistinct state.cache.entries
+    → transition rules state command ≡ Ok (change, after)
+    → Did rules.format rules.digest (shown_by state) (shown_by after) change × AreDistinct after.cache.entries
+lawful rules state command change after ranges distinct is =
+    lawful_step rules state command (change, after) ranges distinct is
+
+-- ---- a log
+
+-- each event is what a step did to what the one before it left
+abbrev pub IsChain : Format → Digest → Shown → List Event → Type 0
+IsChain format digest shown [] = Unit {0}
+IsChain format digest shown (event ∷ events) =
+    (next : Shown) × Did format digest shown next event.change × IsChain format digest next events
+
+-- what a step did, and a chain behind it
+chain_behind : (rules : Rules) (number index : ℕ) (state : State) (command : Command)
+    (more : State → List Event) (step : Step)
+    → IsCommand rules.format command → AreDistinct state.cache.entries → transition rules state command ≡ step
+    → ((after : State) → AreDistinct after.cache.entries → IsChain rules.format rules.digest (shown_by after) (more after))
+    → IsChain rules.format rules.digest (shown_by state) (events_behind (machinery_under rules) number index step more)
+chain_behind rules number index state command more (Ok done) range distinct is further =
+    let law = lawful_step rules state command done range distinct is in
+    (shown_by done.1, law.0, further done.1 law.1)
+chain_behind rules number index state command more (Err refusal) range distinct is further = tt
+
+-- The events of a log are a chain from the state at which it begins.
+pub log_run : (rules : Rules) (number index : ℕ) (state : State) (commands : List Command)
+    → AllByRecursion (IsCommand rules.format) commands → AreDistinct state.cache.entries
+    → IsChain rules.format rules.digest (shown_by state) (events_from (machinery_under rules) number index state commands)
+unfolding events_from
+log_run rules number index state [] ranges distinct = tt
+log_run rules number index state (command ∷ commands) ranges distinct =
+    chain_behind rules number index state command
+    (λ after. events_from (machinery_under rules) number (suc index) after commands)
+    (transition rules state command) ranges.0 distinct refl
+    (λ after fresh. log_run rules number (suc index) after commands ranges.1 fresh)
+
+-- ---- the start
+
+-- verifier 0 shows the root and nothing else
+pub opening_shown-root : (header : Header)
+    → ShowSame (shown_by (opening 0 header)) (showing (λ path. None) [] (Some root_entry))
+opening_shown-root header [] = refl
+opening_shown-root header (bit ∷ path) = refl
+
+-- the others show nothing
+pub opening_shown-other : (number : ℕ) (header : Header) → number ≢ 0
+    → ShowSame (shown_by (opening number header)) (λ path. None)
+opening_shown-other number header other path =
+    ap (λ (b : Bool). entry_of path (if b then root_entry ∷ [] else [])) (ne_eqb number 0 other)
+
+-- at the start the entries are distinct
+pub opening-distinct : (number : ℕ) (header : Header) → AreDistinct (opening number header).cache.entries
+opening-distinct number header = go (number == 0)
+  where
+    go : (b : Bool) → AreDistinct (if b then root_entry ∷ [] else [])
+    go true = (refl, tt)
+    go false = tt
