@@ -3,4 +3,5 @@ pub mod Words
 pub mod Intake
 pub mod Outcomes
 pub mod Report
+pub mod BundleReport
 pub mod Verdict

@@ -1,5 +1,5 @@
 -- The history of a verifier: what each accepted command of its log did, in order.
-use Rattle.std.specs.Prelude.{ℕ, suc, List, [], ◌∷◌, ◌++◌, Result, Ok, Err}
+use Rattle.std.specs.Prelude.{ℕ, suc, List, [], ◌∷◌, Option, Some, None, Result, Ok, Err}
 use Rattle.lamport_clocks.specs.declared.header.Header.{Header}
 use Rattle.lamport_clocks.specs.declared.stamp.Stamp.{Stamp}
 use Rattle.record_text.specs.declared.refusal.Refusal.{Refusal}
@@ -50,8 +50,28 @@ abbrev pub log_events : Digest → (List ℕ → List ℕ) → Header → ℕ �
 log_events digest lanes header number commands =
     events_from (machinery_under (rules_under digest lanes header number)) number 0 (opening number header) commands
 
--- the events of logs, the first of which is of the verifier of this number: log by log
-abbrev pub events_of_logs : Digest → (List ℕ → List ℕ) → Header → ℕ → List (List Command) → List Event
-events_of_logs digest lanes header number [] = []
-events_of_logs digest lanes header number (log ∷ logs) =
-    log_events digest lanes header number log ++ events_of_logs digest lanes header (suc number) logs
+-- why the next command is refused, if it is; a step that is not goes on
+abbrev pub refusal_behind : {S : Type 0} → Result (Change × S) Refusal → (S → Option Refusal) → Option Refusal
+refusal_behind (Ok done) more = more done.1
+refusal_behind (Err refusal) more = Some refusal
+
+-- The refusal that ends a verifier's commands, if one does.
+unfoldable pub refusal_from : {S C : Type 0} → Machinery S C → S → List C → Option Refusal
+refusal_from machinery state [] = None
+refusal_from machinery state (command ∷ commands) =
+    refusal_behind (machinery.step state command) (λ after. refusal_from machinery after commands)
+
+-- the refusal that ends the commands of a whole log of the verifier of this number, if one does
+abbrev pub log_refusal : Digest → (List ℕ → List ℕ) → Header → ℕ → List Command → Option Refusal
+log_refusal digest lanes header number commands =
+    refusal_from (machinery_under (rules_under digest lanes header number)) (opening number header) commands
+
+-- the histories of logs, the first of which is of the verifier of this number
+abbrev pub histories_from : Digest → (List ℕ → List ℕ) → Header → ℕ → List (List Command) → List (List Event)
+histories_from digest lanes header number [] = []
+histories_from digest lanes header number (log ∷ logs) =
+    log_events digest lanes header number log ∷ histories_from digest lanes header (suc number) logs
+
+-- the histories of all logs of a bundle, that of verifier 0 first
+abbrev pub histories_of : Digest → (List ℕ → List ℕ) → Header → List (List Command) → List (List Event)
+histories_of digest lanes header logs = histories_from digest lanes header 0 logs

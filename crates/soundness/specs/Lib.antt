@@ -1,5 +1,6 @@
 -- The definitions of soundness, in reading order.
 pub mod History
+pub mod Certified
 pub mod Exhibit
 pub mod Spot
 pub mod Deeds
