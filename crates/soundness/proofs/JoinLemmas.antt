@@ -77,7 +77,7 @@ initial_bare format path which = go (length path == path_bits format) which
     go false false = refl
 
 -- what is kept by a digest
-kept_value : (format : Format) (digest : Digest) (kept : List ℕ) (spot : Spot) → IsKeptBy format digest kept spot
+pub kept_value : (format : Format) (digest : Digest) (kept : List ℕ) (spot : Spot) → IsKeptBy format digest kept spot
     → (value : Value) × (spot ≡ merkle value) × (kept ≡ digest (value_text format value))
 kept_value format digest kept untouched is = absurd is
 kept_value format digest kept (cached verifier entry) is = absurd is
@@ -106,7 +106,7 @@ abbrev pub WorldAfter : Format → Digest → AllShown → Taken → Stored → 
 WorldAfter format digest shown taken stored = (spots : Spots) × IsWorld format digest shown taken stored spots
 
 -- What all joins have in common.
-join_world : (format : Format) (digest : Digest) (shown : AllShown) (taken : Taken) (stored : Stored) (spots : Spots) (home : ℕ) (next : Shown) (parent child : Entry)
+pub join_world : (format : Format) (digest : Digest) (shown : AllShown) (taken : Taken) (stored : Stored) (spots : Spots) (home : ℕ) (next : Shown) (parent child : Entry)
     → (on : Bool) (at now : Node) (pointer : Pointer)
     → IsWorld format digest shown taken stored spots
     → spots parent.path ≡ cached home parent → node_of parent.value ≡ Some at → side parent.path child.path ≡ Some on
@@ -152,7 +152,7 @@ pub record Joining (format : Format) (digest : Digest) (shown : AllShown) (spots
   pub shows : ShowSame next (showing_both (shown home) after child.path (Some child))
   pub added : IsAdded format digest parent child.path value (record { parent = after; child = child })
 
-joining : (format : Format) (digest : Digest) (shown : AllShown) (taken : Taken) (stored : Stored) (spots : Spots) (home : ℕ) (next : Shown) (parent after child : Entry)
+pub joining : (format : Format) (digest : Digest) (shown : AllShown) (taken : Taken) (stored : Stored) (spots : Spots) (home : ℕ) (next : Shown) (parent after child : Entry)
     → IsWorld format digest shown taken stored spots → DidJoin format digest (shown home) next parent after child
     → Joining format digest shown spots home next parent after child
 joining format digest shown taken stored spots home next parent after child world did = record {
@@ -164,20 +164,20 @@ joining format digest shown taken stored spots home next parent after child worl
 }
 
 -- the pointer of a side of what a cached parent holds
-parent_pointer : (spots : Spots) (home : ℕ) (parent : Entry) (at : Node) (on : Bool) → spots parent.path ≡ cached home parent → node_of parent.value ≡ Some at
+pub parent_pointer : (spots : Spots) (home : ℕ) (parent : Entry) (at : Node) (on : Bool) → spots parent.path ≡ cached home parent → node_of parent.value ≡ Some at
     → pointer_at (spots parent.path) on ≡ node_side at on
 parent_pointer spots home parent at on was is_node =
     ap (λ (s : Spot). pointer_at s on) was ∙ ap (λ (o : Option Node). side_of o on) is_node
 
 -- what the parent is, is of its path's kind
-parent_kind : (format : Format) (digest : Digest) (spots : Spots) (home : ℕ) (parent : Entry) (at : Node) → IsTree format digest spots → spots parent.path ≡ cached home parent
+pub parent_kind : (format : Format) (digest : Digest) (spots : Spots) (home : ℕ) (parent : Entry) (at : Node) → IsTree format digest spots → spots parent.path ≡ cached home parent
     → node_of parent.value ≡ Some at → IsOf format parent.path (values.Node at)
 parent_kind format digest spots home parent at tree was is_node =
     subst (IsOf format parent.path) (node_is parent.value at is_node)
     (subst (IsKind format parent.path) was (tree.kind parent.path)).1
 
 -- Where the pointer led nowhere.
-join_empty : (format : Format) (digest : Digest) (shown : AllShown) (taken : Taken) (stored : Stored) (spots : Spots) (home : ℕ) (next : Shown) (parent after child : Entry)
+pub join_empty : (format : Format) (digest : Digest) (shown : AllShown) (taken : Taken) (stored : Stored) (spots : Spots) (home : ℕ) (next : Shown) (parent after child : Entry)
     → GivesDigests digest → IsWorld format digest shown taken stored spots → (j : Joining format digest shown spots home next parent after child)
     → node_side j.added.at j.added.on ≡ None → j.value ≡ initial_value format child.path
     → after ≡ changed_parent parent (pointing format digest j.added.at j.added.on child.path j.value) j.added.on true
@@ -219,7 +219,7 @@ join_empty format digest shown taken stored spots home next parent after child d
         (λ touched. nothing_there format digest spots parent.path on world.tree above bare_side child.path touched j.added.below)
 
 -- Where the pointer led below the child.
-join_split : (format : Format) (digest : Digest) (shown : AllShown) (taken : Taken) (stored : Stored) (spots : Spots) (home : ℕ) (next : Shown) (parent after child : Entry)
+pub join_split : (format : Format) (digest : Digest) (shown : AllShown) (taken : Taken) (stored : Stored) (spots : Spots) (home : ℕ) (next : Shown) (parent after child : Entry)
     → GivesDigests digest → IsWorld format digest shown taken stored spots → (j : Joining format digest shown spots home next parent after child)
     → (pointer : Pointer) → node_side j.added.at j.added.on ≡ Some pointer → (which : Bool) → side child.path pointer.path ≡ Some which
     → j.value ≡ initial_value format child.path
