@@ -10,3 +10,4 @@ pub mod UnderLemmas
 pub mod WorldLemmas
 pub mod JoinLemmas
 pub mod KnownLemmas
+pub mod LeaveLemmas

@@ -1,0 +1,171 @@
+-- A child that leaves its parent, by its digest or with an element, keeps the world.
+use Rattle.std.proofs.Common.{◌≡◌, ◌≢◌, ◌⊎◌, ℕ, Bool, true, false, List, Option, Some, None, refl, sym, ◌∙◌, ap, subst, inl, inr, if◌then◌else◌}
+use Rattle.std.proofs.lemmas.Bool.{false≢true, true≢false}
+use Rattle.std.proofs.lemmas.Option.{none-some, same_Some}
+use Rattle.std.specs.Option.{option_map}
+use Rattle.tree_keys.specs.Path.{side, same_path}
+use Rattle.tree_keys.proofs.PathLemmas.{same_path-self, same_path-apart}
+use Rattle.record_text.specs.declared.value.Pointer.{Pointer}
+use Rattle.record_text.specs.declared.value.Node.{Node}
+use Rattle.record_text.specs.declared.value.Value.{Value}
+use Rattle.record_text.specs.declared.value.Value.TheVariants as values
+use Rattle.record_text.specs.declared.element.Element.{Element}
+use Rattle.record_text.specs.Format.{Format}
+use Rattle.record_text.specs.Value.{IsOf, node_side, with_side}
+use Rattle.merkle_records.specs.Merkle.{Digest, GivesDigests, pointer_to, pointing, deferred_pointer}
+use Rattle.merkle_records.proofs.KindLemmas.{IsOf-after_evict, IsOf-after_defer}
+use Rattle.verifier_cache.specs.declared.entry.Entry.{Entry}
+use Rattle.verifier_cache.specs.Entry.{kid_of, has_kid}
+use Rattle.verifier_commands.specs.Changes.{node_of, left_by}
+use Rattle.verifier_commands.specs.Outcome.{blob_of}
+use Rattle.soundness.specs.Exhibit.{Taken, with_taken}
+use Rattle.soundness.specs.Deeds.{Shown, ShowSame, showing_both, DidLeave, DidDefer}
+use Rattle.soundness.specs.Spot.{Spot, untouched, cached, merkle, waiting, Spots, value_at, is_touched, pointer_in, pointer_at, home_of, LeadsBy, IsKind, IsTree}
+use Rattle.soundness.proofs.SideLemmas.{above_apart}
+use Rattle.soundness.proofs.MovedLemmas.{this_or_other}
+use Rattle.soundness.proofs.FamilyLemmas.{IsLeft, evicted_into, evicted_how, deferred_in, deferred_how, pointer_set, pointer_set_other, no_kids}
+use Rattle.soundness.proofs.UnderLemmas.{changed_parent, pair_moves, fits_known}
+use Rattle.soundness.proofs.WorldLemmas.{cached_in, cached_here, cached_elsewhere, spot_of_shown, blob_in, blob_at, AllShown, with_shown, Stored, IsWorld, with_spot, with_spot_at, with_pair, with_pair_parent, with_pair_other, world_pair}
+use Rattle.soundness.proofs.JoinLemmas.{is_merkle, taken_pair, WorldAfter, node_blob, parent_pointer, parent_kind}
+
+-- What a child leaves: its spot has its value, and no cache shows it.
+pub record IsOut (child : Entry) (spot : Spot) : Type 0 where
+  pub value : value_at spot ≡ Some child.value
+  pub touched : is_touched spot ≡ true
+  pub homeless : (which : Bool) → home_of spot which ≡ None
+  pub hidden : (home : ℕ) → cached_in home spot ≡ None
+
+-- What an evict and a deferral have in common: the parent's node changes, its kid bit is cleared, and its pointer
+-- leads where the child is now.
+leave_world : (format : Format) (digest : Digest) (shown : AllShown) (taken now_taken : Taken) (stored : Stored) (spots : Spots) (home : ℕ) (next : Shown) (parent child after : Entry)
+    → (changed : Node → Bool → Pointer → Node) (spot : Spot) (pointer : Pointer)
+    → IsWorld format digest shown taken stored spots
+    → (left : IsLeft parent child after changed)
+    → shown home parent.path ≡ Some parent → shown home child.path ≡ Some child
+    → ShowSame next (showing_both (shown home) after child.path None)
+    → IsOut child spot → IsKind format child.path spot
+    → node_side (changed left.at left.on left.pointer) left.on ≡ Some pointer → pointer.path ≡ child.path
+    → ((which : Bool) → which ≢ left.on → node_side (changed left.at left.on left.pointer) which ≡ node_side left.at which)
+    → (IsOf format parent.path (values.Node left.at) → IsOf format parent.path (values.Node (changed left.at left.on left.pointer)))
+    → LeadsBy format digest pointer.deferred None pointer.digest spot
+    → ((path : List Bool) (value : Value) → with_pair spots home (changed_parent parent (changed left.at left.on left.pointer) left.on false) child.path spot path ≡ merkle value → now_taken path ≡ Some value)
+    → WorldAfter format digest (with_shown shown home next) now_taken stored
+leave_world format digest shown taken now_taken stored spots home next parent child after changed spot pointer world left had_parent had_child shows out child_kind points to others kind leads taken_is =
+    (new, world_pair format digest shown taken now_taken stored spots home next parent now_parent child.path spot world tree was apart
+    (subst (λ (e : Option Entry). ShowSame next (showing_both (shown home) now_parent child.path e)) (sym (out.hidden home))
+    (subst (λ (a : Entry). ShowSame next (showing_both (shown home) a child.path None)) left.after_is shows))
+    (λ other away. out.hidden other ∙ sym (ap (cached_in other) was_child ∙ cached_elsewhere home other child away))
+    (sym (node_blob parent.value left.at left.is_node))
+    (ap blob_in out.value ∙ ap blob_at (sym was_child))
+    taken_is)
+  where
+    now : Node
+    now = changed left.at left.on left.pointer
+
+    now_parent : Entry
+    now_parent = changed_parent parent now left.on false
+
+    new : Spots
+    new = with_pair spots home now_parent child.path spot
+
+    was : spots parent.path ≡ cached home parent
+    was = spot_of_shown home (spots parent.path) parent (sym (world.shows home parent.path) ∙ had_parent)
+
+    was_child : spots child.path ≡ cached home child
+    was_child = spot_of_shown home (spots child.path) child (sym (world.shows home child.path) ∙ had_child)
+
+    apart : parent.path ≢ child.path
+    apart = above_apart parent.path child.path left.on left.below
+
+    no_home : (which : Bool) → home_of (cached home child) which ≡ None
+    no_home which = ap (λ (b : Bool). if b then Some home else None) (no_kids child which left.kids)
+
+    tree : IsTree format digest new
+    tree =
+        pair_moves format digest spots new parent child.path left.on home left.at now false spot pointer world.tree was left.is_node left.below points to others
+        (kind (parent_kind format digest spots home parent left.at world.tree was left.is_node)) child_kind out.touched leads
+        (fits_known format digest spots parent.path child.path left.on spot left.pointer world.tree
+        (parent_pointer spots home parent left.at left.on was left.is_node ∙ left.points) left.leads
+        (ap is_touched was_child)
+        (λ which. pointers which)
+        (λ which. out.homeless which ∙ sym (ap (λ (s : Spot). home_of s which) was_child ∙ no_home which)))
+        (with_pair_parent spots home now_parent child.path spot apart)
+        (with_spot_at (with_spot spots now_parent.path (cached home now_parent)) child.path spot)
+        (λ j first second. with_pair_other spots home now_parent child.path j spot first second)
+      where
+        pointers : (which : Bool) → pointer_at spot which ≡ pointer_at (spots child.path) which
+        pointers which = ap (λ (v : Option Value). pointer_in v which) out.value ∙ ap (λ (s : Spot). pointer_at s which) (sym was_child)
+
+-- what the child is, is of its path's kind
+child_kind : (format : Format) (digest : Digest) (spots : Spots) (home : ℕ) (child : Entry) → IsTree format digest spots → spots child.path ≡ cached home child → IsOf format child.path child.value
+child_kind format digest spots home child tree was = (subst (IsKind format child.path) was (tree.kind child.path)).1
+
+-- what was taken, once an evictM took the child's value
+taken_now : (taken : Taken) (spots : Spots) (home : ℕ) (after : Entry) (k : List Bool) (kept : Value) → after.path ≢ k
+    → ((path : List Bool) (value : Value) → spots path ≡ merkle value → taken path ≡ Some value)
+    → (path : List Bool) (value : Value) → with_pair spots home after k (merkle kept) path ≡ merkle value → with_taken taken k kept path ≡ Some value
+taken_now taken spots home after k kept apart was path value is = go (this_or_other k path) (this_or_other after.path path)
+  where
+    value_or : Value → Spot → Value
+    value_or other untouched = other
+    value_or other (cached verifier entry) = other
+    value_or other (merkle held) = held
+    value_or other (waiting element) = other
+
+    go : (k ≡ path) ⊎ (k ≢ path) → (after.path ≡ path) ⊎ (after.path ≢ path) → with_taken taken k kept path ≡ Some value
+    go (inl same) either =
+        ap (λ (b : Bool). if b then Some kept else taken path) (sym (ap (same_path k) same) ∙ same_path-self k)
+        ∙ ap Some (ap (value_or kept) (sym (with_spot_at (with_spot spots after.path (cached home after)) k (merkle kept))
+        ∙ ap (with_pair spots home after k (merkle kept)) same ∙ is))
+    go (inr further) (inl same) =
+        absurd (false≢true (ap is_merkle (sym (with_pair_parent spots home after k (merkle kept) apart) ∙ ap (with_pair spots home after k (merkle kept)) same ∙ is)))
+    go (inr further) (inr away) =
+        ap (λ (b : Bool). if b then Some kept else taken path) (same_path-apart k path further)
+        ∙ was path value (sym (with_pair_other spots home after k path (merkle kept) away further) ∙ is)
+
+-- A child is evicted into its parent.
+pub leave_step : (format : Format) (digest : Digest) (shown : AllShown) (taken : Taken) (stored : Stored) (spots : Spots) (home : ℕ) (next : Shown) (parent after child : Entry)
+    → GivesDigests digest → IsWorld format digest shown taken stored spots → DidLeave format digest (shown home) next parent after child
+    → WorldAfter format digest (with_shown shown home next) (with_taken taken child.path child.value) stored
+leave_step format digest shown taken stored spots home next parent after child digests world did =
+    leave_world format digest shown taken (with_taken taken child.path child.value) stored spots home next parent child after (evicted_into format digest child)
+    (merkle child.value) (pointer_to format digest child.path child.value) world left did.had_parent did.had_child did.shown
+    (record { value = refl; touched = refl; homeless = λ which. refl; hidden = λ home. refl })
+    of_kind
+    (pointer_set left.at left.on _) refl (λ which other. pointer_set_other left.at left.on which _ other)
+    (λ above. IsOf-after_evict format digest parent.path child.path left.on left.at child.value digests left.below above of_kind)
+    refl
+    (taken_now taken spots home (changed_parent parent (evicted_into format digest child left.at left.on left.pointer) left.on false) child.path child.value
+    (above_apart parent.path child.path left.on left.below) world.was_taken)
+  where
+    left : IsLeft parent child after (evicted_into format digest child)
+    left = evicted_how format digest parent child after did.evicted
+
+    of_kind : IsOf format child.path child.value
+    of_kind =
+        child_kind format digest spots home child world.tree
+        (spot_of_shown home (spots child.path) child (sym (world.shows home child.path) ∙ did.had_child))
+
+-- A child is evicted out of its parent with an element.
+pub defer_step : (format : Format) (digest : Digest) (shown : AllShown) (taken : Taken) (stored : Stored) (spots : Spots) (home : ℕ) (next : Shown) (parent after child : Entry) (element : Element)
+    → IsWorld format digest shown taken stored spots → DidDefer (shown home) next parent after child element
+    → WorldAfter format digest (with_shown shown home next) taken stored
+defer_step format digest shown taken stored spots home next parent after child element world did =
+    leave_world format digest shown taken taken stored spots home next parent child after deferred_in
+    (waiting element) (deferred_pointer left.pointer) world left did.had_parent did.had_child did.shown
+    (record { value = ap Some did.value; touched = refl; homeless = λ which. refl; hidden = λ home. refl })
+    (did.path, subst (IsOf format child.path) (sym did.value) of_kind)
+    (pointer_set left.at left.on _) left.leads (λ which other. pointer_set_other left.at left.on which _ other)
+    (λ above. subst (λ (o : Option Pointer). IsOf format parent.path (values.Node (with_side left.at left.on (option_map deferred_pointer o)))) left.points
+    (IsOf-after_defer format parent.path left.on left.at above))
+    tt
+    (taken_pair taken spots home (changed_parent parent (deferred_in left.at left.on left.pointer) left.on false) child.path (waiting element)
+    (above_apart parent.path child.path left.on left.below) refl world.was_taken)
+  where
+    left : IsLeft parent child after deferred_in
+    left = deferred_how parent child after did.deferred
+
+    of_kind : IsOf format child.path child.value
+    of_kind =
+        child_kind format digest spots home child world.tree
+        (spot_of_shown home (spots child.path) child (sym (world.shows home child.path) ∙ did.had_child))
