@@ -11,3 +11,5 @@ pub mod WorldLemmas
 pub mod JoinLemmas
 pub mod KnownLemmas
 pub mod LeaveLemmas
+pub mod SingleLemmas
+pub mod RunLemmas

@@ -4,3 +4,4 @@ pub mod Certified
 pub mod Exhibit
 pub mod Spot
 pub mod Deeds
+pub mod Timed

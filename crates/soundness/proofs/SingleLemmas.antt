@@ -1,0 +1,232 @@
+-- A record that comes in with its element, goes out with one, or is read or written, keeps the world.
+use Rattle.std.proofs.Common.{◌≡◌, ◌≢◌, ◌⊎◌, ℕ, ◌<◌, Bool, true, false, List, length, Option, Some, None, eqb, refl, sym, ◌∙◌, ap, subst, inl, inr, if◌then◌else◌, arith}
+use Rattle.std.specs.Map.{update}
+use Rattle.std.proofs.lemmas.Bool.{false≢true, true≢false, eq-eqb, ne_eqb, cases_eq}
+use Rattle.std.proofs.lemmas.Option.{none-some, same_Some}
+use Rattle.std.proofs.lemmas.Map.{update_same, update_other}
+use Rattle.tree_keys.specs.Bits.{bits_of, number_of}
+use Rattle.tree_keys.proofs.BitsLemmas.{bits_of-number_of}
+use Rattle.record_text.specs.declared.value.Value.{Value}
+use Rattle.record_text.specs.declared.value.Value.TheVariants as values
+use Rattle.record_text.specs.declared.value.Pointer.{Pointer}
+use Rattle.record_text.specs.declared.element.Element.{Element}
+use Rattle.record_text.specs.Format.{Format, path_bits}
+use Rattle.record_text.specs.Value.{IsOf}
+use Rattle.merkle_records.specs.Merkle.{Digest}
+use Rattle.verifier_cache.specs.declared.entry.Entry.{Entry}
+use Rattle.verifier_cache.specs.declared.entry.Hold.{Hold}
+use Rattle.verifier_cache.specs.declared.entry.Hold.TheVariants.{Root, M, B}
+use Rattle.verifier_cache.specs.Entry.{kid_of, new_entry, with_value}
+use Rattle.verifier_commands.specs.Changes.{node_of}
+use Rattle.verifier_commands.specs.Outcome.{blob_of}
+use Rattle.soundness.specs.Exhibit.{Taken}
+use Rattle.soundness.specs.Deeds.{Shown, showing, ShowSame, DidCome, DidGo, DidRead, DidWrite}
+use Rattle.soundness.specs.Spot.{Spot, untouched, cached, merkle, waiting, Spots, is_touched, side_of, pointer_at, home_of, LeadsBy, IsKind, IsTree}
+use Rattle.soundness.proofs.MovedLemmas.{this_or_other, OneMoves, one_moves, leads_same_hold}
+use Rattle.soundness.proofs.FamilyLemmas.{no_kids}
+use Rattle.soundness.proofs.WorldLemmas.{cached_in, cached_here, cached_elsewhere, spot_of_shown, blob_at, AllShown, with_shown, Stored, IsWorld, with_spot, with_spot_at, with_spot_other, world_one}
+use Rattle.soundness.proofs.JoinLemmas.{is_merkle, WorldAfter}
+
+-- ---- what one moved record leaves as it was
+
+-- nothing came to be kept by its digest
+taken_one : (taken : Taken) (spots : Spots) (k : List Bool) (spot : Spot) → is_merkle spot ≡ false
+    → ((path : List Bool) (value : Value) → spots path ≡ merkle value → taken path ≡ Some value)
+    → (path : List Bool) (value : Value) → with_spot spots k spot path ≡ merkle value → taken path ≡ Some value
+taken_one taken spots k spot not_merkle was path value is = go (this_or_other k path)
+  where
+    go : (k ≡ path) ⊎ (k ≢ path) → taken path ≡ Some value
+    go (inl same) = absurd (false≢true (sym not_merkle ∙ ap is_merkle (sym (with_spot_at spots k spot) ∙ ap (with_spot spots k spot) same ∙ is)))
+    go (inr away) = was path value (sym (with_spot_other spots k path spot away) ∙ is)
+
+-- no data value changed
+holds_one : (format : Format) (stored : Stored) (spots : Spots) (k : List Bool) (spot : Spot) → blob_at spot ≡ blob_at (spots k)
+    → ((path : List Bool) → length path ≡ path_bits format → blob_at (spots path) ≡ stored (number_of path))
+    → (path : List Bool) → length path ≡ path_bits format → blob_at (with_spot spots k spot path) ≡ stored (number_of path)
+holds_one format stored spots k spot same_blob was path wide = go (this_or_other k path)
+  where
+    go : (k ≡ path) ⊎ (k ≢ path) → blob_at (with_spot spots k spot path) ≡ stored (number_of path)
+    go (inl same) =
+        ap (λ (j : List Bool). blob_at (with_spot spots k spot j)) (sym same) ∙ ap blob_at (with_spot_at spots k spot) ∙ same_blob
+        ∙ ap (λ (j : List Bool). blob_at (spots j)) same ∙ was path wide
+    go (inr away) = ap blob_at (with_spot_other spots k path spot away) ∙ was path wide
+
+-- a record that came in with an element is not a kid that came in by its digest
+not_both : (hold : Hold) → hold ≡ B → hold ≡ M → ⊥
+not_both hold is_b is_m = true≢false (ap by_element (sym is_b ∙ is_m))
+  where
+    by_element : Hold → Bool
+    by_element Root = false
+    by_element M = false
+    by_element B = true
+
+-- ---- in and out with an element
+
+-- A record comes in with the element that it waits with.
+pub come_step : (format : Format) (digest : Digest) (shown : AllShown) (taken : Taken) (stored : Stored) (spots : Spots) (home : ℕ) (next : Shown) (child : Entry) (element : Element)
+    → IsWorld format digest shown taken stored spots → DidCome format (shown home) next child element
+    → spots element.path ≡ waiting element
+    → WorldAfter format digest (with_shown shown home next) taken stored
+come_step format digest shown taken stored spots home next child element world did waits =
+    (with_spot spots k (cached home child),
+    world_one format digest shown taken taken stored stored spots home next k (cached home child) world
+    (one_moves format digest spots (with_spot spots k (cached home child)) k (cached home child) moves world.tree)
+    (subst (λ (e : Option Entry). ShowSame next (showing_of e)) (sym (cached_here home child)) did.shown)
+    (λ other away. cached_elsewhere home other child away ∙ ap (cached_in other) (sym was))
+    (taken_one taken spots k (cached home child) refl world.was_taken)
+    (holds_one format stored spots k (cached home child) (ap blob_of value_is ∙ ap blob_at (sym was)) world.holds))
+  where
+    k : List Bool
+    k = child.path
+
+    showing_of : Option Entry → Shown
+    showing_of e = showing (shown home) k e
+
+    path_is : k ≡ element.path
+    path_is = ap (λ (e : Entry). e.path) did.came_as
+
+    value_is : child.value ≡ element.value
+    value_is = ap (λ (e : Entry). e.value) did.came_as
+
+    was : spots k ≡ waiting element
+    was = ap spots path_is ∙ waits
+
+    moves : OneMoves format digest spots (with_spot spots k (cached home child)) k (cached home child)
+    moves = record {
+      at = with_spot_at spots k (cached home child);
+      elsewhere = λ j away. with_spot_other spots k j (cached home child) away;
+      touched_before = ap is_touched was;
+      touched_after = refl;
+      pointers = λ on. ap (λ (v : Value). side_of (node_of v) on) value_is ∙ ap (λ (s : Spot). pointer_at s on) (sym was);
+      homes = λ on pointer is. no_home on ∙ ap (λ (s : Spot). home_of s on) (sym was);
+      led_to = λ flag at kept leads. led flag at kept (subst (LeadsBy format digest flag at kept) was leads);
+      of_kind = (refl, subst (λ (v : Value). IsOf format k v) (sym value_is) (subst (λ (i : List Bool). IsOf format i element.value) (sym path_is) did.kind));
+    }
+      where
+        no_home : (on : Bool) → home_of (cached home child) on ≡ None
+        no_home true = ap (λ (e : Entry). if kid_of e true then Some home else None) did.came_as
+        no_home false = ap (λ (e : Entry). if kid_of e false then Some home else None) did.came_as
+
+        led : (flag : Bool) (at : Option ℕ) (kept : List ℕ) → LeadsBy format digest flag at kept (waiting element) → LeadsBy format digest flag at kept (cached home child)
+        led true at kept leads = ap (λ (e : Entry). e.hold) did.came_as
+        led false None kept leads = absurd leads
+        led false (Some other) kept leads = absurd leads
+
+-- A record goes out with an element.
+pub go_step : (format : Format) (digest : Digest) (shown : AllShown) (taken : Taken) (stored : Stored) (spots : Spots) (home : ℕ) (next : Shown) (child : Entry) (element : Element)
+    → IsWorld format digest shown taken stored spots → DidGo (shown home) next child element
+    → WorldAfter format digest (with_shown shown home next) taken stored
+go_step format digest shown taken stored spots home next child element world did =
+    (with_spot spots child.path (waiting element),
+    world_one format digest shown taken taken stored stored spots home next child.path (waiting element) world
+    (one_moves format digest spots (with_spot spots child.path (waiting element)) child.path (waiting element) moves world.tree)
+    did.shown
+    (λ other away. sym (ap (cached_in other) was ∙ cached_elsewhere home other child away))
+    (taken_one taken spots child.path (waiting element) refl world.was_taken)
+    (holds_one format stored spots child.path (waiting element) (ap blob_of did.value ∙ ap blob_at (sym was)) world.holds))
+  where
+    was : spots child.path ≡ cached home child
+    was = spot_of_shown home (spots child.path) child (sym (world.shows home child.path) ∙ did.had_child)
+
+    moves : OneMoves format digest spots (with_spot spots child.path (waiting element)) child.path (waiting element)
+    moves = record {
+      at = with_spot_at spots child.path (waiting element);
+      elsewhere = λ j away. with_spot_other spots child.path j (waiting element) away;
+      touched_before = ap is_touched was;
+      touched_after = refl;
+      pointers = λ on. ap (λ (v : Value). side_of (node_of v) on) did.value ∙ ap (λ (s : Spot). pointer_at s on) (sym was);
+      homes = λ on pointer is. sym (ap (λ (s : Spot). home_of s on) was ∙ ap (λ (b : Bool). if b then Some home else None) (no_kids child on did.kids));
+      led_to = λ flag at kept leads. led flag at kept (subst (LeadsBy format digest flag at kept) was leads);
+      of_kind = (did.path, subst (IsOf format child.path) (sym did.value) (subst (IsKind format child.path) was (world.tree.kind child.path)).1);
+    }
+      where
+        led : (flag : Bool) (at : Option ℕ) (kept : List ℕ) → LeadsBy format digest flag at kept (cached home child) → LeadsBy format digest flag at kept (waiting element)
+        led true at kept leads = tt
+        led false None kept leads = absurd leads
+        led false (Some other) kept leads = absurd (not_both child.hold did.hold leads.1)
+
+-- ---- read and written
+
+-- Caches that show the same have the same world.
+pub same_step : (format : Format) (digest : Digest) (shown : AllShown) (taken : Taken) (stored : Stored) (spots : Spots) (home : ℕ) (next : Shown)
+    → IsWorld format digest shown taken stored spots → ShowSame next (shown home)
+    → IsWorld format digest (with_shown shown home next) taken stored spots
+same_step format digest shown taken stored spots home next world same =
+    record { tree = world.tree; shows = shows; was_taken = world.was_taken; holds = world.holds }
+  where
+    shows : (other : ℕ) (path : List Bool) → with_shown shown home next other path ≡ cached_in other (spots path)
+    shows other path = go (cases_eq other home)
+      where
+        go : (other ≡ home) ⊎ (other ≡ home → ⊥) → with_shown shown home next other path ≡ cached_in other (spots path)
+        go (inl here) =
+            ap (λ (b : Bool). (if b then next else shown other) path) (eq-eqb other home here) ∙ same path
+            ∙ ap (λ (h : ℕ). shown h path) (sym here) ∙ world.shows other path
+        go (inr apart) = ap (λ (b : Bool). (if b then next else shown other) path) (ne_eqb other home apart) ∙ world.shows other path
+
+-- What is read is the plain map's.
+pub read_value : (format : Format) (digest : Digest) (shown : AllShown) (taken : Taken) (stored : Stored) (spots : Spots) (home : ℕ) (next : Shown) (entry : Entry)
+    → IsWorld format digest shown taken stored spots → DidRead format (shown home) next entry
+    → blob_of entry.value ≡ stored (number_of entry.path)
+read_value format digest shown taken stored spots home next entry world did =
+    ap blob_at (sym (spot_of_shown home (spots entry.path) entry (sym (world.shows home entry.path) ∙ did.had))) ∙ world.holds entry.path did.at_data
+
+-- a data path's value has no pointers
+data_bare : (format : Format) (path : List Bool) (value : Value) (on : Bool) → length path ≡ path_bits format → IsOf format path value → side_of (node_of value) on ≡ None
+data_bare format path (values.Blob blob) on wide kind = refl
+data_bare format path (values.Node held) on wide kind = absurd (omega (arith, kind.0))
+
+-- a path is had back from its number
+one_number : (p q : List Bool) → length p ≡ length q → number_of p ≡ number_of q → p ≡ q
+one_number p q wide same =
+    sym (bits_of-number_of p) ∙ ap (λ (n : ℕ). bits_of n (number_of p)) wide ∙ ap (bits_of (length q)) same ∙ bits_of-number_of q
+
+-- A data value is written, in the cache and in the plain map.
+pub write_step : (format : Format) (digest : Digest) (shown : AllShown) (taken : Taken) (stored : Stored) (spots : Spots) (home : ℕ) (next : Shown) (before after : Entry)
+    → IsWorld format digest shown taken stored spots → DidWrite format (shown home) next before after
+    → WorldAfter format digest (with_shown shown home next) taken (update eqb stored (number_of after.path) (blob_of after.value))
+write_step format digest shown taken stored spots home next before after world did =
+    subst (λ (a : Entry). WorldAfter format digest (with_shown shown home next) taken (update eqb stored (number_of a.path) (blob_of a.value))) (sym did.wrote)
+    (with_spot spots before.path spot,
+    world_one format digest shown taken taken stored (update eqb stored (number_of before.path) (blob_of did.value)) spots home next before.path spot world
+    (one_moves format digest spots (with_spot spots before.path spot) before.path spot moves world.tree)
+    (subst (λ (e : Option Entry). ShowSame next (showing (shown home) before.path e)) (ap Some did.wrote ∙ sym (cached_here home now)) did.shown)
+    (λ other away. cached_elsewhere home other now away ∙ sym (ap (cached_in other) was ∙ cached_elsewhere home other before away))
+    (taken_one taken spots before.path spot refl world.was_taken)
+    holds)
+  where
+    now : Entry
+    now = with_value before did.value
+
+    spot : Spot
+    spot = cached home now
+
+    was : spots before.path ≡ cached home before
+    was = spot_of_shown home (spots before.path) before (sym (world.shows home before.path) ∙ did.had)
+
+    old_kind : IsOf format before.path before.value
+    old_kind = (subst (IsKind format before.path) was (world.tree.kind before.path)).1
+
+    moves : OneMoves format digest spots (with_spot spots before.path spot) before.path spot
+    moves = record {
+      at = with_spot_at spots before.path spot;
+      elsewhere = λ j away. with_spot_other spots before.path j spot away;
+      touched_before = ap is_touched was;
+      touched_after = refl;
+      pointers = λ on. data_bare format before.path did.value on did.at_data did.kind ∙ sym (ap (λ (s : Spot). pointer_at s on) was ∙ data_bare format before.path before.value on did.at_data old_kind);
+      homes = λ on pointer is. ap (λ (s : Spot). home_of s on) (sym was);
+      led_to = λ flag at kept leads. leads_same_hold format digest flag at kept home before now refl (subst (LeadsBy format digest flag at kept) was leads);
+      of_kind = (refl, did.kind);
+    }
+
+    holds : (path : List Bool) → length path ≡ path_bits format
+        → blob_at (with_spot spots before.path spot path) ≡ update eqb stored (number_of before.path) (blob_of did.value) (number_of path)
+    holds path wide = go (this_or_other before.path path)
+      where
+        go : (before.path ≡ path) ⊎ (before.path ≢ path) → blob_at (with_spot spots before.path spot path) ≡ update eqb stored (number_of before.path) (blob_of did.value) (number_of path)
+        go (inl same) =
+            ap (λ (j : List Bool). blob_at (with_spot spots before.path spot j)) (sym same) ∙ ap blob_at (with_spot_at spots before.path spot)
+            ∙ sym (update_same eqb stored (number_of before.path) (blob_of did.value) (number_of path) (eq-eqb _ _ (ap number_of same)))
+        go (inr away) =
+            ap blob_at (with_spot_other spots before.path path spot away) ∙ world.holds path wide
+            ∙ sym (update_other eqb stored (number_of before.path) (blob_of did.value) (number_of path)
+            (ne_eqb _ _ (λ same. away (one_number before.path path (did.at_data ∙ sym wide) same))))

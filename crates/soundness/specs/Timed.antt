@@ -1,0 +1,28 @@
+-- What the clock tells of the elements that come and go (Lamport 1978).
+use Rattle.std.specs.Prelude.{◌≡◌, ℕ, ◌≤◌, Bool, true}
+use Rattle.std.specs.Ordering.{is_lt}
+use Rattle.lamport_clocks.specs.declared.stamp.Stamp.{Stamp}
+use Rattle.lamport_clocks.specs.Stamp.{stamp_cmp}
+use Rattle.record_text.specs.declared.element.Element.{Element}
+use Rattle.verifier_commands.specs.Change.{Change, joins, leaves, comes, goes, defers, reads, writes, turns}
+use Rattle.soundness.specs.History.{Event}
+
+-- a stamp is before another
+abbrev pub IsEarlier : Stamp → Stamp → Type 0
+IsEarlier s t = is_lt (stamp_cmp s t) ≡ true
+
+-- an element that comes was stamped before, in an epoch from the first on
+pub record IsOfBefore (first : ℕ) (at : Stamp) (element : Element) : Type 0 where
+  pub earlier : IsEarlier element.stamp at
+  pub from_first : first ≤ element.stamp.epoch
+
+-- An element that comes was stamped before the clock, and one that goes is stamped with it.
+abbrev pub IsTimed : ℕ → Stamp → Change → Type 0
+IsTimed first at (joins parent after child) = Unit {0}
+IsTimed first at (leaves parent after child) = Unit {0}
+IsTimed first at (comes child element) = IsOfBefore first at element
+IsTimed first at (goes child element) = element.stamp ≡ at
+IsTimed first at (defers parent after child element) = element.stamp ≡ at
+IsTimed first at (reads entry) = Unit {0}
+IsTimed first at (writes before after) = Unit {0}
+IsTimed first at (turns sealed) = Unit {0}
