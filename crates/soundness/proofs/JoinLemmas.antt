@@ -8,6 +8,7 @@ use Rattle.record_text.specs.declared.value.Pointer.{Pointer}
 use Rattle.record_text.specs.declared.value.Node.{Node}
 use Rattle.record_text.specs.declared.value.Value.{Value}
 use Rattle.record_text.specs.declared.value.Value.TheVariants as values
+use Rattle.record_text.specs.declared.element.Element.{Element}
 use Rattle.record_text.specs.Format.{Format, path_bits}
 use Rattle.record_text.specs.Value.{IsOf, IsPointer, node_side, with_side, empty_node, initial_value}
 use Rattle.record_text.specs.Texts.{value_text}
@@ -101,9 +102,32 @@ taken_pair taken spots home after k spot apart not_merkle was path value is = go
 
 -- ---- a child joins
 
--- the world behind a step, whatever the spots are
-abbrev pub WorldAfter : Format → Digest → AllShown → Taken → Stored → Type 0
-WorldAfter format digest shown taken stored = (spots : Spots) × IsWorld format digest shown taken stored spots
+-- what waits, waits on
+abbrev pub KeepsWaiting : Spots → Spots → Type 0
+KeepsWaiting old new = (path : List Bool) (element : Element) → old path ≡ waiting element → new path ≡ waiting element
+
+-- the world behind a step, where what waited at the old spots waits on
+abbrev pub WorldAfter : Format → Digest → AllShown → Taken → Stored → Spots → Type 0
+WorldAfter format digest shown taken stored old = (spots : Spots) × IsWorld format digest shown taken stored spots × KeepsWaiting old spots
+
+abbrev pub is_waiting : Spot → Bool
+is_waiting untouched = false
+is_waiting (cached verifier entry) = false
+is_waiting (merkle value) = false
+is_waiting (waiting element) = true
+
+-- a record that doesn't wait has another spot
+pub not_waiting : (spot other : Spot) (element : Element) → spot ≡ other → is_waiting other ≡ false → spot ≡ waiting element → ⊥
+not_waiting spot other element is never waits = false≢true (sym never ∙ ap is_waiting (sym is ∙ waits))
+
+-- where a parent and a child change that don't wait
+pub pair_keeps : (spots : Spots) (home : ℕ) (before after : Entry) (k : List Bool) (spot : Spot) → spots after.path ≡ cached home before
+    → ((element : Element) → spots k ≡ waiting element → ⊥) → KeepsWaiting spots (with_pair spots home after k spot)
+pair_keeps spots home before after k spot was free path element waits =
+    with_pair_other spots home after k path spot
+    (λ same. not_waiting (spots after.path) (cached home before) element was refl (ap spots same ∙ waits))
+    (λ same. free element (ap spots same ∙ waits))
+    ∙ waits
 
 -- What all joins have in common.
 pub join_world : (format : Format) (digest : Digest) (shown : AllShown) (taken : Taken) (stored : Stored) (spots : Spots) (home : ℕ) (next : Shown) (parent child : Entry)
@@ -117,13 +141,15 @@ pub join_world : (format : Format) (digest : Digest) (shown : AllShown) (taken :
     → FitsUnder format digest spots parent.path child.path on (cached home child)
     → ((other : ℕ) → cached_in other (spots child.path) ≡ None)
     → blob_of child.value ≡ blob_at (spots child.path)
-    → WorldAfter format digest (with_shown shown home next) taken stored
-join_world format digest shown taken stored spots home next parent child on at now pointer world was is_node below shows points to flag others kind child_kind hold fits hidden blob =
+    → ((element : Element) → spots child.path ≡ waiting element → ⊥)
+    → WorldAfter format digest (with_shown shown home next) taken stored spots
+join_world format digest shown taken stored spots home next parent child on at now pointer world was is_node below shows points to flag others kind child_kind hold fits hidden blob free =
     (new, world_pair format digest shown taken taken stored spots home next parent after child.path (cached home child) world tree was apart
     (subst (λ (e : Option Entry). ShowSame next (showing_both (shown home) after child.path e)) (sym (cached_here home child)) shows)
     (λ other away. cached_elsewhere home other child away ∙ sym (hidden other))
     (sym (node_blob parent.value at is_node)) blob
-    (taken_pair taken spots home after child.path (cached home child) apart refl world.was_taken))
+    (taken_pair taken spots home after child.path (cached home child) apart refl world.was_taken),
+    pair_keeps spots home parent after child.path (cached home child) was free)
   where
     after : Entry
     after = changed_parent parent now on true
@@ -182,7 +208,7 @@ pub join_empty : (format : Format) (digest : Digest) (shown : AllShown) (taken :
     → node_side j.added.at j.added.on ≡ None → j.value ≡ initial_value format child.path
     → after ≡ changed_parent parent (pointing format digest j.added.at j.added.on child.path j.value) j.added.on true
     → child ≡ new_entry child.path j.value M
-    → WorldAfter format digest (with_shown shown home next) taken stored
+    → WorldAfter format digest (with_shown shown home next) taken stored spots
 join_empty format digest shown taken stored spots home next parent after child digests world j none initial after_is child_is =
     join_world format digest shown taken stored spots home next parent child on at now (pointer_to format digest child.path j.value) world j.was j.added.is_node j.added.below
     (subst (λ (a : Entry). ShowSame next (showing_both (shown home) a child.path (Some child))) after_is j.shows)
@@ -194,6 +220,7 @@ join_empty format digest shown taken stored spots home next parent after child d
     (λ which. ap (λ (v : Value). side_of (node_of v) which) (value_is ∙ initial) ∙ initial_bare format child.path which))
     (λ other. ap (cached_in other) was_untouched)
     (ap blob_of (value_is ∙ initial) ∙ initial_blob format child.path ∙ ap blob_at (sym was_untouched))
+    (λ element waits. not_waiting (spots child.path) untouched element was_untouched refl waits)
   where
     on : Bool
     on = j.added.on
@@ -225,7 +252,7 @@ pub join_split : (format : Format) (digest : Digest) (shown : AllShown) (taken :
     → j.value ≡ initial_value format child.path
     → after ≡ changed_parent parent (pointing format digest j.added.at j.added.on child.path (initial_value format child.path)) j.added.on true
     → child ≡ set_kid (new_entry child.path (values.Node (with_side empty_node which (Some pointer))) M) which (kid_of parent j.added.on)
-    → WorldAfter format digest (with_shown shown home next) taken stored
+    → WorldAfter format digest (with_shown shown home next) taken stored spots
 join_split format digest shown taken stored spots home next parent after child digests world j pointer there which further initial after_is child_is =
     join_world format digest shown taken stored spots home next parent child on at now (pointer_to format digest child.path (initial_value format child.path)) world j.was j.added.is_node j.added.below
     (subst (λ (a : Entry). ShowSame next (showing_both (shown home) a child.path (Some child))) after_is j.shows)
@@ -240,6 +267,7 @@ join_split format digest shown taken stored spots home next parent after child d
     home_is)
     (λ other. ap (cached_in other) was_untouched)
     (ap blob_of value_is ∙ ap blob_at (sym was_untouched))
+    (λ element waits. not_waiting (spots child.path) untouched element was_untouched refl waits)
   where
     on : Bool
     on = j.added.on

@@ -27,7 +27,7 @@ use Rattle.soundness.proofs.SideLemmas.{above_apart}
 use Rattle.soundness.proofs.FamilyLemmas.{IsAdd, on_empty, on_same, on_split, IsAdded}
 use Rattle.soundness.proofs.UnderLemmas.{changed_parent, fits_known}
 use Rattle.soundness.proofs.WorldLemmas.{cached_in, AllShown, with_shown, Stored, IsWorld, blob_at}
-use Rattle.soundness.proofs.JoinLemmas.{kept_value, join_world, Joining, joining, WorldAfter, parent_pointer, parent_kind, join_empty, join_split}
+use Rattle.soundness.proofs.JoinLemmas.{kept_value, not_waiting, join_world, Joining, joining, WorldAfter, parent_pointer, parent_kind, join_empty, join_split}
 
 -- no two values of a path have one text
 abbrev pub HasOneText : Format → Type 0
@@ -70,7 +70,7 @@ join_same : (format : Format) (digest : Digest) (shown : AllShown) (taken : Take
     → spots child.path ≡ merkle j.value
     → after ≡ changed_parent parent j.added.at j.added.on true
     → child ≡ new_entry child.path j.value M
-    → WorldAfter format digest (with_shown shown home next) taken stored
+    → WorldAfter format digest (with_shown shown home next) taken stored spots
 join_same format digest shown taken stored spots home next parent after child world j pointer there to flag was_kept after_is child_is =
     join_world format digest shown taken stored spots home next parent child on at at pointer world j.was j.added.is_node j.added.below
     (subst (λ (a : Entry). ShowSame next (showing_both (shown home) a child.path (Some child))) after_is j.shows)
@@ -85,6 +85,7 @@ join_same format digest shown taken stored spots home next parent after child wo
     (λ which. no_home which ∙ ap (λ (s : Spot). home_of s which) (sym was_kept)))
     (λ other. ap (cached_in other) was_kept)
     (ap blob_of value_is ∙ ap blob_at (sym was_kept))
+    (λ element waits. not_waiting (spots child.path) (merkle j.value) element was_kept refl waits)
   where
     on : Bool
     on = j.added.on
@@ -132,13 +133,13 @@ abbrev pub Clashes : Format → Digest → Taken → Change → Type 0
 Clashes format digest taken change = (strings : Strings) × (clash_of format taken change ≡ Some strings) × IsCollision digest strings
 
 -- a change shows nothing, and a world stands behind it
-abbrev pub Passes : Format → Digest → AllShown → Taken → Taken → Stored → Change → Type 0
-Passes format digest shown taken now_taken stored change = (clash_of format taken change ≡ None) × WorldAfter format digest shown now_taken stored
+abbrev pub Passes : Format → Digest → AllShown → Taken → Taken → Stored → Spots → Change → Type 0
+Passes format digest shown taken now_taken stored old change = (clash_of format taken change ≡ None) × WorldAfter format digest shown now_taken stored old
 
 -- A join shows two strings with one digest, or it shows nothing and keeps the world.
 pub join_step : (format : Format) (digest : Digest) (shown : AllShown) (taken : Taken) (stored : Stored) (spots : Spots) (home : ℕ) (next : Shown) (parent after child : Entry)
     → HasOneText format → GivesDigests digest → IsWorld format digest shown taken stored spots → DidJoin format digest (shown home) next parent after child
-    → Clashes format digest taken (joins parent after child) ⊎ Passes format digest (with_shown shown home next) taken taken stored (joins parent after child)
+    → Clashes format digest taken (joins parent after child) ⊎ Passes format digest (with_shown shown home next) taken taken stored spots (joins parent after child)
 join_step format digest shown taken stored spots home next parent after child one digests world did = go j.added.how
   where
     j : Joining format digest shown spots home next parent after child
@@ -148,7 +149,7 @@ join_step format digest shown taken stored spots home next parent after child on
     clash_is = clash_where format taken parent child after j.added.on j.added.at j.added.below j.added.is_node
 
     Outcome : Type 0
-    Outcome = Clashes format digest taken (joins parent after child) ⊎ Passes format digest (with_shown shown home next) taken taken stored (joins parent after child)
+    Outcome = Clashes format digest taken (joins parent after child) ⊎ Passes format digest (with_shown shown home next) taken taken stored spots (joins parent after child)
 
     no_clash : leads_to (node_side j.added.at j.added.on) child.path ≡ false → clash_of format taken (joins parent after child) ≡ None
     no_clash apart = clash_is ∙ ap (λ (b : Bool). clash_at format taken b child) apart

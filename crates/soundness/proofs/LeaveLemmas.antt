@@ -26,7 +26,7 @@ use Rattle.soundness.proofs.MovedLemmas.{this_or_other}
 use Rattle.soundness.proofs.FamilyLemmas.{IsLeft, evicted_into, evicted_how, deferred_in, deferred_how, pointer_set, pointer_set_other, no_kids}
 use Rattle.soundness.proofs.UnderLemmas.{changed_parent, pair_moves, fits_known}
 use Rattle.soundness.proofs.WorldLemmas.{cached_in, cached_here, cached_elsewhere, spot_of_shown, blob_in, blob_at, AllShown, with_shown, Stored, IsWorld, with_spot, with_spot_at, with_pair, with_pair_parent, with_pair_other, world_pair}
-use Rattle.soundness.proofs.JoinLemmas.{is_merkle, taken_pair, WorldAfter, node_blob, parent_pointer, parent_kind}
+use Rattle.soundness.proofs.JoinLemmas.{is_merkle, KeepsWaiting, not_waiting, pair_keeps, taken_pair, WorldAfter, node_blob, parent_pointer, parent_kind}
 
 -- What a child leaves: its spot has its value, and no cache shows it.
 pub record IsOut (child : Entry) (spot : Spot) : Type 0 where
@@ -34,6 +34,11 @@ pub record IsOut (child : Entry) (spot : Spot) : Type 0 where
   pub touched : is_touched spot ≡ true
   pub homeless : (which : Bool) → home_of spot which ≡ None
   pub hidden : (home : ℕ) → cached_in home spot ≡ None
+
+-- the world behind a step that left a record at this spot
+abbrev pub LeftAt : Format → Digest → AllShown → Taken → Stored → Spots → List Bool → Spot → Type 0
+LeftAt format digest shown taken stored old path spot =
+    (spots : Spots) × IsWorld format digest shown taken stored spots × KeepsWaiting old spots × (spots path ≡ spot)
 
 -- What an evict and a deferral have in common: the parent's node changes, its kid bit is cleared, and its pointer
 -- leads where the child is now.
@@ -49,7 +54,7 @@ leave_world : (format : Format) (digest : Digest) (shown : AllShown) (taken now_
     → (IsOf format parent.path (values.Node left.at) → IsOf format parent.path (values.Node (changed left.at left.on left.pointer)))
     → LeadsBy format digest pointer.deferred None pointer.digest spot
     → ((path : List Bool) (value : Value) → with_pair spots home (changed_parent parent (changed left.at left.on left.pointer) left.on false) child.path spot path ≡ merkle value → now_taken path ≡ Some value)
-    → WorldAfter format digest (with_shown shown home next) now_taken stored
+    → LeftAt format digest (with_shown shown home next) now_taken stored spots child.path spot
 leave_world format digest shown taken now_taken stored spots home next parent child after changed spot pointer world left had_parent had_child shows out child_kind points to others kind leads taken_is =
     (new, world_pair format digest shown taken now_taken stored spots home next parent now_parent child.path spot world tree was apart
     (subst (λ (e : Option Entry). ShowSame next (showing_both (shown home) now_parent child.path e)) (sym (out.hidden home))
@@ -57,7 +62,9 @@ leave_world format digest shown taken now_taken stored spots home next parent ch
     (λ other away. out.hidden other ∙ sym (ap (cached_in other) was_child ∙ cached_elsewhere home other child away))
     (sym (node_blob parent.value left.at left.is_node))
     (ap blob_in out.value ∙ ap blob_at (sym was_child))
-    taken_is)
+    taken_is,
+    pair_keeps spots home parent now_parent child.path spot was (λ element waits. not_waiting (spots child.path) (cached home child) element was_child refl waits),
+    with_spot_at (with_spot spots now_parent.path (cached home now_parent)) child.path spot)
   where
     now : Node
     now = changed left.at left.on left.pointer
@@ -126,17 +133,8 @@ taken_now taken spots home after k kept apart was path value is = go (this_or_ot
 -- A child is evicted into its parent.
 pub leave_step : (format : Format) (digest : Digest) (shown : AllShown) (taken : Taken) (stored : Stored) (spots : Spots) (home : ℕ) (next : Shown) (parent after child : Entry)
     → GivesDigests digest → IsWorld format digest shown taken stored spots → DidLeave format digest (shown home) next parent after child
-    → WorldAfter format digest (with_shown shown home next) (with_taken taken child.path child.value) stored
-leave_step format digest shown taken stored spots home next parent after child digests world did =
-    leave_world format digest shown taken (with_taken taken child.path child.value) stored spots home next parent child after (evicted_into format digest child)
-    (merkle child.value) (pointer_to format digest child.path child.value) world left did.had_parent did.had_child did.shown
-    (record { value = refl; touched = refl; homeless = λ which. refl; hidden = λ home. refl })
-    of_kind
-    (pointer_set left.at left.on _) refl (λ which other. pointer_set_other left.at left.on which _ other)
-    (λ above. IsOf-after_evict format digest parent.path child.path left.on left.at child.value digests left.below above of_kind)
-    refl
-    (taken_now taken spots home (changed_parent parent (evicted_into format digest child left.at left.on left.pointer) left.on false) child.path child.value
-    (above_apart parent.path child.path left.on left.below) world.was_taken)
+    → WorldAfter format digest (with_shown shown home next) (with_taken taken child.path child.value) stored spots
+leave_step format digest shown taken stored spots home next parent after child digests world did = (out.0, out.1, out.2)
   where
     left : IsLeft parent child after (evicted_into format digest child)
     left = evicted_how format digest parent child after did.evicted
@@ -146,21 +144,33 @@ leave_step format digest shown taken stored spots home next parent after child d
         child_kind format digest spots home child world.tree
         (spot_of_shown home (spots child.path) child (sym (world.shows home child.path) ∙ did.had_child))
 
+    out : LeftAt format digest (with_shown shown home next) (with_taken taken child.path child.value) stored spots child.path (merkle child.value)
+    out = leave_world format digest shown taken (with_taken taken child.path child.value) stored spots home next parent child after (evicted_into format digest child)
+        (merkle child.value) (pointer_to format digest child.path child.value) world left did.had_parent did.had_child did.shown
+        (record { value = refl; touched = refl; homeless = λ which. refl; hidden = λ home. refl })
+        of_kind
+        (pointer_set left.at left.on _) refl (λ which other. pointer_set_other left.at left.on which _ other)
+        (λ above. IsOf-after_evict format digest parent.path child.path left.on left.at child.value digests left.below above of_kind)
+        refl
+        (taken_now taken spots home (changed_parent parent (evicted_into format digest child left.at left.on left.pointer) left.on false) child.path child.value
+        (above_apart parent.path child.path left.on left.below) world.was_taken)
+
 -- A child is evicted out of its parent with an element.
 pub defer_step : (format : Format) (digest : Digest) (shown : AllShown) (taken : Taken) (stored : Stored) (spots : Spots) (home : ℕ) (next : Shown) (parent after child : Entry) (element : Element)
     → IsWorld format digest shown taken stored spots → DidDefer (shown home) next parent after child element
-    → WorldAfter format digest (with_shown shown home next) taken stored
+    → LeftAt format digest (with_shown shown home next) taken stored spots element.path (waiting element)
 defer_step format digest shown taken stored spots home next parent after child element world did =
-    leave_world format digest shown taken taken stored spots home next parent child after deferred_in
-    (waiting element) (deferred_pointer left.pointer) world left did.had_parent did.had_child did.shown
-    (record { value = ap Some did.value; touched = refl; homeless = λ which. refl; hidden = λ home. refl })
-    (did.path, subst (IsOf format child.path) (sym did.value) of_kind)
-    (pointer_set left.at left.on _) left.leads (λ which other. pointer_set_other left.at left.on which _ other)
-    (λ above. subst (λ (o : Option Pointer). IsOf format parent.path (values.Node (with_side left.at left.on (option_map deferred_pointer o)))) left.points
-    (IsOf-after_defer format parent.path left.on left.at above))
-    tt
-    (taken_pair taken spots home (changed_parent parent (deferred_in left.at left.on left.pointer) left.on false) child.path (waiting element)
-    (above_apart parent.path child.path left.on left.below) refl world.was_taken)
+    subst (λ (i : List Bool). LeftAt format digest (with_shown shown home next) taken stored spots i (waiting element)) (sym did.path)
+    (leave_world format digest shown taken taken stored spots home next parent child after deferred_in
+        (waiting element) (deferred_pointer left.pointer) world left did.had_parent did.had_child did.shown
+        (record { value = ap Some did.value; touched = refl; homeless = λ which. refl; hidden = λ home. refl })
+        (did.path, subst (IsOf format child.path) (sym did.value) of_kind)
+        (pointer_set left.at left.on _) left.leads (λ which other. pointer_set_other left.at left.on which _ other)
+        (λ above. subst (λ (o : Option Pointer). IsOf format parent.path (values.Node (with_side left.at left.on (option_map deferred_pointer o)))) left.points
+        (IsOf-after_defer format parent.path left.on left.at above))
+        tt
+        (taken_pair taken spots home (changed_parent parent (deferred_in left.at left.on left.pointer) left.on false) child.path (waiting element)
+        (above_apart parent.path child.path left.on left.below) refl world.was_taken))
   where
     left : IsLeft parent child after deferred_in
     left = deferred_how parent child after did.deferred

@@ -25,7 +25,8 @@ use Rattle.soundness.specs.Spot.{Spot, untouched, cached, merkle, waiting, Spots
 use Rattle.soundness.proofs.MovedLemmas.{this_or_other, OneMoves, one_moves, leads_same_hold}
 use Rattle.soundness.proofs.FamilyLemmas.{no_kids}
 use Rattle.soundness.proofs.WorldLemmas.{cached_in, cached_here, cached_elsewhere, spot_of_shown, blob_at, AllShown, with_shown, Stored, IsWorld, with_spot, with_spot_at, with_spot_other, world_one}
-use Rattle.soundness.proofs.JoinLemmas.{is_merkle, WorldAfter}
+use Rattle.soundness.proofs.JoinLemmas.{is_merkle, KeepsWaiting, not_waiting, WorldAfter}
+use Rattle.soundness.proofs.LeaveLemmas.{LeftAt}
 
 -- ---- what one moved record leaves as it was
 
@@ -51,6 +52,10 @@ holds_one format stored spots k spot same_blob was path wide = go (this_or_other
         ∙ ap (λ (j : List Bool). blob_at (spots j)) same ∙ was path wide
     go (inr away) = ap blob_at (with_spot_other spots k path spot away) ∙ was path wide
 
+-- what waits elsewhere waits on
+keeps_one : (spots : Spots) (k : List Bool) (spot : Spot) → ((element : Element) → spots k ≡ waiting element → ⊥) → KeepsWaiting spots (with_spot spots k spot)
+keeps_one spots k spot free path element waits = with_spot_other spots k path spot (λ same. free element (ap spots same ∙ waits)) ∙ waits
+
 -- a record that came in with an element is not a kid that came in by its digest
 not_both : (hold : Hold) → hold ≡ B → hold ≡ M → ⊥
 not_both hold is_b is_m = true≢false (ap by_element (sym is_b ∙ is_m))
@@ -62,11 +67,16 @@ not_both hold is_b is_m = true≢false (ap by_element (sym is_b ∙ is_m))
 
 -- ---- in and out with an element
 
+-- the world behind a step that took the record of a path back, where what waited elsewhere waits on
+abbrev pub TookBack : Format → Digest → AllShown → Taken → Stored → Spots → List Bool → Type 0
+TookBack format digest shown taken stored old k =
+    (spots : Spots) × IsWorld format digest shown taken stored spots × ((path : List Bool) (element : Element) → k ≢ path → old path ≡ waiting element → spots path ≡ waiting element)
+
 -- A record comes in with the element that it waits with.
 pub come_step : (format : Format) (digest : Digest) (shown : AllShown) (taken : Taken) (stored : Stored) (spots : Spots) (home : ℕ) (next : Shown) (child : Entry) (element : Element)
     → IsWorld format digest shown taken stored spots → DidCome format (shown home) next child element
     → spots element.path ≡ waiting element
-    → WorldAfter format digest (with_shown shown home next) taken stored
+    → TookBack format digest (with_shown shown home next) taken stored spots element.path
 come_step format digest shown taken stored spots home next child element world did waits =
     (with_spot spots k (cached home child),
     world_one format digest shown taken taken stored stored spots home next k (cached home child) world
@@ -74,7 +84,8 @@ come_step format digest shown taken stored spots home next child element world d
     (subst (λ (e : Option Entry). ShowSame next (showing_of e)) (sym (cached_here home child)) did.shown)
     (λ other away. cached_elsewhere home other child away ∙ ap (cached_in other) (sym was))
     (taken_one taken spots k (cached home child) refl world.was_taken)
-    (holds_one format stored spots k (cached home child) (ap blob_of value_is ∙ ap blob_at (sym was)) world.holds))
+    (holds_one format stored spots k (cached home child) (ap blob_of value_is ∙ ap blob_at (sym was)) world.holds),
+    λ path other apart there. with_spot_other spots k path (cached home child) (λ same. apart (sym path_is ∙ same)) ∙ there)
   where
     k : List Bool
     k = child.path
@@ -115,15 +126,18 @@ come_step format digest shown taken stored spots home next child element world d
 -- A record goes out with an element.
 pub go_step : (format : Format) (digest : Digest) (shown : AllShown) (taken : Taken) (stored : Stored) (spots : Spots) (home : ℕ) (next : Shown) (child : Entry) (element : Element)
     → IsWorld format digest shown taken stored spots → DidGo (shown home) next child element
-    → WorldAfter format digest (with_shown shown home next) taken stored
+    → LeftAt format digest (with_shown shown home next) taken stored spots element.path (waiting element)
 go_step format digest shown taken stored spots home next child element world did =
+    subst (λ (i : List Bool). LeftAt format digest (with_shown shown home next) taken stored spots i (waiting element)) (sym did.path)
     (with_spot spots child.path (waiting element),
     world_one format digest shown taken taken stored stored spots home next child.path (waiting element) world
     (one_moves format digest spots (with_spot spots child.path (waiting element)) child.path (waiting element) moves world.tree)
     did.shown
     (λ other away. sym (ap (cached_in other) was ∙ cached_elsewhere home other child away))
     (taken_one taken spots child.path (waiting element) refl world.was_taken)
-    (holds_one format stored spots child.path (waiting element) (ap blob_of did.value ∙ ap blob_at (sym was)) world.holds))
+    (holds_one format stored spots child.path (waiting element) (ap blob_of did.value ∙ ap blob_at (sym was)) world.holds),
+    keeps_one spots child.path (waiting element) (λ other waits. not_waiting (spots child.path) (cached home child) other was refl waits),
+    with_spot_at spots child.path (waiting element))
   where
     was : spots child.path ≡ cached home child
     was = spot_of_shown home (spots child.path) child (sym (world.shows home child.path) ∙ did.had_child)
@@ -183,16 +197,17 @@ one_number p q wide same =
 -- A data value is written, in the cache and in the plain map.
 pub write_step : (format : Format) (digest : Digest) (shown : AllShown) (taken : Taken) (stored : Stored) (spots : Spots) (home : ℕ) (next : Shown) (before after : Entry)
     → IsWorld format digest shown taken stored spots → DidWrite format (shown home) next before after
-    → WorldAfter format digest (with_shown shown home next) taken (update eqb stored (number_of after.path) (blob_of after.value))
+    → WorldAfter format digest (with_shown shown home next) taken (update eqb stored (number_of after.path) (blob_of after.value)) spots
 write_step format digest shown taken stored spots home next before after world did =
-    subst (λ (a : Entry). WorldAfter format digest (with_shown shown home next) taken (update eqb stored (number_of a.path) (blob_of a.value))) (sym did.wrote)
+    subst (λ (a : Entry). WorldAfter format digest (with_shown shown home next) taken (update eqb stored (number_of a.path) (blob_of a.value)) spots) (sym did.wrote)
     (with_spot spots before.path spot,
     world_one format digest shown taken taken stored (update eqb stored (number_of before.path) (blob_of did.value)) spots home next before.path spot world
     (one_moves format digest spots (with_spot spots before.path spot) before.path spot moves world.tree)
     (subst (λ (e : Option Entry). ShowSame next (showing (shown home) before.path e)) (ap Some did.wrote ∙ sym (cached_here home now)) did.shown)
     (λ other away. cached_elsewhere home other now away ∙ sym (ap (cached_in other) was ∙ cached_elsewhere home other before away))
     (taken_one taken spots before.path spot refl world.was_taken)
-    holds)
+    holds,
+    keeps_one spots before.path spot (λ other waits. not_waiting (spots before.path) (cached home before) other was refl waits))
   where
     now : Entry
     now = with_value before did.value
