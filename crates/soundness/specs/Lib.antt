@@ -5,3 +5,5 @@ pub mod Exhibit
 pub mod Spot
 pub mod Deeds
 pub mod Timed
+pub mod Permutation
+pub mod Scheduled
