@@ -1,0 +1,211 @@
+-- A run in which each element that comes was waiting is serial, or its first clash is a collision.
+use Rattle.std.proofs.Common.{◌≡◌, ◌≢◌, ◌⊎◌, ℕ, zero, suc, ◌≤◌, Bool, true, false, List, [], ◌∷◌, map, Option, Some, None, refl, sym, ◌∙◌, ap, subst, inl, inr, if◌then◌else◌, arith, eqb}
+use Rattle.std.specs.Option.{option_or}
+use Rattle.std.specs.Map.{update}
+use Rattle.std.proofs.lemmas.Bool.{false≢true, true≢false}
+use Rattle.tree_keys.specs.Bits.{number_of}
+use Rattle.record_text.specs.declared.element.Element.{Element}
+use Rattle.record_text.specs.Format.{Format}
+use Rattle.merkle_records.specs.Merkle.{Digest, GivesDigests}
+use Rattle.stamp_order.specs.Serial.{IsSerialFrom}
+use Rattle.verifier_cache.specs.declared.entry.Entry.{Entry}
+use Rattle.verifier_commands.specs.Outcome.{blob_of}
+use Rattle.verifier_commands.specs.Change.{Change, joins, leaves, comes, goes, defers, reads, writes, turns}
+use Rattle.soundness.specs.History.{Event}
+use Rattle.soundness.specs.Certified.{operations_by, operations_in}
+use Rattle.soundness.specs.Exhibit.{Taken, Strings, taken_after, clash_of, first_clash, IsCollision}
+use Rattle.soundness.specs.Permutation.{same_element, count_of, without_one}
+use Rattle.soundness.specs.Scheduled.{IsScheduledBy, IsScheduled}
+use Rattle.soundness.specs.Deeds.{Shown, Did}
+use Rattle.soundness.specs.Spot.{Spot, untouched, cached, merkle, waiting, Spots}
+use Rattle.soundness.proofs.PermutationLemmas.{same_element-true, same_element-self, one_more, count_without}
+use Rattle.soundness.proofs.WorldLemmas.{spot_of_shown, AllShown, with_shown, Stored, IsWorld}
+use Rattle.soundness.proofs.JoinLemmas.{KeepsWaiting, not_waiting, WorldAfter}
+use Rattle.soundness.proofs.KnownLemmas.{HasOneText, Clashes, Passes, join_step}
+use Rattle.soundness.proofs.LeaveLemmas.{LeftAt, leave_step, defer_step}
+use Rattle.soundness.proofs.SingleLemmas.{TookBack, come_step, go_step, same_step, read_value, write_step}
+use Rattle.soundness.proofs.RunLemmas.{IsRun}
+
+-- ---- what waits
+
+-- The elements that were evicted and not added back each wait at the spot of their path, and none twice.
+pub record IsWaiting (spots : Spots) (pending : List Element) : Type 0 where
+  pub each : (x : Element) → 1 ≤ count_of x pending → spots x.path ≡ waiting x
+  pub once : (x : Element) → count_of x pending ≤ 1
+
+wait_on : (old new : Spots) (pending : List Element) → KeepsWaiting old new → IsWaiting old pending → IsWaiting new pending
+wait_on old new pending keeps waits = record { each = λ x there. keeps x.path x (waits.each x there); once = waits.once }
+
+-- one element more waits, where its record didn't
+wait_more : (old new : Spots) (pending : List Element) (element : Element) → KeepsWaiting old new → new element.path ≡ waiting element
+    → ((x : Element) → old element.path ≡ waiting x → ⊥) → IsWaiting old pending → IsWaiting new (element ∷ pending)
+wait_more old new pending element keeps at free waits = record { each = λ x. each x (same_element x element) refl; once = λ x. once x (same_element x element) refl (count_of x pending) refl }
+  where
+    each : (x : Element) (b : Bool) → same_element x element ≡ b → 1 ≤ count_of x (element ∷ pending) → new x.path ≡ waiting x
+    each x true same there =
+        let is_it : x ≡ element = same_element-true x element same in
+        subst (λ (y : Element). new y.path ≡ waiting y) (sym is_it) at
+    each x false apart there = keeps x.path x (waits.each x (subst (λ (b : Bool). 1 ≤ one_more b (count_of x pending)) apart there))
+
+    once : (x : Element) (b : Bool) → same_element x element ≡ b → (n : ℕ) → count_of x pending ≡ n → count_of x (element ∷ pending) ≤ 1
+    once x false apart n is = subst (λ (b : Bool). one_more b (count_of x pending) ≤ 1) (sym apart) (waits.once x)
+    once x true same zero is = subst (λ (b : Bool). one_more b (count_of x pending) ≤ 1) (sym same) (omega (arith, is))
+    once x true same (suc n) is =
+        absurd (free x (subst (λ (y : Element). old y.path ≡ waiting x) (same_element-true x element same) (waits.each x (omega (arith, is)))))
+
+-- an element that waited came back
+wait_less : (old new : Spots) (pending rest : List Element) (element : Element) → without_one element pending ≡ Some rest
+    → ((path : List Bool) (x : Element) → element.path ≢ path → old path ≡ waiting x → new path ≡ waiting x)
+    → IsWaiting old pending → IsWaiting new rest
+wait_less old new pending rest element out keeps waits = record { each = each; once = once }
+  where
+    counted : (x : Element) → count_of x pending ≡ one_more (same_element x element) (count_of x rest)
+    counted x = count_without x element pending rest out
+
+    fewer : (b : Bool) (n : ℕ) → n ≤ one_more b n
+    fewer true n = omega arith
+    fewer false n = omega arith
+
+    here : count_of element pending ≡ suc (count_of element rest)
+    here = counted element ∙ ap (λ (b : Bool). one_more b (count_of element rest)) (same_element-self element)
+
+    element_or : Element → Spot → Element
+    element_or other untouched = other
+    element_or other (cached verifier entry) = other
+    element_or other (merkle value) = other
+    element_or other (waiting held) = held
+
+    each : (x : Element) → 1 ≤ count_of x rest → new x.path ≡ waiting x
+    each x there = keeps x.path x apart was
+      where
+        was : old x.path ≡ waiting x
+        was = waits.each x (subst (λ (n : ℕ). 1 ≤ n) (sym (counted x)) (omega (arith, there, fewer (same_element x element) (count_of x rest))))
+
+        apart : element.path ≢ x.path
+        apart same =
+            let is_it : element ≡ x = ap (element_or element) (sym (waits.each element (omega (arith, here))) ∙ ap old same ∙ was) in
+            omega (arith, waits.once element, here, subst (λ (y : Element). 1 ≤ count_of y rest) (sym is_it) there)
+
+    once : (x : Element) → count_of x rest ≤ 1
+    once x = omega (arith, waits.once x, counted x, fewer (same_element x element) (count_of x rest))
+
+-- ---- the run
+
+-- the first clash is a collision
+abbrev pub Collides : Format → Digest → Taken → List Event → Type 0
+Collides format digest taken events =
+    (strings : Strings) × (first_clash format taken (map (λ (event : Event). event.change) events) ≡ Some strings) × IsCollision digest strings
+
+-- there is no clash, and the operations are serial
+abbrev pub IsSound : Format → Taken → Stored → List Event → Type 0
+IsSound format taken stored events =
+    (first_clash format taken (map (λ (event : Event). event.change) events) ≡ None) × IsSerialFrom stored (operations_in events)
+
+-- behind a change that shows no clash
+abbrev CollidesBehind : Format → Digest → Taken → Change → List Event → Type 0
+CollidesBehind format digest taken change events =
+    (strings : Strings) × (option_or (clash_of format taken change) (first_clash format (taken_after taken change) (map (λ (event : Event). event.change) events)) ≡ Some strings) × IsCollision digest strings
+
+abbrev IsFree : Format → Taken → Change → List Event → Type 0
+IsFree format taken change events =
+    option_or (clash_of format taken change) (first_clash format (taken_after taken change) (map (λ (event : Event). event.change) events)) ≡ None
+
+pub run_keeps : (format : Format) (digest : Digest) → HasOneText format → GivesDigests digest → (events : List Event) (shown : AllShown) (taken : Taken) (stored : Stored) (spots : Spots) (pending : List Element)
+    → IsWorld format digest shown taken stored spots → IsWaiting spots pending → IsRun format digest shown events → IsScheduled pending events
+    → Collides format digest taken events ⊎ IsSound format taken stored events
+run_keeps format digest one digests [] shown taken stored spots pending world waits run scheduled = inr (refl, tt)
+run_keeps format digest one digests (event ∷ events) shown taken stored spots pending world waits run scheduled =
+    go (λ taken stored spots pending world waits scheduled.
+    run_keeps format digest one digests events (with_shown shown event.verifier run.0) taken stored spots pending world waits run.2 scheduled)
+    event.change run.1 scheduled
+  where
+    next_shown : AllShown
+    next_shown = with_shown shown event.verifier run.0
+
+    Further : Type 0
+    Further =
+        (taken : Taken) (stored : Stored) (spots : Spots) (pending : List Element)
+        → IsWorld format digest next_shown taken stored spots → IsWaiting spots pending → IsScheduled pending events
+        → Collides format digest taken events ⊎ IsSound format taken stored events
+
+    Behind : Change → Type 0
+    Behind change = CollidesBehind format digest taken change events ⊎ (IsFree format taken change events × IsSerialFrom stored (operations_in (record event { change = change } ∷ events)))
+
+    -- what holds behind a change without clash and operation
+    plain : (change : Change) → clash_of format taken change ≡ None
+        → (IsSerialFrom stored (operations_in events) → IsSerialFrom stored (operations_in (record event { change = change } ∷ events)))
+        → Collides format digest (taken_after taken change) events ⊎ IsSound format (taken_after taken change) stored events → Behind change
+    plain change free same (inl collides) = inl (collides.0, first collides.1, collides.2)
+      where
+        first : {x : Option Strings} → first_clash format (taken_after taken change) (map (λ (event : Event). event.change) events) ≡ x
+            → option_or (clash_of format taken change) (first_clash format (taken_after taken change) (map (λ (event : Event). event.change) events)) ≡ x
+        first is = ap (λ (o : Option Strings). option_or o (first_clash format (taken_after taken change) (map (λ (event : Event). event.change) events))) free ∙ is
+    plain change free same (inr sound) = inr (
+      ap (λ (o : Option Strings). option_or o (first_clash format (taken_after taken change) (map (λ (event : Event). event.change) events))) free ∙ sound.0,
+      same sound.1,
+    )
+
+    joined : Further → (parent after child : Entry) → IsScheduled pending events
+        → Clashes format digest taken (joins parent after child) ⊎ Passes format digest next_shown taken taken stored spots (joins parent after child)
+        → Behind (joins parent after child)
+    joined further parent after child scheduled (inl clashes) = inl (
+      clashes.0,
+      ap (λ (o : Option Strings). option_or o (first_clash format taken (map (λ (event : Event). event.change) events))) clashes.1,
+      clashes.2,
+    )
+    joined further parent after child scheduled (inr passes) =
+        let world_then = passes.1 in
+        plain (joins parent after child) passes.0 (λ serial. serial)
+        (further taken stored world_then.0 pending world_then.1 (wait_on spots world_then.0 pending world_then.2 waits) scheduled)
+
+    -- a record that goes with an element stood in the cache
+    free_at : (child : Entry) (element : Element) → shown event.verifier child.path ≡ Some child → element.path ≡ child.path
+        → (x : Element) → spots element.path ≡ waiting x → ⊥
+    free_at child element had path x there =
+        not_waiting (spots element.path) (cached event.verifier child) x
+        (ap spots path ∙ spot_of_shown event.verifier (spots child.path) child (sym (world.shows event.verifier child.path) ∙ had)) refl there
+
+    went : Further → (change : Change) (element : Element) → clash_of format taken change ≡ None → taken_after taken change ≡ taken
+        → (IsSerialFrom stored (operations_in events) → IsSerialFrom stored (operations_in (record event { change = change } ∷ events)))
+        → ((x : Element) → spots element.path ≡ waiting x → ⊥)
+        → LeftAt format digest next_shown taken stored spots element.path (waiting element) → IsScheduled (element ∷ pending) events → Behind change
+    went further change element none same quiet free left scheduled =
+        plain change none quiet
+        (subst (λ (t : Taken). Collides format digest t events ⊎ IsSound format t stored events) (sym same)
+        (further taken stored left.0 (element ∷ pending) left.1 (wait_more spots left.0 pending element left.2 left.3 free waits) scheduled))
+
+    go : Further → (change : Change) → Did format digest (shown event.verifier) run.0 change → IsScheduledBy pending change (λ after. IsScheduled after events) → Behind change
+    go further (joins parent after child) did scheduled =
+        joined further parent after child scheduled (join_step format digest shown taken stored spots event.verifier run.0 parent after child one digests world did)
+    go further (leaves parent after child) did scheduled =
+        let world_then = leave_step format digest shown taken stored spots event.verifier run.0 parent after child digests world did in
+        plain (leaves parent after child) refl (λ serial. serial)
+        (further (taken_after taken (leaves parent after child)) stored world_then.0 pending world_then.1 (wait_on spots world_then.0 pending world_then.2 waits) scheduled)
+    go further (comes child element) did scheduled =
+        let back = come_step format digest shown taken stored spots event.verifier run.0 child element world did (waits.each element (there element pending scheduled.0 scheduled.1)) in
+        plain (comes child element) refl (λ serial. serial)
+        (further taken stored back.0 scheduled.0 back.1 (wait_less spots back.0 pending scheduled.0 element scheduled.1 back.2 waits) scheduled.2)
+      where
+        there : (element : Element) (pending rest : List Element) → without_one element pending ≡ Some rest → 1 ≤ count_of element pending
+        there element pending rest out =
+            subst (λ (n : ℕ). 1 ≤ n) (sym (count_without element element pending rest out ∙ ap (λ (b : Bool). one_more b (count_of element rest)) (same_element-self element))) (omega arith)
+    go further (goes child element) did scheduled =
+        went further (goes child element) element refl refl (λ serial. serial) (free_at child element did.had_child did.path)
+        (go_step format digest shown taken stored spots event.verifier run.0 child element world did) scheduled
+    go further (defers parent after child element) did scheduled =
+        went further (defers parent after child element) element refl refl (λ serial. serial) (free_at child element did.had_child did.path)
+        (defer_step format digest shown taken stored spots event.verifier run.0 parent after child element world did) scheduled
+    go further (reads entry) did scheduled =
+        plain (reads entry) refl
+        (λ serial. (λ get. read_value format digest shown taken stored spots event.verifier run.0 entry world did, serial))
+        (further taken stored spots pending (same_step format digest shown taken stored spots event.verifier run.0 world did.shown) waits scheduled)
+    go further (writes before after) did scheduled =
+        let world_then = write_step format digest shown taken stored spots event.verifier run.0 before after world did in
+        written (further taken (update eqb stored (number_of after.path) (blob_of after.value)) world_then.0 pending world_then.1 (wait_on spots world_then.0 pending world_then.2 waits) scheduled)
+      where
+        written : Collides format digest taken events ⊎ IsSound format taken (update eqb stored (number_of after.path) (blob_of after.value)) events → Behind (writes before after)
+        written (inl collides) = inl collides
+        written (inr sound) = inr (sound.0, (λ get. absurd (true≢false get), sound.1))
+    go further (turns sealed) did scheduled =
+        plain (turns sealed) refl (λ serial. serial)
+        (further taken stored spots pending (same_step format digest shown taken stored spots event.verifier run.0 world did) waits scheduled)
