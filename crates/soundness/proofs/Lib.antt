@@ -15,3 +15,4 @@ pub mod SingleLemmas
 pub mod RunLemmas
 pub mod PermutationLemmas
 pub mod SerialLemmas
+pub mod ScheduleLemmas
