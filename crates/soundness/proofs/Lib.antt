@@ -16,3 +16,5 @@ pub mod RunLemmas
 pub mod PermutationLemmas
 pub mod SerialLemmas
 pub mod ScheduleLemmas
+pub mod OpeningLemmas
+pub mod CertifiedLemmas

@@ -6,4 +6,5 @@ pub mod Spot
 pub mod Deeds
 pub mod Timed
 pub mod Permutation
+pub mod Collision
 pub mod Scheduled
