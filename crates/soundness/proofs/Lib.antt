@@ -13,3 +13,4 @@ pub mod KnownLemmas
 pub mod LeaveLemmas
 pub mod SingleLemmas
 pub mod RunLemmas
+pub mod TimedLemmas
