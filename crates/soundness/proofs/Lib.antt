@@ -14,3 +14,4 @@ pub mod LeaveLemmas
 pub mod SingleLemmas
 pub mod RunLemmas
 pub mod TimedLemmas
+pub mod SplitLemmas
