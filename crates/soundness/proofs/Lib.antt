@@ -15,3 +15,4 @@ pub mod SingleLemmas
 pub mod RunLemmas
 pub mod TimedLemmas
 pub mod SplitLemmas
+pub mod OrderLemmas
