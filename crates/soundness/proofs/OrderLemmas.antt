@@ -1,5 +1,5 @@
 -- The merged order of all logs' events: each verifier's part is its history, so the events up to an epoch are a run.
-use Rattle.std.proofs.Common.{◌≡◌, ◌≢◌, ◌⊎◌, ℕ, suc, ◌<◌, ◌≤◌, nat_le, eqb, Bool, true, false, cond, if◌then◌else◌, List, [], ◌∷◌, ◌++◌, append-nil, refl, sym, ◌∙◌, ap, subst, inl, inr, filter, flat_map, arith}
+use Rattle.std.proofs.Common.{◌≡◌, ◌≢◌, ◌⊎◌, ℕ, suc, ◌<◌, nat_le, eqb, Bool, true, false, if◌then◌else◌, List, [], ◌∷◌, ◌++◌, append-nil, refl, sym, ◌∙◌, ap, subst, inl, inr, filter, arith}
 use Rattle.std.specs.List.{AllByRecursion}
 use Rattle.std.proofs.lemmas.Bool.{cond_both, cond-true, cond-false, eq-eqb, ne_eqb, cases_eq}
 use Rattle.std.proofs.lemmas.List.Elements.{filter-append}
@@ -71,7 +71,8 @@ opening_shown header = λ number. shown_by (opening number header)
 -- What is taken of the logs under a header: each log's events stand in the order of their moments, and are of the
 -- log's verifier.
 pub record AreHistories (digest : Digest) (lanes : List ℕ → List ℕ) (header : Header) : Type 0 where
-  pub sorted : (number : ℕ) (commands : List Command) → IsMerged event_moment (log_events digest lanes header number commands)
+  pub sorted : (number : ℕ) (commands : List Command)
+      → IsMerged event_moment (log_events digest lanes header number commands)
   pub whose : (number : ℕ) (commands : List Command)
       → AllByRecursion (λ event. event.verifier ≡ number) (log_events digest lanes header number commands)
 
@@ -79,18 +80,22 @@ pub record AreHistories (digest : Digest) (lanes : List ℕ → List ℕ) (heade
 abbrev pub history_of : Digest → (List ℕ → List ℕ) → Header → ℕ → List (List Command) → ℕ → List Event
 history_of digest lanes header number [] v = []
 history_of digest lanes header number (log ∷ logs) v =
-    if eqb number v then log_events digest lanes header number log else history_of digest lanes header (suc number) logs v
+    if eqb number v
+    then log_events digest lanes header number log
+    else history_of digest lanes header (suc number) logs v
 
--- the verifier of events of one verifier is that one
-part_own : (number v : ℕ) (events : List Event) → number ≡ v → AllByRecursion (λ event. event.verifier ≡ number) events
+-- where all events are of one verifier, all are its part
+part_own : (number v : ℕ) (events : List Event) → number ≡ v
+    → AllByRecursion (λ event. event.verifier ≡ number) events
     → of_verifier event_moment v events ≡ events
 part_own number v events same all =
     filter-all (λ event. eqb event.verifier v) events
     (every-weaker (λ event. event.verifier ≡ number) (λ event. eqb event.verifier v ≡ true)
     (λ event own. eq-eqb event.verifier v (own ∙ same)) events all)
 
--- and no other
-part_other : (number v : ℕ) (events : List Event) → number ≢ v → AllByRecursion (λ event. event.verifier ≡ number) events
+-- and none another's
+part_other : (number v : ℕ) (events : List Event) → number ≢ v
+    → AllByRecursion (λ event. event.verifier ≡ number) events
     → of_verifier event_moment v events ≡ []
 part_other number v events apart all =
     filter-none (λ event. eqb event.verifier v) events
@@ -136,7 +141,8 @@ module _ (digest : Digest) (lanes : List ℕ → List ℕ) (header : Header) whe
           ∙ sym (ap (λ (b : Bool). if b then events else behind) (eq-eqb number v same))
       go (inr apart) rest =
           filter-append (λ event. eqb event.verifier v) events others
-          ∙ ap (λ zs. zs ++ of_verifier event_moment v others) (part_other number v events apart (known.whose number log))
+          ∙ ap (λ zs. zs ++ of_verifier event_moment v others)
+            (part_other number v events apart (known.whose number log))
           ∙ rest
           ∙ sym (ap (λ (b : Bool). if b then events else behind) (ne_eqb number v apart))
 
@@ -183,8 +189,8 @@ module _ (digest : Digest) (lanes : List ℕ → List ℕ) (header : Header) whe
       go : (number ≡ v) ⊎ (number ≡ v → ⊥) → chain behind → chain (if eqb number v then events else behind)
       go (inl same) rest =
           subst (λ (b : Bool). chain (if b then events else behind)) (sym (eq-eqb number v same))
-          (subst (λ (n : ℕ). IsChain short_keys digest (shown_by (opening n header)) (up_to event_moment epoch events)) same
-          (log_run_up_to digest lanes header number epoch log ranges.0 (known.sorted number log)))
+          (subst (λ (n : ℕ). IsChain short_keys digest (shown_by (opening n header)) (up_to event_moment epoch events))
+          same (log_run_up_to digest lanes header number epoch log ranges.0 (known.sorted number log)))
       go (inr apart) rest =
           subst (λ (b : Bool). chain (if b then events else behind)) (sym (ne_eqb number v apart)) rest
 
@@ -200,6 +206,7 @@ module _ (digest : Digest) (lanes : List ℕ → List ℕ) (header : Header) whe
 
   -- ---- the elements
 
+  -- those of all events, one history after another, are timed
   all_timed : (number : ℕ) (logs : List (List Command))
       → AreTimed header.first (all_events (histories_from digest lanes header number logs))
   all_timed number [] = tt
@@ -209,7 +216,8 @@ module _ (digest : Digest) (lanes : List ℕ → List ℕ) (header : Header) whe
       (log_timed digest lanes header number log) (all_timed (suc number) logs)
 
   -- The elements of all events in the merged order are timed.
-  pub order_timed : (logs : List (List Command)) → AreTimed header.first (order_of (histories_of digest lanes header logs))
+  pub order_timed : (logs : List (List Command))
+      → AreTimed header.first (order_of (histories_of digest lanes header logs))
   order_timed logs =
       every-in_order (comes_before event_moment) (λ event. IsTimed header.first event.at event.change)
       (all_events (histories_of digest lanes header logs)) (all_timed 0 logs)

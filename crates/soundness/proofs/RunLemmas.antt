@@ -33,7 +33,8 @@ own_part event events = cond-true (eqb event.verifier event.verifier) _ _ (eq-eq
 -- another verifier's part is without the first event
 other_part : (event : Event) (events : List Event) (v : ℕ) → v ≢ event.verifier
     → of_verifier event_moment v (event ∷ events) ≡ of_verifier event_moment v events
-other_part event events v apart = cond-false (eqb event.verifier v) _ _ (ne_eqb event.verifier v (λ same. apart (sym same)))
+other_part event events v apart =
+    cond-false (eqb event.verifier v) _ _ (ne_eqb event.verifier v (λ same. apart (sym same)))
 
 -- Where each verifier's part of the events is a chain of its own, the events are a run.
 pub run_of_parts : (format : Format) (digest : Digest) (shown : AllShown) (events : List Event)
@@ -46,7 +47,8 @@ run_of_parts format digest shown (event ∷ events) parts =
     own : IsChain format digest (shown event.verifier) (event ∷ of_verifier event_moment event.verifier events)
     own = subst (IsChain format digest (shown event.verifier)) (own_part event events) (parts event.verifier)
 
-    further : (v : ℕ) → IsChain format digest (with_shown shown event.verifier own.0 v) (of_verifier event_moment v events)
+    further : (v : ℕ)
+        → IsChain format digest (with_shown shown event.verifier own.0 v) (of_verifier event_moment v events)
     further v = go (cases_eq v event.verifier)
       where
         go : (v ≡ event.verifier) ⊎ (v ≡ event.verifier → ⊥)

@@ -1,5 +1,5 @@
 -- What stands in the order of its moments begins with what is in the epochs up to any one.
-use Rattle.std.proofs.Common.{◌≡◌, ◌⊎◌, ℕ, ◌<◌, ◌≤◌, nat_le, Bool, true, false, cond, List, [], ◌∷◌, ◌++◌, refl, sym, ◌∙◌, ap, subst, inl, inr, filter, arith}
+use Rattle.std.proofs.Common.{◌≡◌, ◌⊎◌, ℕ, ◌<◌, ◌≤◌, nat_le, Bool, true, false, List, [], ◌∷◌, ◌++◌, refl, sym, ◌∙◌, ap, subst, inl, inr, arith}
 use Rattle.std.specs.List.{AllByRecursion}
 use Rattle.std.proofs.lemmas.Bool.{true≢false, cases_lt, cond-true, cond-false}
 use Rattle.std.proofs.lemmas.Bool.Decides.{nat_tests}
@@ -14,7 +14,7 @@ use Rattle.stamp_order.specs.Merged.{comes_before, IsMerged, up_to}
 use Rattle.stamp_order.proofs.InOrderLemmas.{every-weaker}
 use Rattle.stamp_order.proofs.MomentLemmas.{is_before-epoch}
 use Rattle.verifier_commands.specs.State.{opening}
-use Rattle.soundness.specs.History.{Event, log_events, rules_under}
+use Rattle.soundness.specs.History.{log_events, rules_under}
 use Rattle.soundness.specs.Certified.{event_moment}
 use Rattle.soundness.specs.Deeds.{shown_by}
 use Rattle.soundness.proofs.LawfulLemmas.{IsChain, log_run, opening-distinct}
@@ -74,6 +74,7 @@ log_run_up_to digest lanes header number epoch commands ranges sorted =
     let events = log_events digest lanes header number commands in
     let split = split_up_to event_moment epoch events sorted in
     let whole : IsChain short_keys digest (shown_by (opening number header)) events =
-      log_run (rules_under digest lanes header number) number 0 (opening number header) commands ranges (opening-distinct number header) in
+      log_run (rules_under digest lanes header number) number 0 (opening number header) commands ranges
+      (opening-distinct number header) in
     chain_front short_keys digest (shown_by (opening number header)) (up_to event_moment epoch events) split.0
     (subst (IsChain short_keys digest (shown_by (opening number header))) split.1 whole)

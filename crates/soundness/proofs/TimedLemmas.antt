@@ -1,5 +1,5 @@
 -- What the clock tells of the elements that come and go holds of each event of a log.
-use Rattle.std.proofs.Common.{◌≡◌, ℕ, suc, ◌≤◌, ◌||◌, not, nat_le, List, [], ◌∷◌, Bool, Option, is_some, Ok, Err, refl, sym, ◌∙◌, ap, inl, inr, arith}
+use Rattle.std.proofs.Common.{◌≡◌, ℕ, suc, ◌≤◌, not, nat_le, List, [], ◌∷◌, Bool, Option, is_some, Ok, Err, refl, sym, ◌∙◌, ap, inl, inr, arith}
 use Rattle.std.specs.List.{AllByRecursion}
 use Rattle.std.specs.Ordering.{is_lt}
 use Rattle.std.proofs.lemmas.Result.{IfOk-at_ok}
@@ -24,7 +24,7 @@ use Rattle.verifier_commands.specs.Changes.{add_under, evict_under, defer_under,
 use Rattle.verifier_commands.specs.Same.{same_value}
 use Rattle.verifier_commands.specs.Transition.{Rules, Step, is_root, is_data, is_full, transition, add_m, evict_m, add_b, evict_b, evict_bm, get, put, next_epoch}
 use Rattle.soundness.specs.History.{Event, events_behind, events_from, log_events, rules_under, machinery_under}
-use Rattle.soundness.specs.Timed.{IsEarlier, IsOfBefore, IsTimed}
+use Rattle.soundness.specs.Timed.{IsOfBefore, IsTimed}
 use Rattle.soundness.proofs.InvertLemmas.{need-ok, and_then-ok, timed-ok}
 
 -- ---- the clock
@@ -39,7 +39,10 @@ from_received : (first : ℕ) (clock after : Reading) (t : Stamp) → IsFrom fir
     → IsFrom first after
 from_received first clock after t from is =
     let bounds = received-bounds clock after t is in
-    record { begins = bounds.first ∙ from.begins; reached = omega (arith, from.reached, received-epoch clock after t is) }
+    record {
+      begins = bounds.first ∙ from.begins;
+      reached = omega (arith, from.reached, received-epoch clock after t is);
+    }
 
 -- and so does one that hands away a stamp
 from_sent : (first : ℕ) (clock after : Reading) (t : Stamp) → IsFrom first clock → sent clock t ≡ Ok after
@@ -47,7 +50,10 @@ from_sent : (first : ℕ) (clock after : Reading) (t : Stamp) → IsFrom first c
 from_sent first clock after t from is =
     let bounds = sent-bounds clock after t is in
     let epoch : after.at.epoch ≡ t.epoch = ap (λ (s : Stamp). s.epoch) (sent-at clock after t is) in
-    record { begins = bounds.first ∙ from.begins; reached = omega (arith, from.reached, epoch, sent-epoch clock after t is) }
+    record {
+      begins = bounds.first ∙ from.begins;
+      reached = omega (arith, from.reached, epoch, sent-epoch clock after t is);
+    }
 
 -- and one that turns
 from_turned : (first : ℕ) (clock after : Reading) (sealed : Option ℕ) → IsFrom first clock
@@ -112,7 +118,10 @@ timed_add_b first verifiers state path value stamp verifier done from is =
     let clock = timed-ok (received state.clock stamp) _ done known.1 in
     let element : Element = record { path = path; value = value; stamp = stamp; verifier = verifier } in
     IfOk-at_ok (IsTimedStep first) clock.2
-    (before_received first state.clock clock.0 element from clock.1, from_received first state.clock clock.0 stamp from clock.1)
+    (
+      before_received first state.clock clock.0 element from clock.1,
+      from_received first state.clock clock.0 stamp from clock.1,
+    )
 
 timed_evict_b : (first number : ℕ) (state : State) (path : List Bool) (stamp : Stamp) (done : Change × State)
     → IsFrom first state.clock → evict_b number state path stamp ≡ Ok done → IsTimedStep first done
