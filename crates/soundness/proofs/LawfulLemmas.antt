@@ -13,7 +13,7 @@ use Rattle.record_text.specs.Texts.{value_text}
 use Rattle.record_text.specs.Value.{IsOf, node_side, initial_value}
 use Rattle.log_codec.specs.declared.command.Command.{Command}
 use Rattle.log_codec.specs.declared.command.Command.TheVariants.{AddM, EvictM, AddB, EvictB, EvictBM, Get, Put, NextEpoch}
-use Rattle.log_codec.specs.Command.{IsCommand}
+use Rattle.soundness.specs.Typed.{IsTyped}
 use Rattle.merkle_records.specs.declared.cases.AddCase.{AddCase}
 use Rattle.merkle_records.specs.declared.cases.AddCase.TheVariants as cases
 use Rattle.merkle_records.specs.Merkle.{Digest, case_of}
@@ -278,14 +278,14 @@ lawful_next_epoch rules state done distinct is =
 -- ---- any command
 
 lawful_step : (rules : Rules) (state : State) (command : Command) (done : Change × State)
-    → IsCommand rules.format command → AreDistinct state.cache.entries
+    → IsTyped rules.format command → AreDistinct state.cache.entries
     → transition rules state command ≡ Ok done → IsLawful rules state done
 lawful_step rules state (AddM path value parent) done ranges distinct is =
-    lawful_add_m rules state path value parent done ranges.0 distinct is
+    lawful_add_m rules state path value parent done ranges distinct is
 lawful_step rules state (EvictM path parent) done ranges distinct is =
     lawful_evict_m rules state path parent done distinct is
 lawful_step rules state (AddB path value stamp verifier) done ranges distinct is =
-    lawful_add_b rules state path value stamp verifier done ranges.0 distinct is
+    lawful_add_b rules state path value stamp verifier done ranges distinct is
 lawful_step rules state (EvictB path stamp) done ranges distinct is =
     lawful_evict_b rules state path stamp done distinct is
 lawful_step rules state (EvictBM path parent stamp) done ranges distinct is =
@@ -299,7 +299,7 @@ lawful_step rules state NextEpoch done ranges distinct is =
 
 -- An accepted command did what its change tells, and left the entries distinct.
 pub lawful : (rules : Rules) (state : State) (command : Command) (change : Change) (after : State)
-    → IsCommand rules.format command → AreDistinct state.cache.entries
+    → IsTyped rules.format command → AreDistinct state.cache.entries
     → transition rules state command ≡ Ok (change, after)
     → Did rules.format rules.digest (shown_by state) (shown_by after) change × AreDistinct after.cache.entries
 lawful rules state command change after ranges distinct is =
@@ -316,7 +316,7 @@ IsChain format digest shown (event ∷ events) =
 -- what a step did, and a chain behind it
 chain_behind : (rules : Rules) (number index : ℕ) (state : State) (command : Command)
     (more : State → List Event) (step : Step)
-    → IsCommand rules.format command → AreDistinct state.cache.entries → transition rules state command ≡ step
+    → IsTyped rules.format command → AreDistinct state.cache.entries → transition rules state command ≡ step
     → ((after : State) → AreDistinct after.cache.entries → IsChain rules.format rules.digest (shown_by after) (more after))
     → IsChain rules.format rules.digest (shown_by state) (events_behind (machinery_under rules) number index step more)
 chain_behind rules number index state command more (Ok done) range distinct is further =
@@ -326,7 +326,7 @@ chain_behind rules number index state command more (Err refusal) range distinct 
 
 -- The events of a log are a chain from the state at which it begins.
 pub log_run : (rules : Rules) (number index : ℕ) (state : State) (commands : List Command)
-    → AllByRecursion (IsCommand rules.format) commands → AreDistinct state.cache.entries
+    → AllByRecursion (IsTyped rules.format) commands → AreDistinct state.cache.entries
     → IsChain rules.format rules.digest (shown_by state) (events_from (machinery_under rules) number index state commands)
 unfolding events_from
 log_run rules number index state [] ranges distinct = tt

@@ -1,4 +1,5 @@
--- How soundness is proved, in reading order.
+-- How soundness is proved, in reading order: paths, what a step does, the tree, the world and each command, what
+-- waits, the schedule, the merged order, and the whole.
 pub mod SideLemmas
 pub mod InvertLemmas
 pub mod ShownLemmas
@@ -16,5 +17,10 @@ pub mod RunLemmas
 pub mod PermutationLemmas
 pub mod SerialLemmas
 pub mod ScheduleLemmas
+pub mod HistoryLemmas
+pub mod TimedLemmas
+pub mod SplitLemmas
+pub mod OrderLemmas
 pub mod OpeningLemmas
 pub mod CertifiedLemmas
+pub mod SoundLemmas

@@ -17,12 +17,10 @@ use Rattle.soundness.specs.Exhibit.{none_taken}
 use Rattle.soundness.specs.Deeds.{Shown, shown_by, showing}
 use Rattle.soundness.specs.Spot.{Spot, untouched, cached, merkle, waiting, Spots, is_touched, pointer_at, home_of, Leads, Covers, IsKind, IsTree}
 use Rattle.soundness.proofs.LawfulLemmas.{opening_shown-root, opening_shown-other}
+use Rattle.soundness.proofs.OrderLemmas.{opening_shown}
 use Rattle.soundness.proofs.WorldLemmas.{cached_in, cached_here, cached_elsewhere, blob_at, AllShown, IsWorld}
 
--- what each verifier's cache shows at the opening
-abbrev pub opening_shown : Header → AllShown
-opening_shown header = λ number. shown_by (opening number header)
-
+-- the root stands in the cache of verifier 0, and nothing else is touched
 abbrev pub opening_spots : Spots
 opening_spots [] = cached 0 root_entry
 opening_spots (bit ∷ path) = untouched

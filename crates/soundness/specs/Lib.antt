@@ -3,6 +3,7 @@ pub mod History
 pub mod Certified
 pub mod Exhibit
 pub mod Spot
+pub mod Typed
 pub mod Deeds
 pub mod Timed
 pub mod Permutation

@@ -1,0 +1,121 @@
+-- Soundness whole: of epochs that are balanced, either there is nothing to exhibit and the operations are serial, or
+-- the exhibit collides.
+use Rattle.std.proofs.Common.{◌≡◌, ◌≢◌, ◌⊎◌, ℕ, zero, suc, ◌+◌, ◌<◌, ◌≤◌, Bool, true, false, List, [], ◌∷◌, ◌++◌, map, filter, Option, Some, None, refl, sym, ◌∙◌, ap, subst, inl, inr, if◌then◌else◌, arith, append-nil, nat_le}
+use Rattle.std.specs.List.{AllByRecursion}
+use Rattle.std.proofs.lemmas.Bool.{leb-true}
+use Rattle.lamport_clocks.specs.declared.header.Header.{Header}
+use Rattle.record_text.specs.declared.element.Element.{Element}
+use Rattle.record_text.specs.Format.{short_keys}
+use Rattle.record_text.specs.Texts.{value_text}
+use Rattle.record_text.proofs.FieldLemmas.{wide64}
+use Rattle.record_text.proofs.OneTextLemmas.{one_value}
+use Rattle.log_codec.specs.declared.command.Command.{Command}
+use Rattle.merkle_records.specs.Merkle.{Digest, GivesDigests}
+use Rattle.stamp_order.specs.Serial.{none_everywhere, IsSerial}
+use Rattle.stamp_order.specs.Merged.{IsMerged, up_to}
+use Rattle.stamp_order.proofs.InOrderLemmas.{every-weaker}
+use Rattle.soundness.specs.History.{Event, log_events, histories_of}
+use Rattle.soundness.specs.Certified.{event_moment, operations_in, order_of, order_up_to, order_within, added_in, evicted_in, sum_over, is_balanced}
+use Rattle.soundness.specs.Exhibit.{Strings, none_taken, first_clash, IsCollision}
+use Rattle.soundness.specs.Permutation.{is_permutation, count_of}
+use Rattle.soundness.specs.Collision.{Exhibit, nothing, strings, multisets, first_uneven, exhibit_by, exhibit_of, Collides}
+use Rattle.soundness.specs.Timed.{IsTimed}
+use Rattle.soundness.specs.Typed.{IsTyped}
+use Rattle.soundness.proofs.KnownLemmas.{HasOneText}
+use Rattle.soundness.proofs.PermutationLemmas.{count_permuted}
+use Rattle.soundness.proofs.RunLemmas.{IsRun}
+use Rattle.soundness.proofs.SerialLemmas.{IsWaiting, run_keeps}
+use Rattle.soundness.proofs.SerialLemmas.{Collides as CollidesAt, IsSound}
+use Rattle.soundness.proofs.ScheduleLemmas.{AreEven, scheduled}
+use Rattle.soundness.proofs.HistoryLemmas.{IsOfLog, log-merged, log-epochs}
+use Rattle.soundness.proofs.OrderLemmas.{AreHistories, opening_shown, order_run, order_timed, order_sorted, order_splits}
+use Rattle.soundness.proofs.OpeningLemmas.{opening_spots, opening_world}
+use Rattle.soundness.proofs.CertifiedLemmas.{AreBalanced, same_sum-true, even_where_none, uneven_where_some}
+
+-- no two values of a path have one text
+one_text : HasOneText short_keys
+one_text path a b is_a is_b same =
+    (one_value short_keys wide64 path path a b [] [] refl is_a is_b (ap (λ (text : List ℕ). text ++ []) same)).0
+
+-- the events of logs are in order, and each log's are its verifier's
+are_histories : (digest : Digest) (lanes : List ℕ → List ℕ) (header : Header) → AreHistories digest lanes header
+are_histories digest lanes header = record {
+  sorted = log-merged digest lanes header;
+  whose = λ number commands. every-weaker (IsOfLog number header) (λ event. event.verifier ≡ number)
+      (λ event is. is.0) (log_events digest lanes header number commands) (log-epochs digest lanes header number commands);
+}
+
+-- events up to an epoch are of no later one
+all_within : (epoch : ℕ) (events : List Event) → AllByRecursion (λ event. event.at.epoch ≤ epoch) (up_to event_moment epoch events)
+all_within epoch [] = tt
+all_within epoch (event ∷ events) = go (nat_le event.at.epoch epoch) refl (all_within epoch events)
+  where
+    go : (b : Bool) → nat_le event.at.epoch epoch ≡ b → AllByRecursion (λ event. event.at.epoch ≤ epoch) (up_to event_moment epoch events)
+        → AllByRecursion (λ event. event.at.epoch ≤ epoch) (if b then event ∷ up_to event_moment epoch events else up_to event_moment epoch events)
+    go true is further = (leb-true event.at.epoch epoch is, further)
+    go false is further = further
+
+-- nothing waits at the opening
+none_waiting : IsWaiting opening_spots []
+none_waiting = record { each = λ x there. absurd (omega (arith, there)); once = λ x. omega arith }
+
+-- the exhibit is nothing and the operations are serial, or the exhibit collides
+abbrev pub IsSerialOrCollides : Digest → (List ℕ → List ℕ) → Exhibit → List Event → Type 0
+IsSerialOrCollides digest lanes exhibit events = ((exhibit ≡ nothing) × IsSerial (operations_in events)) ⊎ Collides digest lanes exhibit
+
+pub sound : (digest : Digest) (lanes : List ℕ → List ℕ) (header : Header) (logs : List (List Command)) (count : ℕ)
+    → GivesDigests digest → AllByRecursion (AllByRecursion (IsTyped short_keys)) logs
+    → AreBalanced lanes (order_of (histories_of digest lanes header logs)) header.first count
+    → IsSerialOrCollides digest lanes (exhibit_of header.first count (histories_of digest lanes header logs)) (order_within header.first count (histories_of digest lanes header logs))
+sound digest lanes header logs count digests typed balanced = by (first_uneven order header.first count) refl
+  where
+    histories : List (List Event)
+    histories = histories_of digest lanes header logs
+
+    order : List Event
+    order = order_of histories
+
+    within : List Event
+    within = order_within header.first count histories
+
+    clash : Option Strings
+    clash = first_clash short_keys none_taken (map (λ (event : Event). event.change) within)
+
+    -- up to the last of the epochs
+    runs : (n : ℕ) → AreEven header.first (header.first + n) order
+        → CollidesAt short_keys digest none_taken (order_up_to (header.first + n) histories) ⊎ IsSound short_keys none_taken none_everywhere (order_up_to (header.first + n) histories)
+    runs n even =
+        let split = order_splits (header.first + n) histories in
+        run_keeps short_keys digest one_text digests (order_up_to (header.first + n) histories) (opening_shown header) none_taken none_everywhere opening_spots []
+        (opening_world digest header) none_waiting
+        (order_run digest lanes header (are_histories digest lanes header) logs (header.first + n) typed)
+        (scheduled header.first (header.first + n) (order_up_to (header.first + n) histories) split.0
+        (all_within (header.first + n) order)
+        (subst (λ (l : List Event). IsMerged event_moment l) split.1 (order_sorted histories))
+        (subst (λ (l : List Event). AllByRecursion (λ event. IsTimed header.first event.at event.change) l) split.1 (order_timed digest lanes header logs))
+        (subst (λ (l : List Event). AreEven header.first (header.first + n) l) split.1 even))
+
+    all_even : (n : ℕ) → first_uneven order header.first (suc n) ≡ None → AreEven header.first (header.first + n) order
+    all_even n none epoch from up x =
+        count_permuted (added_in epoch order) (evicted_in epoch order) (even_where_none order header.first (suc n) none epoch from (omega (arith, up))) x
+
+    at_count : (k : ℕ) → first_uneven order header.first k ≡ None
+        → CollidesAt short_keys digest none_taken (order_within header.first k histories) ⊎ IsSound short_keys none_taken none_everywhere (order_within header.first k histories)
+    at_count zero none = inr (refl, tt)
+    at_count (suc n) none = runs n (all_even n none)
+
+    ended : first_uneven order header.first count ≡ None
+        → CollidesAt short_keys digest none_taken within ⊎ IsSound short_keys none_taken none_everywhere within
+        → IsSerialOrCollides digest lanes (exhibit_of header.first count histories) within
+    ended none (inl collides) =
+        inr (subst (Collides digest lanes)
+        (sym (ap (λ (o : Option ℕ). exhibit_by order o clash) none ∙ ap (exhibit_by order None) collides.1)) collides.2)
+    ended none (inr serial) =
+        inl (ap (λ (o : Option ℕ). exhibit_by order o clash) none ∙ ap (exhibit_by order None) serial.0, serial.1)
+
+    by : (o : Option ℕ) → first_uneven order header.first count ≡ o → IsSerialOrCollides digest lanes (exhibit_of header.first count histories) within
+    by None none = ended none (at_count count none)
+    by (Some epoch) is =
+        let uneven = uneven_where_some order header.first count epoch is in
+        inr (subst (Collides digest lanes) (sym (ap (λ (o : Option ℕ). exhibit_by order o clash) is))
+        (uneven.2, same_sum-true (sum_over lanes (added_in epoch order)) (sum_over lanes (evicted_in epoch order)) (balanced epoch uneven.0 uneven.1)))

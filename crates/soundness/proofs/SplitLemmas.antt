@@ -1,0 +1,80 @@
+-- What stands in the order of its moments begins with what is in the epochs up to any one.
+use Rattle.std.proofs.Common.{◌≡◌, ◌⊎◌, ℕ, ◌<◌, ◌≤◌, nat_le, Bool, true, false, List, [], ◌∷◌, ◌++◌, refl, sym, ◌∙◌, ap, subst, inl, inr, arith}
+use Rattle.std.specs.List.{AllByRecursion}
+use Rattle.std.proofs.lemmas.Bool.{true≢false, cases_lt, cond-true, cond-false}
+use Rattle.std.proofs.lemmas.Bool.Decides.{nat_tests}
+use Rattle.lamport_clocks.specs.declared.header.Header.{Header}
+use Rattle.record_text.specs.Format.{short_keys}
+use Rattle.log_codec.specs.declared.command.Command.{Command}
+use Rattle.soundness.specs.Typed.{IsTyped}
+use Rattle.merkle_records.specs.Merkle.{Digest}
+use Rattle.stamp_order.specs.declared.moment.Moment.{Moment}
+use Rattle.stamp_order.specs.Moment.{is_before}
+use Rattle.stamp_order.specs.Merged.{comes_before, IsMerged, up_to}
+use Rattle.stamp_order.proofs.InOrderLemmas.{every-weaker}
+use Rattle.stamp_order.proofs.MomentLemmas.{is_before-epoch}
+use Rattle.verifier_commands.specs.State.{opening}
+use Rattle.soundness.specs.History.{log_events, rules_under}
+use Rattle.soundness.specs.Certified.{event_moment}
+use Rattle.soundness.specs.Deeds.{shown_by}
+use Rattle.soundness.proofs.LawfulLemmas.{IsChain, log_run, opening-distinct}
+use Rattle.soundness.proofs.RunLemmas.{chain_front}
+
+-- what doesn't come before a moment is not in an earlier epoch
+pub epoch_not_before : (m n : Moment) → is_before m n ≡ false → n.at.epoch ≤ m.at.epoch
+epoch_not_before m n after = go (cases_lt m.at.epoch n.at.epoch)
+  where
+    go : (m.at.epoch < n.at.epoch) ⊎ (n.at.epoch ≤ m.at.epoch) → n.at.epoch ≤ m.at.epoch
+    go (inl earlier) = absurd (true≢false (sym (is_before-epoch m n earlier) ∙ after))
+    go (inr not_earlier) = not_earlier
+
+module _ {X : Type 0} (at : X → Moment) where
+  -- all are in later epochs than this one
+  abbrev pub AreLater : ℕ → List X → Type 0
+  AreLater epoch xs = AllByRecursion (λ x. epoch < (at x).at.epoch) xs
+
+  -- none of them is in an epoch up to it
+  pub up_to-later : (epoch : ℕ) (xs : List X) → AreLater epoch xs → up_to at epoch xs ≡ []
+  up_to-later epoch [] later = refl
+  up_to-later epoch (x ∷ xs) later =
+      let head : epoch < (at x).at.epoch = later.0 in
+      let past : nat_le (at x).at.epoch epoch ≡ false = grind (arith, nat_tests) in
+      cond-false (nat_le (at x).at.epoch epoch) _ _ past ∙ up_to-later epoch xs later.1
+
+  -- the members in the epochs up to this one, then a rest in later epochs
+  abbrev pub SplitsAt : ℕ → List X → Type 0
+  SplitsAt epoch xs = (rest : List X) × (xs ≡ up_to at epoch xs ++ rest) × AreLater epoch rest
+
+  -- What stands in order splits at each epoch.
+  pub split_up_to : (epoch : ℕ) (xs : List X) → IsMerged at xs → SplitsAt epoch xs
+  split_up_to epoch [] sorted = ([], refl, tt)
+  split_up_to epoch (x ∷ xs) sorted = go (nat_le (at x).at.epoch epoch) refl (split_up_to epoch xs sorted.1)
+    where
+      go : (b : Bool) → nat_le (at x).at.epoch epoch ≡ b → SplitsAt epoch xs → SplitsAt epoch (x ∷ xs)
+      go true within behind =
+          let front = cond-true (nat_le (at x).at.epoch epoch) (x ∷ up_to at epoch xs) (up_to at epoch xs) within in
+          (behind.0, ap (λ zs. x ∷ zs) behind.1 ∙ ap (λ zs. zs ++ behind.0) (sym front), behind.2)
+      go false past behind =
+          let head : epoch < (at x).at.epoch = grind (arith, nat_tests) in
+          let all : AreLater epoch (x ∷ xs) = (
+            head,
+            every-weaker (λ y. comes_before at y x ≡ false) (λ y. epoch < (at y).at.epoch)
+            (λ y after. omega (arith, head, epoch_not_before (at y) (at x) after)) xs sorted.0,
+          ) in
+          (x ∷ xs, ap (λ zs. zs ++ x ∷ xs) (sym (up_to-later epoch (x ∷ xs) all)), all)
+
+-- The events of a log in the epochs up to one are a chain, where the log's events stand in order.
+pub log_run_up_to : (digest : Digest) (lanes : List ℕ → List ℕ) (header : Header) (number epoch : ℕ)
+    (commands : List Command)
+    → AllByRecursion (IsTyped short_keys) commands
+    → IsMerged event_moment (log_events digest lanes header number commands)
+    → IsChain short_keys digest (shown_by (opening number header))
+      (up_to event_moment epoch (log_events digest lanes header number commands))
+log_run_up_to digest lanes header number epoch commands ranges sorted =
+    let events = log_events digest lanes header number commands in
+    let split = split_up_to event_moment epoch events sorted in
+    let whole : IsChain short_keys digest (shown_by (opening number header)) events =
+      log_run (rules_under digest lanes header number) number 0 (opening number header) commands ranges
+      (opening-distinct number header) in
+    chain_front short_keys digest (shown_by (opening number header)) (up_to event_moment epoch events) split.0
+    (subst (IsChain short_keys digest (shown_by (opening number header))) split.1 whole)
