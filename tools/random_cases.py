@@ -5,6 +5,8 @@ usage: random_cases.py FOLDER COUNT SEED
 
 A host is played that walks over few keys: most of its commands are right, some are anything, and some
 bundles are cut or have a byte changed. The first bundle is longer than what a program reads at a time.
+A few cases more have words that are refused, one of them no text. It says how many cases it wrote, and
+fails where that is none.
 """
 import os
 import random
@@ -14,6 +16,24 @@ import slow_fastver as slow
 
 KEYS = [format(key, "064b") for key in (0, 1, 5, 2**63, 2**63 + 1, 2**64 - 1)]
 NODES = ["", "0", "1", "0" * 61, "0" * 63, "1" + "0" * 62, "10", "11"]
+KEY = "00" * 16
+REFUSED_WORDS = [
+    [],
+    ["help"],
+    ["--version"],
+    ["check"],
+    ["check", "--key"],
+    ["check", "--key", KEY[:30]],
+    ["check", "--key", KEY + "0"],
+    ["check", "--key", KEY[:-1] + "g"],
+    ["check", "--key", KEY + "\u00e9\u00e9"],
+    ["check", "--key", os.fsdecode(b"\xff" * 32)],
+    ["check", "--key", KEY * 5],
+    ["check", "--key", KEY, "more"],
+    ["check", "--keys", KEY],
+    ["Check", "--key", KEY],
+    ["audit", "--key", KEY],
+]
 TAGS = {"addM": 1, "evictM": 2, "addB": 3, "evictB": 4, "evictBM": 5, "get": 6, "put": 7, "nextEpoch": 8}
 
 
@@ -128,32 +148,46 @@ def marred(chance, bundle):
     return bundle
 
 
+def random_case(chance, number):
+    """The words and the bundle of a case. That of the first is long and whole."""
+    key = chance.randbytes(chance.choice([16, 32, 64]))
+    header = (1, chance.choice([4, 5, 8]), chance.choice([0, 3, 2**32 - 4]), chance.choice([40, 500, 16777215]))
+    if number == 0:
+        header = (1, 8, 0, 16777215)
+    host = Host(chance, key, header)
+    if number == 0:
+        host.read_often(KEYS[0], 10000)
+    host.play(chance.choice([10, 60, 200]))
+    bundle = framed(chance, header, host.log)
+    return ["check", "--key", key.hex()], bundle if number == 0 else marred(chance, bundle)
+
+
+def write_case(folder, name, words, bundle):
+    """Writes a case with what the slow program makes of it."""
+    report, status, said = slow.fastver(words, bundle)
+    texts = {
+        name: bundle,
+        name + ".args": b"".join(os.fsencode(word) + b"\n" for word in words),
+        name + ".stdout": report.encode(),
+        os.path.join("status", name): f"{status}\n".encode(),
+        os.path.join("stderr", name): said.encode(),
+    }
+    for path, text in texts.items():
+        with open(os.path.join(folder, path), "wb") as file:
+            file.write(text)
+
+
 def main():
     folder, count, chance = sys.argv[1], int(sys.argv[2]), random.Random(int(sys.argv[3]))
-    os.makedirs(os.path.join(folder, "status"), exist_ok=True)
-    os.makedirs(os.path.join(folder, "stderr"), exist_ok=True)
+    for kind in ("status", "stderr"):
+        os.makedirs(os.path.join(folder, kind), exist_ok=True)
     for number in range(count):
-        key = chance.randbytes(chance.choice([16, 32, 64]))
-        header = (1, chance.choice([4, 5, 8]), chance.choice([0, 3, 2**32 - 4]), chance.choice([40, 500, 16777215]))
-        if number == 0:
-            header = (1, 8, 0, 16777215)
-        host = Host(chance, key, header)
-        if number == 0:
-            host.read_often(KEYS[0], 10000)
-        host.play(chance.choice([10, 60, 200]))
-        bundle = framed(chance, header, host.log)
-        if number > 0:
-            bundle = marred(chance, bundle)
-        words = ["check", "--key", key.hex()]
-        report, status, said = slow.fastver(words, bundle)
-        base = os.path.join(folder, f"random-{number:04}")
-        for name, text in (("", bundle), (".args", "\n".join(words) + "\n"), (".stdout", report)):
-            with open(base + name, "wb") as file:
-                file.write(text if isinstance(text, bytes) else text.encode())
-        for kind, text in (("status", f"{status}\n"), ("stderr", said)):
-            with open(os.path.join(folder, kind, f"random-{number:04}"), "w") as file:
-                file.write(text)
+        write_case(folder, f"random-{number:04}", *random_case(chance, number))
+    for number, words in enumerate(REFUSED_WORDS):
+        write_case(folder, f"refused-{number:02}", words, b"FVB1")
+    print(f"{folder}: {count} random cases, {len(REFUSED_WORDS)} with refused words")
+    return 0 if count > 0 else 1
 
 
 if __name__ == "__main__":
-    main()
+    sys.exit(main())

@@ -2,6 +2,8 @@
 """Runs a built program on each case of folders, and compares its output, status and standard error.
 
 usage: run_cases.py PROGRAM FOLDER..
+
+It says how many cases it ran, and fails where one comes out otherwise or a folder has none.
 """
 import os
 import subprocess
@@ -14,7 +16,7 @@ def read(*parts):
 
 
 def differs(program, folder, name):
-    words = read(folder, name + ".args").decode().split("\n")[:-1]
+    words = read(folder, name + ".args").split(b"\n")[:-1]
     with open(os.path.join(folder, name), "rb") as bundle:
         run = subprocess.run([program] + words, stdin=bundle, capture_output=True, timeout=120)
     wanted = read(folder, name + ".stdout"), int(read(folder, "status", name)), read(folder, "stderr", name)
@@ -22,13 +24,15 @@ def differs(program, folder, name):
 
 
 def main():
-    program, differ = os.path.abspath(sys.argv[1]), 0
+    program, fails = os.path.abspath(sys.argv[1]), 0
     for folder in sys.argv[2:]:
-        for name in sorted(file[:-5] for file in os.listdir(folder) if file.endswith(".args")):
-            if differs(program, folder, name):
-                differ += 1
-                print(f"{folder}/{name} comes out otherwise")
-    return 1 if differ else 0
+        names = sorted(file[:-5] for file in os.listdir(folder) if file.endswith(".args"))
+        others = [name for name in names if differs(program, folder, name)]
+        for name in others:
+            print(f"{folder}/{name} comes out otherwise")
+        print(f"{folder}: {len(names)} cases, {len(others)} come out otherwise")
+        fails += len(others) if names else 1
+    return 1 if fails or not sys.argv[2:] else 0
 
 
 if __name__ == "__main__":

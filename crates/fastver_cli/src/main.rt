@@ -26,7 +26,7 @@ fn main(rt: HostRuntime) -> ExitCode {
             ),
             Err(_) => Status::Memory,
         },
-        Err(_) => Status::Memory,
+        Err(error) => without_words(&error),
     };
     if status.number() != 0 {
         say(&rt, &status);
@@ -37,6 +37,14 @@ fn main(rt: HostRuntime) -> ExitCode {
 // The words that the program was called with, its name first.
 fn words(rt: &HostRuntime) -> io::Result<Vec<String>> {
     Ok(env::args(rt)?.collect(rt.alloc())?)
+}
+
+// How the program ends where it can't have its words: those that are no text are no check's.
+fn without_words(error: &io::Error) -> Status {
+    match error.kind() {
+        io::ErrorKind::InvalidData => Status::Usage,
+        _ => Status::Memory,
+    }
 }
 
 // The texts of the words.

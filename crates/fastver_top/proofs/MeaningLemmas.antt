@@ -2,7 +2,6 @@
 use Rattle.std.proofs.Common.{◌≡◌, ℕ, List, [], ◌++◌, take, Option, Some, None, IfSome, refl, sym, ◌∙◌, ap, subst, append-nil}
 use Rattle.std.specs.Io.KnownBytes.{Consumes, IsAtEnd}
 use Rattle.lamport_clocks.specs.declared.header.Header.{Header}
-use Rattle.bundle_frames.specs.Bundle.{Bundle, bundle_of}
 use Rattle.bundle_frames.specs.Progress.{Progress, start, rest_of}
 use Rattle.fastver_top.specs.Intake.{Logged, Means, behind, behind_at, logged_of}
 

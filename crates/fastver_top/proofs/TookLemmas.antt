@@ -1,6 +1,6 @@
 -- What was taken of a source in two steps.
-use Rattle.std.proofs.Common.{◌≡◌, ℕ, ◌+◌, ◌-◌, ◌≤◌, List, length, Option, Some, None, arith}
-use Rattle.fastver_top.specs.Intake.{TookJust, TookAtMost}
+use Rattle.std.proofs.Common.{◌≡◌, ℕ, ◌+◌, List, Option, Some, None, arith}
+use Rattle.fastver_top.specs.Taken.{TookJust, TookAtMost}
 
 pub TookJust-none : (x : Option (List ℕ)) → TookJust 0 x x
 TookJust-none None = tt

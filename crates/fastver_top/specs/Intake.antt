@@ -1,6 +1,5 @@
 -- The log of verifier 0 of a bundle, as it comes.
-use Rattle.std.specs.Prelude.{◌≡◌, ℕ, ◌+◌, ◌≤◌, List, [], ◌++◌, length, take, ⊤, Option, Some, None, Result, MatchResult}
-use Rattle.std.specs.Io.KnownBytes.{Consumes, IsAtEnd, Keeps}
+use Rattle.std.specs.Prelude.{◌≡◌, ℕ, List, [], ◌++◌, ⊤, Option, Some, None}
 use Rattle.lamport_clocks.specs.declared.header.Header.{Header}
 use Rattle.bundle_frames.specs.Bundle.{Bundle, log_of, bundle_of}
 use Rattle.bundle_frames.specs.Progress.{Progress, rest_of}
@@ -19,23 +18,6 @@ behind log bundle = record { header = bundle.header; log = log ++ log_of 0 bundl
 -- what was read, without where it lies in memory
 abbrev pub logged : Intake → Logged
 logged intake = record { header = intake.header; log = intake.log.items; bad = intake.bad }
-
--- where a source tells its bytes: no more than so many of them were taken
-abbrev pub TookAtMost : ℕ → Option (List ℕ) → Option (List ℕ) → Type 0
-TookAtMost most None new = ⊤
-TookAtMost most (Some bytes) None = ⊥
-TookAtMost most (Some bytes) (Some rest) = length bytes ≤ most + length rest
-
--- where a source tells its bytes: so many of them were taken
-abbrev pub TookJust : ℕ → Option (List ℕ) → Option (List ℕ) → Type 0
-TookJust count None new = ⊤
-TookJust count (Some bytes) None = ⊥
-TookJust count (Some bytes) (Some rest) = length bytes ≡ count + length rest
-
--- a read took the bytes that it gave, none only at the end, and nothing where it failed
-abbrev pub ReadsOn : {E : Type 0} → Option (List ℕ) → Option (List ℕ) → Result ℕ E → List ℕ → Type 0
-ReadsOn old new result room =
-    MatchResult result (λ count. Consumes old new (take count room) × (count ≡ 0 → IsAtEnd new)) (λ _. Keeps old new)
 
 -- where a source tells its bytes: what one function says of those that it had, another says of those that are left
 abbrev pub Means : Option (List ℕ) → Option (List ℕ) → (List ℕ → Logged) → (List ℕ → Logged) → Type 0

@@ -1,6 +1,7 @@
 -- What the clauses of the top call cite, in reading order.
 pub mod Words
 pub mod Intake
+pub mod Taken
 pub mod Outcomes
 pub mod Report
 pub mod BundleReport

@@ -1,7 +1,8 @@
--- Which statuses the program can end with as yet.
+-- Which statuses a run can end with, and which of them end a report.
 use Rattle.report_text.specs.declared.status.Status.{Status}
 use Rattle.report_text.specs.declared.status.Status.TheVariants.{Done, Usage, Memory, ReadFault, WriteFault, VaultFault, BadBundle, Refused, Unbalanced, ClockEnd, NotTagged, NotCertified, Exhibit, InputLimit}
 
+-- a status that the program can end with as yet
 abbrev pub IsOutcome : Status → Type 0
 IsOutcome (Done epochs) = Unit {0}
 IsOutcome Usage = Unit {0}
@@ -17,3 +18,20 @@ IsOutcome NotTagged = ⊥
 IsOutcome NotCertified = ⊥
 IsOutcome Exhibit = ⊥
 IsOutcome (InputLimit taken) = Unit {0}
+
+-- a status that ends a report
+abbrev pub IsEnd : Status → Type 0
+IsEnd (Done epochs) = Unit {0}
+IsEnd Usage = ⊥
+IsEnd Memory = ⊥
+IsEnd ReadFault = ⊥
+IsEnd WriteFault = ⊥
+IsEnd VaultFault = ⊥
+IsEnd (BadBundle offset) = Unit {0}
+IsEnd (Refused verifier index refusal) = Unit {0}
+IsEnd (Unbalanced epoch added evicted) = Unit {0}
+IsEnd (ClockEnd worker at) = Unit {0}
+IsEnd NotTagged = ⊥
+IsEnd NotCertified = ⊥
+IsEnd Exhibit = ⊥
+IsEnd (InputLimit taken) = ⊥

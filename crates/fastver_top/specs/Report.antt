@@ -1,19 +1,19 @@
 -- What a check answers of a bundle with one verifier: which epochs are certified, and how the report ends.
-use Rattle.std.specs.Prelude.{ℕ, zero, suc, ◌==◌, ◌&&◌, Bool, true, false, List, [], ◌∷◌, ◌++◌, length, take, drop, Option, Some, None, if◌then◌else◌}
+use Rattle.std.specs.Prelude.{ℕ, suc, ◌==◌, ◌&&◌, Bool, List, [], ◌∷◌, ◌++◌, length, take, drop, Option, Some, None, if◌then◌else◌}
 use Rattle.std.specs.List.{flat_map}
 use Rattle.multiset_sum.specs.Tally.{Tally}
 use Rattle.multiset_sum.specs.declared.part.Part.{Part}
 use Rattle.record_text.specs.declared.element.Operation.{Operation}
 use Rattle.record_text.specs.declared.refusal.Refusal.{Refusal}
+use Rattle.verifier_commands.specs.Same.{same_bytes}
 use Rattle.report_text.specs.declared.status.Status.{Status}
-use Rattle.report_text.specs.declared.status.Status.TheVariants.{Done, Usage, Memory, ReadFault, WriteFault, VaultFault, BadBundle, Refused, Unbalanced, ClockEnd, NotTagged, NotCertified, Exhibit, InputLimit}
+use Rattle.report_text.specs.declared.status.Status.TheVariants.{Done, BadBundle, Refused, Unbalanced}
 use Rattle.report_text.specs.Lines.{epoch_line, operation_line}
 use Rattle.report_text.specs.Status.{last_line}
-use Rattle.fastver_top.specs.Words.{is_word}
 
 -- two sums are equal, in each lane and in the count
 abbrev pub same_tally : Tally → Tally → Bool
-same_tally a b = is_word a.lanes b.lanes && a.count == b.count
+same_tally a b = same_bytes a.lanes b.lanes && a.count == b.count
 
 -- what was added of a sealed epoch is what was evicted (Blum et al. 1994)
 abbrev pub is_balanced : Part → Bool
@@ -50,20 +50,3 @@ exit_by certified (part ∷ parts) refused bad = Unbalanced part.epoch part.adde
 exit_by certified [] (Some refusal) bad = Refused 0 refusal.0 refusal.1
 exit_by certified [] None (Some offset) = BadBundle offset
 exit_by certified [] None None = Done certified
-
--- a status that ends a report
-abbrev pub IsEnd : Status → Type 0
-IsEnd (Done epochs) = Unit {0}
-IsEnd Usage = ⊥
-IsEnd Memory = ⊥
-IsEnd ReadFault = ⊥
-IsEnd WriteFault = ⊥
-IsEnd VaultFault = ⊥
-IsEnd (BadBundle offset) = Unit {0}
-IsEnd (Refused verifier index refusal) = Unit {0}
-IsEnd (Unbalanced epoch added evicted) = Unit {0}
-IsEnd (ClockEnd worker at) = Unit {0}
-IsEnd NotTagged = ⊥
-IsEnd NotCertified = ⊥
-IsEnd Exhibit = ⊥
-IsEnd (InputLimit taken) = ⊥

@@ -12,7 +12,8 @@ use Rattle.report_text.specs.declared.status.Status.{Status}
 use Rattle.report_text.specs.declared.status.Status.TheVariants.{BadBundle, WriteFault}
 use Rattle.fv_outside.specs.Written.{Grows, GrowsByFront}
 use Rattle.fastver_top.specs.Intake.{Logged, logged_of}
-use Rattle.fastver_top.specs.Report.{balanced_count, exit_by, report_of, IsEnd}
+use Rattle.fastver_top.specs.Outcomes.{IsEnd}
+use Rattle.fastver_top.specs.Report.{balanced_count, exit_by, report_of}
 
 pub record Verdict : Type 0 where
   pub text : List ℕ

@@ -1,5 +1,6 @@
 -- Which words the program takes.
-use Rattle.std.specs.Prelude.{ℕ, ◌&&◌, nat_le, nat_eq, Bool, true, false, List, [], ◌∷◌, length, Option, Some, None, Result, Ok, Err, codes, if◌then◌else◌}
+use Rattle.std.specs.Prelude.{ℕ, ◌&&◌, nat_le, Bool, true, false, List, [], ◌∷◌, length, Option, Some, None, Result, Ok, Err, codes, if◌then◌else◌}
+use Rattle.verifier_commands.specs.Same.{same_bytes}
 use Rattle.hex.specs.Hex.{decode_of}
 use Rattle.hex.specs.declared.error.FromHexError.{FromHexError}
 
@@ -11,13 +12,6 @@ decoded (Err fault) = None
 -- the key that digits spell: 32 to 128 digits of either case, an even number, so 16 to 64 bytes
 abbrev pub key_in : List ℕ → Option (List ℕ)
 key_in digits = if nat_le 32 (length digits) && nat_le (length digits) 128 then decoded (decode_of digits) else None
-
--- two words are the same
-abbrev pub is_word : List ℕ → List ℕ → Bool
-is_word [] [] = true
-is_word [] (y ∷ ys) = false
-is_word (x ∷ xs) [] = false
-is_word (x ∷ xs) (y ∷ ys) = nat_eq x y && is_word xs ys
 
 -- the key where the two words before it are those of a check
 abbrev pub key_if : Bool → Bool → List ℕ → Option (List ℕ)
@@ -31,5 +25,5 @@ check_key [] = None
 check_key (name ∷ []) = None
 check_key (name ∷ command ∷ []) = None
 check_key (name ∷ command ∷ option ∷ []) = None
-check_key (name ∷ command ∷ option ∷ digits ∷ []) = key_if (is_word command (codes "check")) (is_word option (codes "--key")) digits
+check_key (name ∷ command ∷ option ∷ digits ∷ []) = key_if (same_bytes command (codes "check")) (same_bytes option (codes "--key")) digits
 check_key (name ∷ command ∷ option ∷ digits ∷ more ∷ words) = None

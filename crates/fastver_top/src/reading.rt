@@ -1,9 +1,10 @@
 //! A source, read to its end or to the first bad frame.
-ghost use Rattle.std.specs.Prelude.{◌≡◌, ℕ, ◌+◌, ◌-◌, ◌^◌, ◌<◌, ◌≤◌, List, [], ◌++◌, length, drop, unwrap_or, false, take, Some, None, IfOk, IfSome, IsNone, OnOk, Err, vec_len};
+ghost use Rattle.std.specs.Prelude.{◌≡◌, ◌≢◌, ℕ, ◌+◌, ◌-◌, ◌^◌, ◌<◌, ◌≤◌, List, [], ◌++◌, length, drop, unwrap_or, false, take, Some, None, IfOk, IfSome, IsNone, OnOk, OnErr, Err, vec_len};
 ghost use Rattle.fv_outside.specs.Faults.{Counts, Rose};
 ghost use Rattle.bundle_frames.specs.Bundle.{bundle_of};
 ghost use Rattle.bundle_frames.specs.Progress.{position, rest_of};
-ghost use Rattle.fastver_top.specs.Intake.{behind, behind_at, logged, logged_of, Means, TookAtMost, TookJust, ReadsOn};
+ghost use Rattle.fastver_top.specs.Intake.{behind, behind_at, logged, logged_of, Means};
+ghost use Rattle.fastver_top.specs.Taken.{TookAtMost, TookJust, ReadsOn};
 
 use crate::intake::{Intake, Stop};
 use bundle_frames::{Found, Splitter};
@@ -19,7 +20,7 @@ pub fn read_bundle<S: Source>(alloc: Global, limit: u64, source: &mut S) -> Resu
     ensures bundle { IfOk result (λ intake. IfSome (S.left source.old) (λ bytes. logged intake ≡ logged_of bytes)) }
     ensures fault { result ≡ Err Stop.ReadFault → Rose (S.faults source.old) (S.faults source.new) }
     ensures limit { result ≡ Err Stop.InputLimit → TookJust (limit + 1) (S.left source.old) (S.left source.new) }
-    ensures within { OnOk result (TookAtMost limit (S.left source.old) (S.left source.new)) }
+    ensures within { result ≢ Err Stop.InputLimit → TookAtMost limit (S.left source.old) (S.left source.new) }
     ensures never_falls { S.faults source.old ≤ S.faults source.new }
 {
     let mut splitter = Splitter::new(alloc)?;
@@ -70,7 +71,7 @@ fn read_turn<S: Source>(
     ensures means { OnOk result (Means (S.left source.old) (S.left source.new)
         (behind_at intake.old.log.items splitter.old) (behind_at intake.new.log.items splitter.new)) }
     ensures end { IfOk result (λ turn. IsNone turn → IfSome (S.left source.new) (λ left. rest_of splitter.new left ≡ rest_of splitter.new [])) }
-    ensures last { OnOk result (TookAtMost (limit - taken) (S.left source.old) (S.left source.new)) }
+    ensures last { result ≢ Err Stop.InputLimit → TookAtMost (limit - taken) (S.left source.old) (S.left source.new) }
     ensures fault { result ≡ Err Stop.ReadFault → Rose (S.faults source.old) (S.faults source.new) }
     ensures limit { result ≡ Err Stop.InputLimit → TookJust (limit + 1 - taken) (S.left source.old) (S.left source.new) }
     ensures never_falls { S.faults source.old ≤ S.faults source.new }
@@ -111,6 +112,7 @@ fn read_some<S: Source>(source: &mut S, room: &mut [u8], want: usize) -> Result<
     requires within { want ≤ length room.old }
     ensures bound { IfOk result (λ count. count ≤ want) }
     ensures took { IfOk result (λ count. TookJust count (S.left source.old) (S.left source.new)) }
+    ensures kept { OnErr result (TookJust 0 (S.left source.old) (S.left source.new)) }
     ensures bytes { ReadsOn (S.left source.old) (S.left source.new) result room.new }
     ensures counts { Counts (S.faults source.old) (S.faults source.new) result }
 {

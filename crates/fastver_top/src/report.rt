@@ -3,8 +3,8 @@ ghost use Rattle.std.specs.Prelude.{◌≡◌, ◌≤◌, ◌++◌, drop, length
 ghost use Rattle.fv_outside.specs.Faults.{Counts};
 ghost use Rattle.fv_outside.specs.Written.{Grows, GrowsByFront};
 ghost use Rattle.report_text.specs.Page.{Passes};
-ghost use Rattle.fastver_top.specs.Report.{is_balanced, balanced_count, exit_by, IsEnd, front_count, epoch_text, report_of};
-ghost use Rattle.fastver_top.specs.Outcomes.{IsOutcome};
+ghost use Rattle.fastver_top.specs.Report.{is_balanced, balanced_count, exit_by, front_count, epoch_text, report_of};
+ghost use Rattle.fastver_top.specs.Outcomes.{IsEnd, IsOutcome};
 
 use fv_outside::{Failed, Sink};
 use multiset_sum::Part;
@@ -45,14 +45,22 @@ pub fn exit_of(
     ensures end { IsEnd result }
 {
     if let Some(part) = parts.get(certified) {
-        return Status::Unbalanced(part.epoch, part.added, part.evicted);
+        return Status::Unbalanced {
+            epoch: part.epoch,
+            added: part.added,
+            evicted: part.evicted,
+        };
     }
-    if let Some((index, refusal)) = refused {
-        return Status::Refused(0, index, refusal);
-    }
-    match bad {
-        Some(offset) => Status::BadBundle(offset),
-        None => Status::Done(certified as u64),
+    match (refused, bad) {
+        (Some((index, refusal)), _) => Status::Refused {
+            verifier: 0,
+            index,
+            refusal,
+        },
+        (None, Some(offset)) => Status::BadBundle { offset },
+        (None, None) => Status::Done {
+            epochs: certified as u64,
+        },
     }
 }
 
@@ -71,7 +79,7 @@ pub fn write_report<O: Sink>(
     let mut done = 0;
     for part in certified {
         let count = count_of(&operations[done..], part.epoch);
-        write_epoch(part.epoch, &operations[done..done + count], &mut page, out)?;
+        write_epoch_lines(part.epoch, &operations[done..done + count], &mut page, out)?;
         done += count;
     }
     page.write(last_line(status).as_slice(), out)?;
@@ -92,7 +100,7 @@ fn count_of(operations: &[Operation], epoch: u32) -> usize
 }
 
 // Writes the lines of one epoch, whose operations these are.
-fn write_epoch<O: Sink>(
+fn write_epoch_lines<O: Sink>(
     epoch: u32,
     operations: &[Operation],
     page: &mut Page,

@@ -3,7 +3,10 @@ use crate::{Status, check, fastver};
 use fv_outside::{FreeGate, MemorySink, MemorySource, MemoryVault};
 use record_hash::{Digests, ShaDigests, ToyDigests};
 use std::alloc::Global;
+use std::process::Abort;
+use std::sync::Wait;
 use std::test::Fail;
+use std::thread::Threads;
 
 // A put and a get of one key, between its add, evict and second add.
 const PUT_AND_GET: &str =
@@ -11,31 +14,73 @@ const PUT_AND_GET: &str =
 
 const REPORT: &str = "epoch 0 certified 2\n0.0 v0 put 5 6162\n0.0 v0 get 5 6162\ndone 1\n";
 
-const KEY: &str = "0000000000000000000000000000000000000000000000000000000000000000";
+// The key of each check here.
+const KEY: &str = "00000000000000000000000000000000";
 
 // Bytes from their digits.
 fn unhex(alloc: Global, digits: &str) -> Result<Vec<u8>, Fail> {
     Ok(hex::decode(alloc, digits)?)
 }
 
-// What a check of these bytes writes, and its status, where reads and writes go by so many bytes.
+// Runs `fastver check` between a source and a sink, and answers its status.
+fn run_between<R: Threads + Wait + Sync>(
+    rt: &R,
+    alloc: Global,
+    source: &mut MemorySource,
+    out: &mut MemorySink,
+) -> Result<Status, Fail> {
+    let words = ["fastver", "check", "--key", KEY];
+    let mut vault = MemoryVault::new(alloc, 100, 1, &[])?;
+    Ok(fastver(rt, alloc, &words, source, out, &mut vault, &FreeGate))
+}
+
+// What `fastver check` of these bytes writes, and its status, where reads and writes go by so many bytes.
+fn run<R: Threads + Wait + Sync>(
+    rt: &R,
+    alloc: Global,
+    bundle: &[u8],
+    piece: usize,
+) -> Result<(MemorySink, Status), Fail> {
+    let mut source = MemorySource::new(alloc, bundle, piece.max(1), &[])?;
+    let mut out = MemorySink::new(alloc, 10_000, piece.max(1), &[])?;
+    let status = run_between(rt, alloc, &mut source, &mut out)?;
+    Ok((out, status))
+}
+
+// A bundle has this report and status, whether it is read and written by bytes or as a whole.
+fn assert_report<R: Threads + Wait + Sync + Abort>(
+    rt: &R,
+    alloc: Global,
+    name: &str,
+    bundle: &str,
+    report: &str,
+    number: u8,
+) -> Result<(), Fail> {
+    let bytes = unhex(alloc, bundle)?;
+    for piece in [1, 100_000] {
+        let (out, status) = run(rt, alloc, &bytes, piece)?;
+        assert_eq!(rt; out.bytes(), report.as_bytes(), "{name}");
+        assert_eq!(rt; status.number(), number, "{name}");
+    }
+    Ok(())
+}
+
+// What a check of these bytes leaves of its source, what it writes, and its status.
 fn checked<D: Digests>(
     alloc: Global,
     d: &D,
     limit: u64,
     bundle: &[u8],
     piece: usize,
-) -> Result<(MemorySink, Status), Fail> {
-    let limit = limit.min(1 << 40);
+) -> Result<(MemorySource, MemorySink, Status), Fail> {
     let mut source = MemorySource::new(alloc, bundle, piece.max(1), &[])?;
     let mut out = MemorySink::new(alloc, 10_000, piece.max(1), &[])?;
-    let status = check(alloc, d, limit, &mut source, &mut out);
-    Ok((out, status))
+    let status = check(alloc, d, limit.min(1 << 40), &mut source, &mut out);
+    Ok((source, out, status))
 }
 
 #[test]
 fn bundles_have_their_reports(rt: HostRuntime) -> Result<(), Fail> {
-    let d = ShaDigests::new(&[0; 32]);
     let table = [
         (
             "the first vector",
@@ -50,142 +95,10 @@ fn bundles_have_their_reports(rt: HostRuntime) -> Result<(), Fail> {
             0,
         ),
         (
-            "a get of another value",
-            "465642310001000000040000000000ffffff00000000005c0140000000000000000500000000000000000000074000000000000000050102616202400000000000000005000000000000000000014000000000000000050102616200000000000000000006400000000000000005010261630808",
-            "refused v0 command 4 WrongValue\n",
-            8,
-        ),
-        (
-            "the root is not evicted",
-            "465642310001000000040000000000ffffff00000000001302000000000000000000000000000000000000",
-            "refused v0 command 0 IsRoot\n",
-            8,
-        ),
-        (
-            "the root is not added",
-            "465642310001000000040000000000ffffff000000000015010000000000000000000000000000000000000000",
-            "refused v0 command 0 IsRoot\n",
-            8,
-        ),
-        (
-            "a path comes twice",
-            "465642310001000000040000000000ffffff00000000002801400000000000000005000000000000000000000140000000000000000500000000000000000000",
-            "refused v0 command 1 AlreadyCached\n",
-            8,
-        ),
-        (
-            "a cache of four",
-            "465642310001000000040000000000ffffff000000000051014000000000000000050000000000000000000001408000000000000000000000000000000000000101000000000000000000000000000000000000000140000000000000000700010000000000000000",
-            "refused v0 command 3 CacheFull\n",
-            8,
-        ),
-        (
-            "a get of nothing",
-            "465642310001000000040000000000ffffff00000000000b0640000000000000000500",
-            "refused v0 command 0 NotCached\n",
-            8,
-        ),
-        (
-            "a parent that is not there",
-            "465642310001000000040000000000ffffff0000000000140140000000000000000500010000000000000000",
-            "refused v0 command 0 ParentNotCached\n",
-            8,
-        ),
-        (
-            "not below its parent",
-            "465642310001000000040000000000ffffff00000000002801400000000000000005000000000000000000000140000000000000000700400000000000000005",
-            "refused v0 command 1 NotBelow\n",
-            8,
-        ),
-        (
-            "a pointer elsewhere",
-            "465642310001000000040000000000ffffff00000000002801400000000000000005000000000000000000000140000000000000000700000000000000000000",
-            "refused v0 command 1 Foreign\n",
-            8,
-        ),
-        (
-            "a first value",
-            "465642310001000000040000000000ffffff00000000001601400000000000000005010161000000000000000000",
-            "refused v0 command 0 NotInitial\n",
-            8,
-        ),
-        (
-            "a deferred pointer",
-            "465642310001000000040000000000ffffff00000000004301400000000000000005000000000000000000000540000000000000000500000000000000000000000000000000010140000000000000000500000000000000000000",
-            "refused v0 command 2 Deferred\n",
-            8,
-        ),
-        (
-            "another digest",
-            "465642310001000000040000000000ffffff00000000004901400000000000000005000000000000000000000740000000000000000501026162024000000000000000050000000000000000000140000000000000000500000000000000000000",
-            "refused v0 command 3 WrongDigest\n",
-            8,
-        ),
-        (
-            "no child",
-            "465642310001000000040000000000ffffff00000000003c014000000000000000050000000000000000000001010000000000000000000000000000000000000002400000000000000005000000000000000000",
-            "refused v0 command 2 NotChild\n",
-            8,
-        ),
-        (
-            "a child in the cache",
-            "465642310001000000040000000000ffffff00000000003c010100000000000000000000000000000000000000014000000000000000050001000000000000000002010000000000000000000000000000000000",
-            "refused v0 command 2 HasChild\n",
-            8,
-        ),
-        (
-            "a split hands its kid on",
-            "465642310001000000040000000000ffffff00000000003c014000000000000000050000000000000000000001010000000000000000000000000000000000000002010000000000000000000000000000000000",
-            "refused v0 command 2 HasChild\n",
-            8,
-        ),
-        (
             "a split and back",
             "465642310001000000040000000000ffffff000000000051014000000000000000050000000000000000000001010000000000000000000000000000000000000002400000000000000005010000000000000000020100000000000000000000000000000000000808",
             "epoch 0 certified 0\ndone 1\n",
             0,
-        ),
-        (
-            "another hold",
-            "465642310001000000040000000000ffffff0000000000260140000000000000000500000000000000000000044000000000000000050000000000000001",
-            "refused v0 command 1 WrongHold\n",
-            8,
-        ),
-        (
-            "no such verifier",
-            "465642310001000000040000000000ffffff000000000015034000000000000000050000000000000000010001",
-            "refused v0 command 0 NoSuchVerifier\n",
-            8,
-        ),
-        (
-            "an epoch ahead",
-            "465642310001000000040000000000ffffff000000000015034000000000000000050000000001000000010000",
-            "refused v0 command 0 BadEpoch\n",
-            8,
-        ),
-        (
-            "a stamp at the clock",
-            "465642310001000000040000000000ffffff00000000002f0140000000000000000500000000000000000000054000000000000000050000000000000000000000000000000000",
-            "refused v0 command 1 StampNotLater\n",
-            8,
-        ),
-        (
-            "the counter ends",
-            "4656423100010000000400000000000000010000000000440140000000000000000500000000000000000000054000000000000000050000000000000000000000000000000001034000000000000000050000000000000000010000",
-            "refused v0 command 2 ClockEnd\n",
-            8,
-        ),
-        (
-            "the epochs end",
-            "46564231000100000004ffffffff00ffffff00000000000108",
-            "refused v0 command 0 ClockEnd\n",
-            8,
-        ),
-        (
-            "a put of a node",
-            "465642310001000000040000000000ffffff00000000000c070000000000000000000000",
-            "refused v0 command 0 NotData\n",
-            8,
         ),
         (
             "evicted and not added",
@@ -204,12 +117,6 @@ fn bundles_have_their_reports(rt: HostRuntime) -> Result<(), Fail> {
             "465642310001000000040000000000ffffff000000000081014000000000000000050000000000000000000007400000000000000005010261620540000000000000000500000000000000000000000000000000010340000000000000000501026162000000000000000100000440000000000000000500000000000000030340000000000000000501026162000000000000000100000808",
             "epoch 0 unbalanced added 2 evicted 2\n",
             9,
-        ),
-        (
-            "another digest under a key",
-            "465642310001000000040000000000ffffff00000000005c0140000000000000000500000000000000000000074000000000000000050102616202400000000000000005000000000000000000014000000000000000050102626100000000000000000006400000000000000005010262610808",
-            "refused v0 command 3 WrongDigest\n",
-            8,
         ),
         (
             "a log that is cut",
@@ -249,12 +156,142 @@ fn bundles_have_their_reports(rt: HostRuntime) -> Result<(), Fail> {
         ),
     ];
     for (name, bundle, report, number) in table {
-        let bytes = unhex(rt.alloc(), bundle)?;
-        for piece in [1, 100_000] {
-            let (out, status) = checked(rt.alloc(), &d, 1 << 40, &bytes, piece)?;
-            assert_eq!(rt; out.bytes(), report.as_bytes(), "{name}");
-            assert_eq!(rt; status.number(), number, "{name}");
-        }
+        assert_report(&rt, rt.alloc(), name, bundle, report, number)?;
+    }
+    Ok(())
+}
+
+#[test]
+fn adds_and_evicts_in_the_tree_are_refused(rt: HostRuntime) -> Result<(), Fail> {
+    let table = [
+        (
+            "the root is not added",
+            "465642310001000000040000000000ffffff000000000015010000000000000000000000000000000000000000",
+            "refused v0 command 0 IsRoot\n",
+        ),
+        (
+            "a path comes twice",
+            "465642310001000000040000000000ffffff00000000002801400000000000000005000000000000000000000140000000000000000500000000000000000000",
+            "refused v0 command 1 AlreadyCached\n",
+        ),
+        (
+            "a cache of four",
+            "465642310001000000040000000000ffffff000000000051014000000000000000050000000000000000000001408000000000000000000000000000000000000101000000000000000000000000000000000000000140000000000000000700010000000000000000",
+            "refused v0 command 3 CacheFull\n",
+        ),
+        (
+            "a parent that is not there",
+            "465642310001000000040000000000ffffff0000000000140140000000000000000500010000000000000000",
+            "refused v0 command 0 ParentNotCached\n",
+        ),
+        (
+            "not below its parent",
+            "465642310001000000040000000000ffffff00000000002801400000000000000005000000000000000000000140000000000000000700400000000000000005",
+            "refused v0 command 1 NotBelow\n",
+        ),
+        (
+            "a pointer elsewhere",
+            "465642310001000000040000000000ffffff00000000002801400000000000000005000000000000000000000140000000000000000700000000000000000000",
+            "refused v0 command 1 Foreign\n",
+        ),
+        (
+            "a first value",
+            "465642310001000000040000000000ffffff00000000001601400000000000000005010161000000000000000000",
+            "refused v0 command 0 NotInitial\n",
+        ),
+        (
+            "a deferred pointer",
+            "465642310001000000040000000000ffffff00000000004301400000000000000005000000000000000000000540000000000000000500000000000000000000000000000000010140000000000000000500000000000000000000",
+            "refused v0 command 2 Deferred\n",
+        ),
+        (
+            "another digest",
+            "465642310001000000040000000000ffffff00000000004901400000000000000005000000000000000000000740000000000000000501026162024000000000000000050000000000000000000140000000000000000500000000000000000000",
+            "refused v0 command 3 WrongDigest\n",
+        ),
+        (
+            "another digest under a key",
+            "465642310001000000040000000000ffffff00000000005c0140000000000000000500000000000000000000074000000000000000050102616202400000000000000005000000000000000000014000000000000000050102626100000000000000000006400000000000000005010262610808",
+            "refused v0 command 3 WrongDigest\n",
+        ),
+        (
+            "the root is not evicted",
+            "465642310001000000040000000000ffffff00000000001302000000000000000000000000000000000000",
+            "refused v0 command 0 IsRoot\n",
+        ),
+        (
+            "no child",
+            "465642310001000000040000000000ffffff00000000003c014000000000000000050000000000000000000001010000000000000000000000000000000000000002400000000000000005000000000000000000",
+            "refused v0 command 2 NotChild\n",
+        ),
+        (
+            "a child in the cache",
+            "465642310001000000040000000000ffffff00000000003c010100000000000000000000000000000000000000014000000000000000050001000000000000000002010000000000000000000000000000000000",
+            "refused v0 command 2 HasChild\n",
+        ),
+        (
+            "a split hands its kid on",
+            "465642310001000000040000000000ffffff00000000003c014000000000000000050000000000000000000001010000000000000000000000000000000000000002010000000000000000000000000000000000",
+            "refused v0 command 2 HasChild\n",
+        ),
+    ];
+    for (name, bundle, report) in table {
+        assert_report(&rt, rt.alloc(), name, bundle, report, 8)?;
+    }
+    Ok(())
+}
+
+#[test]
+fn stamps_and_values_are_refused(rt: HostRuntime) -> Result<(), Fail> {
+    let table = [
+        (
+            "a get of another value",
+            "465642310001000000040000000000ffffff00000000005c0140000000000000000500000000000000000000074000000000000000050102616202400000000000000005000000000000000000014000000000000000050102616200000000000000000006400000000000000005010261630808",
+            "refused v0 command 4 WrongValue\n",
+        ),
+        (
+            "a get of nothing",
+            "465642310001000000040000000000ffffff00000000000b0640000000000000000500",
+            "refused v0 command 0 NotCached\n",
+        ),
+        (
+            "a put of a node",
+            "465642310001000000040000000000ffffff00000000000c070000000000000000000000",
+            "refused v0 command 0 NotData\n",
+        ),
+        (
+            "another hold",
+            "465642310001000000040000000000ffffff0000000000260140000000000000000500000000000000000000044000000000000000050000000000000001",
+            "refused v0 command 1 WrongHold\n",
+        ),
+        (
+            "no such verifier",
+            "465642310001000000040000000000ffffff000000000015034000000000000000050000000000000000010001",
+            "refused v0 command 0 NoSuchVerifier\n",
+        ),
+        (
+            "an epoch ahead",
+            "465642310001000000040000000000ffffff000000000015034000000000000000050000000001000000010000",
+            "refused v0 command 0 BadEpoch\n",
+        ),
+        (
+            "a stamp at the clock",
+            "465642310001000000040000000000ffffff00000000002f0140000000000000000500000000000000000000054000000000000000050000000000000000000000000000000000",
+            "refused v0 command 1 StampNotLater\n",
+        ),
+        (
+            "the counter ends",
+            "4656423100010000000400000000000000010000000000440140000000000000000500000000000000000000054000000000000000050000000000000000000000000000000001034000000000000000050000000000000000010000",
+            "refused v0 command 2 ClockEnd\n",
+        ),
+        (
+            "the epochs end",
+            "46564231000100000004ffffffff00ffffff00000000000108",
+            "refused v0 command 0 ClockEnd\n",
+        ),
+    ];
+    for (name, bundle, report) in table {
+        assert_report(&rt, rt.alloc(), name, bundle, report, 8)?;
     }
     Ok(())
 }
@@ -283,7 +320,7 @@ fn digests_that_collide_certify_what_is_not_serial(rt: HostRuntime) -> Result<()
     ];
     for (name, bundle, report, number) in table {
         let bytes = unhex(rt.alloc(), bundle)?;
-        let (out, status) = checked(rt.alloc(), &ToyDigests, 1 << 40, &bytes, 7)?;
+        let (_, out, status) = checked(rt.alloc(), &ToyDigests, 1 << 40, &bytes, 7)?;
         assert_eq!(rt; out.bytes(), report.as_bytes(), "{name}");
         assert_eq!(rt; status.number(), number, "{name}");
     }
@@ -302,11 +339,10 @@ fn report_of_cut(len: usize) -> (&'static str, u8) {
 
 #[test]
 fn a_bundle_is_cut_at_each_length(rt: HostRuntime) -> Result<(), Fail> {
-    let d = ShaDigests::new(&[0; 32]);
     let bytes = unhex(rt.alloc(), PUT_AND_GET)?;
     for len in 0..bytes.len() + 1 {
         let (report, number) = report_of_cut(len);
-        let (out, status) = checked(rt.alloc(), &d, 1 << 40, &bytes[..len], 1000)?;
+        let (out, status) = run(&rt, rt.alloc(), &bytes[..len], 1000)?;
         assert_eq!(rt; out.bytes(), report.as_bytes(), "{len}");
         assert_eq!(rt; status.number(), number, "{len}");
     }
@@ -318,12 +354,14 @@ fn no_more_is_read_than_the_limit(rt: HostRuntime) -> Result<(), Fail> {
     let d = ShaDigests::new(&[0; 32]);
     let bytes = unhex(rt.alloc(), PUT_AND_GET)?;
     for piece in [1, 40, 1000] {
-        let (out, status) = checked(rt.alloc(), &d, 50, &bytes, piece)?;
+        let (source, out, status) = checked(rt.alloc(), &d, 50, &bytes, piece)?;
         assert_eq!(rt; out.bytes(), [].as_slice());
-        assert_eq!(rt; status, Status::InputLimit(50));
-        let (out, status) = checked(rt.alloc(), &d, 116, &bytes, piece)?;
+        assert_eq!(rt; status, Status::InputLimit { taken: 50 });
+        assert_eq!(rt; source.left().len(), 65);
+        let (source, out, status) = checked(rt.alloc(), &d, 116, &bytes, piece)?;
         assert_eq!(rt; out.bytes(), REPORT.as_bytes());
-        assert_eq!(rt; status, Status::Done(1));
+        assert_eq!(rt; status, Status::Done { epochs: 1 });
+        assert_eq!(rt; source.left().len(), 0);
     }
     Ok(())
 }
@@ -372,8 +410,11 @@ fn words_that_are_no_checks_are_refused(rt: HostRuntime) -> Result<(), Fail> {
             &FreeGate,
         );
         assert_eq!(rt; status, Status::Usage);
+        assert_eq!(rt; status.number(), 1);
         assert_eq!(rt; out.bytes(), [].as_slice());
         assert_eq!(rt; source.left(), b"FVB1".as_slice());
+        assert_eq!(rt; vault.bytes(), [].as_slice());
+        assert!(rt; vault.name_taken().is_none());
     }
     Ok(())
 }
@@ -394,7 +435,7 @@ fn a_check_by_its_words(rt: HostRuntime) -> Result<(), Fail> {
         &mut vault,
         &FreeGate,
     );
-    assert_eq!(rt; status, Status::Done(1));
+    assert_eq!(rt; status, Status::Done { epochs: 1 });
     assert_eq!(rt; out.bytes(), REPORT.as_bytes());
     assert_eq!(rt; vault.bytes(), [].as_slice());
     assert!(rt; vault.name_taken().is_none());
@@ -403,20 +444,19 @@ fn a_check_by_its_words(rt: HostRuntime) -> Result<(), Fail> {
 
 #[test]
 fn objects_that_fail_leave_a_front(rt: HostRuntime) -> Result<(), Fail> {
-    let d = ShaDigests::new(&[0; 32]);
     let bytes = unhex(rt.alloc(), PUT_AND_GET)?;
-    for k in 0..bytes.len() as u64 {
+    for k in 0..bytes.len() as u64 + 1 {
         let mut source = MemorySource::new(rt.alloc(), &bytes, 1, &[k])?;
         let mut out = MemorySink::new(rt.alloc(), 1000, 1, &[])?;
-        let status = check(rt.alloc(), &d, 1000, &mut source, &mut out);
-        assert_eq!(rt; status, Status::ReadFault, "{k}");
+        let status = run_between(&rt, rt.alloc(), &mut source, &mut out)?;
+        assert_eq!(rt; status.number(), 3, "{k}");
         assert_eq!(rt; out.bytes(), [].as_slice(), "{k}");
     }
     for k in 0..REPORT.len() {
-        let mut source = MemorySource::new(rt.alloc(), &bytes, 1000, &[])?;
+        let mut source = MemorySource::new(rt.alloc(), &bytes, 1, &[])?;
         let mut out = MemorySink::new(rt.alloc(), 1000, 1, &[k as u64])?;
-        let status = check(rt.alloc(), &d, 1000, &mut source, &mut out);
-        assert_eq!(rt; status, Status::WriteFault, "{k}");
+        let status = run_between(&rt, rt.alloc(), &mut source, &mut out)?;
+        assert_eq!(rt; status.number(), 4, "{k}");
         assert_eq!(rt; out.bytes(), &REPORT.as_bytes()[..k], "{k}");
     }
     Ok(())

@@ -5,9 +5,9 @@ ghost use Rattle.verifier_run.specs.LogCourse.{log_course};
 ghost use Rattle.fv_outside.specs.Faults.{Rose};
 ghost use Rattle.fv_outside.specs.Written.{Grows, GrowsByFront};
 ghost use Rattle.fastver_top.specs.Words.{check_key};
-ghost use Rattle.fastver_top.specs.Intake.{logged, TookAtMost, TookJust};
-ghost use Rattle.fastver_top.specs.Outcomes.{IsOutcome};
-ghost use Rattle.fastver_top.specs.Report.{IsEnd};
+ghost use Rattle.fastver_top.specs.Intake.{logged};
+ghost use Rattle.fastver_top.specs.Taken.{TookAtMost, TookJust};
+ghost use Rattle.fastver_top.specs.Outcomes.{IsEnd, IsOutcome};
 ghost use Rattle.fastver_top.specs.Verdict.{Reports, sha_verdict, verdict, verdict_by, verdict_of, verdict_with};
 
 use crate::intake::{Intake, Stop};
@@ -62,9 +62,9 @@ pub fn fastver<R: Threads + Wait + Sync, S: Source, O: Sink, V: Vault, G: Gate +
     ensures unread { result ≡ Status.Usage → source.new ≡ source.old }
     ensures vault { vault.new ≡ vault.old }
 
-    // `input limit` comes exactly where the source gave a byte more than the limit.
+    // Where it answers `input limit` the source gave just a byte more than the limit, and else no more than that.
     ensures limit { (taken : ℕ) → result ≡ Status.InputLimit taken → (taken ≡ 2 ^ 40) × TookJust (2 ^ 40 + 1) (S.left source.old) (S.left source.new) }
-    ensures within { (result ≡ Status.InputLimit (2 ^ 40) → ⊥) → result ≢ Status.Memory → result ≢ Status.ReadFault → TookAtMost (2 ^ 40) (S.left source.old) (S.left source.new) }
+    ensures within { result ≢ Status.InputLimit (2 ^ 40) → TookAtMost (2 ^ 40) (S.left source.old) (S.left source.new) }
 
     // A fault comes only where the object's count of faults rose.
     ensures read_fault { result ≡ Status.ReadFault → Rose (S.faults source.old) (S.faults source.new) }
@@ -99,7 +99,7 @@ pub fn check<D: Digests, S: Source, O: Sink>(
     ensures unwritten { (IsEnd result → ⊥) → result ≢ Status.WriteFault → out.new ≡ out.old }
 
     ensures limit { (taken : ℕ) → result ≡ Status.InputLimit taken → (taken ≡ limit) × TookJust (limit + 1) (S.left source.old) (S.left source.new) }
-    ensures within { (result ≡ Status.InputLimit limit → ⊥) → result ≢ Status.Memory → result ≢ Status.ReadFault → TookAtMost limit (S.left source.old) (S.left source.new) }
+    ensures within { result ≢ Status.InputLimit limit → TookAtMost limit (S.left source.old) (S.left source.new) }
     ensures read_fault { result ≡ Status.ReadFault → Rose (S.faults source.old) (S.faults source.new) }
     ensures write_fault { result ≡ Status.WriteFault → Rose (O.faults out.old) (O.faults out.new) }
 {
@@ -107,7 +107,7 @@ pub fn check<D: Digests, S: Source, O: Sink>(
         Ok(intake) => conclude(alloc, d, &intake, out),
         Err(Stop::Memory) => Status::Memory,
         Err(Stop::ReadFault) => Status::ReadFault,
-        Err(Stop::InputLimit) => Status::InputLimit(limit),
+        Err(Stop::InputLimit) => Status::InputLimit { taken: limit },
     }
 }
 
@@ -124,7 +124,7 @@ fn conclude<D: Digests, O: Sink>(alloc: Global, d: &D, intake: &Intake, out: &mu
 {
     match intake.header {
         Some(header) if header.verifiers == 1 => certify(alloc, d, &header, intake, out),
-        _ => written(&[], &[], Status::BadBundle(0), out),
+        _ => written(&[], &[], Status::BadBundle { offset: 0 }, out),
     }
 }
 

@@ -2,7 +2,8 @@ ghost use Rattle.std.specs.Prelude.{◌≡◌, ◌/◌, length, map};
 ghost use Rattle.std.specs.Option.{option_map};
 ghost use Rattle.hex.specs.Hex.{decode_of};
 ghost use Rattle.record_hash.specs.Hmac.{key_block};
-ghost use Rattle.fastver_top.specs.Words.{key_in, decoded, is_word, check_key};
+ghost use Rattle.verifier_commands.specs.Same.{same_bytes};
+ghost use Rattle.fastver_top.specs.Words.{key_in, decoded, check_key};
 
 use record_hash::ShaDigests;
 
@@ -27,7 +28,7 @@ pub fn check_digests(words: &[&str]) -> Option<ShaDigests>
 
 // Whether both are the same word.
 fn is_word(one: &str, other: &str) -> bool
-    ensures value { result ≡ is_word one.now other.now }
+    ensures value { result ≡ same_bytes one.now other.now }
 {
     one == other
 }

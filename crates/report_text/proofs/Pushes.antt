@@ -1,5 +1,5 @@
 -- Texts that are added one after another are the text that they make together.
-use Rattle.std.proofs.Common.{◌≡◌, ℕ, List, ◌++◌, append_assoc, sym, ◌∙◌, ap}
+use Rattle.std.proofs.Common.{◌≡◌, ℕ, List, ◌++◌, append_assoc, ◌∙◌, ap}
 
 pub two_pushes : (old one two mid new : List ℕ) → mid ≡ old ++ one → new ≡ mid ++ two → new ≡ old ++ (one ++ two)
 two_pushes old one two mid new first second = second ∙ (ap (λ (text : List ℕ). text ++ two) first ∙ append_assoc old one two)

@@ -1,5 +1,5 @@
 -- What has been written and what waits, as one text.
-use Rattle.std.specs.Prelude.{◌≡◌, ℕ, List, ◌++◌, ⊤, Option, Some, None}
+use Rattle.std.specs.Prelude.{◌≡◌, ℕ, List, ◌++◌, Option}
 use Rattle.fv_outside.specs.Written.{Grows}
 
 -- what was written and what waits grew by a line together: some bytes were written of what waited before

@@ -1,5 +1,5 @@
 -- How a run of the program ends: the number and the text of each status.
-use Rattle.std.specs.Prelude.{ℕ, List, [], ◌∷◌, ◌++◌, codes}
+use Rattle.std.specs.Prelude.{ℕ, List, ◌++◌, codes}
 use Rattle.std.specs.Fmt.{decimal}
 use Rattle.record_text.specs.Refusal.{refusal_name}
 use Rattle.record_text.specs.declared.refusal.Refusal.{Refusal}

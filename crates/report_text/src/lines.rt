@@ -18,7 +18,7 @@ use record_text::{Blob, Operation};
 pub const LONGEST_LINE: usize = 224;
 
 /// The head line of a certified epoch with so many operations.
-pub fn epoch_line(epoch: u32, count: u64) -> ArrayVec<u8, 224>
+pub fn epoch_line(epoch: u32, count: u64) -> ArrayVec<u8, LONGEST_LINE>
     ensures text { result.items ≡ words.epoch_line epoch count }
 {
     let mut line = ArrayVec::new();
@@ -31,7 +31,7 @@ pub fn epoch_line(epoch: u32, count: u64) -> ArrayVec<u8, 224>
 }
 
 /// The line of a certified operation.
-pub fn operation_line(op: &Operation) -> ArrayVec<u8, 224>
+pub fn operation_line(op: &Operation) -> ArrayVec<u8, LONGEST_LINE>
     ensures text { result.items ≡ words.operation_line op.now }
 {
     let mut line = ArrayVec::new();
@@ -84,7 +84,7 @@ fn push_blob<const ROOM: usize>(line: &mut ArrayVec<u8, ROOM>, blob: &Blob)
 }
 
 /// The last line of a report: the text of its status.
-pub fn last_line(status: &Status) -> ArrayVec<u8, 224>
+pub fn last_line(status: &Status) -> ArrayVec<u8, LONGEST_LINE>
     ensures text { result.items ≡ statuses.last_line status.now }
 {
     let mut line = status.line();

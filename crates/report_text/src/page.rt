@@ -7,10 +7,13 @@ use arrayvec::ArrayVec;
 use fv_outside::{Failed, Sink, write_all};
 use std::marker::Model;
 
+/// How many bytes a page has room for.
+pub const PAGE_ROOM: usize = 8192;
+
 /// Lines that wait to be written, so that a sink is written to in large pieces: contracts see their bytes.
 #[derive(Drop)]
 pub struct Page {
-    text: ArrayVec<u8, 8192>,
+    text: ArrayVec<u8, PAGE_ROOM>,
 }
 
 impl Model for Page {
@@ -20,9 +23,6 @@ impl Model for Page {
 
     ghost view = { λ p. p.text.items };
 }
-
-/// How many bytes a page has room for.
-pub const PAGE_ROOM: usize = 8192;
 
 impl Page {
     /// A page with nothing on it.
@@ -34,16 +34,16 @@ impl Page {
         }
     }
 
-    /// Whether so many bytes more have room.
-    pub fn has_room(&self, bytes: usize) -> bool
+    // Whether so many bytes more have room.
+    fn has_room(&self, bytes: usize) -> bool
         ensures value { result ≡ nat_le bytes (PAGE_ROOM - length self.now) }
         ensures fits { length self.now ≤ PAGE_ROOM }
     {
         bytes <= self.text.remaining_capacity()
     }
 
-    /// Adds a line, which must have room.
-    pub fn push(&mut self, line: &[u8])
+    // Adds a line, which must have room.
+    fn push(&mut self, line: &[u8])
         requires room { length self.old + length line.now ≤ PAGE_ROOM }
         ensures appended { self.new ≡ self.old ++ line.now }
     {

@@ -4,7 +4,7 @@ ghost use Rattle.arrayvec.specs.ArrayVec.{array_vec_len};
 ghost use Rattle.report_text.specs.Status.{refused_words, unbalanced_words, count_words};
 
 use crate::digits::{push_decimal, push_text};
-use crate::lines::push_stamp;
+use crate::lines::{LONGEST_LINE, push_stamp};
 use arrayvec::ArrayVec;
 use lamport_clocks::Stamp;
 use multiset_sum::Sum;
@@ -14,7 +14,9 @@ use record_text::Refusal;
 #[derive(Clone, Copy, Debug, PartialEq, Eq)]
 pub enum Status {
     /// The whole job is done, with so many certified epochs.
-    Done(u64),
+    Done {
+        epochs: u64,
+    },
     /// The words are refused.
     Usage,
     /// Want of memory.
@@ -26,13 +28,26 @@ pub enum Status {
     /// The vault failed.
     VaultFault,
     /// The bytes at this offset are no whole valid header or frame.
-    BadBundle(u64),
+    BadBundle {
+        offset: u64,
+    },
     /// A verifier's log is refused at this command, counted from 0.
-    Refused(u16, u64, Refusal),
+    Refused {
+        verifier: u16,
+        index: u64,
+        refusal: Refusal,
+    },
     /// The sums of an epoch that every verifier sealed differ: those of what was added and evicted.
-    Unbalanced(u32, Sum, Sum),
+    Unbalanced {
+        epoch: u32,
+        added: Sum,
+        evicted: Sum,
+    },
     /// A worker's clock came to its end, where it stood.
-    ClockEnd(u16, Stamp),
+    ClockEnd {
+        worker: u16,
+        at: Stamp,
+    },
     /// A tag isn't that of its text.
     NotTagged,
     /// The epoch isn't among those that are certified.
@@ -40,20 +55,22 @@ pub enum Status {
     /// The answers are not serial, and the exhibit shows why.
     Exhibit,
     /// The source gave more than this many bytes.
-    InputLimit(u64),
+    InputLimit {
+        taken: u64,
+    },
 }
 
 impl Status {
     ghost use Rattle.report_text.specs.Status.{status_number, status_words};
 
     /// The text of the status, without an end of line. `Done` says how many epochs are certified.
-    pub fn line(&self) -> ArrayVec<u8, 224>
+    pub fn line(&self) -> ArrayVec<u8, LONGEST_LINE>
         ensures text { result.items ≡ status_words self.now }
         ensures short { array_vec_len result ≤ 200 }
     {
         let mut line = ArrayVec::new();
         match self {
-            Status::Done(epochs) => {
+            Status::Done { epochs } => {
                 push_text(&mut line, b"done ");
                 push_decimal(&mut line, *epochs);
             }
@@ -62,17 +79,25 @@ impl Status {
             Status::ReadFault => push_text(&mut line, b"read fault"),
             Status::WriteFault => push_text(&mut line, b"write fault"),
             Status::VaultFault => push_text(&mut line, b"vault fault"),
-            Status::BadBundle(offset) => {
+            Status::BadBundle { offset } => {
                 push_text(&mut line, b"bad bundle at byte ");
                 push_decimal(&mut line, *offset);
             }
-            Status::Refused(verifier, index, refusal) => {
+            Status::Refused {
+                verifier,
+                index,
+                refusal,
+            } => {
                 push_refused(&mut line, *verifier, *index, *refusal);
             }
-            Status::Unbalanced(epoch, added, evicted) => {
+            Status::Unbalanced {
+                epoch,
+                added,
+                evicted,
+            } => {
                 push_unbalanced(&mut line, *epoch, added.count(), evicted.count());
             }
-            Status::ClockEnd(worker, at) => {
+            Status::ClockEnd { worker, at } => {
                 push_text(&mut line, b"clock end worker ");
                 push_decimal(&mut line, u64::from(*worker));
                 push_text(&mut line, b" at ");
@@ -81,7 +106,7 @@ impl Status {
             Status::NotTagged => push_text(&mut line, b"not tagged"),
             Status::NotCertified => push_text(&mut line, b"not certified"),
             Status::Exhibit => push_text(&mut line, b"exhibit"),
-            Status::InputLimit(_) => push_text(&mut line, b"input limit"),
+            Status::InputLimit { .. } => push_text(&mut line, b"input limit"),
         }
         line
     }
@@ -91,20 +116,20 @@ impl Status {
         ensures value { result ≡ status_number self.now }
     {
         match self {
-            Status::Done(_) => 0,
+            Status::Done { .. } => 0,
             Status::Usage => 1,
             Status::Memory => 2,
             Status::ReadFault => 3,
             Status::WriteFault => 4,
             Status::VaultFault => 5,
-            Status::BadBundle(_) => 7,
-            Status::Refused(_, _, _) => 8,
-            Status::Unbalanced(_, _, _) => 9,
-            Status::ClockEnd(_, _) => 10,
+            Status::BadBundle { .. } => 7,
+            Status::Refused { .. } => 8,
+            Status::Unbalanced { .. } => 9,
+            Status::ClockEnd { .. } => 10,
             Status::NotTagged => 11,
             Status::NotCertified => 12,
             Status::Exhibit => 13,
-            Status::InputLimit(_) => 14,
+            Status::InputLimit { .. } => 14,
         }
     }
 }

@@ -14,32 +14,43 @@ fn at(epoch: u32, counter: u32) -> Stamp {
 fn each_status_has_its_number_and_text(rt: HostRuntime) -> Result<(), Fail> {
     let one = Sum::zero().with([1, 2, 3, 4, 5, 6, 7, 8]);
     let table = [
-        (Status::Done(0), 0, "done 0"),
+        (Status::Done { epochs: 0 }, 0, "done 0"),
         (Status::Usage, 1, "usage"),
         (Status::Memory, 2, "memory"),
         (Status::ReadFault, 3, "read fault"),
         (Status::WriteFault, 4, "write fault"),
         (Status::VaultFault, 5, "vault fault"),
-        (Status::BadBundle(18), 7, "bad bundle at byte 18"),
+        (Status::BadBundle { offset: 18 }, 7, "bad bundle at byte 18"),
         (
-            Status::Refused(0, 4, Refusal::WrongValue),
+            Status::Refused {
+                verifier: 0,
+                index: 4,
+                refusal: Refusal::WrongValue,
+            },
             8,
             "refused v0 command 4 WrongValue",
         ),
         (
-            Status::Unbalanced(7, one, Sum::zero()),
+            Status::Unbalanced {
+                epoch: 7,
+                added: one,
+                evicted: Sum::zero(),
+            },
             9,
             "epoch 7 unbalanced added 1 evicted 0",
         ),
         (
-            Status::ClockEnd(0, at(4294967295, 6)),
+            Status::ClockEnd {
+                worker: 0,
+                at: at(4294967295, 6),
+            },
             10,
             "clock end worker 0 at 4294967295.6",
         ),
         (Status::NotTagged, 11, "not tagged"),
         (Status::NotCertified, 12, "not certified"),
         (Status::Exhibit, 13, "exhibit"),
-        (Status::InputLimit(50), 14, "input limit"),
+        (Status::InputLimit { taken: 50 }, 14, "input limit"),
     ];
     for (status, number, text) in table {
         assert_eq!(rt; status.number(), number, "{text}");
@@ -75,7 +86,9 @@ fn lines_are_written_whole(rt: HostRuntime) -> Result<(), Fail> {
         };
         write_operation(&op, &mut sink).ok().ok_or("line")?;
     }
-    write_last(&Status::Done(1), &mut sink).ok().ok_or("last")?;
+    write_last(&Status::Done { epochs: 1 }, &mut sink)
+        .ok()
+        .ok_or("last")?;
     let text =
         "epoch 0 certified 2\n0.0 v0 put 5 6162\n4294967295.16777215 v63 get 18446744073709551615 none\n1.2 v3 put 0 .\ndone 1\n";
     assert_eq!(rt; sink.bytes(), text.as_bytes());
@@ -85,7 +98,7 @@ fn lines_are_written_whole(rt: HostRuntime) -> Result<(), Fail> {
 #[test]
 fn a_sink_that_fails_holds_a_front(rt: HostRuntime) -> Result<(), Fail> {
     let mut sink = MemorySink::new(rt.alloc(), 1000, 1, &[3])?;
-    assert!(rt; write_last(&Status::Done(1), &mut sink).is_err());
+    assert!(rt; write_last(&Status::Done { epochs: 1 }, &mut sink).is_err());
     assert_eq!(rt; sink.bytes(), b"don".as_slice());
     assert_eq!(rt; sink.faults(), 1);
     Ok(())

@@ -1,4 +1,4 @@
-use Rattle.std.proofs.Common.{◌≡◌, ℕ, ◌+◌, ◌-◌, ◌≤◌, arith, refl, sym, subst, ap}
+use Rattle.std.proofs.Common.{◌≤◌, is_ok, true≢false, arith, refl, sym, subst, ap}
 use Rattle.bundle_frames.specs.Progress.{Progress, position}
 use Rattle.fastver_top.specs.Intake.{behind_at}
 use Rattle.fastver_top.proofs.TookLemmas.{TookJust-none, TookJust-then, TookAtMost-then}
@@ -32,7 +32,7 @@ pieces-preserved g c =
     }
 
 pub returns-clause-within : goal.returns-clause-within
-returns-clause-within g c = TookAtMost-then _ _ _ _ _ _ c.pieces.invariant.took c.in-Ok-None.ensures.last (omega (arith, c.pieces.invariant.limit))
+returns-clause-within g c = λ other. TookAtMost-then _ _ _ _ _ _ c.pieces.invariant.took (c.in-Ok-None.ensures.last (λ is. true≢false (ap is_ok is))) (omega (arith, c.pieces.invariant.limit))
 
 pub returns-clause-bundle : goal.returns-clause-bundle
 returns-clause-bundle g c =

@@ -1,6 +1,7 @@
-use Rattle.std.proofs.Common.{◌≡◌, ℕ, ◌+◌, ◌-◌, ◌≤◌, List, length, vec_len}
+use Rattle.std.proofs.Common.{◌≡◌, ◌-◌, ◌≤◌, vec_len}
 use Rattle.bundle_frames.specs.Progress.{position}
-use Rattle.fastver_top.specs.Intake.{TookJust, Means, behind_at, logged_of}
+use Rattle.fastver_top.specs.Intake.{Means, behind_at, logged_of}
+use Rattle.fastver_top.specs.Taken.{TookJust}
 use Rattle.fastver_top.proofs.reading.read_bundle.Given as goal
 
 -- what was read so far

@@ -1,4 +1,4 @@
-use Rattle.std.proofs.Common.{◌≡◌, ℕ, List, [], ◌++◌, length, drop, sym, ◌∙◌, ap}
+use Rattle.std.proofs.Common.{[], ◌++◌, length, drop, sym, ◌∙◌, ap}
 use Rattle.bundle_frames.specs.declared.found.Found.{Found}
 use Rattle.bundle_frames.specs.Progress.{Progress, rest_of}
 use Rattle.bundle_frames.specs.Finds.{found_then}

@@ -1,4 +1,4 @@
-use Rattle.std.proofs.Common.{◌≡◌, ℕ, ◌+◌, sym, ◌∙◌, ap, arith}
+use Rattle.std.proofs.Common.{arith}
 use Rattle.fastver_top.proofs.ReportLemmas.{front_more, front_end, front_past}
 use Rattle.fastver_top.proofs.report.count_of.Goals as goal
 

@@ -1,4 +1,4 @@
-use Rattle.std.proofs.Common.{◌≡◌, ℕ, ◌+◌, ◌-◌, take, drop, length, List, [], ◌++◌, ◌∙◌, ap, arith, sym, refl, append_assoc, append-nil}
+use Rattle.std.proofs.Common.{◌≡◌, ℕ, ◌+◌, ◌-◌, take, drop, length, List, [], ◌++◌, ◌∙◌, ap, arith, sym, append_assoc, append-nil}
 use Rattle.std.proofs.lemmas.List.{take_rest, length-drop}
 use Rattle.std.proofs.lemmas.Result.{on_err_weaker}
 use Rattle.report_text.specs.Status.{last_line}
@@ -7,8 +7,8 @@ use Rattle.fastver_top.proofs.PassLemmas.{Passes-then, Passes-front, Passes-stop
 use Rattle.fastver_top.proofs.ReportLemmas.{epochs_step, epochs_end}
 use Rattle.fastver_top.proofs.report.write_report.Goals as goal
 
-pub returns-in_err-write_epoch-clause-front : goal.returns-in_err-write_epoch-clause-front
-returns-in_err-write_epoch-clause-front g c =
+pub returns-in_err-write_epoch_lines-clause-front : goal.returns-in_err-write_epoch_lines-clause-front
+returns-in_err-write_epoch_lines-clause-front g c =
     let parts = c.args.certified.now in
     let ops = c.args.operations.now in
     let done = c.loop-part.done in
@@ -24,7 +24,7 @@ returns-in_err-write_epoch-clause-front g c =
     let next = epoch_text c.part-item.result.epoch slice in
     let behind = certified_text (drop (c.loop-part.part-index + 1) parts) (drop (done + count) ops) in
     let last = last_line c.args.status.now in
-    on_err _ (Passes-front _ _ _ _ _ text next (behind ++ last) (whole ++ last) c.loop-part.invariant.passes c.in_err-write_epoch.ensures.front
+    on_err _ (Passes-front _ _ _ _ _ text next (behind ++ last) (whole ++ last) c.loop-part.invariant.passes c.in_err-write_epoch_lines.ensures.front
     (sym (append_assoc (text ++ next) behind last) ∙ ap (λ (l : List ℕ). l ++ last) left))
 
 pub loop-part-preserved : goal.loop-part-preserved
@@ -44,20 +44,22 @@ loop-part-preserved g c =
     record {
       text = text ++ epoch_text c.part-item.result.epoch slice;
       within = omega (arith, c.loop-part.invariant.within, c.count_of-count.ensures.within, ap length rest, length-drop done ops);
-      passes = Passes-then _ _ _ _ _ _ _ _ c.loop-part.invariant.passes c.in_ok-write_epoch.ensures.whole;
+      passes = Passes-then _ _ _ _ _ _ _ _ c.loop-part.invariant.passes c.in_ok-write_epoch_lines.ensures.whole;
       left = left;
-      faults = omega (arith, c.loop-part.invariant.faults, c.in_ok-write_epoch.ensures.counts.never_falls);
+      faults = omega (arith, c.loop-part.invariant.faults, c.in_ok-write_epoch_lines.ensures.counts.never_falls);
     }
 
 pub returns-in_err-write-clause-front : goal.returns-in_err-write-clause-front
 returns-in_err-write-clause-front g c =
-    let whole = epochs_end _ _ _ _ _ c.loop-part-test.false c.loop-part.invariant.left in
+    let whole : c.loop-part.invariant.text ≡ certified_text c.args.certified.now c.args.operations.now =
+    epochs_end _ _ _ _ _ c.loop-part-test.false c.loop-part.invariant.left in
     on_err _ (Passes-stop _ _ _ _ _ _ _ _ c.loop-part.invariant.passes c.in_err-write.ensures.front
     (ap (λ (l : List ℕ). l ++ last_line c.args.status.now) whole))
 
 pub returns-clause-front : goal.returns-clause-front
 returns-clause-front g c =
-    let whole = epochs_end _ _ _ _ _ c.loop-part-test.false c.loop-part.invariant.left in
+    let whole : c.loop-part.invariant.text ≡ certified_text c.args.certified.now c.args.operations.now =
+    epochs_end _ _ _ _ _ c.loop-part-test.false c.loop-part.invariant.left in
     let line = c.as_slice.ensures.value ∙ c.last_line.ensures.text in
     let passes = Passes-then _ _ _ _ _ _ _ _ c.loop-part.invariant.passes c.in_ok-write.ensures.whole in
     on_err_weaker c.flush.result (λ front. Passes-stop _ _ _ _ _ _ [] _ passes front

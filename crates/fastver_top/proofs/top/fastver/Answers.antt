@@ -1,5 +1,4 @@
 use Rattle.std.proofs.Common.{◌≡◌, ℕ, List, IfSome, sym, ◌∙◌, subst}
-use Rattle.record_hash.specs.Hmac.{key_block}
 use Rattle.record_hash.specs.ShaDigests.{sha_text_digest, sha_element_lanes}
 use Rattle.fv_outside.specs.Written.{Grows, GrowsByFront}
 use Rattle.fastver_top.specs.Verdict.{verdict}

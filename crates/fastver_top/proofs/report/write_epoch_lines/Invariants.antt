@@ -3,7 +3,7 @@ use Rattle.std.specs.List.{flat_map}
 use Rattle.report_text.specs.Page.{Passes}
 use Rattle.report_text.specs.Lines.{operation_line}
 use Rattle.fastver_top.specs.Report.{epoch_text}
-use Rattle.fastver_top.proofs.report.write_epoch.Given as goal
+use Rattle.fastver_top.proofs.report.write_epoch_lines.Given as goal
 
 -- a text was added, and with the lines that are left it is the epoch's; and the count of faults hasn't fallen
 abbrev pub invariant-loop-op : goal.invariant-loop-op

@@ -1,7 +1,7 @@
-use Rattle.std.proofs.Common.{◌≡◌, ℕ, ◌∙◌, ap, arith, sym}
+use Rattle.std.proofs.Common.{◌∙◌, arith}
 use Rattle.fastver_top.proofs.PassLemmas.{Passes-then, Passes-stop, on_err}
 use Rattle.fastver_top.proofs.ReportLemmas.{lines_step}
-use Rattle.fastver_top.proofs.report.write_epoch.Goals as goal
+use Rattle.fastver_top.proofs.report.write_epoch_lines.Goals as goal
 
 pub returns-in_err-write-2-clause-front : goal.returns-in_err-write-2-clause-front
 returns-in_err-write-2-clause-front g c =
