@@ -6,9 +6,10 @@ ghost use Rattle.epoch_gather.specs.Verdict.{verdict_of};
 use crate::outcome::Verdict;
 use multiset_sum::{Part, Sum};
 
-/// The verdict on an epoch, by the parts that so many verifiers handed in when they sealed epochs.
+/// The verdict on an epoch, by the parts that so many verifiers handed in when they sealed epochs. Parts of
+/// other epochs may be among them. There is room for the joined sums, since a verifier has one part of an
+/// epoch at most, with fewer than 2^25 elements on each side.
 pub fn verdict(parts: &[Part], verifiers: u16, epoch: u32) -> Verdict
-    requires some { 0 < verifiers }
     requires few { verifiers ≤ 64 }
     requires numbers { All (λ part. part.verifier < verifiers) parts.now }
     requires once { IsDistinct is_same_place parts.now }
@@ -37,7 +38,9 @@ fn missing(parts: &[Part], verifiers: u16, epoch: u32) -> Option<u16>
 fn is_there(parts: &[Part], verifier: u16, epoch: u32) -> bool
     ensures value { result ≡ has_part parts.now epoch verifier }
 {
-    parts.iter().any(|part| part.epoch == epoch && part.verifier == verifier)
+    parts
+        .iter()
+        .any(|part| part.epoch == epoch && part.verifier == verifier)
 }
 
 // The sums of what was added and of what was evicted in the epoch, over all verifiers.
