@@ -1,8 +1,8 @@
 -- The order of moments is total, and moments that tie are one.
-use Rattle.std.proofs.Common.{◌≡◌, ℕ, ◌<◌, true, false, refl, arith}
+use Rattle.std.proofs.Common.{◌≡◌, ℕ, ◌<◌, true, false, not, refl, arith}
 use Rattle.std.specs.declared.cmp.Ordering.{Ordering}
 use Rattle.std.specs.declared.cmp.Ordering.TheVariants.{Less, Equal, Greater}
-use Rattle.std.specs.Ordering.{nat_cmp, is_lt, ordering_then, ordering_reverse}
+use Rattle.std.specs.Ordering.{nat_cmp, is_lt, is_le, ordering_then, ordering_reverse}
 use Rattle.std.specs.Cmp.{IsTotalOrder, IsStrictWeakOrder}
 use Rattle.std.specs.List.Sorted.{ties}
 use Rattle.std.proofs.lemmas.Cmp.{on_total, then_total, nat_cmp_total}
@@ -11,7 +11,7 @@ use Rattle.std.proofs.lemmas.Bool.Decides.{nat_tests}
 use Rattle.lamport_clocks.specs.Stamp.{stamp_cmp}
 use Rattle.lamport_clocks.specs.declared.stamp.Stamp.{Stamp}
 use Rattle.stamp_order.specs.declared.moment.Moment.{Moment}
-use Rattle.stamp_order.specs.Moment.{moment_cmp, is_before}
+use Rattle.stamp_order.specs.Moment.{moment_cmp, is_before, not_after}
 use Rattle.stamp_order.specs.Merged.{comes_before}
 use Rattle.stamp_order.proofs.OneOrderLemmas.{untied}
 
@@ -64,3 +64,12 @@ one_moment m n tie =
 -- an earlier epoch comes before a later one
 pub is_before-epoch : (m n : Moment) → m.at.epoch < n.at.epoch → is_before m n ≡ true
 is_before-epoch m n earlier = grind (arith, nat_tests)
+
+-- what is not after is before or the same
+not_less : (r s : Ordering) → s ≡ ordering_reverse r → not (is_lt s) ≡ is_le r
+not_less Less s e = rw e refl
+not_less Equal s e = rw e refl
+not_less Greater s e = rw e refl
+
+pub not_after-cmp : (m n : Moment) → not_after m n ≡ is_le (moment_cmp m n)
+not_after-cmp m n = not_less (moment_cmp m n) (moment_cmp n m) (moment_cmp-total.antisymm n m)

@@ -1,6 +1,5 @@
 -- The merged order of what several verifiers did.
 use Rattle.std.specs.Prelude.{ℕ, ◌==◌, nat_le, Bool, List, filter}
-use Rattle.record_text.specs.declared.element.Operation.{Operation}
 use Rattle.stamp_order.specs.declared.moment.Moment.{Moment}
 use Rattle.stamp_order.specs.Moment.{is_before}
 use Rattle.stamp_order.specs.InOrder.{in_order, IsInOrder}
@@ -28,11 +27,3 @@ of_epoch at epoch xs = filter (λ x. (at x).at.epoch == epoch) xs
 -- the members that are of this verifier
 abbrev pub of_verifier : {X : Type 0} → (X → Moment) → ℕ → List X → List X
 of_verifier at verifier xs = filter (λ x. (at x).verifier == verifier) xs
-
--- when an operation was done: the clock after it, its verifier, and its number in the verifier's log
-abbrev pub moment_of : Operation → Moment
-moment_of operation = record { at = operation.stamp; verifier = operation.verifier; index = operation.index }
-
--- all operations up to an epoch, in the order of their moments
-abbrev pub merged_up_to : ℕ → List Operation → List Operation
-merged_up_to epoch operations = merged moment_of (up_to moment_of epoch operations)

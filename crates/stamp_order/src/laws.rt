@@ -2,8 +2,8 @@
 //! nothing: their contracts are the laws.
 ghost use Rattle.std.specs.Prelude.{◌≡◌, ◌≢◌, ℕ, ◌+◌, Bool, List, ◌++◌, filter, flat_map, AllPairs, IsPermutation, IsSortedByKey};
 ghost use Rattle.std.specs.List.{AllByRecursion};
-ghost use Rattle.std.specs.Ordering.{is_lt};
-ghost use Rattle.stamp_order.specs.Moment.{moment_cmp, is_before};
+ghost use Rattle.std.specs.Ordering.{is_lt, is_le};
+ghost use Rattle.stamp_order.specs.Moment.{moment_cmp, is_before, not_after};
 ghost use Rattle.stamp_order.specs.declared.moment.Moment.{Moment};
 ghost use Rattle.stamp_order.specs.Merged.{merged, IsMerged, up_to, of_epoch, of_verifier};
 
@@ -13,6 +13,7 @@ use crate::moment::Moment;
 pub fn moments_are_ordered()
     ensures compare { (m n : Moment) → ⟦<Moment as Ord>⟧.cmp m n ≡ moment_cmp m n }
     ensures before { (m n : Moment) → is_before m n ≡ is_lt (⟦<Moment as Ord>⟧.cmp m n) }
+    ensures not_after { (m n : Moment) → not_after m n ≡ is_le (⟦<Moment as Ord>⟧.cmp m n) }
 {}
 
 /// The merged members are those that were merged, each as often, in the order of their moments.

@@ -1,5 +1,6 @@
 ghost use Rattle.std.specs.Prelude.{◌≡◌, IfOk};
-ghost use Rattle.stamp_order.specs.Merged.{moment_of, up_to, merged_up_to};
+ghost use Rattle.stamp_order.specs.Merged.{up_to};
+ghost use Rattle.stamp_order.specs.Operations.{moment_of, merged_up_to};
 
 use crate::moment::Moment;
 use fv_outside::Memory;
@@ -7,7 +8,7 @@ use record_text::Operation;
 use std::alloc::Global;
 
 /// All operations up to an epoch, in one order: by the clock, then the verifier, then the number in its log.
-/// It keeps the order of each verifier.
+/// A verifier's operations stay in the order of its log.
 pub fn merge(alloc: Global, ops: &[Operation], epoch: u32) -> Result<Vec<Operation>, Memory>
     ensures merged { IfOk result (λ v. v.items ≡ merged_up_to epoch ops.now) }
 {

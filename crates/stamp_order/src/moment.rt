@@ -1,5 +1,5 @@
 ghost use Rattle.std.specs.Prelude.{◌≡◌};
-ghost use Rattle.stamp_order.specs.Merged.{moment_of};
+ghost use Rattle.stamp_order.specs.Operations.{moment_of};
 
 use lamport_clocks::Stamp;
 use record_text::Operation;
