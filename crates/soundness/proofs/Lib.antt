@@ -9,3 +9,4 @@ pub mod FamilyLemmas
 pub mod UnderLemmas
 pub mod WorldLemmas
 pub mod JoinLemmas
+pub mod HistoryLemmas
