@@ -8,3 +8,5 @@ pub mod HistoryRunLemmas
 pub mod CountedLemmas
 pub mod SealedLemmas
 pub mod PartLemmas
+pub mod EpochTextLemmas
+pub mod BundleReportLemmas
