@@ -4,3 +4,9 @@ pub mod ReportLemmas
 pub mod MeaningLemmas
 pub mod PassLemmas
 pub mod VerdictLemmas
+pub mod HistoryRunLemmas
+pub mod CountedLemmas
+pub mod SealedLemmas
+pub mod PartLemmas
+pub mod EpochTextLemmas
+pub mod BundleReportLemmas
