@@ -24,7 +24,8 @@ use Rattle.soundness.specs.Certified.{order_of, operations_in, order_within, bal
 use Rattle.soundness.proofs.HistoryLemmas.{log-ticks, order_of-one}
 use Rattle.fastver_top.specs.Words.{is_word}
 use Rattle.fastver_top.specs.Report.{is_balanced, balanced_count, certified_text, exit_by}
-use Rattle.fastver_top.specs.Verdict.{Verdict, verdict_with, verdict_of}
+use Rattle.fastver_top.specs.Verdict.{Verdict}
+use Rattle.fastver_top.specs.Report.{verdict_with, verdict_of}
 use Rattle.fastver_top.specs.BundleReport.{epochs_from, epoch_lines, refused_in, refused_status, refused_among, done_or_bad, status_or, unbalanced_status, exit_of, report_of_logs, histories_in}
 use Rattle.fastver_top.proofs.HistoryRunLemmas.{trace-operations, trace-accepted, trace-refused}
 use Rattle.fastver_top.proofs.PartLemmas.{part_of, log-parts}

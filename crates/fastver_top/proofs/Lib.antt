@@ -3,10 +3,10 @@ pub mod TookLemmas
 pub mod ReportLemmas
 pub mod MeaningLemmas
 pub mod PassLemmas
-pub mod VerdictLemmas
 pub mod HistoryRunLemmas
 pub mod CountedLemmas
 pub mod SealedLemmas
 pub mod PartLemmas
 pub mod EpochTextLemmas
 pub mod BundleReportLemmas
+pub mod VerdictLemmas

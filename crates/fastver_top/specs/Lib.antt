@@ -3,6 +3,6 @@ pub mod Words
 pub mod Intake
 pub mod Taken
 pub mod Outcomes
-pub mod Report
 pub mod BundleReport
 pub mod Verdict
+pub mod Report

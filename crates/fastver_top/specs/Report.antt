@@ -1,4 +1,4 @@
--- What a check answers of a bundle with one verifier: which epochs are certified, and how the report ends.
+-- The report as a run tells it: by the parts of its sealed epochs and its operations, as they came.
 use Rattle.std.specs.Prelude.{ℕ, suc, ◌==◌, ◌&&◌, Bool, List, [], ◌∷◌, ◌++◌, length, take, drop, Option, Some, None, if◌then◌else◌}
 use Rattle.std.specs.List.{flat_map}
 use Rattle.multiset_sum.specs.Tally.{Tally}
@@ -6,10 +6,12 @@ use Rattle.multiset_sum.specs.declared.part.Part.{Part}
 use Rattle.record_text.specs.declared.element.Operation.{Operation}
 use Rattle.record_text.specs.declared.refusal.Refusal.{Refusal}
 use Rattle.verifier_commands.specs.Same.{same_bytes}
+use Rattle.verifier_run.specs.Course.{Course}
 use Rattle.report_text.specs.declared.status.Status.{Status}
 use Rattle.report_text.specs.declared.status.Status.TheVariants.{Done, BadBundle, Refused, Unbalanced}
 use Rattle.report_text.specs.Lines.{epoch_line, operation_line}
 use Rattle.report_text.specs.Status.{last_line}
+use Rattle.fastver_top.specs.Verdict.{Verdict}
 
 -- two sums are equal, in each lane and in the count
 abbrev pub same_tally : Tally → Tally → Bool
@@ -50,3 +52,13 @@ exit_by certified (part ∷ parts) refused bad = Unbalanced part.epoch part.adde
 exit_by certified [] (Some refusal) bad = Refused 0 refusal.0 refusal.1
 exit_by certified [] None (Some offset) = BadBundle offset
 exit_by certified [] None None = Done certified
+
+-- a report that ends so
+abbrev pub verdict_with : List Part → List Operation → Status → Verdict
+verdict_with parts operations status = record { text = report_of parts operations status; status = status }
+
+-- of what a log came to, in a bundle in which so much is bad
+abbrev pub verdict_of : Course → Option ℕ → Verdict
+verdict_of course bad =
+    verdict_with (take (balanced_count course.parts) course.parts) course.operations
+    (exit_by (balanced_count course.parts) (drop (balanced_count course.parts) course.parts) course.refused bad)

@@ -1,43 +1,38 @@
 -- What a check says of bytes: its report, and the status that ends it.
-use Rattle.std.specs.Prelude.{ℕ, ◌==◌, ◌≡◌, List, [], take, drop, Option, Some, None, if◌then◌else◌}
+use Rattle.std.specs.Prelude.{ℕ, ◌==◌, ◌≡◌, List, [], ◌∷◌, Option, Some, None, if◌then◌else◌}
 use Rattle.record_hash.specs.Hmac.{key_block}
 use Rattle.record_hash.specs.ShaDigests.{sha_text_digest, sha_element_lanes}
 use Rattle.lamport_clocks.specs.declared.header.Header.{Header}
-use Rattle.record_text.specs.declared.element.Operation.{Operation}
-use Rattle.multiset_sum.specs.declared.part.Part.{Part}
-use Rattle.verifier_commands.specs.Machine.{opening_machine}
-use Rattle.verifier_run.specs.Course.{Course}
-use Rattle.verifier_run.specs.LogCourse.{log_course}
+use Rattle.record_text.specs.Format.{short_keys}
+use Rattle.log_codec.specs.Log.{Log, read_log}
 use Rattle.report_text.specs.declared.status.Status.{Status}
 use Rattle.report_text.specs.declared.status.Status.TheVariants.{BadBundle, WriteFault}
+use Rattle.report_text.specs.Status.{last_line}
 use Rattle.fv_outside.specs.Written.{Grows, GrowsByFront}
 use Rattle.fastver_top.specs.Intake.{Logged, logged_of}
 use Rattle.fastver_top.specs.Outcomes.{IsEnd}
-use Rattle.fastver_top.specs.Report.{balanced_count, exit_by, report_of}
+use Rattle.fastver_top.specs.BundleReport.{histories_in, exit_of, report_of_logs}
 
 pub record Verdict : Type 0 where
   pub text : List ℕ
   pub status : Status
 
--- a report that ends so
-abbrev pub verdict_with : List Part → List Operation → Status → Verdict
-verdict_with parts operations status = record { text = report_of parts operations status; status = status }
-
--- of what a log came to, in a bundle in which so much is bad
-abbrev pub verdict_of : Course → Option ℕ → Verdict
-verdict_of course bad =
-    verdict_with (take (balanced_count course.parts) course.parts) course.operations
-    (exit_by (balanced_count course.parts) (drop (balanced_count course.parts) course.parts) course.refused bad)
+-- of logs under a header, in a bundle in which so much is bad
+abbrev pub verdict_on : (List ℕ → List ℕ) → (List ℕ → List ℕ) → Header → List Log → Option ℕ → Verdict
+verdict_on digest lanes header logs bad = record {
+  text = report_of_logs digest lanes header logs (histories_in digest lanes header logs) bad;
+  status = exit_of digest lanes header logs (histories_in digest lanes header logs) bad;
+}
 
 -- of a bundle that isn't taken: nothing is certified, and it is bad from its first byte
 abbrev pub verdict_none : Verdict
-verdict_none = verdict_with [] [] (BadBundle 0)
+verdict_none = record { text = last_line (BadBundle 0); status = BadBundle 0 }
 
 -- of a bundle with this header, if it is good, and this log of verifier 0: the bundle must have one verifier
 abbrev pub verdict_at : (List ℕ → List ℕ) → (List ℕ → List ℕ) → Option Header → List ℕ → Option ℕ → Verdict
 verdict_at digest lanes None log bad = verdict_none
 verdict_at digest lanes (Some header) log bad =
-    if header.verifiers == 1 then verdict_of (log_course digest lanes (opening_machine 0 header) log) bad else verdict_none
+    if header.verifiers == 1 then verdict_on digest lanes header (read_log short_keys log ∷ []) bad else verdict_none
 
 -- of a bundle that was read
 abbrev pub verdict_by : (List ℕ → List ℕ) → (List ℕ → List ℕ) → Logged → Verdict

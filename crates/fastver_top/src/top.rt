@@ -8,7 +8,8 @@ ghost use Rattle.fastver_top.specs.Words.{check_key};
 ghost use Rattle.fastver_top.specs.Intake.{logged};
 ghost use Rattle.fastver_top.specs.Taken.{TookAtMost, TookJust};
 ghost use Rattle.fastver_top.specs.Outcomes.{IsEnd, IsOutcome};
-ghost use Rattle.fastver_top.specs.Verdict.{Reports, sha_verdict, verdict, verdict_by, verdict_of, verdict_with};
+ghost use Rattle.fastver_top.specs.Verdict.{Reports, sha_verdict, verdict, verdict_by};
+ghost use Rattle.fastver_top.specs.Report.{verdict_of, verdict_with};
 
 use crate::intake::{Intake, Stop};
 use crate::reading::read_bundle;
@@ -112,6 +113,7 @@ pub fn check<D: Digests, S: Source, O: Sink>(
 }
 
 // Checks what was read, and writes the report.
+#[tactic(auto, using(crate::proofs::VerdictLemmas::verdict_view))]
 fn conclude<D: Digests, O: Sink>(alloc: Global, d: &D, intake: &Intake, out: &mut O) -> Status
     ensures outcome { IsOutcome result }
     ensures words { result ≢ Status.Usage }
