@@ -26,7 +26,8 @@ use Rattle.soundness.proofs.HistoryLemmas.{Ticks}
 
 module _ (elements : List Element) (element : Element) (epoch : ℕ) where
   -- of its own epoch
-  push_own : element.stamp.epoch ≡ epoch → of_epoch epoch (elements ++ element ∷ []) ≡ of_epoch epoch elements ++ element ∷ []
+  push_own : element.stamp.epoch ≡ epoch
+      → of_epoch epoch (elements ++ element ∷ []) ≡ of_epoch epoch elements ++ element ∷ []
   push_own own =
       filter-append (λ (e : Element). e.stamp.epoch == epoch) elements (element ∷ [])
       ∙ ap (λ (b : Bool). of_epoch epoch elements ++ cond b (element ∷ []) []) (eq-eqb _ _ own)
@@ -40,7 +41,8 @@ module _ (elements : List Element) (element : Element) (epoch : ℕ) where
 
 -- the sum with an element more
 sum_over-push : (lanes : List ℕ → List ℕ) (elements : List Element) (element : Element)
-    → with_lanes (sum_over lanes elements) (lanes (element_text short_keys element)) ≡ sum_over lanes (elements ++ element ∷ [])
+    → with_lanes (sum_over lanes elements) (lanes (element_text short_keys element))
+    ≡ sum_over lanes (elements ++ element ∷ [])
 sum_over-push lanes elements element =
     let hash : Element → List ℕ = λ e. lanes (element_text short_keys e) in
     with_lanes-sum_of (map hash elements) (hash element)
@@ -81,7 +83,8 @@ module _ (lanes : List ℕ → List ℕ) (epoch : ℕ) (own before : Tally) (ele
   counted_before : (element : Element) → element.stamp.epoch + 1 ≡ epoch
       → Counted lanes epoch own (with_lanes before (lanes (element_text short_keys element))) (elements ++ element ∷ [])
   counted_before element is = record {
-    own_is = counted.own_is ∙ ap (sum_over lanes) (sym (push_other elements element epoch (λ same. absurd (omega arith))));
+    own_is =
+        counted.own_is ∙ ap (sum_over lanes) (sym (push_other elements element epoch (λ same. absurd (omega arith))));
     before_is = λ last next.
         ap (λ (s : Tally). with_lanes s (lanes (element_text short_keys element))) (counted.before_is last next)
         ∙ sum_over-push lanes (of_epoch last elements) element
@@ -111,7 +114,8 @@ module _ (lanes : List ℕ → List ℕ) (epoch : ℕ) (own before : Tally) (ele
 -- the sums of what was added and of what was evicted
 abbrev pub Keeps : (List ℕ → List ℕ) → ℕ → Sums → List Element → List Element → Type 0
 Keeps lanes epoch sums added evicted =
-    Counted lanes epoch sums.added sums.added_before added × Counted lanes epoch sums.evicted sums.evicted_before evicted
+    Counted lanes epoch sums.added sums.added_before added
+    × Counted lanes epoch sums.evicted sums.evicted_before evicted
 
 -- the sums that a verifier begins with
 pub keeps-opening : (lanes : List ℕ → List ℕ) (epoch : ℕ) → Keeps lanes epoch zero_sums [] []
@@ -143,18 +147,20 @@ module _ (digest lanes : List ℕ → List ℕ) (machine : Machine) (added evict
       (λ sums. Keeps lanes new.at.epoch sums (added ++ element ∷ []) (evicted ++ []))
       (λ own. (
         counted_at lanes new.at.epoch old.at.epoch _ _ (added ++ element ∷ []) epoch
-        (counted_own lanes old.at.epoch _ _ added keeps.0 element (eqb-true _ _ own)),
+            (counted_own lanes old.at.epoch _ _ added keeps.0 element (eqb-true _ _ own)),
         evicted_same,
       ))
       (λ other. (
         counted_at lanes new.at.epoch old.at.epoch _ _ (added ++ element ∷ []) epoch
-        (counted_before lanes old.at.epoch _ _ added keeps.0 element
-        (before (eqb-false _ _ other) (open_epochs old element.stamp.epoch (received-ok old new element.stamp is).0))),
+            (counted_before lanes old.at.epoch _ _ added keeps.0 element
+            (before (eqb-false _ _ other)
+            (open_epochs old element.stamp.epoch (received-ok old new element.stamp is).0))),
         evicted_same,
       ))
     where
       before : element.stamp.epoch ≢ old.at.epoch
-          → (element.stamp.epoch ≡ old.at.epoch) ⊎ ((old.first < old.at.epoch) × (element.stamp.epoch + 1 ≡ old.at.epoch))
+          → (element.stamp.epoch ≡ old.at.epoch)
+          ⊎ ((old.first < old.at.epoch) × (element.stamp.epoch + 1 ≡ old.at.epoch))
           → element.stamp.epoch + 1 ≡ old.at.epoch
       before other (inl own) = absurd (other own)
       before other (inr last) = last.1
@@ -165,10 +171,11 @@ module _ (digest lanes : List ℕ → List ℕ) (machine : Machine) (added evict
       (added ++ []) (evicted ++ element ∷ [])
   keeps_sent element is =
       let own = (sent-ok old new element.stamp is).0 in
-      let epoch : new.at.epoch ≡ old.at.epoch = ap (λ (s : Stamp). s.epoch) (sent-at old new element.stamp is) ∙ own in (
+      let at = sent-at old new element.stamp is in
+      let epoch : new.at.epoch ≡ old.at.epoch = ap (λ (s : Stamp). s.epoch) at ∙ own in (
         counted_same lanes old.at.epoch _ _ added keeps.0 new.at.epoch epoch,
         counted_at lanes new.at.epoch old.at.epoch _ _ (evicted ++ element ∷ []) epoch
-        (counted_own lanes old.at.epoch _ _ evicted keeps.1 element own),
+            (counted_own lanes old.at.epoch _ _ evicted keeps.1 element own),
       )
 
   -- the epoch turned
@@ -176,13 +183,16 @@ module _ (digest lanes : List ℕ → List ℕ) (machine : Machine) (added evict
       → Keeps lanes new.at.epoch (turn_sums machine.sums) (added ++ []) (evicted ++ [])
   keeps_turned sealed is =
       let epoch : new.at.epoch ≡ old.at.epoch + 1 = ap (λ (s : Stamp). s.epoch) (turned-at old new sealed is) in (
-        counted_same lanes (old.at.epoch + 1) _ _ added (counted_turn lanes old.at.epoch _ _ added keeps.0) new.at.epoch epoch,
-        counted_same lanes (old.at.epoch + 1) _ _ evicted (counted_turn lanes old.at.epoch _ _ evicted keeps.1) new.at.epoch epoch,
+        counted_same lanes (old.at.epoch + 1) _ _ added
+            (counted_turn lanes old.at.epoch _ _ added keeps.0) new.at.epoch epoch,
+        counted_same lanes (old.at.epoch + 1) _ _ evicted
+            (counted_turn lanes old.at.epoch _ _ evicted keeps.1) new.at.epoch epoch,
       )
 
   -- The sums after a change are those of the elements with its own.
   pub keeps-after : (change : Change) → Ticks old new change
-      → Keeps lanes new.at.epoch (sums_after (rules_for digest lanes machine) old.at.epoch machine.sums (outcome_of change))
+      → Keeps lanes new.at.epoch
+      (sums_after (rules_for digest lanes machine) old.at.epoch machine.sums (outcome_of change))
       (added ++ added_by change) (evicted ++ evicted_by change)
   keeps-after (joins parent after child) is = keeps_same is
   keeps-after (leaves parent after child) is = keeps_same is

@@ -10,7 +10,7 @@ use Rattle.verifier_commands.specs.Outcome.{outcome_of, told}
 use Rattle.verifier_commands.specs.Transition.{Step, transition}
 use Rattle.verifier_commands.specs.Machine.{Machine, effect_of, machine_after, concluded, rules_for}
 use Rattle.verifier_run.specs.Trace.{Trace, trace, trace_behind, operations_of, operation_in}
-use Rattle.soundness.specs.History.{Event, events_behind, events_from, machinery_under, refusal_behind, refusal_from}
+use Rattle.soundness.specs.History.{Event, Machinery, events_behind, events_from, machinery_under, refusal_behind, refusal_from}
 use Rattle.soundness.specs.Certified.{operations_by, operations_in}
 
 -- ---- a step
@@ -19,51 +19,6 @@ use Rattle.soundness.specs.Certified.{operations_by, operations_in}
 abbrev pub next_event : Machine → Stamp → Change → Event
 next_event machine at change =
     record { verifier = machine.number; index = machine.accepted; at = at; change = change }
-
--- the machine after a change that left this state
-abbrev pub changed : (List ℕ → List ℕ) → (List ℕ → List ℕ) → Machine → Change × State → Machine
-changed digest lanes machine done = machine_after (rules_for digest lanes machine) machine (outcome_of done.0) done.1
-
--- the events of a machine's commands, from where it stands
-abbrev pub machine_events : (List ℕ → List ℕ) → (List ℕ → List ℕ) → Machine → List Command → List Event
-machine_events digest lanes machine commands =
-    events_from (machinery_under (rules_for digest lanes machine)) machine.number machine.accepted machine.state commands
-
--- what was done by a step, and behind it
-abbrev pub step_events : (List ℕ → List ℕ) → (List ℕ → List ℕ) → Machine → List Command → Step → List Event
-step_events digest lanes machine commands step =
-    events_behind (machinery_under (rules_for digest lanes machine)) machine.number machine.accepted step
-    (λ after. events_from (machinery_under (rules_for digest lanes machine)) machine.number (suc machine.accepted) after commands)
-
--- the trace of a step, and of the commands behind it
-abbrev pub step_trace : (List ℕ → List ℕ) → (List ℕ → List ℕ) → Machine → List Command → Step → Trace
-step_trace digest lanes machine commands step =
-    trace_behind machine (concluded (rules_for digest lanes machine) machine (told step)) (λ after. trace digest lanes after commands)
-
--- the events of a command and those behind it
-pub events-command : (digest lanes : List ℕ → List ℕ) (machine : Machine) (command : Command) (commands : List Command)
-    → machine_events digest lanes machine (command ∷ commands)
-    ≡ step_events digest lanes machine commands (transition (rules_for digest lanes machine) machine.state command)
-unfolding events_from
-events-command digest lanes machine command commands = refl
-
--- the trace of a command and those behind it
-pub trace-command : (digest lanes : List ℕ → List ℕ) (machine : Machine) (command : Command) (commands : List Command)
-    → trace digest lanes machine (command ∷ commands)
-    ≡ step_trace digest lanes machine commands (transition (rules_for digest lanes machine) machine.state command)
-unfolding trace
-trace-command digest lanes machine command commands = refl
-
--- what was done by an accepted command, and then by the machine after it
-pub events-accepted : (digest lanes : List ℕ → List ℕ) (machine : Machine) (commands : List Command) (done : Change × State)
-    → step_events digest lanes machine commands (Ok done)
-    ≡ next_event machine done.1.clock.at done.0 ∷ machine_events digest lanes (changed digest lanes machine done) commands
-events-accepted digest lanes machine commands done =
-    ap (λ (index : ℕ). next_event machine done.1.clock.at done.0
-    ∷ events_from (machinery_under (rules_for digest lanes machine)) machine.number index done.1 commands)
-    (sym (add-one machine.accepted))
-
--- ---- operations
 
 -- the operation that an effect is, is that of its change
 operation_told : (machine : Machine) (at : Stamp) (change : Change)
@@ -78,59 +33,101 @@ operation_told machine at (writes before after) = refl
 operation_told machine at (turns None) = refl
 operation_told machine at (turns (Some sealed)) = refl
 
-operations_behind : (digest lanes : List ℕ → List ℕ) (machine : Machine) (commands : List Command) (step : Step)
-    → ((after : Machine) → operations_of (trace digest lanes after commands).effects ≡ operations_in (machine_events digest lanes after commands))
-    → operations_of (step_trace digest lanes machine commands step).effects ≡ operations_in (step_events digest lanes machine commands step)
-operations_behind digest lanes machine commands (Ok done) further =
-    ap (λ (ops : List Operation). ops ++ operations_of (trace digest lanes (changed digest lanes machine done) commands).effects)
-    (operation_told machine done.1.clock.at done.0)
-    ∙ ap (λ (ops : List Operation). operations_by (next_event machine done.1.clock.at done.0) done.0 ++ ops)
-    (further (changed digest lanes machine done))
-    ∙ ap operations_in (sym (events-accepted digest lanes machine commands done))
-operations_behind digest lanes machine commands (Err refusal) further = refl
+module _ (digest lanes : List ℕ → List ℕ) where
+  -- the machine after a change that left this state
+  abbrev pub changed : Machine → Change × State → Machine
+  changed machine done = machine_after (rules_for digest lanes machine) machine (outcome_of done.0) done.1
 
--- The operations of a trace are those of the events.
-pub trace-operations : (digest lanes : List ℕ → List ℕ) (machine : Machine) (commands : List Command)
-    → operations_of (trace digest lanes machine commands).effects ≡ operations_in (machine_events digest lanes machine commands)
-unfolding trace events_from
-trace-operations digest lanes machine [] = refl
-trace-operations digest lanes machine (command ∷ commands) =
-    operations_behind digest lanes machine commands (transition (rules_for digest lanes machine) machine.state command)
-    (λ after. trace-operations digest lanes after commands)
+  -- the machinery of a machine
+  abbrev pub machinery_of : Machine → Machinery State Command
+  machinery_of machine = machinery_under (rules_for digest lanes machine)
 
--- ---- how many were accepted, and why the next was not
+  -- the events of a machine's commands, from where it stands
+  abbrev pub machine_events : Machine → List Command → List Event
+  machine_events machine commands =
+      events_from (machinery_of machine) machine.number machine.accepted machine.state commands
 
-accepted_behind : (digest lanes : List ℕ → List ℕ) (machine : Machine) (commands : List Command) (step : Step)
-    → ((after : Machine) → (trace digest lanes after commands).machine.accepted ≡ after.accepted + length (machine_events digest lanes after commands))
-    → (step_trace digest lanes machine commands step).machine.accepted ≡ machine.accepted + length (step_events digest lanes machine commands step)
-accepted_behind digest lanes machine commands (Ok done) further =
-    let later = length (machine_events digest lanes (changed digest lanes machine done) commands) in
-    let count : machine.accepted + 1 + later ≡ machine.accepted + suc later = omega arith in
-    further (changed digest lanes machine done) ∙ count
-    ∙ ap (λ (events : List Event). machine.accepted + length events) (sym (events-accepted digest lanes machine commands done))
-accepted_behind digest lanes machine commands (Err refusal) further = sym (add-zero machine.accepted)
+  -- what was done by a step, and behind it
+  abbrev pub step_events : Machine → List Command → Step → List Event
+  step_events machine commands step =
+      events_behind (machinery_of machine) machine.number machine.accepted step
+      (λ after. events_from (machinery_of machine) machine.number (suc machine.accepted) after commands)
 
--- As many commands were accepted as there are events.
-pub trace-accepted : (digest lanes : List ℕ → List ℕ) (machine : Machine) (commands : List Command)
-    → (trace digest lanes machine commands).machine.accepted ≡ machine.accepted + length (machine_events digest lanes machine commands)
-unfolding trace events_from
-trace-accepted digest lanes machine [] = sym (add-zero machine.accepted)
-trace-accepted digest lanes machine (command ∷ commands) =
-    accepted_behind digest lanes machine commands (transition (rules_for digest lanes machine) machine.state command)
-    (λ after. trace-accepted digest lanes after commands)
+  -- the trace of a step, and of the commands behind it
+  abbrev pub step_trace : Machine → List Command → Step → Trace
+  step_trace machine commands step =
+      trace_behind machine (concluded (rules_for digest lanes machine) machine (told step))
+      (λ after. trace digest lanes after commands)
 
-refused_behind : (digest lanes : List ℕ → List ℕ) (machine : Machine) (commands : List Command) (step : Step)
-    → ((after : Machine) → (trace digest lanes after commands).refused ≡ refusal_from (machinery_under (rules_for digest lanes after)) after.state commands)
-    → (step_trace digest lanes machine commands step).refused
-    ≡ refusal_behind step (λ after. refusal_from (machinery_under (rules_for digest lanes machine)) after commands)
-refused_behind digest lanes machine commands (Ok done) further = further (changed digest lanes machine done)
-refused_behind digest lanes machine commands (Err refusal) further = refl
+  -- what was done by an accepted command, and then by the machine after it
+  pub events-accepted : (machine : Machine) (commands : List Command) (done : Change × State)
+      → step_events machine commands (Ok done)
+      ≡ next_event machine done.1.clock.at done.0 ∷ machine_events (changed machine done) commands
+  events-accepted machine commands done =
+      ap (λ (index : ℕ). next_event machine done.1.clock.at done.0
+      ∷ events_from (machinery_of machine) machine.number index done.1 commands)
+      (sym (add-one machine.accepted))
 
--- The refusal that ends a trace is the one that ends the events.
-pub trace-refused : (digest lanes : List ℕ → List ℕ) (machine : Machine) (commands : List Command)
-    → (trace digest lanes machine commands).refused ≡ refusal_from (machinery_under (rules_for digest lanes machine)) machine.state commands
-unfolding trace refusal_from
-trace-refused digest lanes machine [] = refl
-trace-refused digest lanes machine (command ∷ commands) =
-    refused_behind digest lanes machine commands (transition (rules_for digest lanes machine) machine.state command)
-    (λ after. trace-refused digest lanes after commands)
+  -- ---- operations
+
+  operations_behind : (machine : Machine) (commands : List Command) (step : Step)
+      → ((after : Machine)
+      → operations_of (trace digest lanes after commands).effects ≡ operations_in (machine_events after commands))
+      → operations_of (step_trace machine commands step).effects ≡ operations_in (step_events machine commands step)
+  operations_behind machine commands (Ok done) further =
+      ap (λ (ops : List Operation). ops ++ operations_of (trace digest lanes (changed machine done) commands).effects)
+      (operation_told machine done.1.clock.at done.0)
+      ∙ ap (λ (ops : List Operation). operations_by (next_event machine done.1.clock.at done.0) done.0 ++ ops)
+      (further (changed machine done))
+      ∙ ap operations_in (sym (events-accepted machine commands done))
+  operations_behind machine commands (Err refusal) further = refl
+
+  -- The operations of a trace are those of the events.
+  pub trace-operations : (machine : Machine) (commands : List Command)
+      → operations_of (trace digest lanes machine commands).effects ≡ operations_in (machine_events machine commands)
+  unfolding trace events_from
+  trace-operations machine [] = refl
+  trace-operations machine (command ∷ commands) =
+      operations_behind machine commands (transition (rules_for digest lanes machine) machine.state command)
+      (λ after. trace-operations after commands)
+
+  -- ---- how many were accepted, and why the next was not
+
+  accepted_behind : (machine : Machine) (commands : List Command) (step : Step)
+      → ((after : Machine)
+      → (trace digest lanes after commands).machine.accepted ≡ after.accepted + length (machine_events after commands))
+      → (step_trace machine commands step).machine.accepted
+      ≡ machine.accepted + length (step_events machine commands step)
+  accepted_behind machine commands (Ok done) further =
+      let later = length (machine_events (changed machine done) commands) in
+      let count : machine.accepted + 1 + later ≡ machine.accepted + suc later = omega arith in
+      further (changed machine done) ∙ count
+      ∙ ap (λ (events : List Event). machine.accepted + length events) (sym (events-accepted machine commands done))
+  accepted_behind machine commands (Err refusal) further = sym (add-zero machine.accepted)
+
+  -- As many commands were accepted as there are events.
+  pub trace-accepted : (machine : Machine) (commands : List Command)
+      → (trace digest lanes machine commands).machine.accepted
+      ≡ machine.accepted + length (machine_events machine commands)
+  unfolding trace events_from
+  trace-accepted machine [] = sym (add-zero machine.accepted)
+  trace-accepted machine (command ∷ commands) =
+      accepted_behind machine commands (transition (rules_for digest lanes machine) machine.state command)
+      (λ after. trace-accepted after commands)
+
+  refused_behind : (machine : Machine) (commands : List Command) (step : Step)
+      → ((after : Machine)
+      → (trace digest lanes after commands).refused ≡ refusal_from (machinery_of after) after.state commands)
+      → (step_trace machine commands step).refused
+      ≡ refusal_behind step (λ after. refusal_from (machinery_of machine) after commands)
+  refused_behind machine commands (Ok done) further = further (changed machine done)
+  refused_behind machine commands (Err refusal) further = refl
+
+  -- The refusal that ends a trace is the one that ends the events.
+  pub trace-refused : (machine : Machine) (commands : List Command)
+      → (trace digest lanes machine commands).refused ≡ refusal_from (machinery_of machine) machine.state commands
+  unfolding trace refusal_from
+  trace-refused machine [] = refl
+  trace-refused machine (command ∷ commands) =
+      refused_behind machine commands (transition (rules_for digest lanes machine) machine.state command)
+      (λ after. trace-refused after commands)

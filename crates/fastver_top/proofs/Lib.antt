@@ -1,4 +1,4 @@
--- What reading a source comes to, and what is certified.
+-- What reading a source comes to, what is certified, and that with one verifier it is the report by its history.
 pub mod TookLemmas
 pub mod ReportLemmas
 pub mod MeaningLemmas

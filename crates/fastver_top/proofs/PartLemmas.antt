@@ -63,26 +63,30 @@ counted-step : (digest lanes : List ℕ → List ℕ) (machine : Machine) (befor
 counted-step digest lanes machine before done ticks counted =
     let after = changed digest lanes machine done in
     let event = next_event machine done.1.clock.at done.0 in
-    subst (λ (es : List Element). Keeps lanes after.state.clock.at.epoch after.sums es (evicted_among (before ++ event ∷ [])))
+    let at = after.state.clock.at.epoch in
+    subst (λ (es : List Element). Keeps lanes at after.sums es (evicted_among (before ++ event ∷ [])))
     (among-push (λ e. added_by e.change) before event)
-    (subst (λ (es : List Element). Keeps lanes after.state.clock.at.epoch after.sums (added_among before ++ added_by done.0) es)
+    (subst (λ (es : List Element). Keeps lanes at after.sums (added_among before ++ added_by done.0) es)
     (among-push (λ e. evicted_by e.change) before event)
-    (keeps-after digest lanes machine (added_among before) (evicted_among before) machine.state.clock done.1.clock counted done.0 ticks))
+    (keeps-after digest lanes machine (added_among before) (evicted_among before)
+    machine.state.clock done.1.clock counted done.0 ticks))
 
 -- a part by its sums
+abbrev part_with : ℕ → ℕ → Tally → Tally → Part
+part_with number epoch added evicted = record { verifier = number; epoch = epoch; added = added; evicted = evicted }
+
 same_part : (number epoch : ℕ) (added others evicted more : Tally) → added ≡ others → evicted ≡ more
-    → (let part : Part = record { verifier = number; epoch = epoch; added = added; evicted = evicted } in part)
-    ≡ record { verifier = number; epoch = epoch; added = others; evicted = more }
+    → part_with number epoch added evicted ≡ part_with number epoch others more
 same_part number epoch added others evicted more a b =
-    ap (λ (sum : Tally). let part : Part = record { verifier = number; epoch = epoch; added = sum; evicted = evicted } in part) a
-    ∙ ap (λ (sum : Tally). let part : Part = record { verifier = number; epoch = epoch; added = others; evicted = sum } in part) b
+    ap (λ (sum : Tally). part_with number epoch sum evicted) a ∙ ap (part_with number epoch others) b
 
 module _ (lanes : List ℕ → List ℕ) (machine : Machine) (before : List Event) (counted : HasCounted lanes machine before)
     (new : Reading) (later : List Event) (index : ℕ) (ticking : IsTicking machine.number index new later) where
   -- what is handed in where an epoch is sealed
   part_sealed : (sealed : Option ℕ) → turned machine.state.clock ≡ Ok (sealed, new)
       → part_in (effect_of machine new.at (outcome_of (turns sealed)))
-      ≡ map (part_of lanes machine.number (before ++ next_event machine new.at (turns sealed) ∷ later)) (epochs_in sealed)
+      ≡ map (part_of lanes machine.number (before ++ next_event machine new.at (turns sealed) ∷ later))
+      (epochs_in sealed)
   part_sealed None is = refl
   part_sealed (Some epoch) is =
       let turn = turned-ok machine.state.clock new (Some epoch) is in
@@ -114,18 +118,18 @@ module _ (lanes : List ℕ → List ℕ) (machine : Machine) (before : List Even
 
 -- ---- a trace
 
--- the parts of the sealed epochs, by all events
-abbrev pub parts_by : (List ℕ → List ℕ) → ℕ → List Event → List Event → List Part
-parts_by lanes number all events = map (part_of lanes number all) (sealed_in events)
+-- the parts of the epochs that events seal, with the sums of the elements among them and the events before
+abbrev pub parts_from : (List ℕ → List ℕ) → ℕ → List Event → List Event → List Part
+parts_from lanes number before events = map (part_of lanes number (before ++ events)) (sealed_in events)
 
 parts_behind : (digest lanes : List ℕ → List ℕ) (machine : Machine) (command : Command) (commands : List Command)
     (before : List Event) (step : Step)
     → transition (rules_for digest lanes machine) machine.state command ≡ step → HasCounted lanes machine before
     → ((after : Machine) (so_far : List Event) → HasCounted lanes after so_far
     → parts_of (trace digest lanes after commands).effects
-    ≡ parts_by lanes after.number (so_far ++ machine_events digest lanes after commands) (machine_events digest lanes after commands))
+    ≡ parts_from lanes after.number so_far (machine_events digest lanes after commands))
     → parts_of (step_trace digest lanes machine commands step).effects
-    ≡ parts_by lanes machine.number (before ++ step_events digest lanes machine commands step) (step_events digest lanes machine commands step)
+    ≡ parts_from lanes machine.number before (step_events digest lanes machine commands step)
 parts_behind digest lanes machine command commands before (Ok done) is counted further =
     let after = changed digest lanes machine done in
     let event = next_event machine done.1.clock.at done.0 in
@@ -138,17 +142,17 @@ parts_behind digest lanes machine command commands before (Ok done) is counted f
     (part_told lanes machine before counted done.1.clock later (machine.accepted + 1) ticking done.0 ticks)
     ∙ ap (λ (parts : List Part). map part (sealed_by done.0) ++ parts)
     (further after (before ++ event ∷ []) (counted-step digest lanes machine before done ticks counted)
-    ∙ ap (λ (events : List Event). map (part_of lanes machine.number events) (sealed_in later)) (append_assoc before (event ∷ []) later))
+    ∙ ap (λ (events : List Event). map (part_of lanes machine.number events) (sealed_in later))
+    (append_assoc before (event ∷ []) later))
     ∙ sym (map-append part (sealed_by done.0) (sealed_in later))
-    ∙ ap (λ (events : List Event). parts_by lanes machine.number (before ++ events) events)
-    (sym (events-accepted digest lanes machine commands done))
+    ∙ ap (parts_from lanes machine.number before) (sym (events-accepted digest lanes machine commands done))
 parts_behind digest lanes machine command commands before (Err refusal) is counted further = refl
 
 -- The parts of a trace, from any machine whose sums are those of the events before.
 pub trace-parts : (digest lanes : List ℕ → List ℕ) (machine : Machine) (commands : List Command) (before : List Event)
     → HasCounted lanes machine before
     → parts_of (trace digest lanes machine commands).effects
-    ≡ parts_by lanes machine.number (before ++ machine_events digest lanes machine commands) (machine_events digest lanes machine commands)
+    ≡ parts_from lanes machine.number before (machine_events digest lanes machine commands)
 unfolding trace events_from
 trace-parts digest lanes machine [] before counted = refl
 trace-parts digest lanes machine (command ∷ commands) before counted =
@@ -156,11 +160,20 @@ trace-parts digest lanes machine (command ∷ commands) before counted =
     (transition (rules_for digest lanes machine) machine.state command) refl counted
     (λ after so_far fits. trace-parts digest lanes after commands so_far fits)
 
--- The parts of a whole log are those of the epochs from the header's first on.
+-- The parts of a whole log are those of the epochs that its events seal.
+pub log-parts_sealed : (digest lanes : List ℕ → List ℕ) (header : Header) (number : ℕ) (commands : List Command)
+    → parts_of (trace digest lanes (opening_machine number header) commands).effects
+    ≡ map (part_of lanes number (log_events digest lanes header number commands))
+    (flat_map (λ event. sealed_by event.change) (log_events digest lanes header number commands))
+log-parts_sealed digest lanes header number commands =
+    trace-parts digest lanes (opening_machine number header) commands [] (keeps-opening lanes header.first)
+
+-- They are the epochs from the header's first on.
 pub log-parts : (digest lanes : List ℕ → List ℕ) (header : Header) (number : ℕ) (commands : List Command)
     → parts_of (trace digest lanes (opening_machine number header) commands).effects
     ≡ map (part_of lanes number (log_events digest lanes header number commands))
     (epochs_from header.first (sealed_count (log_events digest lanes header number commands)))
 log-parts digest lanes header number commands =
-    trace-parts digest lanes (opening_machine number header) commands [] (keeps-opening lanes header.first)
-    ∙ ap (map (part_of lanes number (log_events digest lanes header number commands))) (log-sealed digest lanes header number commands)
+    log-parts_sealed digest lanes header number commands
+    ∙ ap (map (part_of lanes number (log_events digest lanes header number commands)))
+    (log-sealed digest lanes header number commands)

@@ -25,14 +25,16 @@ use Rattle.fastver_top.specs.BundleReport.{epochs_from}
 -- the epoch that is sealed next: the one before the clock's, or the first while the clock is in it
 abbrev pub IsNext : Reading → ℕ → Type 0
 IsNext clock epoch =
-    ((clock.first < clock.at.epoch) × (epoch + 1 ≡ clock.at.epoch)) ⊎ ((clock.first ≡ clock.at.epoch) × (epoch ≡ clock.first))
+    ((clock.first < clock.at.epoch) × (epoch + 1 ≡ clock.at.epoch))
+    ⊎ ((clock.first ≡ clock.at.epoch) × (epoch ≡ clock.first))
 
 -- what was sealed: nothing, or this epoch and then the one behind it is next
 abbrev pub Seals : Reading → ℕ → List ℕ → Type 0
 Seals new epoch sealed = ((sealed ≡ []) × IsNext new epoch) ⊎ ((sealed ≡ epoch ∷ []) × IsNext new (suc epoch))
 
 -- the clock stays in its epoch
-seals_same : (old new : Reading) (epoch : ℕ) → new.first ≡ old.first → new.at.epoch ≡ old.at.epoch → IsNext old epoch → Seals new epoch []
+seals_same : (old new : Reading) (epoch : ℕ) → new.first ≡ old.first → new.at.epoch ≡ old.at.epoch → IsNext old epoch
+    → Seals new epoch []
 seals_same old new epoch first same (inl past) = inl (refl, inl (omega arith, omega arith))
 seals_same old new epoch first same (inr at) = inl (refl, inr (omega arith, omega arith))
 
@@ -58,21 +60,29 @@ sent_epoch : (old new : Reading) (stamp : Stamp) → sent old stamp ≡ Ok new �
 sent_epoch old new stamp is = ap (λ (s : Stamp). s.epoch) (sent-at old new stamp is) ∙ (sent-ok old new stamp is).0
 
 -- so it is with any change
-seals_change : (old new : Reading) (epoch : ℕ) (change : Change) → Ticks old new change → IsNext old epoch → Seals new epoch (sealed_by change)
+seals_change : (old new : Reading) (epoch : ℕ) (change : Change) → Ticks old new change → IsNext old epoch
+    → Seals new epoch (sealed_by change)
 seals_change old new epoch (joins parent after child) is next =
-    seals_same old new epoch (ticks-first old new (joins parent after child) is) (ap (λ (r : Reading). r.at.epoch) is) next
+    seals_same old new epoch (ticks-first old new (joins parent after child) is)
+    (ap (λ (r : Reading). r.at.epoch) is) next
 seals_change old new epoch (leaves parent after child) is next =
-    seals_same old new epoch (ticks-first old new (leaves parent after child) is) (ap (λ (r : Reading). r.at.epoch) is) next
+    seals_same old new epoch (ticks-first old new (leaves parent after child) is)
+    (ap (λ (r : Reading). r.at.epoch) is) next
 seals_change old new epoch (comes child element) is next =
-    seals_same old new epoch (ticks-first old new (comes child element) is) (received-epoch old new element.stamp is) next
+    seals_same old new epoch (ticks-first old new (comes child element) is)
+    (received-epoch old new element.stamp is) next
 seals_change old new epoch (goes child element) is next =
-    seals_same old new epoch (ticks-first old new (goes child element) is) (sent_epoch old new element.stamp is) next
+    seals_same old new epoch (ticks-first old new (goes child element) is)
+    (sent_epoch old new element.stamp is) next
 seals_change old new epoch (defers parent after child element) is next =
-    seals_same old new epoch (ticks-first old new (defers parent after child element) is) (sent_epoch old new element.stamp is) next
+    seals_same old new epoch (ticks-first old new (defers parent after child element) is)
+    (sent_epoch old new element.stamp is) next
 seals_change old new epoch (reads entry) is next =
-    seals_same old new epoch (ticks-first old new (reads entry) is) (ap (λ (r : Reading). r.at.epoch) is) next
+    seals_same old new epoch (ticks-first old new (reads entry) is)
+    (ap (λ (r : Reading). r.at.epoch) is) next
 seals_change old new epoch (writes before after) is next =
-    seals_same old new epoch (ticks-first old new (writes before after) is) (ap (λ (r : Reading). r.at.epoch) is) next
+    seals_same old new epoch (ticks-first old new (writes before after) is)
+    (ap (λ (r : Reading). r.at.epoch) is) next
 seals_change old new epoch (turns sealed) is next = seals_turned old new epoch sealed is next
 
 -- the epochs that events seal
@@ -80,29 +90,32 @@ abbrev pub sealed_in : List Event → List ℕ
 sealed_in events = flat_map (λ event. sealed_by event.change) events
 
 -- What is sealed from an epoch on: it and those behind it, one after another.
-pub sealed-from : (number index : ℕ) (clock : Reading) (events : List Event) (epoch : ℕ) → IsTicking number index clock events
+pub sealed-from : (number index : ℕ) (clock : Reading) (events : List Event) (epoch : ℕ)
+    → IsTicking number index clock events
     → IsNext clock epoch → sealed_in events ≡ epochs_from epoch (sealed_count events)
 sealed-from number index clock [] epoch ticks next = refl
 sealed-from number index clock (event ∷ events) epoch ticks next =
     go (sealed_by event.change) (seals_change clock ticks.0 epoch event.change ticks.4 next)
     (λ from upcoming. sealed-from number (suc index) ticks.0 events from ticks.5 upcoming)
   where
+    IsSealed : List ℕ → Type 0
+    IsSealed sealed = sealed ++ sealed_in events ≡ epochs_from epoch (length (sealed ++ sealed_in events))
+
     go : (sealed : List ℕ) → Seals ticks.0 epoch sealed
         → ((from : ℕ) → IsNext ticks.0 from → sealed_in events ≡ epochs_from from (sealed_count events))
-        → sealed ++ sealed_in events ≡ epochs_from epoch (length (sealed ++ sealed_in events))
+        → IsSealed sealed
     go sealed (inl none) further =
-        subst (λ (es : List ℕ). es ++ sealed_in events ≡ epochs_from epoch (length (es ++ sealed_in events))) (sym none.0)
-        (further epoch none.1)
+        subst IsSealed (sym none.0) (further epoch none.1)
     go sealed (inr own) further =
-        subst (λ (es : List ℕ). es ++ sealed_in events ≡ epochs_from epoch (length (es ++ sealed_in events))) (sym own.0)
-        (ap (λ (es : List ℕ). epoch ∷ es) (further (suc epoch) own.1))
+        subst IsSealed (sym own.0) (ap (λ (es : List ℕ). epoch ∷ es) (further (suc epoch) own.1))
 
 -- A log seals the epochs from the header's first on.
 pub log-sealed : (digest lanes : List ℕ → List ℕ) (header : Header) (number : ℕ) (commands : List Command)
     → sealed_in (log_events digest lanes header number commands)
     ≡ epochs_from header.first (sealed_count (log_events digest lanes header number commands))
 log-sealed digest lanes header number commands =
-    sealed-from number 0 (opening number header).clock _ header.first (log-ticks digest lanes header number commands) (inr (refl, refl))
+    sealed-from number 0 (opening number header).clock _ header.first
+    (log-ticks digest lanes header number commands) (inr (refl, refl))
 
 -- ---- no elements of an epoch that is closed
 
@@ -110,10 +123,12 @@ module _ (clock new : Reading) (epoch : ℕ) (closed : epoch + 1 < clock.at.epoc
   not_of : (element : Element) → clock.at.epoch ≤ element.stamp.epoch + 1 → of_epoch epoch (element ∷ []) ≡ []
   not_of element above = ap (λ (b : Bool). cond b (element ∷ []) []) (ne_eqb _ _ (λ same. absurd (omega arith)))
 
-  received_above : (element : Element) → received clock element.stamp ≡ Ok new → clock.at.epoch ≤ element.stamp.epoch + 1
+  received_above : (element : Element) → received clock element.stamp ≡ Ok new
+      → clock.at.epoch ≤ element.stamp.epoch + 1
   received_above element is = go (open_epochs clock element.stamp.epoch (received-ok clock new element.stamp is).0)
     where
-      go : (element.stamp.epoch ≡ clock.at.epoch) ⊎ ((clock.first < clock.at.epoch) × (element.stamp.epoch + 1 ≡ clock.at.epoch))
+      go : (element.stamp.epoch ≡ clock.at.epoch)
+          ⊎ ((clock.first < clock.at.epoch) × (element.stamp.epoch + 1 ≡ clock.at.epoch))
           → clock.at.epoch ≤ element.stamp.epoch + 1
       go (inl own) = omega arith
       go (inr last) = omega arith
@@ -149,7 +164,8 @@ none_of_both epoch some others a b =
     ∙ ap (λ (es : List Element). es ++ of_epoch epoch others) a ∙ b
 
 -- Nothing of an epoch before the last one is added any more.
-pub closed-added : (number index : ℕ) (clock : Reading) (events : List Event) (epoch : ℕ) → IsTicking number index clock events
+pub closed-added : (number index : ℕ) (clock : Reading) (events : List Event) (epoch : ℕ)
+    → IsTicking number index clock events
     → epoch + 1 < clock.at.epoch → added_in epoch events ≡ []
 closed-added number index clock [] epoch ticks closed = refl
 closed-added number index clock (event ∷ events) epoch ticks closed =
@@ -159,7 +175,8 @@ closed-added number index clock (event ∷ events) epoch ticks closed =
     (omega (arith, closed, ticks-epoch clock ticks.0 event.change ticks.4)))
 
 -- Nor evicted.
-pub closed-evicted : (number index : ℕ) (clock : Reading) (events : List Event) (epoch : ℕ) → IsTicking number index clock events
+pub closed-evicted : (number index : ℕ) (clock : Reading) (events : List Event) (epoch : ℕ)
+    → IsTicking number index clock events
     → epoch + 1 < clock.at.epoch → evicted_in epoch events ≡ []
 closed-evicted number index clock [] epoch ticks closed = refl
 closed-evicted number index clock (event ∷ events) epoch ticks closed =
@@ -169,7 +186,8 @@ closed-evicted number index clock (event ∷ events) epoch ticks closed =
     (omega (arith, closed, ticks-epoch clock ticks.0 event.change ticks.4)))
 
 -- What follows adds nothing to an epoch of which it has nothing.
-pub of_epoch-front : (elements : Event → List Element) (epoch : ℕ) (before events : List Event) → of_epoch epoch (flat_map elements events) ≡ []
+pub of_epoch-front : (elements : Event → List Element) (epoch : ℕ) (before events : List Event)
+    → of_epoch epoch (flat_map elements events) ≡ []
     → of_epoch epoch (flat_map elements (before ++ events)) ≡ of_epoch epoch (flat_map elements before)
 of_epoch-front elements epoch before events none =
     ap (of_epoch epoch) (flat_map-append elements before events)
