@@ -22,7 +22,6 @@ use Rattle.soundness.specs.History.{Event, log_events}
 use Rattle.soundness.specs.Certified as by_history
 use Rattle.soundness.specs.Certified.{order_of, operations_in, order_within, balanced_from, sealed_count, certified_count}
 use Rattle.soundness.proofs.HistoryLemmas.{log-ticks, order_of-one}
-use Rattle.fastver_top.specs.Words.{is_word}
 use Rattle.fastver_top.specs.Report.{is_balanced, balanced_count, certified_text, exit_by}
 use Rattle.fastver_top.specs.Verdict.{Verdict}
 use Rattle.fastver_top.specs.Report.{verdict_with, verdict_of}
@@ -33,13 +32,6 @@ use Rattle.fastver_top.proofs.EpochTextLemmas.{epochs-text, events-by_epoch, ope
 
 -- ---- which epochs are certified
 
--- the two tests of words are one
-is_word-same : (xs ys : List ℕ) → is_word xs ys ≡ same_bytes xs ys
-is_word-same [] [] = refl
-is_word-same [] (y ∷ ys) = refl
-is_word-same (x ∷ xs) [] = refl
-is_word-same (x ∷ xs) (y ∷ ys) = ap (λ (b : Bool). (x == y) && b) (is_word-same xs ys)
-
 module _ (lanes : List ℕ → List ℕ) (number : ℕ) (events : List Event) where
   -- the parts of so many epochs from this one on
   abbrev epoch_parts : ℕ → ℕ → List Part
@@ -47,10 +39,7 @@ module _ (lanes : List ℕ → List ℕ) (number : ℕ) (events : List Event) wh
 
   part_balanced : (epoch : ℕ)
       → is_balanced (part_of lanes number events epoch) ≡ by_history.is_balanced lanes events epoch
-  part_balanced epoch =
-      let part = part_of lanes number events epoch in
-      ap (λ (b : Bool). b && (part.added.count == part.evicted.count))
-      (is_word-same part.added.lanes part.evicted.lanes)
+  part_balanced epoch = refl
 
   -- so many parts are balanced as epochs are
   parts_balanced : (count epoch : ℕ) → balanced_count (epoch_parts epoch count) ≡ balanced_from lanes events epoch count

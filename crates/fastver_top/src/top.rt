@@ -113,7 +113,6 @@ pub fn check<D: Digests, S: Source, O: Sink>(
 }
 
 // Checks what was read, and writes the report.
-#[tactic(auto, using(crate::proofs::VerdictLemmas::verdict_view))]
 fn conclude<D: Digests, O: Sink>(alloc: Global, d: &D, intake: &Intake, out: &mut O) -> Status
     ensures outcome { IsOutcome result }
     ensures words { result ≢ Status.Usage }
