@@ -24,3 +24,4 @@ pub mod OrderLemmas
 pub mod OpeningLemmas
 pub mod CertifiedLemmas
 pub mod SoundLemmas
+pub mod TypedLemmas
