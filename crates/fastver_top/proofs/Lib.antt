@@ -10,3 +10,4 @@ pub mod PartLemmas
 pub mod EpochTextLemmas
 pub mod BundleReportLemmas
 pub mod VerdictLemmas
+pub mod HeadlineLemmas

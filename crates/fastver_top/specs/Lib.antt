@@ -5,4 +5,5 @@ pub mod Taken
 pub mod Outcomes
 pub mod BundleReport
 pub mod Verdict
+pub mod Headline
 pub mod Report

@@ -8,6 +8,7 @@ ghost use Rattle.fastver_top.specs.Words.{check_key};
 ghost use Rattle.fastver_top.specs.Intake.{logged};
 ghost use Rattle.fastver_top.specs.Taken.{TookAtMost, TookJust};
 ghost use Rattle.fastver_top.specs.Outcomes.{IsEnd, IsOutcome};
+ghost use Rattle.fastver_top.specs.Headline.{IsSound, IsShaSound};
 ghost use Rattle.fastver_top.specs.Verdict.{Reports, sha_verdict, verdict, verdict_by};
 ghost use Rattle.fastver_top.specs.Report.{verdict_of, verdict_with};
 
@@ -57,6 +58,12 @@ pub fn fastver<R: Threads + Wait + Sync, S: Source, O: Sink, V: Vault, G: Gate +
     ensures front { (key : List ℕ) → check_key (map (λ word. word.now) words.now) ≡ Some key → result ≡ Status.WriteFault
         → IfSome (S.left source.old) (λ bytes. GrowsByFront (O.held out.old) (O.held out.new) (sha_verdict key bytes).text) }
 
+    // The headline, of any bytes and with nothing premised of who made them: the answer lines of that report are all the
+    // operations of the certified epochs, in order; there is nothing to exhibit and each get answers the last put to its
+    // key, or the exhibit is a real collision: two different strings with one digest, or two different multisets with
+    // one sum.
+    ensures headline { (key : List ℕ) → check_key (map (λ word. word.now) words.now) ≡ Some key → IfSome (S.left source.old) (λ bytes. IsShaSound key bytes) }
+
     // Where it ends with no report nothing is written, and where the words are refused nothing is read. The vault
     // is never named or written.
     ensures unwritten { (IsEnd result → ⊥) → result ≢ Status.WriteFault → out.new ≡ out.old }
@@ -98,6 +105,9 @@ pub fn check<D: Digests, S: Source, O: Sink>(
     ensures front { result ≡ Status.WriteFault → IfSome (S.left source.old) (λ bytes.
         GrowsByFront (O.held out.old) (O.held out.new) (verdict (D.text_digest d.now) (D.element_lanes d.now) bytes).text) }
     ensures unwritten { (IsEnd result → ⊥) → result ≢ Status.WriteFault → out.new ≡ out.old }
+
+    // The answers of that report are serial, or the exhibit of the bytes collides.
+    ensures headline { IfSome (S.left source.old) (λ bytes. IsSound (D.text_digest d.now) (D.element_lanes d.now) bytes) }
 
     ensures limit { (taken : ℕ) → result ≡ Status.InputLimit taken → (taken ≡ limit) × TookJust (limit + 1) (S.left source.old) (S.left source.new) }
     ensures within { result ≢ Status.InputLimit limit → TookAtMost limit (S.left source.old) (S.left source.new) }

@@ -3,6 +3,7 @@ use Rattle.record_hash.specs.ShaDigests.{sha_text_digest, sha_element_lanes}
 use Rattle.fv_outside.specs.Written.{Grows, GrowsByFront}
 use Rattle.fastver_top.specs.Verdict.{verdict}
 use Rattle.fastver_top.proofs.VerdictLemmas.{same_block}
+use Rattle.fastver_top.proofs.HeadlineLemmas.{sha_headline_left}
 use Rattle.fastver_top.proofs.top.fastver.Goals as goal
 
 pub returns-in-Some-clause-status : goal.returns-in-Some-clause-status
@@ -22,3 +23,6 @@ returns-in-Some-clause-front g c = λ key known ends.
     let block = same_block _ c.in-Some.d key (sym c.in-Some.is ∙ c.check_digests.ensures.value) known in
     subst (λ (b : List ℕ). IfSome (g.S.Source.left c.args.source.now)
     (λ bytes. GrowsByFront (g.O.Sink.held c.args.out.now) (g.O.Sink.held c.check.new.out) (verdict sha_text_digest (sha_element_lanes b) bytes).text)) block (c.check.ensures.front ends)
+
+pub returns-in-Some-clause-headline : goal.returns-in-Some-clause-headline
+returns-in-Some-clause-headline g c = λ key known. sha_headline_left key (g.S.Source.left c.args.source.now)
