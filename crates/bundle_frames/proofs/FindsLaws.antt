@@ -19,7 +19,7 @@ use Rattle.bundle_frames.proofs.BundleLaws.{frames_from-empty, frames_from-first
 use Rattle.bundle_frames.proofs.PartLaws.{held-rest, length-held, header_in-held, is_head-held, IsHead, IsHead-from_test, frame_in-whole}
 
 -- where a test gives a value, it passed
-some_if : {A : Type 0} (b : Bool) (x y : A) → cond b (Some x) None ≡ Some y → (b ≡ true) × (x ≡ y)
+pub some_if : {A : Type 0} (b : Bool) (x y : A) → cond b (Some x) None ≡ Some y → (b ≡ true) × (x ≡ y)
 some_if true x y is = (refl, cc)
 some_if false x y is = absurd (cc)
 

@@ -11,6 +11,7 @@ use Rattle.bundle_frames.specs.Unfinished.{IsUnfinished}
 abbrev pub bytes_held : Inside → List ℕ
 bytes_held s = if s.is_whole then [] else s.buffer.items
 
+-- the progress that the parts stand for
 abbrev pub progress_of : Inside → Progress
 progress_of s = record {
   header = s.header;

@@ -3,7 +3,7 @@ use Rattle.std.specs.Prelude.{ℕ, zero, suc, ◌==◌, ◌&&◌, Bool, true, fa
 use Rattle.std.specs.List.{flat_map}
 use Rattle.multiset_sum.specs.Tally.{Tally}
 use Rattle.multiset_sum.specs.declared.part.Part.{Part}
-use Rattle.record_text.specs.declared.element.Operation.{Operation}
+use Rattle.record_text.specs.declared.operation.Operation.{Operation}
 use Rattle.record_text.specs.declared.refusal.Refusal.{Refusal}
 use Rattle.report_text.specs.declared.status.Status.{Status}
 use Rattle.report_text.specs.declared.status.Status.TheVariants.{Done, Usage, Memory, ReadFault, WriteFault, VaultFault, BadBundle, Refused, Unbalanced, ClockEnd, NotTagged, NotCertified, Exhibit, InputLimit}

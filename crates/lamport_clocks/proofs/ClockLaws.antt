@@ -37,9 +37,6 @@ turned-ok clock after sealed h =
 pub open_epochs : (clock : Reading) (epoch : ℕ) → is_open clock epoch ≡ true → (epoch ≡ clock.at.epoch) ⊎ ((clock.first < clock.at.epoch) × (epoch + 1 ≡ clock.at.epoch))
 open_epochs clock epoch h = grind (arith, nat_tests)
 
-pub greater_than_own : (at t : Stamp) → at.counter ≤ greater_counter at t
-greater_than_own at t = omega arith
-
 pub greater_than_other : (at t : Stamp) → t.epoch ≡ at.epoch → t.counter ≤ greater_counter at t
 greater_than_other at t h = grind (arith, nat_tests)
 
