@@ -6,10 +6,10 @@ use Rattle.std.proofs.lemmas.Bool.{and_parts, and_from, and_left, or_from, le-lt
 use Rattle.std.specs.Prelude.{is_none, IsSomeAnd, nat_eq, if◌then◌else◌}
 use Rattle.std.specs.List.{starts_with}
 use Rattle.lamport_clocks.specs.declared.header.Header.{Header}
-use Rattle.lamport_clocks.specs.Header.{IsHeader}
+use Rattle.lamport_clocks.specs.Header.{IsHeader, is_in_range}
 use Rattle.bundle_frames.specs.declared.found.Found.{Found}
 use Rattle.bundle_frames.specs.declared.found.Found.TheVariants.{Nothing, Head, Frame, Bad}
-use Rattle.bundle_frames.specs.Bundle.{Bundle, Frames, magic, header_bytes, header_numbers, is_in_range, header_in, head_bytes, head_verifier, head_length, is_head, frame_in, frame_bytes, frames_behind, frames_from, bundle_of, bundle_behind, bundle_from}
+use Rattle.bundle_frames.specs.Bundle.{Bundle, Frames, magic, header_bytes, header_numbers, header_in, head_bytes, head_verifier, head_length, is_head, frame_in, frame_bytes, frames_behind, frames_from, bundle_of, bundle_behind, bundle_from}
 use Rattle.bundle_frames.specs.Bundle as bundle
 use Rattle.bundle_frames.specs.Progress.{Progress, meaning_at, rest_of, position, is_partial, is_bad, is_boundary}
 use Rattle.bundle_frames.specs.Finds.{FindsHead, FindsFrame, FindsBad, FindsIn, progress_after, found_then}
@@ -19,7 +19,7 @@ use Rattle.bundle_frames.proofs.BundleLaws.{frames_from-empty, frames_from-first
 use Rattle.bundle_frames.proofs.PartLaws.{held-rest, length-held, header_in-held, is_head-held, IsHead, IsHead-from_test, frame_in-whole}
 
 -- where a test gives a value, it passed
-some_if : {A : Type 0} (b : Bool) (x y : A) → cond b (Some x) None ≡ Some y → (b ≡ true) × (x ≡ y)
+pub some_if : {A : Type 0} (b : Bool) (x y : A) → cond b (Some x) None ≡ Some y → (b ≡ true) × (x ≡ y)
 some_if true x y is = (refl, cc)
 some_if false x y is = absurd (cc)
 

@@ -4,3 +4,4 @@ pub mod BundleLaws
 pub mod PartLaws
 pub mod FindsLaws
 pub mod TextLaws
+pub mod SpelledLaws

@@ -7,8 +7,8 @@ use Rattle.std.specs.Prelude.{nat_eq}
 use Rattle.std.specs.Int.{w32, to_be_bytes, from_be_bytes}
 use Rattle.std.specs.List.{starts_with, flat_map, AllByRecursion}
 use Rattle.lamport_clocks.specs.declared.header.Header.{Header}
-use Rattle.lamport_clocks.specs.Header.{IsHeader}
-use Rattle.bundle_frames.specs.Bundle.{magic, header_bytes, header_text, header_numbers, header_in, is_in_range, head_verifier, head_length, longest_body, frame_text, frame_in, Frame, Frames, Bundle, IsFrame, frame_bytes, frames_behind, with_frame, frames_from, bundle_of, bundle_behind, bundle_text}
+use Rattle.lamport_clocks.specs.Header.{IsHeader, is_in_range}
+use Rattle.bundle_frames.specs.Bundle.{magic, header_bytes, header_text, header_numbers, header_in, head_verifier, head_length, longest_body, frame_text, frame_in, Frame, Frames, Bundle, IsFrame, frame_bytes, frames_behind, with_frame, frames_from, bundle_of, bundle_behind, bundle_text}
 use Rattle.bundle_frames.proofs.FrontLaws.{header_in-front}
 use Rattle.bundle_frames.proofs.BundleLaws.{frames_from-empty, frames_from-first}
 use Rattle.bundle_frames.proofs.PartLaws.{frame_in-whole, is_head-from}

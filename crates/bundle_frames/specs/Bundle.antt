@@ -4,7 +4,7 @@ use Rattle.std.specs.Prelude.{ℕ, ◌<◌, ◌≤◌, zero, suc, ◌+◌, ◌==
 use Rattle.std.specs.Int.{w16, w32, to_be_bytes, from_be_bytes}
 use Rattle.std.specs.List.{starts_with, flat_map}
 use Rattle.lamport_clocks.specs.declared.header.Header.{Header}
-use Rattle.lamport_clocks.specs.declared.header.TheConstants.{LEAST_VERIFIERS, MOST_VERIFIERS, LEAST_CACHE, MOST_CACHE, LEAST_END, MOST_END}
+use Rattle.lamport_clocks.specs.Header.{is_in_range}
 
 -- a bundle begins with these four bytes
 abbrev pub magic : List ℕ
@@ -26,12 +26,6 @@ header_numbers bytes = record {
   first = from_be_bytes w32 (slice_range bytes 10 14);
   end = from_be_bytes w32 (slice_range bytes 14 18);
 }
-
--- each number is in its range
-abbrev pub is_in_range : Header → Bool
-is_in_range header = nat_le LEAST_VERIFIERS header.verifiers && nat_le header.verifiers MOST_VERIFIERS
-    && nat_le LEAST_CACHE header.cache && nat_le header.cache MOST_CACHE
-    && nat_le LEAST_END header.end && nat_le header.end MOST_END
 
 -- a header: all 18 bytes are there, the magic first, and each number is in its range
 abbrev pub header_in : List ℕ → Option Header

@@ -1,11 +1,9 @@
 //! The fields of a header and of a frame's head, read from their bytes.
 ghost use Rattle.std.specs.Prelude.{◌≡◌, ◌≤◌, ◌&&◌, nat_le, nat_lt, length};
 ghost use Rattle.std.specs.Int.{w16, w32, from_be_bytes};
-ghost use Rattle.bundle_frames.specs.Bundle.{header_bytes, header_in, header_numbers, is_in_range, head_bytes, head_verifier, head_length, longest_body};
+ghost use Rattle.bundle_frames.specs.Bundle.{header_bytes, header_in, header_numbers, head_bytes, head_verifier, head_length, longest_body};
 
-use lamport_clocks::{
-    Header, LEAST_CACHE, LEAST_END, LEAST_VERIFIERS, MOST_CACHE, MOST_END, MOST_VERIFIERS,
-};
+use lamport_clocks::Header;
 
 /// How many bytes a header has.
 pub const HEADER_BYTES: usize = 18;
@@ -20,7 +18,7 @@ pub fn header_at(bytes: &[u8]) -> Option<Header>
     ensures value { result ≡ header_in bytes.now }
 {
     let header = numbers_at(bytes);
-    if bytes.starts_with(b"FVB1") && is_good(&header) {
+    if bytes.starts_with(b"FVB1") && header.is_in_range() {
         Some(header)
     } else {
         None
@@ -38,18 +36,6 @@ fn numbers_at(bytes: &[u8]) -> Header
         first: number_of_four(&bytes[10..14]),
         end: number_of_four(&bytes[14..18]),
     }
-}
-
-// Whether the numbers of a header are in their ranges.
-fn is_good(header: &Header) -> bool
-    ensures value { result ≡ is_in_range header.now }
-{
-    LEAST_VERIFIERS <= header.verifiers
-        && header.verifiers <= MOST_VERIFIERS
-        && LEAST_CACHE <= header.cache
-        && header.cache <= MOST_CACHE
-        && LEAST_END <= header.end
-        && header.end <= MOST_END
 }
 
 // The verifier that a frame's head names, and how many bytes its body has.

@@ -1,14 +1,17 @@
 //! What follows from the definitions of bundles. These functions do nothing: their contracts are the laws.
-ghost use Rattle.std.specs.Prelude.{◌≡◌, ℕ, ◌^◌, ◌<◌, ◌≤◌, List, ◌++◌, length};
+ghost use Rattle.std.specs.Prelude.{◌≡◌, ℕ, ◌^◌, ◌<◌, ◌≤◌, List, ◌++◌, length, take, All};
 ghost use Rattle.std.specs.List.{AllByRecursion};
 ghost use Rattle.lamport_clocks.specs.declared.header.Header.{Header};
 ghost use Rattle.lamport_clocks.specs.Header.{IsHeader};
-ghost use Rattle.bundle_frames.specs.Bundle.{Frame, header_text, header_in, frame_text, frame_in, IsFrame, longest_body, bundle_of, bundle_text, frames_up_to, frames_from};
+ghost use Rattle.bundle_frames.specs.Bundle.{Frame, header_bytes, header_text, header_in, frame_text, frame_in, frame_bytes, IsFrame, longest_body, bundle_of, bundle_text, frames_up_to, frames_from};
 
-/// A header in its ranges is read back from its text, whatever follows. What is read is in its ranges.
+/// A header in its ranges is read back from its text, whatever follows. What is read is spelled so, and in
+/// its ranges.
 pub fn headers_are_read_back()
     ensures read { (header : Header) (more : List ℕ) → IsHeader header → header.first < 2 ^ 32
         → header_in (header_text header ++ more) ≡ Some header }
+    ensures spelled { (bytes : List ℕ) (header : Header) → All (λ byte. byte < 256) bytes
+        → header_in bytes ≡ Some header → take header_bytes bytes ≡ header_text header }
     ensures ranges { (bytes : List ℕ) (header : Header)
         → header_in bytes ≡ Some header → IsHeader header }
 {}
@@ -19,6 +22,9 @@ pub fn frames_are_read_back()
         → verifier < verifiers → verifier < 2 ^ 16 → 1 ≤ length body → length body ≤ longest_body
         → frame_in verifiers (frame_text verifier body ++ more)
         ≡ Some (record { verifier = verifier; body = body }) }
+    ensures spelled { (verifiers : ℕ) (bytes : List ℕ) (frame : Frame)
+        → All (λ byte. byte < 256) bytes → frame_in verifiers bytes ≡ Some frame
+        → take (frame_bytes frame) bytes ≡ frame_text frame.verifier frame.body }
     ensures ranges { (verifiers : ℕ) (bytes : List ℕ) (frame : Frame)
         → frame_in verifiers bytes ≡ Some frame → IsFrame verifiers frame }
 {}

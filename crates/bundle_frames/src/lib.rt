@@ -5,7 +5,7 @@
 //! fv_outside, for what is written to and for want of memory.
 //!
 //! Begin at `splitter`, beside `specs/Bundle.antt`, which says what bytes mean as a bundle, and
-//! `specs/Progress.antt`, which says what is left of one.
+//! `specs/Progress.antt`, which says what is left of one. `laws.rt` says that what is written is read back.
 #![tactic(auto)]
 
 mod fields;
@@ -18,7 +18,6 @@ mod tests;
 mod whole;
 mod writers;
 
-pub use fields::{HEAD_BYTES, HEADER_BYTES, LONGEST_BODY};
 pub use found::{Fed, Found};
 pub use laws::{
     bundles_are_read_back, bytes_bound_the_frames, frames_are_read_back, headers_are_read_back,

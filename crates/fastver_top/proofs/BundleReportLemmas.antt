@@ -6,14 +6,14 @@ use Rattle.std.proofs.lemmas.Bool.{cond_both}
 use Rattle.std.proofs.lemmas.Bool.Decides.{nat_tests}
 use Rattle.std.proofs.lemmas.List.{drop_all}
 use Rattle.lamport_clocks.specs.declared.header.Header.{Header}
-use Rattle.record_text.specs.declared.element.Operation.{Operation}
+use Rattle.record_text.specs.declared.operation.Operation.{Operation}
 use Rattle.record_text.specs.declared.refusal.Refusal.{Refusal}
 use Rattle.record_text.specs.Format.{short_keys}
 use Rattle.log_codec.specs.Log.{Log, read_log}
 use Rattle.multiset_sum.specs.declared.part.Part.{Part}
 use Rattle.report_text.specs.declared.status.Status.{Status}
 use Rattle.report_text.specs.Status.{last_line}
-use Rattle.verifier_commands.specs.Same.{same_bytes}
+use Rattle.record_text.specs.Same.{same_bytes}
 use Rattle.verifier_commands.specs.State.{opening}
 use Rattle.verifier_commands.specs.Machine.{opening_machine}
 use Rattle.verifier_run.specs.Trace.{Trace, trace, operations_of}

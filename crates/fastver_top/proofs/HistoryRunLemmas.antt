@@ -2,7 +2,7 @@
 -- accepted, and why the next was refused.
 use Rattle.std.proofs.Common.{◌≡◌, ℕ, suc, ◌+◌, List, [], ◌∷◌, ◌++◌, length, Some, None, Ok, Err, refl, sym, ◌∙◌, ap, add-one, add-zero, arith}
 use Rattle.lamport_clocks.specs.declared.stamp.Stamp.{Stamp}
-use Rattle.record_text.specs.declared.element.Operation.{Operation}
+use Rattle.record_text.specs.declared.operation.Operation.{Operation}
 use Rattle.log_codec.specs.declared.command.Command.{Command}
 use Rattle.verifier_commands.specs.declared.state.State.{State}
 use Rattle.verifier_commands.specs.Change.{Change, joins, leaves, comes, goes, defers, reads, writes, turns}

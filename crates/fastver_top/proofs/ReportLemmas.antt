@@ -5,7 +5,7 @@ use Rattle.std.proofs.lemmas.Bool.{eq-eqb}
 use Rattle.std.proofs.lemmas.Bool.Decides.{eqb_tells}
 use Rattle.std.proofs.lemmas.List.{drop_more, drop_all, drop-drop}
 use Rattle.multiset_sum.specs.declared.part.Part.{Part}
-use Rattle.record_text.specs.declared.element.Operation.{Operation}
+use Rattle.record_text.specs.declared.operation.Operation.{Operation}
 use Rattle.report_text.specs.Lines.{operation_line}
 use Rattle.fastver_top.specs.Report.{is_balanced, balanced_count, front_count, epoch_text, certified_text}
 

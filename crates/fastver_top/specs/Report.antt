@@ -3,9 +3,9 @@ use Rattle.std.specs.Prelude.{ℕ, suc, ◌==◌, ◌&&◌, Bool, List, [], ◌�
 use Rattle.std.specs.List.{flat_map}
 use Rattle.multiset_sum.specs.Tally.{Tally}
 use Rattle.multiset_sum.specs.declared.part.Part.{Part}
-use Rattle.record_text.specs.declared.element.Operation.{Operation}
+use Rattle.record_text.specs.declared.operation.Operation.{Operation}
 use Rattle.record_text.specs.declared.refusal.Refusal.{Refusal}
-use Rattle.verifier_commands.specs.Same.{same_bytes}
+use Rattle.record_text.specs.Same.{same_bytes}
 use Rattle.verifier_run.specs.Course.{Course}
 use Rattle.report_text.specs.declared.status.Status.{Status}
 use Rattle.report_text.specs.declared.status.Status.TheVariants.{Done, BadBundle, Refused, Unbalanced}

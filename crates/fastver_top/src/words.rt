@@ -2,7 +2,7 @@ ghost use Rattle.std.specs.Prelude.{◌≡◌, ◌/◌, length, map};
 ghost use Rattle.std.specs.Option.{option_map};
 ghost use Rattle.hex.specs.Hex.{decode_of};
 ghost use Rattle.record_hash.specs.Hmac.{key_block};
-ghost use Rattle.verifier_commands.specs.Same.{same_bytes};
+ghost use Rattle.record_text.specs.Same.{same_bytes};
 ghost use Rattle.fastver_top.specs.Words.{key_in, decoded, check_key};
 
 use record_hash::ShaDigests;

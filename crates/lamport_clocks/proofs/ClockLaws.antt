@@ -4,10 +4,9 @@ use Rattle.std.specs.Prelude.{nat_lt, nat_le, ◌==◌}
 use Rattle.std.proofs.lemmas.Bool.Decides.{nat_tests}
 use Rattle.lamport_clocks.specs.declared.stamp.Stamp.{Stamp}
 use Rattle.lamport_clocks.specs.declared.clock.ClockFault.TheVariants.{BadEpoch, StampNotLater, ClockEnd}
-use Rattle.lamport_clocks.specs.declared.clock.TheConstants.{LAST_EPOCH}
 use Rattle.lamport_clocks.specs.Stamp.{IsLater}
 use Rattle.lamport_clocks.specs.Reading.{Reading, IsReading, SameBounds}
-use Rattle.lamport_clocks.specs.Clock.{received, sent, turned, is_open, greater_counter, sealed_by_turning}
+use Rattle.lamport_clocks.specs.Clock.{last_epoch, received, sent, turned, is_open, greater_counter, sealed_by_turning}
 use Rattle.lamport_clocks.proofs.InOrder.{test-ok}
 
 -- an add that was taken: its epoch is open, the counter doesn't pass its end, and this is the clock after it
@@ -28,18 +27,15 @@ sent-ok clock after t h =
     (grind (arith, nat_tests), grind (arith, nat_tests), grind (arith, nat_tests), e)
 
 -- a turn that was taken: it is not from the last epoch, and these are the epoch that it seals and the clock after it
-pub turned-ok : (clock after : Reading) (sealed : Option ℕ) → turned clock ≡ Ok (sealed, after) → ((clock.at.epoch == LAST_EPOCH) ≡ false) × (sealed ≡ sealed_by_turning clock) × (after ≡ record clock { at = record { epoch = clock.at.epoch + 1; counter = 0 } })
+pub turned-ok : (clock after : Reading) (sealed : Option ℕ) → turned clock ≡ Ok (sealed, after) → ((clock.at.epoch == last_epoch) ≡ false) × (sealed ≡ sealed_by_turning clock) × (after ≡ record clock { at = record { epoch = clock.at.epoch + 1; counter = 0 } })
 turned-ok clock after sealed h =
-    let on = test-ok (clock.at.epoch == LAST_EPOCH) ClockEnd _ (sealed, after) h in
+    let on = test-ok (clock.at.epoch == last_epoch) ClockEnd _ (sealed, after) h in
     let e : ◌≡◌ {A = Option ℕ × Reading} (sealed, after) (sealed_by_turning clock, record clock { at = record { epoch = clock.at.epoch + 1; counter = 0 } }) = cc in
     (on.0, ap (λ (p : Option ℕ × Reading). p.0) e, ap (λ (p : Option ℕ × Reading). p.1) e)
 
 -- an open epoch is the clock's or, past the first, the one before
 pub open_epochs : (clock : Reading) (epoch : ℕ) → is_open clock epoch ≡ true → (epoch ≡ clock.at.epoch) ⊎ ((clock.first < clock.at.epoch) × (epoch + 1 ≡ clock.at.epoch))
 open_epochs clock epoch h = grind (arith, nat_tests)
-
-pub greater_than_own : (at t : Stamp) → at.counter ≤ greater_counter at t
-greater_than_own at t = omega arith
 
 pub greater_than_other : (at t : Stamp) → t.epoch ≡ at.epoch → t.counter ≤ greater_counter at t
 greater_than_other at t h = grind (arith, nat_tests)

@@ -5,8 +5,8 @@ ghost use Rattle.lamport_clocks.specs.Clock.{opening_reading, is_open, received,
 use crate::stamp::Stamp;
 use std::marker::Model;
 
-/// The last epoch that a clock can stand in.
-pub const LAST_EPOCH: u32 = u32::MAX;
+// The last epoch that a clock can stand in.
+const LAST_EPOCH: u32 = u32::MAX;
 
 /// Why a clock refused a stamp, or refused to go on.
 #[derive(Clone, Copy, Debug, PartialEq, Eq)]

@@ -1,20 +1,18 @@
-ghost use Rattle.std.specs.Prelude.{◌↔◌, IsTrue};
+ghost use Rattle.std.specs.Prelude.{◌≡◌, ◌↔◌, IsTrue};
 
-/// The fewest verifiers of a bundle.
-pub const LEAST_VERIFIERS: u16 = 1;
-/// The most verifiers of a bundle.
-pub const MOST_VERIFIERS: u16 = 64;
-/// The fewest entries that a verifier's cache may be limited to.
-pub const LEAST_CACHE: u32 = 4;
-/// The most entries that a verifier's cache may be limited to.
-pub const MOST_CACHE: u32 = 65_536;
-/// The least value at which the counters of an epoch may end.
-pub const LEAST_END: u32 = 1;
-/// The greatest value at which the counters of an epoch may end.
-///
-/// It keeps sums small: an add and a deferred evict each raise the counter of their clock, so one
-/// verifier has fewer than 2^25 adds of an epoch.
-pub const MOST_END: u32 = 16_777_215;
+// The fewest verifiers of a bundle.
+const LEAST_VERIFIERS: u16 = 1;
+// The most verifiers of a bundle.
+const MOST_VERIFIERS: u16 = 64;
+// The fewest entries that a verifier's cache may be limited to.
+const LEAST_CACHE: u32 = 4;
+// The most entries that a verifier's cache may be limited to.
+const MOST_CACHE: u32 = 65_536;
+// The least value at which the counters of an epoch may end.
+const LEAST_END: u32 = 1;
+// The greatest value at which the counters of an epoch may end. It keeps sums small: an add and a deferred
+// evict each raise the counter of their clock, so one verifier has fewer than 2^25 adds of an epoch.
+const MOST_END: u32 = 16_777_215;
 
 /// The numbers that a bundle begins with. They hold for each of its verifiers.
 #[derive(Clone, Copy, Debug, PartialEq, Eq)]
@@ -30,14 +28,18 @@ pub struct Header {
 }
 
 impl Header {
-    ghost use Rattle.lamport_clocks.specs.Header.{IsHeader};
+    ghost use Rattle.lamport_clocks.specs.Header.{IsHeader, is_in_range};
 
     /// Whether each number is in its range.
     pub fn is_in_range(&self) -> bool
+        ensures value { result ≡ is_in_range self.now }
         ensures ranges { IsTrue result ↔ IsHeader self.now }
     {
-        (LEAST_VERIFIERS <= self.verifiers && self.verifiers <= MOST_VERIFIERS)
-            && (LEAST_CACHE <= self.cache && self.cache <= MOST_CACHE)
-            && (LEAST_END <= self.end && self.end <= MOST_END)
+        LEAST_VERIFIERS <= self.verifiers
+            && self.verifiers <= MOST_VERIFIERS
+            && LEAST_CACHE <= self.cache
+            && self.cache <= MOST_CACHE
+            && LEAST_END <= self.end
+            && self.end <= MOST_END
     }
 }

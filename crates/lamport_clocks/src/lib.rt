@@ -5,7 +5,8 @@
 //! the crates above state a machine's steps: tests in order (`specs/InOrder.antt`), and an answer
 //! together with the state after it (`specs/Follows.antt`).
 //!
-//! Begin at `clock`, beside `specs/Clock.antt`.
+//! Begin at `clock`, beside `specs/Clock.antt`; `laws.rt` says that the clock never falls and what a turn
+//! seals.
 #![tactic(auto)]
 
 mod clock;
@@ -15,10 +16,8 @@ mod stamp;
 #[cfg(test)]
 mod tests;
 
-pub use clock::{Clock, ClockFault, LAST_EPOCH};
-pub use header::{
-    Header, LEAST_CACHE, LEAST_END, LEAST_VERIFIERS, MOST_CACHE, MOST_END, MOST_VERIFIERS,
-};
+pub use clock::{Clock, ClockFault};
+pub use header::Header;
 pub use laws::{
     clock_keeps_its_bounds, clock_never_falls, receiving_passes_the_stamp, sending_sets_the_stamp,
     stamps_are_ordered, turning_seals,

@@ -3,9 +3,9 @@ use Rattle.std.proofs.Common.{◌-◌, ◌<◌, ◌≤◌, length, length-drop, 
 use Rattle.record_text.specs.declared.reader.TextFault.TheVariants.{Malformed, Truncated}
 use Rattle.record_text.specs.Format.{Format}
 use Rattle.record_text.specs.Fields.{field, KeepsOn}
-use Rattle.record_text.specs.Reading.{first_byte, path_at, value_at, stamp_at, u16_at}
+use Rattle.record_text.specs.Reading.{first_byte, byte_at, path_at, value_at, stamp_at, u16_at}
 use Rattle.record_text.proofs.FieldLemmas.{field_ok}
-use Rattle.record_text.proofs.KeepsOnLemmas.{keeps_on-nothing, keeps_on-then, keeps_on-field, keeps_on-path, keeps_on-value, keeps_on-stamp, keeps_on-u16, front_is_truncated}
+use Rattle.record_text.proofs.KeepsOnLemmas.{keeps_on-nothing, keeps_on-then, keeps_on-byte, keeps_on-path, keeps_on-value, keeps_on-stamp, keeps_on-u16, front_is_truncated}
 use Rattle.log_codec.specs.declared.command.Command.{Command}
 use Rattle.log_codec.specs.declared.command.Command.TheVariants.{AddM, EvictM, AddB, EvictB, EvictBM, Get, Put, NextEpoch}
 use Rattle.log_codec.specs.Command.{command_text, add_m_at, evict_m_at, add_b_at, evict_b_at, evict_bm_at, get_at, put_at, command_behind, command_at, IsCommand}
@@ -28,11 +28,11 @@ keeps_on-behind format tag =
 pub keeps_on-command : (format : Format) → KeepsOn (command_at format)
 unfolding command_at
 keeps_on-command format =
-    keeps_on-then (field 1 (λ run. Some (first_byte run))) (λ tag bytes. command_behind format tag bytes) (keeps_on-field 1 (λ run. Some (first_byte run))) (keeps_on-behind format)
+    keeps_on-then byte_at (λ tag bytes. command_behind format tag bytes) keeps_on-byte (keeps_on-behind format)
 
 -- A command takes a byte at least.
 pub command_shorter : (format : Format) (bytes : List ℕ) (command : Command) (rest : List ℕ) → command_at format bytes ≡ Ok (command, rest) → length rest < length bytes
-unfolding command_at
+unfolding command_at byte_at
 command_shorter format bytes command rest e =
     let t = then_ok (field 1 (λ run. Some (first_byte run)) bytes) (λ tag left. command_behind format tag left) command rest e in
     let f = field_ok 1 (λ run. Some (first_byte run)) bytes t.0 t.1 t.2 in

@@ -9,7 +9,7 @@ use Rattle.record_text.specs.Format.{Format, path_bits}
 use Rattle.record_text.specs.Value.{IsOf}
 use Rattle.record_text.specs.Element.{IsStamp}
 use Rattle.record_text.specs.Fields.{Parsed, field}
-use Rattle.record_text.specs.Reading.{first_byte, path_at, value_at, stamp_at, u16_at}
+use Rattle.record_text.specs.Reading.{first_byte, byte_at, path_at, value_at, stamp_at, u16_at}
 use Rattle.record_text.specs.Texts.{path_text, value_text, stamp_text}
 use Rattle.record_text.proofs.FieldLemmas.{AreBytes, Begins, IsWide, Ok-is, field_again, byte_field_begins}
 use Rattle.record_text.proofs.PathTextLemmas.{path_begins, path_again}
@@ -139,7 +139,7 @@ behind_spells format wide tag =
 
 -- What is read as a command is spelled so, and in its ranges.
 pub command_begins : (format : Format) (wide : IsWideFor format) (bytes : List ℕ) (command : Command) (rest : List ℕ) → AreBytes bytes → command_at format bytes ≡ Ok (command, rest) → Begins bytes (command_text format command) rest × IsCommand format command
-unfolding command_at
+unfolding command_at byte_at
 command_begins format wide bytes command rest fits e =
     let t = then_ok (field 1 (λ run. Some (first_byte run)) bytes) (λ tag left. command_behind format tag left) command rest e in
     let b = byte_field_begins (λ run. Some (first_byte run)) bytes t.0 t.1 fits t.2 in
@@ -184,7 +184,7 @@ Again-u16 n small second back command next =
 
 -- the command behind a tag
 tagged_again : (format : Format) (tag : ℕ) (read : List ℕ → Parsed Command) (fields text : List ℕ) (command : Command) → ((bytes : List ℕ) → command_behind format tag bytes ≡ read bytes) → Again read fields command → text ≡ tag ∷ fields → Again (command_at format) text command
-unfolding command_at
+unfolding command_at byte_at
 tagged_again format tag read fields text command is next spelled = record {
   again = λ rest.
       ap (λ (t : List ℕ). command_at format (t ++ rest)) spelled

@@ -2,5 +2,6 @@
 pub mod StepLemmas
 pub mod CommandLemmas
 pub mod CommandKeepsOn
+pub mod LengthLemmas
 pub mod ReadLemmas
 pub mod LogLemmas

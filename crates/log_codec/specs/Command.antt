@@ -1,12 +1,12 @@
 -- The commands of a log and their one text: a tag and the fields.
-use Rattle.std.specs.Prelude.{ℕ, ◌==◌, ◌<◌, ◌≤◌, ◌^◌, Bool, List, [], ◌∷◌, ◌++◌, length, Some, Ok, Err, if◌then◌else◌}
+use Rattle.std.specs.Prelude.{ℕ, ◌==◌, ◌<◌, ◌≤◌, ◌^◌, Bool, List, [], ◌∷◌, ◌++◌, length, Ok, Err, if◌then◌else◌}
 use Rattle.std.specs.Int.{w16, to_be_bytes}
 use Rattle.record_text.specs.Format.{Format, path_bits}
 use Rattle.record_text.specs.Value.{IsOf}
 use Rattle.record_text.specs.Element.{IsStamp}
 use Rattle.record_text.specs.Texts.{path_text, value_text, stamp_text}
-use Rattle.record_text.specs.Fields.{Parsed, field, ◌>>=◌}
-use Rattle.record_text.specs.Reading.{first_byte, path_at, value_at, stamp_at, u16_at}
+use Rattle.record_text.specs.Fields.{Parsed, ◌>>=◌}
+use Rattle.record_text.specs.Reading.{byte_at, path_at, value_at, stamp_at, u16_at}
 use Rattle.record_text.specs.declared.reader.TextFault.TheVariants.{Malformed}
 use Rattle.log_codec.specs.declared.command.Command.{Command}
 use Rattle.log_codec.specs.declared.command.Command.TheVariants.{AddM, EvictM, AddB, EvictB, EvictBM, Get, Put, NextEpoch}
@@ -22,7 +22,9 @@ command_text format (Get path value) = 6 ∷ path_text format path ++ value_text
 command_text format (Put path value) = 7 ∷ path_text format path ++ value_text format value
 command_text format NextEpoch = 8 ∷ []
 
--- the fields of each command, behind its tag
+-- ---- the fields of each command, behind its tag
+
+-- a path, its value and its parent
 abbrev pub add_m_at : Format → List ℕ → Parsed Command
 add_m_at format bytes = do
   path ← path_at format bytes
@@ -30,12 +32,14 @@ add_m_at format bytes = do
   parent ← path_at format value.1
   Ok (AddM path.0 value.0 parent.0, parent.1)
 
+-- a path and its parent
 abbrev pub evict_m_at : Format → List ℕ → Parsed Command
 evict_m_at format bytes = do
   path ← path_at format bytes
   parent ← path_at format path.1
   Ok (EvictM path.0 parent.0, parent.1)
 
+-- a path, its value, the stamp of its evict, and the verifier that evicted it
 abbrev pub add_b_at : Format → List ℕ → Parsed Command
 add_b_at format bytes = do
   path ← path_at format bytes
@@ -44,12 +48,14 @@ add_b_at format bytes = do
   verifier ← u16_at stamp.1
   Ok (AddB path.0 value.0 stamp.0 verifier.0, verifier.1)
 
+-- a path and its stamp
 abbrev pub evict_b_at : Format → List ℕ → Parsed Command
 evict_b_at format bytes = do
   path ← path_at format bytes
   stamp ← stamp_at path.1
   Ok (EvictB path.0 stamp.0, stamp.1)
 
+-- a path, its parent and its stamp
 abbrev pub evict_bm_at : Format → List ℕ → Parsed Command
 evict_bm_at format bytes = do
   path ← path_at format bytes
@@ -57,12 +63,14 @@ evict_bm_at format bytes = do
   stamp ← stamp_at parent.1
   Ok (EvictBM path.0 parent.0 stamp.0, stamp.1)
 
+-- a path and its value
 abbrev pub get_at : Format → List ℕ → Parsed Command
 get_at format bytes = do
   path ← path_at format bytes
   value ← value_at format path.0 path.1
   Ok (Get path.0 value.0, value.1)
 
+-- a path and its value
 abbrev pub put_at : Format → List ℕ → Parsed Command
 put_at format bytes = do
   path ← path_at format bytes
@@ -85,7 +93,7 @@ command_behind format tag bytes =
 -- the command that the bytes begin with, and the bytes behind it; or the first fault
 unfoldable pub command_at : Format → List ℕ → Parsed Command
 command_at format bytes = do
-  tag ← field 1 (λ run. Some (first_byte run)) bytes
+  tag ← byte_at bytes
   command_behind format tag.0 tag.1
 
 -- a path of at most the bits of a data path

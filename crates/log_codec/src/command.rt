@@ -1,5 +1,3 @@
-ghost use Rattle.std.specs.Prelude.{◌≡◌};
-
 use lamport_clocks::Stamp;
 use record_text::Value;
 use tree_keys::Path;
@@ -48,60 +46,4 @@ pub enum Command {
     },
     /// Turns to the next epoch.
     NextEpoch,
-}
-
-impl Command {
-    /// The same once more.
-    pub fn copy(&self) -> Self
-        ensures value { result ≡ self.now }
-    {
-        match self {
-            Command::AddM {
-                path,
-                value,
-                parent,
-            } => Command::AddM {
-                path: *path,
-                value: value.copy(),
-                parent: *parent,
-            },
-            Command::EvictM { path, parent } => Command::EvictM {
-                path: *path,
-                parent: *parent,
-            },
-            Command::AddB {
-                path,
-                value,
-                stamp,
-                verifier,
-            } => Command::AddB {
-                path: *path,
-                value: value.copy(),
-                stamp: *stamp,
-                verifier: *verifier,
-            },
-            Command::EvictB { path, stamp } => Command::EvictB {
-                path: *path,
-                stamp: *stamp,
-            },
-            Command::EvictBM {
-                path,
-                parent,
-                stamp,
-            } => Command::EvictBM {
-                path: *path,
-                parent: *parent,
-                stamp: *stamp,
-            },
-            Command::Get { path, value } => Command::Get {
-                path: *path,
-                value: value.copy(),
-            },
-            Command::Put { path, value } => Command::Put {
-                path: *path,
-                value: value.copy(),
-            },
-            Command::NextEpoch => Command::NextEpoch,
-        }
-    }
 }

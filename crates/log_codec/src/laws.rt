@@ -1,6 +1,6 @@
 //! What follows from the definitions of commands and logs. These functions do nothing: their contracts are
 //! the laws.
-ghost use Rattle.std.specs.Prelude.{◌≡◌, ℕ, ◌<◌, ◌≤◌, List, [], ◌∷◌, ◌++◌, length, Ok, Err, All};
+ghost use Rattle.std.specs.Prelude.{◌≡◌, ℕ, ◌+◌, ◌<◌, ◌≤◌, List, [], ◌∷◌, ◌++◌, length, Ok, Err, All};
 ghost use Rattle.std.specs.List.{AllByRecursion};
 ghost use Rattle.record_text.specs.declared.reader.TextFault.{TextFault};
 ghost use Rattle.record_text.specs.declared.reader.TextFault.TheVariants.{Malformed, Truncated};
@@ -36,6 +36,17 @@ pub fn commands_keep_on()
     ensures front { (command : Command) (front : List ℕ) (byte : ℕ) (back : List ℕ)
         → IsCommand short_keys command → command_text short_keys command ≡ front ++ byte ∷ back
         → command_at short_keys front ≡ Err Truncated }
+{}
+
+/// A command takes at most 104 bytes, and where it is cut there are fewer.
+pub fn commands_have_at_most_104_bytes()
+    ensures text { (command : Command) → IsCommand short_keys command
+        → length (command_text short_keys command) ≤ 104 }
+    ensures taken { (bytes : List ℕ) (command : Command) (rest : List ℕ)
+        → command_at short_keys bytes ≡ Ok (command, rest)
+        → length bytes ≤ 104 + length rest }
+    ensures cut { (bytes : List ℕ) → command_at short_keys bytes ≡ Err Truncated
+        → length bytes < 104 }
 {}
 
 /// A log goes on command by command, up to its end or the first fault.

@@ -138,7 +138,7 @@ fn behind(reader: &mut Reader<'_>, tag: u8) -> Result<Command, TextFault>
     }
 }
 
-#[tactic(auto, unfolding(crate::specs::Command::command_at, record_text::specs::Reading::byte_at))]
+#[tactic(auto, unfolding(crate::specs::Command::command_at))]
 fn command(reader: &mut Reader<'_>) -> Result<Command, TextFault>
     ensures takes { Takes result reader.new (command_at short_keys reader.old) }
 {

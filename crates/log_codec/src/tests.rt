@@ -119,7 +119,7 @@ fn commands_have_a_tag_and_fields(rt: HostRuntime) {
         let len = text.len();
         assert_eq!(rt; write(&command).as_slice(), text.as_slice());
         let longer = joined(&[&text, &[8]]);
-        assert_eq!(rt; read(&longer), Decoded::Read(command.copy(), len));
+        assert_eq!(rt; read(&longer), read(&text));
         assert_eq!(rt; read(&text), Decoded::Read(command, len));
         for cut in 0..len {
             assert_eq!(rt; read(&text[..cut]), Decoded::Truncated, "{cut}");

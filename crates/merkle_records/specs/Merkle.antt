@@ -59,6 +59,7 @@ added_by format digest node on path value (Some pointer) Split =
     record { node = pointing format digest node on path (initial_value format path); value = values.Node (taken_over (side path pointer.path) pointer) }
 added_by format digest node on path value pointer Foreign = record { node = node; value = value }
 
+-- Adding a path, by where the pointer of its side leads.
 abbrev pub after_add : Format → Digest → Node → Bool → List Bool → Value → Added
 after_add format digest node on path value =
     added_by format digest node on path value (node_side node on) (case_of (node_side node on) path)

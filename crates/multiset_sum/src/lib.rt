@@ -4,7 +4,7 @@
 //! of each lane, and how many elements there are: the order in which they came leaves no trace. The crate
 //! stands on std alone, and takes lanes as numbers, whichever hash gave them.
 //!
-//! Begin at `sum`, beside `specs/Sum.antt`.
+//! Begin at `sum`, beside `specs/Sum.antt`; `laws.rt` says that the sum is that of the whole list, in any order.
 #![tactic(auto)]
 
 mod laws;

@@ -1,5 +1,6 @@
 -- Lemmas on records and their texts.
 pub mod SameLemmas
+pub mod SameTestLemmas
 pub mod FieldLemmas
 pub mod PathTextLemmas
 pub mod ValueTextLemmas

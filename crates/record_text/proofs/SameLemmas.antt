@@ -18,7 +18,8 @@ beq-true true false h = absurd (cc)
 beq-true false true h = absurd (cc)
 beq-true false false h = refl
 
-parts_same : (p q : Pointer) → p.path ≡ q.path → p.digest ≡ q.digest → p.deferred ≡ q.deferred → p ≡ q
+-- pointers of the same parts are one
+pub parts_same : (p q : Pointer) → p.path ≡ q.path → p.digest ≡ q.digest → p.deferred ≡ q.deferred → p ≡ q
 parts_same p q path digest deferred =
     ap (λ (x : List Bool). record p { path = x }) path
     ∙ (ap (λ (x : List ℕ). record { path = q.path; digest = x; deferred = p.deferred }) digest

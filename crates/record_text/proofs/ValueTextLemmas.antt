@@ -108,10 +108,6 @@ tag_byte-is b tag e =
     ]
 
 -- a pointer's text starts with its tag
-rest_of_pointer : Format → Option Pointer → List ℕ
-rest_of_pointer format None = []
-rest_of_pointer format (Some pointer) = path_text format pointer.path ++ pointer.digest
-
 pointer_behind_begins : (format : Format) (wide : IsWide format.word (2 ^ path_bits format)) (node : List Bool) (side : Bool) (tag : Option Bool) (bytes : List ℕ) (pointer : Option Pointer) (rest : List ℕ) → AreBytes bytes → pointer_behind format (node ++ side ∷ []) tag bytes ≡ Ok (pointer, rest)
     → Begins (tag_byte tag ∷ bytes) (pointer_text format pointer) rest × IsSide format node side pointer
 unfolding tag_byte

@@ -2,6 +2,7 @@
 use Rattle.std.specs.Prelude.{ℕ, ◌*◌}
 use Rattle.std.specs.Int.{Width, w64, byte_len}
 
+-- the widths of a format
 pub record Format : Type 0 where
   -- the word that holds a path: a data path has all of its bits
   pub word : Width

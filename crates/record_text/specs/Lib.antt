@@ -1,6 +1,7 @@
 -- What the clauses on texts cite, in reading order.
 pub mod Format
 pub mod Value
+pub mod Same
 pub mod Element
 pub mod Texts
 pub mod Fields

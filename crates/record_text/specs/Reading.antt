@@ -27,6 +27,7 @@ byte_at bytes = field 1 (λ run. Some (first_byte run)) bytes
 abbrev pub path_in : Format → List ℕ → Option (List Bool)
 path_in format bytes = path_in_word (path_bits format) (first_byte bytes) (from_be_bytes format.word (drop 1 bytes))
 
+-- a path: its number of bits and its word
 unfoldable pub path_at : Format → List ℕ → Parsed (List Bool)
 path_at format bytes = field (1 + byte_len format.word) (path_in format) bytes
 
@@ -46,6 +47,7 @@ blob_behind format true bytes = do
   text ← run_at count.0 count.1
   Ok (Some text.0, text.1)
 
+-- a data value: whether there is one, and its bytes
 unfoldable pub blob_at : Format → List ℕ → Parsed (Option (List ℕ))
 blob_at format bytes = do
   present ← field 1 flag_in bytes
@@ -68,6 +70,7 @@ if_below prefix (Some path) = if is_prefix prefix path then Some path else None
 abbrev pub path_below_in : Format → List Bool → List ℕ → Option (List Bool)
 path_below_in format prefix bytes = if_below prefix (path_in format bytes)
 
+-- a path that has a prefix
 unfoldable pub path_below_at : Format → List Bool → List ℕ → Parsed (List Bool)
 path_below_at format prefix bytes = field (1 + byte_len format.word) (path_below_in format prefix) bytes
 
@@ -79,11 +82,13 @@ pointer_behind format prefix (Some deferred) bytes = do
   digest ← run_at 32 path.1
   Ok (Some (record { path = path.0; digest = digest.0; deferred = deferred }), digest.1)
 
+-- a pointer of a node, whose path has the node's and the side as a prefix
 unfoldable pub pointer_at : Format → List Bool → List ℕ → Parsed (Option Pointer)
 pointer_at format prefix bytes = do
   tag ← field 1 pointer_tag_in bytes
   pointer_behind format prefix tag.0 tag.1
 
+-- the node at a path: the pointer of side 0 and then that of side 1
 unfoldable pub node_at : Format → List Bool → List ℕ → Parsed Node
 node_at format path bytes = do
   side0 ← pointer_at format (path ++ false ∷ []) bytes
@@ -103,18 +108,22 @@ value_by format path false bytes = do
 abbrev pub value_at : Format → List Bool → List ℕ → Parsed Value
 value_at format path bytes = value_by format path (length path == path_bits format) bytes
 
+-- a number of two bytes
 unfoldable pub u16_at : List ℕ → Parsed ℕ
 u16_at bytes = field 2 (λ run. Some (from_be_bytes w16 run)) bytes
 
+-- a number of four bytes
 unfoldable pub u32_at : List ℕ → Parsed ℕ
 u32_at bytes = field 4 (λ run. Some (from_be_bytes w32 run)) bytes
 
+-- an epoch and a counter
 unfoldable pub stamp_at : List ℕ → Parsed Stamp
 stamp_at bytes = do
   epoch ← u32_at bytes
   counter ← u32_at epoch.1
   Ok (record { epoch = epoch.0; counter = counter.0 }, counter.1)
 
+-- a path, its value, a stamp, and the verifier that evicted it
 unfoldable pub element_at : Format → List ℕ → Parsed Element
 element_at format bytes = do
   path ← path_at format bytes

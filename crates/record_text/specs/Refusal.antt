@@ -3,6 +3,7 @@ use Rattle.std.specs.Prelude.{ℕ, List, codes}
 use Rattle.record_text.specs.declared.refusal.Refusal.{Refusal}
 use Rattle.record_text.specs.declared.refusal.Refusal.TheVariants.{Malformed, Truncated, IsRoot, AlreadyCached, CacheFull, NotCached, ParentNotCached, NotBelow, Foreign, NotInitial, Deferred, WrongDigest, NotChild, HasChild, WrongHold, NoSuchVerifier, BadEpoch, StampNotLater, ClockEnd, NotData, WrongValue}
 
+-- each refusal by its own name
 abbrev pub refusal_name : Refusal → List ℕ
 refusal_name Malformed = codes "Malformed"
 refusal_name Truncated = codes "Truncated"

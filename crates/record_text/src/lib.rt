@@ -3,30 +3,33 @@
 //! A data value stands at a data path, and a node, with a pointer for each side, at a shorter one. What
 //! bytes mean and what each thing is written as is defined in `specs/Reading.antt` and `specs/Texts.antt`.
 //! The crate stands on `tree_keys`, `lamport_clocks` and the kit's `arrayvec`. Begin with the types in
-//! `value.rt`, then `Reader` in `reader.rt` and the writers in `writing.rt`. The names of the refusals stand
-//! here too.
+//! `value.rt`, then `Reader` in `reader.rt` and the writers in `writing.rt`; `laws.rt` says that no text
+//! begins another, and what a text that is cut short is read as. What a get or put reports stands in
+//! `operation.rt`, and the names of the refusals in `refusal.rt`.
 #![tactic(auto)]
 
 mod element;
 mod laws;
+mod operation;
 mod reader;
 mod reading;
 mod refusal;
 mod value;
 mod writing;
 
-pub use element::{Element, Operation};
+pub use element::Element;
 pub use laws::{
     fronts_are_truncated, initial_values_are_of_their_paths, no_text_begins_another,
     readers_keep_on,
 };
+pub use operation::Operation;
 pub use reader::{Reader, TextFault};
 pub use reading::{read_element, read_path, read_value};
 pub use refusal::Refusal;
 pub use value::{Blob, LONGEST_BLOB, Node, Pointer, Value, initial};
 pub use writing::{
-    LONGEST_ELEMENT_TEXT, LONGEST_VALUE_TEXT, PATH_TEXT_LEN, element_text, path_text, push_path,
-    push_stamp, push_u16, push_u32, push_value, value_text,
+    LONGEST_ELEMENT_TEXT, LONGEST_VALUE_TEXT, PATH_TEXT_LEN, element_text, push_path, push_stamp,
+    push_u16, push_value, value_text,
 };
 
 #[cfg(test)]

@@ -70,9 +70,9 @@ impl<'a> Reader<'a> {
         Ok(u16::from_be_bytes([bytes[0], bytes[1]]))
     }
 
-    /// A number of four bytes.
+    // A number of four bytes.
     #[tactic(auto, unfolding(crate::specs::Reading::u32_at))]
-    pub fn u32(&mut self) -> Result<u32, TextFault>
+    fn u32(&mut self) -> Result<u32, TextFault>
         ensures takes { Takes result self.new (u32_at self.old) }
     {
         let bytes = self.run(4)?;
@@ -102,9 +102,9 @@ impl<'a> Reader<'a> {
         }
     }
 
-    /// A path that begins with this prefix.
+    // A path that begins with this prefix.
     #[tactic(auto, unfolding(crate::specs::Reading::path_below_at))]
-    pub fn path_below(&mut self, prefix: &Path) -> Result<Path, TextFault>
+    fn path_below(&mut self, prefix: &Path) -> Result<Path, TextFault>
         ensures takes { Takes result self.new (path_below_at short_keys prefix.now self.old) }
         ensures fits { IfOk result (λ path. length path ≤ KEY_BITS) }
         ensures below { IfOk result (λ path. IsTrue (is_prefix prefix.now path)) }
@@ -120,9 +120,9 @@ impl<'a> Reader<'a> {
         }
     }
 
-    /// A data value: none, or its bytes, at most 64.
+    // A data value: none, or its bytes, at most 64.
     #[tactic(auto, unfolding(crate::specs::Reading::blob_at))]
-    pub fn blob(&mut self) -> Result<Blob, TextFault>
+    fn blob(&mut self) -> Result<Blob, TextFault>
         ensures takes { Takes result self.new (blob_at short_keys self.old) }
         ensures kind { IfOk result (IsBlob short_keys) }
     {
@@ -134,9 +134,9 @@ impl<'a> Reader<'a> {
         Ok(Blob::of_bytes(bytes).unwrap())
     }
 
-    /// The pointer of a node's side: empty, or to a path below the node on that side.
+    // The pointer of a node's side: empty, or to a path below the node on that side.
     #[tactic(auto, unfolding(crate::specs::Reading::pointer_at))]
-    pub fn pointer(&mut self, node: &Path, side: bool) -> Result<Option<Pointer>, TextFault>
+    fn pointer(&mut self, node: &Path, side: bool) -> Result<Option<Pointer>, TextFault>
         requires short { length node.now < 64 }
         ensures takes { Takes result self.new
             (pointer_at short_keys (node.now ++ side ∷ []) self.old) }
@@ -154,9 +154,9 @@ impl<'a> Reader<'a> {
         }))
     }
 
-    /// The two pointers of the node at this path.
+    // The two pointers of the node at this path.
     #[tactic(auto, unfolding(crate::specs::Reading::node_at))]
-    pub fn node(&mut self, path: &Path) -> Result<Node, TextFault>
+    fn node(&mut self, path: &Path) -> Result<Node, TextFault>
         requires short { length path.now < 64 }
         ensures takes { Takes result self.new (node_at short_keys path.now self.old) }
         ensures kind { IfOk result (λ node. IsOf short_keys path.now (Value.Node node)) }

@@ -1,6 +1,6 @@
 //! Texts that were worked out by hand.
 use crate::{
-    Blob, Element, Node, Pointer, TextFault, Value, element_text, initial, path_text, read_element,
+    Blob, Element, Node, Pointer, TextFault, Value, element_text, initial, push_path, read_element,
     read_path, read_value, value_text,
 };
 use arrayvec::ArrayVec;
@@ -25,6 +25,13 @@ fn path_of(bits: &[u8]) -> Path {
 
 fn blob_of(rt: &impl Abort, bytes: &[u8]) -> Value {
     Value::Blob(Blob::of_bytes(bytes).expect(rt, "at most 64 bytes"))
+}
+
+// The text of a path.
+fn path_text(path: &Path) -> ArrayVec<u8, 9> {
+    let mut text = ArrayVec::new();
+    push_path(&mut text, path);
+    text
 }
 
 // The parts, one after another.
@@ -120,7 +127,7 @@ fn nodes_have_two_pointers(rt: HostRuntime) {
         let len = text.len();
         assert_eq!(rt; value_text(&value).as_slice(), text.as_slice());
         assert_eq!(rt; read_value(&path, &text), Ok((value.copy(), len)));
-        assert_eq!(rt; value.is_initial(&path), len == 2, "{value:?}");
+        assert_eq!(rt; value.is_same(&initial(&path)), len == 2, "{value:?}");
         for cut in 0..len {
             assert_eq!(rt; read_value(&path, &text[..cut]), Err(TRUNCATED), "{cut}");
         }
@@ -145,32 +152,33 @@ fn pointers_lead_below_their_side(rt: HostRuntime) {
     assert_eq!(rt; read_value(&node, &[0, 3]), Err(MALFORMED));
 }
 
-#[test]
-fn elements_have_four_parts(rt: HostRuntime) {
+// An element of the path 0, by this verifier.
+fn element_by(verifier: u16) -> Element {
     let node = path_of(b"0");
-    let element = Element {
+    Element {
         path: node,
         value: initial(&node),
         stamp: Stamp {
             epoch: 1,
             counter: 0x0203,
         },
-        verifier: 0x0405,
-    };
+        verifier,
+    }
+}
+
+#[test]
+fn elements_have_four_parts(rt: HostRuntime) {
+    let element = element_by(0x0405);
     let text = [
         1, 0, 0, 0, 0, 0, 0, 0, 0, 0, 0, 0, 0, 0, 1, 0, 0, 2, 3, 4, 5,
     ];
     assert_eq!(rt; element_text(&element).as_slice(), text.as_slice());
     assert_eq!(rt;
         read_element(&joined(&[&text, &[7]])),
-        Ok((element.copy(), 21))
+        Ok((element_by(0x0405), 21))
     );
     for cut in 0..text.len() {
         assert_eq!(rt; read_element(&text[..cut]), Err(TRUNCATED), "{cut}");
     }
-    let other = Element {
-        verifier: 3,
-        ..element.copy()
-    };
-    assert_ne!(rt; other, element);
+    assert_ne!(rt; element_by(3), element);
 }

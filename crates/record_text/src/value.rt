@@ -211,11 +211,4 @@ impl Value {
             _ => false,
         }
     }
-
-    /// Whether this is what the path starts with.
-    pub fn is_initial(&self, path: &Path) -> bool
-        ensures initial { IsTrue result ↔ (self.now ≡ initial_value short_keys path.now) }
-    {
-        self.is_same(&initial(path))
-    }
 }

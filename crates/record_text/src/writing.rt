@@ -19,17 +19,8 @@ pub const LONGEST_VALUE_TEXT: usize = 84;
 /// The most bytes of an element's text.
 pub const LONGEST_ELEMENT_TEXT: usize = 103;
 
-/// The text of a path.
-pub fn path_text(path: &Path) -> ArrayVec<u8, 9>
-    ensures text { result.items ≡ path_text short_keys path.now }
-{
-    let mut text = ArrayVec::new();
-    push_path(&mut text, path);
-    text
-}
-
 /// The text of a value.
-pub fn value_text(value: &Value) -> ArrayVec<u8, 84>
+pub fn value_text(value: &Value) -> ArrayVec<u8, LONGEST_VALUE_TEXT>
     ensures text { result.items ≡ value_text short_keys value.now }
 {
     let mut text = ArrayVec::new();
@@ -38,7 +29,7 @@ pub fn value_text(value: &Value) -> ArrayVec<u8, 84>
 }
 
 /// The text of an element.
-pub fn element_text(element: &Element) -> ArrayVec<u8, 103>
+pub fn element_text(element: &Element) -> ArrayVec<u8, LONGEST_ELEMENT_TEXT>
     ensures text { result.items ≡ element_text short_keys element.now }
 {
     let mut text = ArrayVec::new();
@@ -93,8 +84,8 @@ pub fn push_u16<const CAP: usize>(items: &mut ArrayVec<u8, CAP>, number: u16)
     push_all(items, &number.to_be_bytes());
 }
 
-/// Appends a number of four bytes.
-pub fn push_u32<const CAP: usize>(items: &mut ArrayVec<u8, CAP>, number: u32)
+// Appends a number of four bytes.
+fn push_u32<const CAP: usize>(items: &mut ArrayVec<u8, CAP>, number: u32)
     requires room { array_vec_len items.old + 4 ≤ CAP }
     ensures text { items.new.items ≡ items.old.items ++ to_be_bytes w32 number }
     ensures len { array_vec_len items.new ≡ array_vec_len items.old + 4 }

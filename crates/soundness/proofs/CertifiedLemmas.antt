@@ -4,8 +4,8 @@ use Rattle.std.proofs.lemmas.Bool.{false≢true, true≢false, eqb-true, and_par
 use Rattle.std.proofs.lemmas.Option.{none-some, same_Some}
 use Rattle.record_text.specs.declared.element.Element.{Element}
 use Rattle.multiset_sum.specs.Tally.{Tally}
-use Rattle.verifier_commands.specs.Same.{same_bytes}
-use Rattle.verifier_commands.proofs.SameLemmas.{same_bytes-true}
+use Rattle.record_text.specs.Same.{same_bytes}
+use Rattle.record_text.proofs.SameTestLemmas.{same_bytes-true}
 use Rattle.soundness.specs.History.{Event}
 use Rattle.soundness.specs.Certified.{added_in, evicted_in, sum_over, same_sum, is_balanced, balanced_from}
 use Rattle.soundness.specs.Permutation.{is_permutation, count_of}

@@ -22,8 +22,8 @@ use Rattle.verifier_cache.specs.declared.entry.Entry.{Entry}
 use Rattle.verifier_cache.specs.Entry.{kid_of, set_kid, has_kid}
 use Rattle.verifier_commands.specs.declared.changes.Parent.{Parent}
 use Rattle.verifier_commands.specs.declared.changes.Family.{Family}
-use Rattle.verifier_commands.specs.Same.{same_value, same_bytes}
-use Rattle.verifier_commands.proofs.SameLemmas.{same_value-true, same_bytes-true}
+use Rattle.record_text.specs.Same.{same_value, same_bytes}
+use Rattle.record_text.proofs.SameTestLemmas.{same_value-true, same_bytes-true}
 use Rattle.verifier_commands.specs.Changes.{node_of, above_on, above, leads_to, is_deferred, has_digest, leads_below, family_of, add_by, add_under, holds_wrong, left_by, evict_under, is_by_digest, defer_under}
 
 -- ---- tests in order, from their outcome back

@@ -25,7 +25,7 @@ use Rattle.verifier_commands.specs.declared.state.State.{State}
 use Rattle.verifier_commands.specs.State.{opening}
 use Rattle.verifier_commands.specs.Change.{Change, joins, leaves, comes, goes, defers, reads, writes, turns}
 use Rattle.verifier_commands.specs.Changes.{add_under, evict_under, defer_under, is_by_stamp}
-use Rattle.verifier_commands.specs.Same.{same_value}
+use Rattle.record_text.specs.Same.{same_value}
 use Rattle.verifier_commands.specs.Transition.{Rules, Step, is_root, is_data, is_full, transition}
 use Rattle.soundness.specs.History.{Event, events_behind, events_from, machinery_under, rules_under, log_events}
 use Rattle.soundness.specs.Certified.{event_moment, order_of}

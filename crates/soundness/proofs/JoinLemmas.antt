@@ -19,8 +19,8 @@ use Rattle.verifier_cache.specs.declared.entry.Hold.TheVariants.{M}
 use Rattle.verifier_cache.specs.Entry.{kid_of, set_kid, new_entry}
 use Rattle.verifier_commands.specs.declared.changes.Family.{Family}
 use Rattle.verifier_commands.specs.declared.changes.Parent.{Parent}
-use Rattle.verifier_commands.specs.Same.{same_bytes}
-use Rattle.verifier_commands.proofs.SameLemmas.{same_bytes-self, same_bytes-true}
+use Rattle.record_text.specs.Same.{same_bytes}
+use Rattle.record_text.proofs.SameTestLemmas.{same_bytes-self, same_bytes-true}
 use Rattle.verifier_commands.specs.Changes.{node_of, above, above_on, set_kid_on}
 use Rattle.verifier_commands.specs.Outcome.{blob_of}
 use Rattle.verifier_commands.specs.Change.{joins}

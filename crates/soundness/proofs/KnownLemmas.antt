@@ -15,8 +15,8 @@ use Rattle.verifier_cache.specs.declared.entry.Entry.{Entry}
 use Rattle.verifier_cache.specs.declared.entry.Hold.TheVariants.{M}
 use Rattle.verifier_cache.specs.Entry.{kid_of, new_entry}
 use Rattle.verifier_commands.specs.declared.changes.Family.{Family}
-use Rattle.verifier_commands.specs.Same.{same_bytes}
-use Rattle.verifier_commands.proofs.SameLemmas.{same_bytes-self, same_bytes-true}
+use Rattle.record_text.specs.Same.{same_bytes}
+use Rattle.record_text.proofs.SameTestLemmas.{same_bytes-self, same_bytes-true}
 use Rattle.verifier_commands.specs.Changes.{node_of, above_on, leads_to}
 use Rattle.verifier_commands.specs.Outcome.{blob_of}
 use Rattle.verifier_commands.specs.Change.{Change, joins}

@@ -29,7 +29,7 @@ use Rattle.verifier_commands.specs.declared.state.State.{State}
 use Rattle.verifier_commands.specs.State.{opening, root_entry}
 use Rattle.verifier_commands.specs.Change.{Change}
 use Rattle.verifier_commands.specs.Changes.{above, leads_to, is_deferred, has_digest, holds_wrong, is_by_digest, set_kid_on, add_by, add_under, evict_under, defer_under, is_by_stamp}
-use Rattle.verifier_commands.specs.Same.{same_value}
+use Rattle.record_text.specs.Same.{same_value}
 use Rattle.verifier_commands.specs.Transition.{Rules, Step, is_root, is_data, is_full, transition, add_m, evict_m, add_b, evict_b, evict_bm, get, put, next_epoch}
 use Rattle.soundness.specs.History.{Event, events_behind, events_from, machinery_under}
 use Rattle.soundness.specs.Deeds.{Shown, Did, shown_by, showing, ShowSame}

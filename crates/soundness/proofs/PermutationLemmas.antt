@@ -8,8 +8,8 @@ use Rattle.tree_keys.proofs.PathLemmas.{same_path-self, same_path-true}
 use Rattle.lamport_clocks.specs.declared.stamp.Stamp.{Stamp}
 use Rattle.record_text.specs.declared.value.Value.{Value}
 use Rattle.record_text.specs.declared.element.Element.{Element}
-use Rattle.verifier_commands.specs.Same.{same_value}
-use Rattle.verifier_commands.proofs.SameLemmas.{same_value-true, same_value-self}
+use Rattle.record_text.specs.Same.{same_value}
+use Rattle.record_text.proofs.SameTestLemmas.{same_value-true, same_value-self}
 use Rattle.soundness.specs.Permutation.{same_stamp, same_element, count_of, without_one, permuted_behind, is_permutation}
 
 same_stamp-true : (s t : Stamp) → same_stamp s t ≡ true → s ≡ t

@@ -3,7 +3,7 @@ use Rattle.std.specs.Prelude.{ℕ, zero, suc, ◌+◌, ◌==◌, ◌&&◌, Bool,
 use Rattle.std.specs.List.{flat_map}
 use Rattle.tree_keys.specs.Bits.{number_of}
 use Rattle.record_text.specs.declared.element.Element.{Element}
-use Rattle.record_text.specs.declared.element.Operation.{Operation}
+use Rattle.record_text.specs.declared.operation.Operation.{Operation}
 use Rattle.record_text.specs.Format.{short_keys}
 use Rattle.record_text.specs.Texts.{element_text}
 use Rattle.multiset_sum.specs.Tally.{Tally}
@@ -11,7 +11,7 @@ use Rattle.multiset_sum.specs.Sum.{sum_of}
 use Rattle.stamp_order.specs.declared.moment.Moment.{Moment}
 use Rattle.stamp_order.specs.Merged.{merged, up_to}
 use Rattle.verifier_cache.specs.declared.entry.Entry.{Entry}
-use Rattle.verifier_commands.specs.Same.{same_bytes}
+use Rattle.record_text.specs.Same.{same_bytes}
 use Rattle.verifier_commands.specs.Outcome.{blob_of}
 use Rattle.verifier_commands.specs.Change.{Change, joins, leaves, comes, goes, defers, reads, writes, turns}
 use Rattle.soundness.specs.History.{Event}

@@ -11,7 +11,7 @@ use Rattle.record_text.specs.Texts.{value_text}
 use Rattle.merkle_records.specs.Merkle.{Digest}
 use Rattle.verifier_cache.specs.declared.entry.Entry.{Entry}
 use Rattle.verifier_commands.specs.declared.changes.Parent.{Parent}
-use Rattle.verifier_commands.specs.Same.{same_bytes}
+use Rattle.record_text.specs.Same.{same_bytes}
 use Rattle.verifier_commands.specs.Changes.{above, leads_to}
 use Rattle.verifier_commands.specs.Change.{Change, joins, leaves, comes, goes, defers, reads, writes, turns}
 

@@ -4,7 +4,7 @@ use Rattle.std.specs.Option.{option_map}
 use Rattle.tree_keys.specs.Path.{same_path}
 use Rattle.lamport_clocks.specs.declared.stamp.Stamp.{Stamp}
 use Rattle.record_text.specs.declared.element.Element.{Element}
-use Rattle.verifier_commands.specs.Same.{same_value}
+use Rattle.record_text.specs.Same.{same_value}
 
 -- two stamps are the same
 abbrev pub same_stamp : Stamp → Stamp → Bool

@@ -1,7 +1,7 @@
 -- Operations that one plain map answers: each get has what the last put to its key set.
 use Rattle.std.specs.Prelude.{◌≡◌, ℕ, nat_eq, false, List, [], ◌∷◌, Option, None, ⊤, if◌then◌else◌}
 use Rattle.std.specs.Map.{update}
-use Rattle.record_text.specs.declared.element.Operation.{Operation}
+use Rattle.record_text.specs.declared.operation.Operation.{Operation}
 
 -- the map that is none at every key
 abbrev pub none_everywhere : ℕ → Option (List ℕ)

@@ -1,5 +1,5 @@
 -- How paths lie to each other, by their first bits.
-use Rattle.std.proofs.Common.{◌≡◌, ◌≢◌, ℕ, zero, suc, ◌-◌, ◌/◌, ◌^◌, ◌<◌, ◌≤◌, Bool, true, false, List, [], ◌∷◌, length, take, drop, slice_get, Some, None, nat_eq, refl, sym, ◌∙◌, ap, subst, arith}
+use Rattle.std.proofs.Common.{◌≡◌, ◌≢◌, ◌↔◌, IsTrue, ℕ, zero, suc, ◌-◌, ◌/◌, ◌^◌, ◌<◌, ◌≤◌, Bool, true, false, List, [], ◌∷◌, length, take, drop, slice_get, Some, None, nat_eq, refl, sym, ◌∙◌, ap, subst, arith}
 use Rattle.std.proofs.lemmas.Bool.{false≢true, eqb-true, eq-eqb}
 use Rattle.tree_keys.specs.Bits.{bits_of}
 use Rattle.tree_keys.specs.BitsLaws.{length-bits_of}
@@ -179,4 +179,15 @@ pub same_of_counts : (m a n b : ℕ) → m ≢ n → a < 2 ^ m → b < 2 ^ n →
 same_of_counts m a n b apart small_a small_b =
     same_path-apart _ _ (λ same. apart (same_numbers m a n b small_a small_b same).0)
 
-pub ruleset same_view = (same_of_count, same_of_counts)
+pub one_of_count : (m a n b : ℕ) → m ≡ n → a < 2 ^ m → b < 2 ^ n → IsTrue (nat_eq a b) ↔ (bits_of m a ≡ bits_of n b)
+one_of_count m a n b count small_a small_b =
+    let value = same_of_count m a n b count small_a small_b in (
+      λ is. same_path-true _ _ (sym value ∙ is),
+      λ same. value ∙ subst (λ (k : List Bool). same_path (bits_of m a) k ≡ true) same (same_path-self (bits_of m a)),
+    )
+
+pub none_of_counts : (m a n b : ℕ) → m ≢ n → a < 2 ^ m → b < 2 ^ n → IsTrue false ↔ (bits_of m a ≡ bits_of n b)
+none_of_counts m a n b apart small_a small_b =
+    (λ is. absurd (false≢true is), λ same. absurd (apart (same_numbers m a n b small_a small_b same).0))
+
+pub ruleset same_view = (same_of_count, same_of_counts, one_of_count, none_of_counts)

@@ -150,6 +150,7 @@ impl Path {
     #[tactic(auto, using(crate::proofs::PathLemmas::same_view))]
     pub fn is_same(&self, other: &Path) -> bool
         ensures value { result ≡ same_path self.now other.now }
+        ensures same { IsTrue result ↔ (self.now ≡ other.now) }
     {
         if self.len != other.len {
             return false;

@@ -125,15 +125,6 @@ entry_of-changed_other j k f (x ∷ xs) keeps other = go (entry_of-changed_other
         ∙ sym (ap (λ (b : Bool). if b then Some x else entry_of j xs) (other_path j k x.path other path))
     go further false apart = ap (λ (o : Option Entry). if same_path j x.path then Some x else o) further
 
--- Nothing is changed where the path isn't there.
-pub changed-absent : (k : List Bool) (f : Entry → Entry) (xs : List Entry) → entry_of k xs ≡ None → changed k f xs ≡ xs
-changed-absent k f [] none = refl
-changed-absent k f (x ∷ xs) none = go (λ is. changed-absent k f xs is) (same_path k x.path) none
-  where
-    go : (entry_of k xs ≡ None → changed k f xs ≡ xs) → (b : Bool) → (if b then Some x else entry_of k xs) ≡ None → (if b then f x ∷ xs else x ∷ changed k f xs) ≡ x ∷ xs
-    go further true is = absurd (none-some x (sym is))
-    go further false is = ap (λ (more : List Entry). x ∷ more) (further is)
-
 -- changes of a path that make the same of its entry are one
 changed-same : (k : List Bool) (f g : Entry → Entry) (xs : List Entry) (e : Entry) → entry_of k xs ≡ Some e → f e ≡ g e → changed k f xs ≡ changed k g xs
 changed-same k f g [] e found same = refl

@@ -4,6 +4,7 @@ use Rattle.std.specs.List.{HoldsAt}
 use Rattle.tree_keys.specs.Path.{same_path}
 use Rattle.verifier_cache.specs.declared.entry.Entry.{Entry}
 
+-- what a cache holds, and the most entries that it may
 pub record Held : Type 0 where
   pub entries : List Entry
   pub room : ℕ

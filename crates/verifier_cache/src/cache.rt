@@ -48,20 +48,6 @@ impl Cache {
         self.entries.len()
     }
 
-    /// Whether it holds nothing.
-    pub fn is_empty(&self) -> bool
-        ensures value { IsTrue result ↔ (self.now.entries ≡ []) }
-    {
-        self.entries.is_empty()
-    }
-
-    /// The most entries that it may hold.
-    pub fn room(&self) -> u32
-        ensures value { result ≡ self.now.room }
-    {
-        self.room
-    }
-
     /// Whether there is no room for another entry.
     pub fn is_full(&self) -> bool
         ensures value { result ≡ nat_le self.now.room (length self.now.entries) }

@@ -64,16 +64,4 @@ impl Entry {
         };
         self.kids = kids;
     }
-
-    /// The same once more.
-    pub fn copy(&self) -> Self
-        ensures value { result ≡ self.now }
-    {
-        Entry {
-            path: self.path,
-            value: self.value.copy(),
-            hold: self.hold,
-            kids: self.kids,
-        }
-    }
 }

@@ -1,5 +1,5 @@
 -- A path that lies properly below another is another.
-use Rattle.std.proofs.Common.{◌≡◌, ◌≢◌, ℕ, ◌≤◌, Bool, List, length, Option, Some, None, sym, ◌∙◌, ap, subst, arith}
+use Rattle.std.proofs.Common.{◌≡◌, ◌≢◌, Bool, List, Some, None, sym, subst, arith}
 use Rattle.tree_keys.specs.Path.{side}
 use Rattle.tree_keys.proofs.PathLemmas.{side-short}
 

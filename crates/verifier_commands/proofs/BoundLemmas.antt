@@ -1,5 +1,5 @@
 -- Each add and each evict raises the counter, so the sums stay bounded by it.
-use Rattle.std.proofs.Common.{◌≡◌, ℕ, ◌+◌, ◌<◌, ◌≤◌, arith, sym, subst, ap, ◌∙◌}
+use Rattle.std.proofs.Common.{◌≡◌, ◌+◌, ◌<◌, ◌≤◌, arith, ap}
 use Rattle.lamport_clocks.specs.Reading.{Reading}
 use Rattle.multiset_sum.specs.Tally.{Tally}
 use Rattle.verifier_commands.specs.declared.sums.Sums.{Sums}

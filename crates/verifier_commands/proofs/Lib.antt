@@ -1,5 +1,4 @@
 -- Lemmas on the tests of the transition.
-pub mod SameLemmas
 pub mod KeyLemmas
 pub mod BelowLemmas
 pub mod CacheLemmas

@@ -3,6 +3,7 @@ use Rattle.std.specs.Prelude.{ℕ, Option}
 use Rattle.record_text.specs.declared.element.Element.{Element}
 use Rattle.verifier_cache.specs.declared.entry.Entry.{Entry}
 
+-- what was done, with all that it was done to
 pub data Change : Type 0 where
   -- a child came in under its parent, by its digest: the parent before and after, and the child
   joins : Entry → Entry → Entry → Change

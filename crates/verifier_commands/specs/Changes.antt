@@ -1,6 +1,6 @@
 -- What a command does to the entries that it names: the parent's and the child's, before and after. How the
 -- entries are looked up is no part of it.
-use Rattle.std.specs.Prelude.{ℕ, Bool, true, false, not, ◌&&◌, ◌||◌, List, [], ◌∷◌, Option, Some, None, Result, Ok, Err}
+use Rattle.std.specs.Prelude.{ℕ, Bool, true, false, not, ◌||◌, List, Option, Some, None, Result, Ok, Err}
 use Rattle.tree_keys.specs.Path.{side, same_path}
 use Rattle.lamport_clocks.specs.InOrder.{test, need}
 use Rattle.record_text.specs.declared.value.Pointer.{Pointer}
@@ -21,7 +21,7 @@ use Rattle.verifier_cache.specs.declared.entry.Hold.TheVariants.{Root, M, B}
 use Rattle.verifier_cache.specs.Entry.{kid_of, set_kid, has_kid, new_entry}
 use Rattle.verifier_commands.specs.declared.changes.Parent.{Parent}
 use Rattle.verifier_commands.specs.declared.changes.Family.{Family}
-use Rattle.verifier_commands.specs.Same.{same_bytes, same_value}
+use Rattle.record_text.specs.Same.{same_bytes, same_value}
 
 -- the node that a value is, if it is one
 abbrev pub node_of : Value → Option Node

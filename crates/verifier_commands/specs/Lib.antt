@@ -1,6 +1,5 @@
 -- What the clauses on the verifier cite, in reading order: the state, what a command does to entries, the
 -- transition, its sums, and the verifier as a whole.
-pub mod Same
 pub mod State
 pub mod Changes
 pub mod Change

@@ -1,11 +1,10 @@
 -- A verifier as a whole: its number, its state and sums, and how many commands it has accepted.
-use Rattle.std.specs.Prelude.{◌≡◌, ℕ, ◌+◌, ◌<◌, ◌≤◌, Bool, true, false, List, Option, Some, None, Result, Ok, Err}
+use Rattle.std.specs.Prelude.{◌≡◌, ℕ, ◌+◌, ◌<◌, ◌≤◌, Bool, true, false, List, Option, Some, None, Result, Ok}
 use Rattle.lamport_clocks.specs.declared.header.Header.{Header}
-use Rattle.lamport_clocks.specs.declared.header.TheConstants.{MOST_END}
 use Rattle.lamport_clocks.specs.Reading.{Reading}
 use Rattle.lamport_clocks.specs.declared.stamp.Stamp.{Stamp}
 use Rattle.lamport_clocks.specs.InOrder.{and_then}
-use Rattle.record_text.specs.declared.element.Operation.{Operation}
+use Rattle.record_text.specs.declared.operation.Operation.{Operation}
 use Rattle.record_text.specs.declared.refusal.Refusal.{Refusal}
 use Rattle.record_text.specs.Format.{short_keys}
 use Rattle.log_codec.specs.declared.command.Command.{Command}
@@ -20,6 +19,7 @@ use Rattle.verifier_commands.specs.Transition.{Rules, transition}
 use Rattle.verifier_commands.specs.Outcome.{told}
 use Rattle.verifier_commands.specs.Sums.{zero_sums, sums_after}
 
+-- what a verifier is
 pub record Machine : Type 0 where
   pub number : ℕ
   pub verifiers : ℕ
@@ -89,7 +89,7 @@ ClockMoves old new (Turned sealed) = (new.end ≡ old.end) × (new.at.counter �
 
 -- Each add and each evict raises the counter, which is bounded: so is the number of elements in each sum.
 pub record AreBounded (sums : Sums) (clock : Reading) : Type 0 where
-  pub end : clock.end ≤ MOST_END
+  pub end : clock.end ≤ 16777215
   pub counter : clock.at.counter ≤ clock.end
   pub added : sums.added.count ≤ clock.at.counter
   pub evicted : sums.evicted.count ≤ clock.at.counter

@@ -1,5 +1,5 @@
 -- What an accepted command hands up: the part of a change that sums and answers are made from.
-use Rattle.std.specs.Prelude.{ℕ, List, Option, Some, None, Result, Ok, Err}
+use Rattle.std.specs.Prelude.{ℕ, List, Option, None, Result, Ok, Err}
 use Rattle.tree_keys.specs.Bits.{number_of}
 use Rattle.record_text.specs.declared.value.Value.{Value}
 use Rattle.record_text.specs.declared.value.Value.TheVariants as values
@@ -15,6 +15,7 @@ abbrev pub blob_of : Value → Option (List ℕ)
 blob_of (values.Blob blob) = blob
 blob_of (values.Node node) = None
 
+-- what a change hands up
 abbrev pub outcome_of : Change → Outcome
 outcome_of (joins parent after child) = Moved
 outcome_of (leaves parent after child) = Moved

@@ -1,9 +1,8 @@
 -- The sums that a verifier keeps: of the elements that it added and evicted in its clock's epoch and in the
 -- one before (Blum et al. 1994: what was written and what was read of an epoch are one multiset).
-use Rattle.std.specs.Prelude.{ℕ, ◌==◌, List, Option, Some, None, if◌then◌else◌}
+use Rattle.std.specs.Prelude.{ℕ, ◌==◌, List, if◌then◌else◌}
 use Rattle.record_text.specs.declared.element.Element.{Element}
 use Rattle.record_text.specs.Texts.{element_text}
-use Rattle.multiset_sum.specs.Tally.{Tally}
 use Rattle.multiset_sum.specs.Sum.{zero_sum, with_lanes}
 use Rattle.verifier_commands.specs.declared.sums.Sums.{Sums}
 use Rattle.verifier_commands.specs.declared.outcome.Outcome.{Outcome}

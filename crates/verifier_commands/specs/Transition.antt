@@ -1,6 +1,6 @@
 -- The transition of one verifier: what each command does, or the first refusal. The tests stand in the one
 -- order in which they are made.
-use Rattle.std.specs.Prelude.{ℕ, ◌==◌, nat_lt, nat_le, Bool, true, false, not, ◌||◌, List, [], ◌∷◌, ◌++◌, length, Option, Some, None, is_some, Result, Ok, Err}
+use Rattle.std.specs.Prelude.{ℕ, ◌==◌, nat_le, Bool, true, false, not, List, [], ◌∷◌, ◌++◌, length, is_some, Result, Ok, Err}
 use Rattle.lamport_clocks.specs.declared.stamp.Stamp.{Stamp}
 use Rattle.lamport_clocks.specs.declared.clock.ClockFault.{ClockFault}
 use Rattle.lamport_clocks.specs.declared.clock.ClockFault.TheVariants as faults
@@ -18,7 +18,7 @@ use Rattle.verifier_cache.specs.declared.entry.Entry.{Entry}
 use Rattle.verifier_cache.specs.declared.entry.Hold.TheVariants.{B}
 use Rattle.verifier_cache.specs.Entry.{has_kid, new_entry}
 use Rattle.verifier_cache.specs.Cache.{entry_of, without, replaced}
-use Rattle.verifier_commands.specs.Same.{same_value}
+use Rattle.record_text.specs.Same.{same_value}
 use Rattle.verifier_commands.specs.declared.state.State.{State}
 use Rattle.verifier_commands.specs.State.{with_entries, at_clock}
 use Rattle.verifier_commands.specs.Change.{Change, joins, leaves, comes, goes, defers, reads, writes, turns}
@@ -28,31 +28,35 @@ use Rattle.verifier_commands.specs.Changes.{add_under, evict_under, defer_under,
 abbrev pub Step : Type 0
 Step = Result (Change × State) Refusal
 
+-- the path of no bits
 abbrev pub is_root : List Bool → Bool
 is_root [] = true
 is_root (bit ∷ path) = false
 
+-- a path with all of its bits
 abbrev pub is_data : Format → List Bool → Bool
 is_data format path = length path == path_bits format
 
+-- there is no room for another entry
 abbrev pub is_full : State → Bool
 is_full state = nat_le state.cache.room (length state.cache.entries)
 
 -- a clock's fault as a refusal
-abbrev pub refusal_of : ClockFault → Refusal
-refusal_of faults.BadEpoch = refusals.BadEpoch
-refusal_of faults.StampNotLater = refusals.StampNotLater
-refusal_of faults.ClockEnd = refusals.ClockEnd
+abbrev pub clock_refusal : ClockFault → Refusal
+clock_refusal faults.BadEpoch = refusals.BadEpoch
+clock_refusal faults.StampNotLater = refusals.StampNotLater
+clock_refusal faults.ClockEnd = refusals.ClockEnd
 
 -- what comes next at the clock's answer, or its fault as a refusal
 abbrev pub timed : {A X : Type 0} → Result A ClockFault → (A → Result X Refusal) → Result X Refusal
 timed (Ok answer) next = next answer
-timed (Err fault) next = Err (refusal_of fault)
+timed (Err fault) next = Err (clock_refusal fault)
 
 -- an entry as an element that this verifier evicts
 abbrev pub evicted_as : ℕ → Entry → Stamp → Element
 evicted_as number entry stamp = record { path = entry.path; value = entry.value; stamp = stamp; verifier = number }
 
+-- Adding a path under its parent, by its digest.
 abbrev pub add_m : Format → Digest → State → List Bool → Value → List Bool → Step
 add_m format digest state path value parent =
     test (is_root path) refusals.IsRoot
@@ -65,6 +69,7 @@ add_m format digest state path value parent =
       with_entries state (replaced family.parent state.cache.entries ++ family.child ∷ []),
     ))))))
 
+-- Evicting a path into its parent, which keeps its digest.
 abbrev pub evict_m : Format → Digest → State → List Bool → List Bool → Step
 evict_m format digest state path parent =
     test (is_root path) refusals.IsRoot
@@ -76,6 +81,7 @@ evict_m format digest state path parent =
       with_entries state (without path (replaced after state.cache.entries)),
     )))))
 
+-- Taking back what some verifier evicted with this stamp.
 abbrev pub add_b : ℕ → State → List Bool → Value → Stamp → ℕ → Step
 add_b verifiers state path value stamp verifier =
     test (is_root path) refusals.IsRoot
@@ -88,6 +94,7 @@ add_b verifiers state path value stamp verifier =
       at_clock state (state.cache.entries ++ new_entry path value B ∷ []) clock,
     ))))))
 
+-- Evicting with a stamp what came in with one.
 abbrev pub evict_b : ℕ → State → List Bool → Stamp → Step
 evict_b number state path stamp =
     test (is_root path) refusals.IsRoot
@@ -100,6 +107,7 @@ evict_b number state path stamp =
       at_clock state (without path state.cache.entries) clock,
     ))))))
 
+-- Evicting with a stamp what came in by its digest: its parent's pointer is marked.
 abbrev pub evict_bm : ℕ → State → List Bool → List Bool → Stamp → Step
 evict_bm number state path parent stamp =
     test (is_root path) refusals.IsRoot
@@ -112,6 +120,7 @@ evict_bm number state path parent stamp =
       at_clock state (without path (replaced after state.cache.entries)) clock,
     ))))))
 
+-- Reading a data value, which must be this one.
 abbrev pub get : Format → State → List Bool → Value → Step
 get format state path value =
     need (entry_of path state.cache.entries) refusals.NotCached
@@ -119,6 +128,7 @@ get format state path value =
     (test (not (same_value entry.value value)) refusals.WrongValue
     (Ok (reads entry, state))))
 
+-- Writing a data value.
 abbrev pub put : Format → State → List Bool → Value → Step
 put format state path value =
     need (entry_of path state.cache.entries) refusals.NotCached
@@ -128,6 +138,7 @@ put format state path value =
       with_entries state (replaced (record entry { value = value }) state.cache.entries),
     )))
 
+-- Turning to the next epoch.
 abbrev pub next_epoch : State → Step
 next_epoch state =
     timed (turned state.clock)
@@ -142,6 +153,7 @@ pub record Rules : Type 0 where
   pub number : ℕ
   pub verifiers : ℕ
 
+-- What each command does.
 abbrev pub transition : Rules → State → Command → Step
 transition rules state (AddM path value parent) = add_m rules.format rules.digest state path value parent
 transition rules state (EvictM path parent) = evict_m rules.format rules.digest state path parent

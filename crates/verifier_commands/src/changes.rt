@@ -4,7 +4,7 @@ ghost use Rattle.tree_keys.specs.Path.{side};
 ghost use Rattle.record_text.specs.Format.{short_keys};
 ghost use Rattle.record_text.specs.Texts.{value_text};
 ghost use Rattle.record_text.specs.Value.{node_side};
-ghost use Rattle.verifier_commands.specs.Same.{same_bytes};
+ghost use Rattle.record_text.specs.Same.{same_bytes};
 ghost use Rattle.verifier_commands.specs.Changes.{above, add_by, add_under, evict_under, defer_under, leads_to, is_deferred, has_digest, leads_below, holds_wrong, family_of, left_by, set_kid_on, with_node, is_by_digest, IsFirst};
 ghost use Rattle.verifier_cache.specs.Entry.{set_kid};
 ghost use Rattle.merkle_records.specs.declared.cases.AddCase.TheVariants.{Same};

@@ -9,7 +9,7 @@ ghost use Rattle.verifier_commands.specs.Machine.{ClockMoves};
 
 use crate::changes::defer_under;
 use crate::outcome::Outcome;
-use crate::state::{State, is_root, refusal_of};
+use crate::state::{State, clock_refusal, is_root};
 use lamport_clocks::Stamp;
 use record_text::{Element, Refusal, Value};
 use tree_keys::Path;
@@ -21,11 +21,11 @@ impl State {
         &mut self,
         verifiers: u16,
         path: &Path,
-        value: &Value,
+        value: Value,
         stamp: Stamp,
         verifier: u16,
     ) -> Result<Outcome, Refusal>
-        ensures follows { Follows result self.old self.new (told (add_b verifiers self.old path.now value.now stamp verifier)) }
+        ensures follows { Follows result self.old self.new (told (add_b verifiers self.old path.now value stamp verifier)) }
         ensures clock { IfOk result (ClockMoves self.old.clock self.new.clock) }
     {
         if is_root(path) {
@@ -41,12 +41,12 @@ impl State {
             return Err(Refusal::NoSuchVerifier);
         }
         if let Err(fault) = self.clock.on_add(stamp) {
-            return Err(refusal_of(fault));
+            return Err(clock_refusal(fault));
         }
         self.cache.insert(*path, value.copy(), Hold::B);
         Ok(Outcome::Added(Element {
             path: *path,
-            value: value.copy(),
+            value,
             stamp,
             verifier,
         }))
@@ -75,7 +75,7 @@ impl State {
             return Err(Refusal::WrongHold);
         }
         if let Err(fault) = self.clock.on_evict(stamp) {
-            return Err(refusal_of(fault));
+            return Err(clock_refusal(fault));
         }
         let value = self.cache.remove(path);
         Ok(Outcome::Evicted(Element {
@@ -108,7 +108,7 @@ impl State {
         };
         let after = defer_under(holder, child)?;
         if let Err(fault) = self.clock.on_evict(stamp) {
-            return Err(refusal_of(fault));
+            return Err(clock_refusal(fault));
         }
         let value = take_out(&mut self.cache, path, after);
         Ok(Outcome::Evicted(Element {

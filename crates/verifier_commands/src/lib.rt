@@ -2,8 +2,9 @@
 //!
 //! What each command does, or why it is refused, is `transition` in `specs/Transition.antt`: tests in one
 //! order, over a state of cached entries and a clock. Beside it a verifier keeps sums of what it added and
-//! evicted in two epochs. The crate stands on `log_codec` for the commands, `merkle_records`,
-//! `verifier_cache`, `lamport_clocks` and `multiset_sum`. Begin with `Verifier::step` in `verifier.rt`.
+//! evicted in two epochs. The crate stands on `log_codec` for the commands, and on `merkle_records`,
+//! `verifier_cache`, `lamport_clocks` and `multiset_sum` for what they change. It has no laws of its own.
+//! Begin with `Verifier::step` in `verifier.rt`, beside `stepped` in `specs/Machine.antt`.
 #![tactic(auto)]
 
 mod changes;

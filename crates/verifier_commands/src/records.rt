@@ -1,16 +1,18 @@
 //! The commands on data values, and the turn of the epoch.
-ghost use Rattle.std.specs.Prelude.{◌≡◌, IfOk};
+ghost use Rattle.std.specs.Prelude.{◌≡◌, IsSome, IfSome, IfOk};
 ghost use Rattle.lamport_clocks.specs.Follows.{Follows};
 ghost use Rattle.verifier_commands.specs.Transition.{get, put, next_epoch};
 ghost use Rattle.record_text.specs.Format.{short_keys};
+ghost use Rattle.verifier_cache.specs.Entry.{with_value};
+ghost use Rattle.verifier_cache.specs.Cache.{entry_of, replaced};
 ghost use Rattle.verifier_commands.specs.Outcome.{told, blob_of};
 ghost use Rattle.verifier_commands.specs.Machine.{ClockMoves};
 
 use crate::outcome::Outcome;
-use crate::state::{State, is_same_value, refusal_of};
+use crate::state::{State, clock_refusal, is_same_value};
 use record_text::{Blob, Refusal, Value};
 use tree_keys::Path;
-use verifier_cache::Entry;
+use verifier_cache::Cache;
 
 impl State {
     /// A get: the value that is read.
@@ -33,19 +35,19 @@ impl State {
 
     /// A put: the value that is written.
     #[tactic(auto, using(crate::proofs::KeyLemmas::key_view))]
-    pub(crate) fn put(&mut self, path: &Path, value: &Value) -> Result<Outcome, Refusal>
-        ensures follows { Follows result self.old self.new (told (put short_keys self.old path.now value.now)) }
+    pub(crate) fn put(&mut self, path: &Path, value: Value) -> Result<Outcome, Refusal>
+        ensures follows { Follows result self.old self.new (told (put short_keys self.old path.now value)) }
         ensures clock { IfOk result (ClockMoves self.old.clock self.new.clock) }
     {
-        let Some(entry) = self.cache.entry(path) else {
+        let Some(_) = self.cache.entry(path) else {
             return Err(Refusal::NotCached);
         };
         let Some(key) = path.key() else {
             return Err(Refusal::NotData);
         };
-        let after = with_value(entry, value);
-        self.cache.replace(after);
-        Ok(Outcome::Wrote(key, blob_of(value)))
+        let blob = blob_of(&value);
+        write(&mut self.cache, path, value);
+        Ok(Outcome::Wrote(key, blob))
     }
 
     /// A turn to the next epoch.
@@ -55,21 +57,20 @@ impl State {
     {
         match self.clock.next_epoch() {
             Ok(sealed) => Ok(Outcome::Turned(sealed)),
-            Err(fault) => Err(refusal_of(fault)),
+            Err(fault) => Err(clock_refusal(fault)),
         }
     }
 }
 
-// The entry with another value.
-fn with_value(entry: &Entry, value: &Value) -> Entry
-    ensures value { result ≡ record entry.now { value = value.now } }
+// Writes the value of a path that is there.
+#[tactic(auto, using(crate::proofs::CacheLemmas::written_view))]
+fn write(cache: &mut Cache, path: &Path, value: Value)
+    requires there { IsSome (entry_of path.now cache.old.entries) }
+    ensures entry { IfSome (entry_of path.now cache.old.entries)
+        (λ entry. cache.new.entries ≡ replaced (with_value entry value) cache.old.entries) }
+    ensures room { cache.new.room ≡ cache.old.room }
 {
-    Entry {
-        path: entry.path,
-        value: value.copy(),
-        hold: entry.hold,
-        kids: entry.kids,
-    }
+    *cache.value_mut(path) = value;
 }
 
 // The data value that a value is.

@@ -1,6 +1,6 @@
 ghost use Rattle.std.specs.Prelude.{◌≡◌, ◌≤◌, IfOk};
-ghost use Rattle.verifier_commands.specs.Same.{same_bytes, same_value};
-ghost use Rattle.verifier_commands.specs.Transition.{is_root, refusal_of};
+ghost use Rattle.record_text.specs.Same.{same_bytes, same_value};
+ghost use Rattle.verifier_commands.specs.Transition.{is_root, clock_refusal};
 
 use fv_outside::Memory;
 use lamport_clocks::{Clock, ClockFault, Header};
@@ -34,8 +34,8 @@ impl State {
 }
 
 // A clock's fault as a refusal.
-pub(crate) fn refusal_of(fault: ClockFault) -> Refusal
-    ensures value { result ≡ refusal_of fault }
+pub(crate) fn clock_refusal(fault: ClockFault) -> Refusal
+    ensures value { result ≡ clock_refusal fault }
 {
     match fault {
         ClockFault::BadEpoch => Refusal::BadEpoch,

@@ -32,71 +32,65 @@ impl Sums {
         }
     }
 
-    // The sums once the epoch turned.
-    fn turned(&self) -> Self
-        ensures value { result ≡ turn_sums self.now }
+    // The epoch turned: its sums are those of the epoch before from now on.
+    fn turn(&mut self)
+        ensures value { self.new ≡ turn_sums self.old }
     {
-        Sums {
-            added_before: self.added,
-            evicted_before: self.evicted,
-            added: Sum::zero(),
-            evicted: Sum::zero(),
-        }
+        self.added_before = self.added;
+        self.evicted_before = self.evicted;
+        self.added = Sum::zero();
+        self.evicted = Sum::zero();
     }
 
-    // One element more that was added, in its own stamp's epoch.
-    fn with_added<D: Digests>(&self, d: &D, epoch: u32, element: &Element) -> Self
-        requires added { self.now.added.count + 1 < 2 ^ 31 }
-        requires added_before { self.now.added_before.count + 1 < 2 ^ 31 }
+    // One element more was added, in its own stamp's epoch.
+    fn add<D: Digests>(&mut self, d: &D, epoch: u32, element: &Element)
+        requires added { self.old.added.count + 1 < 2 ^ 31 }
+        requires added_before { self.old.added_before.count + 1 < 2 ^ 31 }
         ensures value { (rules : Rules) → rules.format ≡ short_keys → rules.lanes ≡ D.element_lanes d.now
-            → result ≡ add_to rules epoch self.now element.now }
-        ensures counts { CountsAdd self.now result }
+            → self.new ≡ add_to rules epoch self.old element.now }
+        ensures counts { CountsAdd self.old self.new }
     {
         let lanes = d.element_lanes(element_text(element).as_slice());
-        let mut sums = *self;
         if element.stamp.epoch == epoch {
-            sums.added = self.added.with(lanes);
+            self.added = self.added.with(lanes);
         } else {
-            sums.added_before = self.added_before.with(lanes);
+            self.added_before = self.added_before.with(lanes);
         }
-        sums
     }
 
-    // One element more that was evicted.
-    fn with_evicted<D: Digests>(&self, d: &D, element: &Element) -> Self
-        requires evicted { self.now.evicted.count + 1 < 2 ^ 31 }
+    // One element more was evicted.
+    fn evict<D: Digests>(&mut self, d: &D, element: &Element)
+        requires evicted { self.old.evicted.count + 1 < 2 ^ 31 }
         ensures value { (rules : Rules) → rules.format ≡ short_keys → rules.lanes ≡ D.element_lanes d.now
-            → result ≡ evict_to rules self.now element.now }
-        ensures count { result.evicted.count ≡ self.now.evicted.count + 1 }
-        ensures others { result ≡ record self.now { evicted = result.evicted } }
+            → self.new ≡ evict_to rules self.old element.now }
+        ensures count { self.new.evicted.count ≡ self.old.evicted.count + 1 }
+        ensures others { self.new ≡ record self.old { evicted = self.new.evicted } }
     {
         let lanes = d.element_lanes(element_text(element).as_slice());
-        let mut sums = *self;
-        sums.evicted = self.evicted.with(lanes);
-        sums
+        self.evicted = self.evicted.with(lanes);
     }
 
-    /// The sums after a command with this outcome, between these readings of the clock.
+    /// Takes in a command with this outcome, between these readings of the clock.
     #[tactic(auto, using(crate::proofs::BoundLemmas::bounds))]
-    pub(crate) fn after<D: Digests>(
-        &self,
+    pub(crate) fn take<D: Digests>(
+        &mut self,
         d: &D,
         before: &Clock,
         clock: &Clock,
         outcome: &Outcome,
-    ) -> Self
-        requires bounded { AreBounded self.now before.now }
+    )
+        requires bounded { AreBounded self.old before.now }
         requires moved { ClockMoves before.now clock.now outcome.now }
         ensures value { (rules : Rules) → rules.format ≡ short_keys → rules.lanes ≡ D.element_lanes d.now
-            → result ≡ sums_after rules before.now.at.epoch self.now outcome.now }
-        ensures bounded { AreBounded result clock.now }
+            → self.new ≡ sums_after rules before.now.at.epoch self.old outcome.now }
+        ensures bounded { AreBounded self.new clock.now }
     {
         let _within = clock.at();
         match outcome {
-            Outcome::Added(element) => self.with_added(d, before.at().epoch, element),
-            Outcome::Evicted(element) => self.with_evicted(d, element),
-            Outcome::Turned(_) => self.turned(),
-            _ => *self,
+            Outcome::Added(element) => self.add(d, before.at().epoch, element),
+            Outcome::Evicted(element) => self.evict(d, element),
+            Outcome::Turned(_) => self.turn(),
+            _ => {}
         }
     }
 }

@@ -19,10 +19,10 @@ impl State {
         d: &D,
         number: u16,
         verifiers: u16,
-        command: &Command,
+        command: Command,
     ) -> Result<Outcome, Refusal>
         ensures follows { Follows result self.old self.new
-            (told (transition (record { format = short_keys; digest = D.text_digest d.now; lanes = D.element_lanes d.now; number = number; verifiers = verifiers }) self.old command.now)) }
+            (told (transition (record { format = short_keys; digest = D.text_digest d.now; lanes = D.element_lanes d.now; number = number; verifiers = verifiers }) self.old command)) }
         ensures clock { IfOk result (ClockMoves self.old.clock self.new.clock) }
     {
         match command {
@@ -30,22 +30,22 @@ impl State {
                 path,
                 value,
                 parent,
-            } => self.add_m(d, path, value, parent),
-            Command::EvictM { path, parent } => self.evict_m(d, path, parent),
+            } => self.add_m(d, &path, &value, &parent),
+            Command::EvictM { path, parent } => self.evict_m(d, &path, &parent),
             Command::AddB {
                 path,
                 value,
                 stamp,
                 verifier,
-            } => self.add_b(verifiers, path, value, *stamp, *verifier),
-            Command::EvictB { path, stamp } => self.evict_b(number, path, *stamp),
+            } => self.add_b(verifiers, &path, value, stamp, verifier),
+            Command::EvictB { path, stamp } => self.evict_b(number, &path, stamp),
             Command::EvictBM {
                 path,
                 parent,
                 stamp,
-            } => self.evict_bm(number, path, parent, *stamp),
-            Command::Get { path, value } => self.get(path, value),
-            Command::Put { path, value } => self.put(path, value),
+            } => self.evict_bm(number, &path, &parent, stamp),
+            Command::Get { path, value } => self.get(&path, &value),
+            Command::Put { path, value } => self.put(&path, value),
             Command::NextEpoch => self.next_epoch(),
         }
     }

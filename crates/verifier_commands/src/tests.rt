@@ -5,9 +5,11 @@ use crate::{Effect, Verifier};
 use lamport_clocks::{Header, Stamp};
 use log_codec::Command;
 use record_hash::ToyDigests;
-use record_text::Refusal;
+use record_text::{Node, Refusal, Value};
 use std::alloc::Global;
 use std::test::Fail;
+use tree_keys::Path;
+use verifier_cache::Hold;
 
 // A verifier of two, whose caches hold four entries, before its first command.
 fn opened(alloc: Global, number: u16, first: u32) -> Result<Verifier, Fail>
@@ -30,8 +32,18 @@ fn opened(alloc: Global, number: u16, first: u32) -> Result<Verifier, Fail>
 fn the_root_is_cached_by_verifier_0_alone(rt: HostRuntime) -> Result<(), Fail> {
     let first = opened(rt.alloc(), 0, 7)?;
     let second = opened(rt.alloc(), 1, 7)?;
-    assert_eq!(rt; first.entries().len(), 1);
     assert_eq!(rt; second.entries().len(), 0);
+    assert_eq!(rt; first.entries().len(), 1);
+    let root = Path::root();
+    match first.entries().entry(&root) {
+        Some(entry) => {
+            assert_eq!(rt; entry.path, root);
+            assert_eq!(rt; entry.value, Value::Node(Node::empty()));
+            assert_eq!(rt; entry.hold, Hold::Root);
+            assert_eq!(rt; entry.kids, [false, false]);
+        }
+        None => return Err("no root".into()),
+    }
     assert_eq!(rt;
         second.clock(),
         Stamp {
@@ -47,11 +59,11 @@ fn the_second_turn_seals_the_first_epoch(rt: HostRuntime) -> Result<(), Fail> {
     let mut verifier = opened(rt.alloc(), 1, 7)?;
     assert!(rt;
         matches!(
-            verifier.step(&ToyDigests, &Command::NextEpoch),
+            verifier.step(&ToyDigests, Command::NextEpoch),
             Ok(Effect::Opened)
         )
     );
-    match verifier.step(&ToyDigests, &Command::NextEpoch) {
+    match verifier.step(&ToyDigests, Command::NextEpoch) {
         Ok(Effect::Sealed(part)) => {
             assert_eq!(rt; part.verifier, 1);
             assert_eq!(rt; part.epoch, 7);
@@ -73,7 +85,7 @@ fn the_second_turn_seals_the_first_epoch(rt: HostRuntime) -> Result<(), Fail> {
 #[test]
 fn the_last_epoch_does_not_turn(rt: HostRuntime) -> Result<(), Fail> {
     let mut verifier = opened(rt.alloc(), 0, u32::MAX)?;
-    match verifier.step(&ToyDigests, &Command::NextEpoch) {
+    match verifier.step(&ToyDigests, Command::NextEpoch) {
         Err(refusal) => assert_eq!(rt; refusal, Refusal::ClockEnd),
         Ok(_) => return Err("it turned".into()),
     }

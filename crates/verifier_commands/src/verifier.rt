@@ -62,18 +62,17 @@ impl Verifier {
 
     /// Takes one command: it answers what that did, or the first refusal. After a refusal the verifier is as
     /// before. No memory is taken.
-    pub fn step<D: Digests>(&mut self, d: &D, command: &Command) -> Result<Effect, Refusal>
-        requires kind { IsCommand short_keys command.now }
+    pub fn step<D: Digests>(&mut self, d: &D, command: Command) -> Result<Effect, Refusal>
+        requires kind { IsCommand short_keys command }
         requires room { self.old.accepted < 2 ^ 63 }
         ensures follows { Follows result self.old self.new
-            (stepped (D.text_digest d.now) (D.element_lanes d.now) self.old command.now) }
+            (stepped (D.text_digest d.now) (D.element_lanes d.now) self.old command) }
     {
         let before = self.state.clock;
         let outcome = self.state.take(d, self.number, self.verifiers, command)?;
-        let sums = self.sums.after(d, &before, &self.state.clock, &outcome);
         let at = self.state.clock.at();
-        let effect = effect_of(self.number, self.accepted, at, &self.sums, outcome);
-        self.sums = sums;
+        let effect = effect_of(self.number, self.accepted, at, &self.sums, &outcome);
+        self.sums.take(d, &before, &self.state.clock, &outcome);
         self.accepted += 1;
         Ok(effect)
     }
@@ -94,18 +93,18 @@ impl Verifier {
 }
 
 // What an outcome answers, of the verifier's next command, at this stamp.
-fn effect_of(number: u16, accepted: u64, at: Stamp, sums: &Sums, outcome: Outcome) -> Effect
+fn effect_of(number: u16, accepted: u64, at: Stamp, sums: &Sums, outcome: &Outcome) -> Effect
     ensures value { (machine : Machine) → machine.number ≡ number → machine.accepted ≡ accepted → machine.sums ≡ sums.now
-        → result ≡ effect_of machine at outcome }
+        → result ≡ effect_of machine at outcome.now }
 {
     let (put, key, value) = match outcome {
-        Outcome::Got(key, value) => (false, key, value),
-        Outcome::Wrote(key, value) => (true, key, value),
+        Outcome::Got(key, value) => (false, *key, value.copy()),
+        Outcome::Wrote(key, value) => (true, *key, value.copy()),
         Outcome::Turned(None) => return Effect::Opened,
         Outcome::Turned(Some(epoch)) => {
             return Effect::Sealed(Part {
                 verifier: number,
-                epoch,
+                epoch: *epoch,
                 added: sums.added_before,
                 evicted: sums.evicted_before,
             });

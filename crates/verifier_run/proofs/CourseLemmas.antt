@@ -5,6 +5,7 @@ use Rattle.record_text.specs.declared.refusal.Refusal.{Refusal}
 use Rattle.record_text.specs.declared.refusal.Refusal.TheVariants as refusals
 use Rattle.record_text.specs.declared.reader.TextFault.TheVariants as faults
 use Rattle.record_text.specs.Format.{short_keys}
+use Rattle.record_text.specs.Reading.{byte_at}
 use Rattle.record_text.specs.Fields.{Parsed}
 use Rattle.record_text.proofs.FieldLemmas.{wide64}
 use Rattle.log_codec.specs.declared.command.Command.{Command}
@@ -23,7 +24,7 @@ use Rattle.verifier_run.specs.Progress.{Progress, between_commands, progress_beh
 
 -- no bytes begin no command yet
 pub no_command : command_at short_keys [] ≡ Err faults.Truncated
-unfolding command_at
+unfolding command_at byte_at
 no_command = refl
 
 same_behind : (course : Course) (bytes : List ℕ) (parsed : Parsed Command) (more others : Command → List ℕ → Progress) → ((command : Command) (rest : List ℕ) → parsed ≡ Ok (command, rest) → more command rest ≡ others command rest) → progress_behind course bytes parsed more ≡ progress_behind course bytes parsed others

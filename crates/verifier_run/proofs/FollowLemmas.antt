@@ -76,6 +76,10 @@ pub is_none_told : (refused answer : Option (ℕ × Refusal)) (none : Bool) → 
 is_none_told refused None none is told e = sym is
 is_none_told refused (Some at) none is told e = absurd (cc)
 
+pub refused_told : (refused answer : Option (ℕ × Refusal)) (some : Bool) → answer ≡ refused → some ≡ is_some answer → some ≡ true → (at : ℕ × Refusal) × (refused ≡ Some at)
+refused_told refused None some is told e = absurd (cc)
+refused_told refused (Some at) some is told e = (at, sym is)
+
 pub is_some_told : (refused answer : Option (ℕ × Refusal)) (none : Bool) → answer ≡ refused → is_some answer ≡ not none → none ≡ false → (at : ℕ × Refusal) × (refused ≡ Some at)
 is_some_told refused None none is told e = absurd (cc)
 is_some_told refused (Some at) none is told e = (at, sym is)

@@ -1,6 +1,5 @@
 -- Lemmas on courses and runs.
 pub mod CourseLemmas
-pub mod LengthLemmas
 pub mod TraceLemmas
 pub mod FollowLemmas
 pub mod PieceLemmas

@@ -3,7 +3,7 @@ use Rattle.std.proofs.Common.{◌≡◌, ℕ, ◌+◌, ◌-◌, ◌<◌, ◌≤�
 use Rattle.std.specs.Prelude.{IfSome}
 use Rattle.std.proofs.lemmas.Bool.{cases_lt, eqb-false}
 use Rattle.std.proofs.lemmas.List.{take-append-le, take-take, length-take}
-use Rattle.std.proofs.Math.Seq.{take-add, take-append-add, take-append_seam, take-length}
+use Rattle.std.proofs.Math.Seq.{take-add, take-append-add, take-append_seam}
 use Rattle.record_text.specs.declared.refusal.Refusal.{Refusal}
 use Rattle.record_text.specs.declared.refusal.Refusal.TheVariants as refusals
 use Rattle.record_text.specs.declared.reader.TextFault.TheVariants as faults
@@ -15,7 +15,7 @@ use Rattle.log_codec.proofs.CommandLemmas.{command_again}
 use Rattle.verifier_run.specs.Course.{Course, refuse, after_command}
 use Rattle.verifier_run.specs.Progress.{Progress, between_commands, progress_over, fed, weight, IsBetweenPieces}
 use Rattle.verifier_run.proofs.CourseLemmas.{fed-joined, fed-weight, over-refused, over-malformed, over-cut, over-text, over-between, between-commands}
-use Rattle.verifier_run.proofs.LengthLemmas.{cut_is_short}
+use Rattle.log_codec.proofs.LengthLemmas.{cut_is_short}
 
 -- ---- nothing is held
 
@@ -36,9 +36,6 @@ some_held n empty is e =
 -- while bytes are held, no command was refused
 pub none_refused_yet : (course : Course) (held : List ℕ) → IsBetweenPieces (record { course = course; held = held }) → 0 < length held → course.refused ≡ None
 none_refused_yet course held between some = none_refused course.refused held between.idle some
-
-pub held_is_short : (course : Course) (held : List ℕ) → IsBetweenPieces (record { course = course; held = held }) → length held < 104
-held_is_short course held between = cut_is_short held between.cut
 
 nothing_by : (digest lanes : List ℕ → List ℕ) (course : Course) (held : List ℕ) (refused : Option (ℕ × Refusal)) → course.refused ≡ refused → IsBetweenPieces (record { course = course; held = held }) → fed digest lanes (record { course = course; held = held }) [] ≡ record { course = course; held = held }
 nothing_by digest lanes course held None is between =
@@ -130,6 +127,15 @@ piece_ended held piece room cut full =
     let short : length (held ++ take room piece) < 104 = cut_is_short (held ++ take room piece) cut in
     omega (arith, short, length-append held (take room piece), length-take room piece)
 
+-- once a command was refused, what is fed does nothing
+pub refused_stays : (digest lanes : List ℕ → List ℕ) (course : Course) (held piece : List ℕ) (at : ℕ × Refusal)
+    → IsBetweenPieces (record { course = course; held = held }) → course.refused ≡ Some at
+    → record { course = course; held = held } ≡ fed digest lanes (record { course = course; held = held }) piece
+refused_stays digest lanes course held piece at between is =
+    let none : held ≡ [] = subst (λ (refused : Option (ℕ × Refusal)). IfSome refused (λ at. held ≡ [])) is between.idle in
+    ap (λ (held : List ℕ). record { course = course; held = held }) none
+    ∙ sym (over-refused digest lanes course (held ++ piece) at is)
+
 -- ---- both, one after the other
 
 pub fed_both : (digest lanes : List ℕ → List ℕ) (old mid new : Progress) (piece : List ℕ) (from : ℕ)
@@ -149,11 +155,6 @@ fed_front digest lanes old mid new piece from more first second =
     ∙ (ap (λ (progress : Progress). fed digest lanes progress (take more (drop from piece))) first
     ∙ (fed-joined digest lanes old (take from piece) (take more (drop from piece))
     ∙ ap (fed digest lanes old) (sym (take-add from more piece))))
-
-pub fed_whole : (digest lanes : List ℕ → List ℕ) (old new : Progress) (piece : List ℕ) (from : ℕ)
-    → new ≡ fed digest lanes old (take from piece) → from ≡ length piece → new ≡ fed digest lanes old piece
-fed_whole digest lanes old new piece from first all =
-    first ∙ ap (fed digest lanes old) (ap (λ (n : ℕ). take n piece) all ∙ take-length piece)
 
 pub weight_all : (digest lanes : List ℕ → List ℕ) (old new : Progress) (piece : List ℕ)
     → new ≡ fed digest lanes old piece → weight new ≤ weight old + length piece

@@ -2,13 +2,14 @@
 -- sealed epochs, and the refusal that ended it.
 use Rattle.std.specs.Prelude.{ℕ, List, [], ◌++◌, Option, Some, None, Result, Ok, Err}
 use Rattle.multiset_sum.specs.declared.part.Part.{Part}
-use Rattle.record_text.specs.declared.element.Operation.{Operation}
+use Rattle.record_text.specs.declared.operation.Operation.{Operation}
 use Rattle.record_text.specs.declared.refusal.Refusal.{Refusal}
 use Rattle.log_codec.specs.declared.command.Command.{Command}
 use Rattle.verifier_commands.specs.declared.effect.Effect.{Effect}
 use Rattle.verifier_commands.specs.Machine.{Machine, stepped}
 use Rattle.verifier_run.specs.Trace.{operation_in, part_in}
 
+-- the verifier, what it handed out, and its refusal
 pub record Course : Type 0 where
   pub machine : Machine
   pub operations : List Operation

@@ -12,14 +12,14 @@ use Rattle.verifier_run.specs.Trace.{Trace, trace, operations_of, parts_of}
 use Rattle.verifier_run.specs.Course.{Course}
 
 -- a fault of a text as a refusal
-abbrev pub refusal_of : TextFault → Refusal
-refusal_of faults.Malformed = refusals.Malformed
-refusal_of faults.Truncated = refusals.Truncated
+abbrev pub text_refusal : TextFault → Refusal
+text_refusal faults.Malformed = refusals.Malformed
+text_refusal faults.Truncated = refusals.Truncated
 
 -- why a log that ends so is refused behind its last command, if it is
 abbrev pub end_refusal : LogEnd → Option Refusal
 end_refusal whole = None
-end_refusal (faulty fault) = Some (refusal_of fault)
+end_refusal (faulty fault) = Some (text_refusal fault)
 
 -- the refusal of a command comes before that of the log's end
 abbrev pub refusal_by : Option Refusal → LogEnd → Option Refusal

@@ -12,6 +12,7 @@ use Rattle.log_codec.specs.Command.{command_at}
 use Rattle.verifier_commands.specs.Machine.{opening_machine}
 use Rattle.verifier_run.specs.Course.{Course, opening_course, refuse, after_command}
 
+-- the course, and the bytes of a command that is cut
 pub record Progress : Type 0 where
   pub course : Course
   pub held : List ℕ
@@ -44,6 +45,7 @@ read_up_to (suc count) digest lanes course bytes =
     (progress_behind course bytes (command_at short_keys bytes)
     (λ command rest. read_up_to count digest lanes (after_command digest lanes course command) rest))
 
+-- the same, of as many commands as the bytes may hold
 abbrev pub progress_over : (List ℕ → List ℕ) → (List ℕ → List ℕ) → Course → List ℕ → Progress
 progress_over digest lanes course bytes = read_up_to (length bytes) digest lanes course bytes
 

@@ -1,5 +1,5 @@
 //! A verifier's log in any pieces.
-ghost use Rattle.std.specs.Prelude.{◌≡◌, ◌+◌, ◌<◌, ◌≤◌, ◌^◌, ◌++◌, [], length, take, drop, IfOk, IfErr, OnOk, OnErr};
+ghost use Rattle.std.specs.Prelude.{◌≡◌, ◌+◌, ◌<◌, ◌≤◌, ◌^◌, ◌++◌, [], length, take, drop, IsSome, IsOk, IfOk, IfErr, OnOk, OnErr};
 ghost use Rattle.arrayvec.specs.ArrayVec.{array_vec_len};
 ghost use Rattle.lamport_clocks.specs.Header.{IsHeader};
 ghost use Rattle.verifier_commands.specs.Machine.{opening_machine};
@@ -68,7 +68,13 @@ impl Run {
             self.new ≡ fed (D.text_digest d.now) (D.element_lanes d.now) self.old (take stop.taken piece.now)) }
         ensures within { IfErr result (λ stop. stop.taken ≤ length piece.now) }
         ensures weight { weight self.new ≤ weight self.old + length piece.now }
+
+        // Once a command was refused, every piece is taken and nothing changes.
+        ensures refused { IsSome self.old.course.refused → IsOk result × (self.new ≡ self.old) }
     {
+        if self.tracer.refused().is_some() {
+            return Ok(());
+        }
         let from = self.complete(d, piece)?;
         if from == piece.len() {
             return Ok(());
@@ -101,7 +107,7 @@ impl Run {
         append(&mut self.held, front(piece, room));
         match read(self.held.as_slice()) {
             Decoded::Read(command, len) => {
-                let Ok(()) = self.tracer.take(d, &command) else {
+                let Ok(()) = self.tracer.take(d, command) else {
                     self.held.truncate(held);
                     return Err(FeedStop { taken: 0 });
                 };
@@ -180,7 +186,7 @@ fn follow<D: Digests>(tracer: &mut Tracer, d: &D, bytes: &[u8]) -> Result<usize,
     let mut taken = 0;
     while tracer.refused().is_none() {
         match read(behind(bytes, taken)) {
-            Decoded::Read(command, len) => match tracer.take(d, &command) {
+            Decoded::Read(command, len) => match tracer.take(d, command) {
                 Ok(()) => taken += len,
                 Err(Memory) => return Err(FeedStop { taken }),
             },

@@ -5,7 +5,7 @@ ghost use Rattle.lamport_clocks.specs.Header.{IsHeader};
 use crate::{Run, run_log};
 use fv_outside::Memory;
 use lamport_clocks::{Header, Stamp};
-use record_hash::ShaDigests;
+use record_hash::{ShaDigests, ToyDigests};
 use record_text::{Blob, Operation, Refusal};
 use std::alloc::Global;
 use std::process::Abort;
@@ -104,6 +104,38 @@ fn logs_are_refused_where_they_go_wrong(rt: HostRuntime) -> Result<(), Fail> {
             assert_eq!(rt; run.refused(), Some((index, refusal)));
         }
     }
+    Ok(())
+}
+
+// With toy digests lane 0 of an element is the sum of its text's bytes, and the other lanes are 0. Two
+// elements were added to epoch 0 and evicted from it, and the bytes of their texts that aren't 0 are these:
+// of the path 0 its one bit (1) and the counter of its stamp (1), which is 2; of the path 1 its one bit (1),
+// the byte of that bit (128) and the counter of its stamp (2), which is 131. That is 133 in all.
+#[test]
+fn the_sums_of_an_epoch_are_those_of_its_elements(rt: HostRuntime) -> Result<(), Fail> {
+    let run = run_log(rt.alloc(), &ToyDigests, 0, &header(), &TWO_SHARDS)?;
+    assert_eq!(rt; run.refused(), None);
+    assert_eq!(rt; run.parts().len(), 1);
+    let part = run.parts()[0];
+    assert_eq!(rt; part.verifier, 0);
+    assert_eq!(rt; part.epoch, 0);
+    for sum in [part.added, part.evicted] {
+        assert_eq!(rt; sum.count(), 2);
+        assert_eq!(rt; sum.lanes(), [133, 0, 0, 0, 0, 0, 0, 0]);
+    }
+    Ok(())
+}
+
+// A log that goes wrong at its second command takes what follows, and does nothing.
+#[test]
+fn a_refused_run_stays_as_it_is(rt: HostRuntime) -> Result<(), Fail> {
+    let mut run = Run::new(rt.alloc(), 0, &header())?;
+    let _ = run.feed(&ToyDigests, &[8, 9]);
+    assert_eq!(rt; run.refused(), Some((1, Refusal::Malformed)));
+    assert_eq!(rt; run.feed(&ToyDigests, &PUT_AND_GOT), Ok(()));
+    run.end();
+    assert_eq!(rt; run.refused(), Some((1, Refusal::Malformed)));
+    assert_eq!(rt; run.ops().len(), 0);
     Ok(())
 }
 

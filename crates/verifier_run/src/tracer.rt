@@ -83,10 +83,10 @@ impl Tracer {
 
     /// Takes one command. For want of memory nothing of it is done.
     #[tactic(auto, unfolding(crate::specs::Course::after_command))]
-    pub(crate) fn take<D: Digests>(&mut self, d: &D, command: &Command) -> Result<(), Memory>
-        requires kind { IsCommand short_keys command.now }
+    pub(crate) fn take<D: Digests>(&mut self, d: &D, command: Command) -> Result<(), Memory>
+        requires kind { IsCommand short_keys command }
         requires room { self.old.machine.accepted < 2 ^ 63 }
-        ensures ok { OnOk result (self.new ≡ after_command (D.text_digest d.now) (D.element_lanes d.now) self.old command.now) }
+        ensures ok { OnOk result (self.new ≡ after_command (D.text_digest d.now) (D.element_lanes d.now) self.old command) }
         ensures err { OnErr result (self.new ≡ self.old) }
         ensures count { self.new.machine.accepted ≤ self.old.machine.accepted + 1 }
     {

@@ -1,7 +1,15 @@
-use Rattle.std.proofs.Common.{◌+◌, List, ℕ, ap, ◌∙◌, take, length, length-drop, arith}
-use Rattle.verifier_run.specs.Progress.{fed}
-use Rattle.verifier_run.proofs.PieceLemmas.{fed_both, fed_front, weight_all, weight_front}
+use Rattle.std.proofs.Common.{sym, ◌+◌, List, ℕ, ap, ◌∙◌, take, length, length-drop, arith}
+use Rattle.verifier_run.specs.Progress.{Progress, fed}
+use Rattle.verifier_run.proofs.PieceLemmas.{fed_both, fed_front, refused_stays, weight_all, weight_front}
+use Rattle.verifier_run.proofs.FollowLemmas.{refused_told}
 use Rattle.verifier_run.proofs.run.Run.feed.Goals as goal
+
+pub returns-then-is_some-clause-ok : goal.returns-then-is_some-clause-ok
+returns-then-is_some-clause-ok g c =
+    let told = refused_told c.self.inside.tracer.refused c.refused.result c.is_some.result c.refused.ensures.value c.is_some.ensures c.if-is_some.true in
+    sym c.self.view_is
+    ∙ (refused_stays (g.D.Digests.text_digest c.args.d.now) (g.D.Digests.element_lanes c.args.d.now) c.self.inside.tracer c.self.inside.held.items c.args.piece.now told.0 c.self.invariant told.1
+    ∙ ap (λ (progress : Progress). fed (g.D.Digests.text_digest c.args.d.now) (g.D.Digests.element_lanes c.args.d.now) progress c.args.piece.now) c.self.view_is)
 
 pub returns-in_err-from-clause-weight : goal.returns-in_err-from-clause-weight
 returns-in_err-from-clause-weight g c =

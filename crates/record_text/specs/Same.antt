@@ -1,4 +1,4 @@
--- Tests of equality that compute, for the tests of the transition.
+-- Tests of equality that compute, for machines whose steps are tests in order.
 use Rattle.std.specs.Prelude.{ℕ, Bool, true, false, ◌&&◌, ◌==◌, List, [], ◌∷◌, Option, Some, None}
 use Rattle.tree_keys.specs.Path.{same_bit, same_path}
 use Rattle.record_text.specs.declared.value.Pointer.{Pointer}
@@ -12,12 +12,14 @@ same_bytes [] (y ∷ ys) = false
 same_bytes (x ∷ xs) [] = false
 same_bytes (x ∷ xs) (y ∷ ys) = (x == y) && same_bytes xs ys
 
+-- two data values are the same
 abbrev pub same_blob : Option (List ℕ) → Option (List ℕ) → Bool
 same_blob None None = true
 same_blob None (Some ys) = false
 same_blob (Some xs) None = false
 same_blob (Some xs) (Some ys) = same_bytes xs ys
 
+-- two sides have the same pointer, or none
 abbrev pub same_pointer : Option Pointer → Option Pointer → Bool
 same_pointer None None = true
 same_pointer None (Some q) = false

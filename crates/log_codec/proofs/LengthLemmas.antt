@@ -1,5 +1,5 @@
--- No command that is cut has all of the bytes that the longest command has.
-use Rattle.std.proofs.Common.{◌≡◌, ℕ, ◌+◌, ◌<◌, ◌≤◌, ◌==◌, Bool, true, false, cond, ltb, List, [], ◌∷◌, ◌++◌, length, take, drop, Option, Some, None, Ok, Err, refl, ap, length-drop, arith}
+-- How many bytes a reader takes at most: a command takes at most 104, and has fewer where it is cut.
+use Rattle.std.proofs.Common.{◌≡◌, ℕ, ◌+◌, ◌<◌, ◌≤◌, ◌==◌, Bool, true, false, cond, ltb, List, [], ◌∷◌, ◌++◌, length, take, drop, Option, Some, None, Ok, Err, refl, ap, append-nil, length-drop, arith}
 use Rattle.std.specs.Int.{w16, w32, from_be_bytes}
 use Rattle.std.specs.Prelude.{nat_le}
 use Rattle.std.proofs.lemmas.Bool.{ltb-true, leb-true}
@@ -10,10 +10,12 @@ use Rattle.record_text.specs.declared.value.Node.{Node}
 use Rattle.record_text.specs.declared.value.Value.TheVariants as values
 use Rattle.record_text.specs.Format.{short_keys, path_bits}
 use Rattle.record_text.specs.Fields.{Parsed, field, ranged}
-use Rattle.record_text.specs.Reading.{first_byte, run_at, path_in, path_at, flag_in, count_in, blob_behind, blob_at, pointer_tag_in, path_below_in, path_below_at, pointer_behind, pointer_at, node_at, value_by, value_at, u16_at, u32_at, stamp_at}
-use Rattle.record_text.proofs.FieldLemmas.{field_ok, Ok-is}
+use Rattle.record_text.specs.Reading.{first_byte, byte_at, run_at, path_in, path_at, flag_in, count_in, blob_behind, blob_at, pointer_tag_in, path_below_in, path_below_at, pointer_behind, pointer_at, node_at, value_by, value_at, u16_at, u32_at, stamp_at}
+use Rattle.record_text.proofs.FieldLemmas.{field_ok, Ok-is, wide64}
+use Rattle.log_codec.specs.declared.command.Command.{Command}
 use Rattle.log_codec.specs.declared.command.Command.TheVariants.{AddM, EvictM, AddB, EvictB, EvictBM, Get, Put, NextEpoch}
-use Rattle.log_codec.specs.Command.{add_m_at, evict_m_at, add_b_at, evict_b_at, evict_bm_at, get_at, put_at, command_behind, command_at}
+use Rattle.log_codec.specs.Command.{add_m_at, evict_m_at, add_b_at, evict_b_at, evict_bm_at, get_at, put_at, command_behind, command_at, command_text, IsCommand}
+use Rattle.log_codec.proofs.CommandLemmas.{command_again}
 use Rattle.log_codec.proofs.StepLemmas.{then_at, then_ok, two_at, three_at, four_at}
 
 -- A reader takes at most n bytes, and has fewer where they are cut.
@@ -105,6 +107,10 @@ Spans-four n m k j make first second third fourth one two three four =
 
 -- ---- the fields
 
+Spans-byte : Spans 1 (λ bytes. byte_at bytes)
+unfolding byte_at
+Spans-byte = Spans-field 1 (λ run. Some (first_byte run))
+
 Spans-path : Spans 9 (λ bytes. path_at short_keys bytes)
 unfolding path_at
 Spans-path = Spans-field 9 (path_in short_keys)
@@ -190,8 +196,20 @@ Spans-behind tag =
     (Spans-if 103 (tag == 7) (λ bytes. put_at short_keys bytes) _ (Spans-wider 93 103 _ (omega arith) (Spans-two 9 84 Put (path_at short_keys) (value_at short_keys) Spans-path Spans-value))
     (Spans-if 103 (tag == 8) (λ bytes. Ok (NextEpoch, bytes)) (λ bytes. Err faults.Malformed) (Spans-done 103 NextEpoch) (Spans-malformed 103))))))))
 
+Spans-command : Spans 104 (λ bytes. command_at short_keys bytes)
+unfolding command_at
+Spans-command = Spans-then 1 103 (λ bytes. byte_at bytes) (λ tag left. command_behind short_keys tag left) Spans-byte Spans-behind
+
+-- A command that was read takes at most 104 bytes.
+pub taken_within : (bytes : List ℕ) (command : Command) (rest : List ℕ) → command_at short_keys bytes ≡ Ok (command, rest) → length bytes ≤ 104 + length rest
+taken_within bytes command rest e = Spans-command.takes bytes command rest e
+
 -- A command that is cut has fewer than 104 bytes.
 pub cut_is_short : (bytes : List ℕ) → command_at short_keys bytes ≡ Err faults.Truncated → length bytes < 104
-unfolding command_at
-cut_is_short bytes e =
-    (Spans-then 1 103 (λ bytes. field 1 (λ run. Some (first_byte run)) bytes) (λ tag left. command_behind short_keys tag left) (Spans-field 1 (λ run. Some (first_byte run))) Spans-behind).cut bytes e
+cut_is_short bytes e = Spans-command.cut bytes e
+
+-- A command's text has at most 104 bytes.
+pub text_within : (command : Command) → IsCommand short_keys command → length (command_text short_keys command) ≤ 104
+text_within command is =
+    let within = taken_within (command_text short_keys command ++ []) command [] (command_again short_keys wide64 command [] is) in
+    omega (arith, within, ap (λ (text : List ℕ). length text) (append-nil (command_text short_keys command)))

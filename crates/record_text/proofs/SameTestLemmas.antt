@@ -1,5 +1,5 @@
 -- The tests of equality tell what they are named for.
-use Rattle.std.proofs.Common.{◌≡◌, ◌≢◌, ◌↔◌, ℕ, Bool, true, false, ◌&&◌, ◌==◌, IsTrue, List, [], ◌∷◌, Option, Some, None, refl, sym, ◌∙◌, ap, subst}
+use Rattle.std.proofs.Common.{◌≡◌, ◌↔◌, ℕ, Bool, true, false, ◌&&◌, ◌==◌, List, [], ◌∷◌, Option, Some, None, refl, sym, ◌∙◌, ap, subst}
 use Rattle.std.proofs.lemmas.Bool.{eqb-true, eq-eqb, false≢true}
 use Rattle.tree_keys.specs.Path.{same_bit, same_path}
 use Rattle.tree_keys.proofs.PathLemmas.{same_path-self, same_path-true}
@@ -7,7 +7,8 @@ use Rattle.record_text.specs.declared.value.Pointer.{Pointer}
 use Rattle.record_text.specs.declared.value.Node.{Node}
 use Rattle.record_text.specs.declared.value.Value.{Value}
 use Rattle.record_text.specs.declared.value.Value.TheVariants as values
-use Rattle.verifier_commands.specs.Same.{same_bytes, same_blob, same_pointer, same_value}
+use Rattle.record_text.proofs.SameLemmas.{parts_same}
+use Rattle.record_text.specs.Same.{same_bytes, same_blob, same_pointer, same_value}
 
 -- both tests are met
 and-true : (a b : Bool) → (a && b) ≡ true → (a ≡ true) × (b ≡ true)
@@ -49,13 +50,6 @@ pub same_blob-self : (a : Option (List ℕ)) → same_blob a a ≡ true
 same_blob-self None = refl
 same_blob-self (Some xs) = same_bytes-self xs
 
--- pointers of the same parts are one
-same_parts : (p q : Pointer) → p.path ≡ q.path → p.deferred ≡ q.deferred → p.digest ≡ q.digest → p ≡ q
-same_parts p q path flag digest =
-    ap (λ (x : List Bool). record p { path = x }) path
-    ∙ (ap (λ (x : Bool). record p { path = q.path; deferred = x }) flag
-    ∙ ap (λ (x : List ℕ). record { path = q.path; digest = x; deferred = q.deferred }) digest)
-
 pub same_pointer-true : (p q : Option Pointer) → same_pointer p q ≡ true → p ≡ q
 same_pointer-true None None same = refl
 same_pointer-true None (Some q) same = absurd (false≢true same)
@@ -63,7 +57,7 @@ same_pointer-true (Some p) None same = absurd (false≢true same)
 same_pointer-true (Some p) (Some q) same =
     let both = and-true (same_path p.path q.path && same_bit p.deferred q.deferred) (same_bytes p.digest q.digest) same in
     let front = and-true (same_path p.path q.path) (same_bit p.deferred q.deferred) both.0 in
-    ap (λ (x : Pointer). Some x) (same_parts p q (same_path-true p.path q.path front.0) (same_bit-true p.deferred q.deferred front.1) (same_bytes-true p.digest q.digest both.1))
+    ap (λ (x : Pointer). Some x) (parts_same p q (same_path-true p.path q.path front.0) (same_bytes-true p.digest q.digest both.1) (same_bit-true p.deferred q.deferred front.1))
 
 pub same_pointer-self : (p : Option Pointer) → same_pointer p p ≡ true
 same_pointer-self None = refl
@@ -94,13 +88,4 @@ tells_same_value false v w told = go (same_value v w) refl
   where
     go : (b : Bool) → same_value v w ≡ b → false ≡ same_value v w
     go true is = absurd (false≢true (told.1 (same_value-true v w is)))
-    go false is = sym is
-
--- an answer that tells whether two lists are one is the test
-pub tells_same_bytes : (answer : Bool) (xs ys : List ℕ) → (answer ≡ true) ↔ (xs ≡ ys) → answer ≡ same_bytes xs ys
-tells_same_bytes true xs ys told = sym (subst (λ (x : List ℕ). same_bytes xs x ≡ true) (told.0 refl) (same_bytes-self xs))
-tells_same_bytes false xs ys told = go (same_bytes xs ys) refl
-  where
-    go : (b : Bool) → same_bytes xs ys ≡ b → false ≡ same_bytes xs ys
-    go true is = absurd (false≢true (told.1 (same_bytes-true xs ys is)))
     go false is = sym is
