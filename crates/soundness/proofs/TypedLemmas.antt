@@ -15,7 +15,7 @@ use Rattle.record_text.specs.declared.value.Value.TheVariants as values
 use Rattle.record_text.specs.Format.{Format, path_bits, short_keys}
 use Rattle.record_text.specs.Value.{IsPointer, IsSide, IsBlob, IsOf}
 use Rattle.record_text.specs.Fields.{Parsed, ◌>>=◌, field}
-use Rattle.record_text.specs.Reading.{first_byte, run_at, path_in, path_at, flag_in, count_in, blob_behind, blob_at, pointer_tag_in, if_below, path_below_in, path_below_at, pointer_behind, pointer_at, node_at, value_by, value_at, stamp_at, u16_at}
+use Rattle.record_text.specs.Reading.{first_byte, byte_at, run_at, path_in, path_at, flag_in, count_in, blob_behind, blob_at, pointer_tag_in, if_below, path_below_in, path_below_at, pointer_behind, pointer_at, node_at, value_by, value_at, stamp_at, u16_at}
 use Rattle.record_text.proofs.FieldLemmas.{Ok-is, bind_ok, field_ok}
 use Rattle.log_codec.specs.declared.command.Command.{Command}
 use Rattle.log_codec.specs.declared.command.Command.TheVariants.{AddM, EvictM, AddB, EvictB, EvictBM, Get, Put, NextEpoch}
@@ -290,7 +290,7 @@ behind_typed format tag =
 -- What is read as a command is typed.
 pub command_typed : (format : Format) (bytes : List ℕ) (command : Command) (rest : List ℕ)
     → command_at format bytes ≡ Ok (command, rest) → IsTyped format command
-unfolding command_at
+unfolding command_at byte_at
 command_typed format bytes command rest e =
     let t = then_ok (field 1 (λ run. Some (first_byte run)) bytes) (λ tag left. command_behind format tag left)
         command rest e in
