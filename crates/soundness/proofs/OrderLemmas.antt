@@ -15,11 +15,11 @@ use Rattle.verifier_commands.specs.State.{opening}
 use Rattle.soundness.specs.History.{Event, log_events, histories_from, histories_of}
 use Rattle.soundness.specs.Certified.{event_moment, all_events, order_of, order_up_to}
 use Rattle.soundness.specs.Deeds.{shown_by}
-use Rattle.soundness.specs.Timed.{IsTimed}
+use Rattle.soundness.specs.Timed.{IsTimed, AreTimed}
 use Rattle.soundness.proofs.LawfulLemmas.{IsChain}
 use Rattle.soundness.proofs.WorldLemmas.{AllShown}
 use Rattle.soundness.proofs.RunLemmas.{IsRun, run_of_parts}
-use Rattle.soundness.proofs.TimedLemmas.{AreTimed, log_timed}
+use Rattle.soundness.proofs.TimedLemmas.{log_timed}
 use Rattle.soundness.proofs.SplitLemmas.{SplitsAt, split_up_to, log_run_up_to}
 
 -- ---- filters

@@ -21,6 +21,7 @@ use Rattle.soundness.specs.Permutation.{is_permutation, count_of}
 use Rattle.soundness.specs.Collision.{Exhibit, nothing, strings, multisets, first_uneven, exhibit_by, exhibit_of, Collides}
 use Rattle.soundness.specs.Timed.{IsTimed}
 use Rattle.soundness.specs.Typed.{IsTyped}
+use Rattle.soundness.specs.Sound.{AreBalanced, IsSerialOrCollides}
 use Rattle.soundness.proofs.KnownLemmas.{HasOneText}
 use Rattle.soundness.proofs.PermutationLemmas.{count_permuted}
 use Rattle.soundness.proofs.RunLemmas.{IsRun}
@@ -30,7 +31,7 @@ use Rattle.soundness.proofs.ScheduleLemmas.{AreEven, scheduled}
 use Rattle.soundness.proofs.HistoryLemmas.{IsOfLog, log-merged, log-epochs}
 use Rattle.soundness.proofs.OrderLemmas.{AreHistories, opening_shown, order_run, order_timed, order_sorted, order_splits}
 use Rattle.soundness.proofs.OpeningLemmas.{opening_spots, opening_world}
-use Rattle.soundness.proofs.CertifiedLemmas.{AreBalanced, same_sum-true, even_where_none, uneven_where_some}
+use Rattle.soundness.proofs.CertifiedLemmas.{same_sum-true, even_where_none, uneven_where_some}
 
 -- no two values of a path have one text
 one_text : HasOneText short_keys
@@ -38,7 +39,7 @@ one_text path a b is_a is_b same =
     (one_value short_keys wide64 path path a b [] [] refl is_a is_b (ap (λ (text : List ℕ). text ++ []) same)).0
 
 -- the events of logs are in order, and each log's are its verifier's
-are_histories : (digest : Digest) (lanes : List ℕ → List ℕ) (header : Header) → AreHistories digest lanes header
+pub are_histories : (digest : Digest) (lanes : List ℕ → List ℕ) (header : Header) → AreHistories digest lanes header
 are_histories digest lanes header = record {
   sorted = log-merged digest lanes header;
   whose = λ number commands. every-weaker (IsOfLog number header) (λ event. event.verifier ≡ number)
@@ -46,7 +47,7 @@ are_histories digest lanes header = record {
 }
 
 -- events up to an epoch are of no later one
-all_within : (epoch : ℕ) (events : List Event) → AllByRecursion (λ event. event.at.epoch ≤ epoch) (up_to event_moment epoch events)
+pub all_within : (epoch : ℕ) (events : List Event) → AllByRecursion (λ event. event.at.epoch ≤ epoch) (up_to event_moment epoch events)
 all_within epoch [] = tt
 all_within epoch (event ∷ events) = go (nat_le event.at.epoch epoch) refl (all_within epoch events)
   where
@@ -58,10 +59,6 @@ all_within epoch (event ∷ events) = go (nat_le event.at.epoch epoch) refl (all
 -- nothing waits at the opening
 none_waiting : IsWaiting opening_spots []
 none_waiting = record { each = λ x there. absurd (omega (arith, there)); once = λ x. omega arith }
-
--- the exhibit is nothing and the operations are serial, or the exhibit collides
-abbrev pub IsSerialOrCollides : Digest → (List ℕ → List ℕ) → Exhibit → List Event → Type 0
-IsSerialOrCollides digest lanes exhibit events = ((exhibit ≡ nothing) × IsSerial (operations_in events)) ⊎ Collides digest lanes exhibit
 
 pub sound : (digest : Digest) (lanes : List ℕ → List ℕ) (header : Header) (logs : List (List Command)) (count : ℕ)
     → GivesDigests digest → AllByRecursion (AllByRecursion (IsTyped short_keys)) logs

@@ -14,7 +14,7 @@ use Rattle.merkle_records.specs.Merkle.{Digest}
 use Rattle.verifier_commands.specs.State.{opening}
 use Rattle.verifier_commands.specs.Change.{Change, joins, leaves, comes, goes, defers, reads, writes, turns}
 use Rattle.soundness.specs.History.{Event, log_events}
-use Rattle.soundness.specs.Timed.{IsOfBefore, IsTimed}
+use Rattle.soundness.specs.Timed.{IsOfBefore, IsTimed, AreTimed}
 use Rattle.soundness.proofs.HistoryLemmas.{Ticks, ticks-epoch, ticks-first, IsTicking, log-ticks}
 
 -- ---- the clock
@@ -60,10 +60,6 @@ timed_ticks first old new (writes before after) from is = tt
 timed_ticks first old new (turns sealed) from is = tt
 
 -- ---- a log
-
--- the elements of these events are timed
-abbrev pub AreTimed : ℕ → List Event → Type 0
-AreTimed first events = AllByRecursion (λ event. IsTimed first event.at event.change) events
 
 -- The elements of events are timed where the clock ticks with them.
 pub timed_ticking : (first number index : ℕ) (clock : Reading) (events : List Event) → IsFrom first clock
