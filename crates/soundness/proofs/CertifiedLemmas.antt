@@ -1,17 +1,15 @@
 -- What a certified epoch and an exhibit tell of each epoch.
-use Rattle.std.proofs.Common.{◌≡◌, ◌≢◌, ◌⊎◌, ℕ, zero, suc, ◌+◌, ◌<◌, ◌≤◌, ◌&&◌, ◌==◌, Bool, true, false, List, [], ◌∷◌, Option, Some, None, refl, sym, ◌∙◌, ap, subst, inl, inr, if◌then◌else◌, arith}
-use Rattle.std.proofs.lemmas.Bool.{false≢true, true≢false, eqb-true, and_parts, cases_eq}
+use Rattle.std.proofs.Common.{◌≡◌, ◌⊎◌, ℕ, zero, suc, ◌+◌, ◌<◌, ◌≤◌, ◌==◌, Bool, true, false, List, Some, None, refl, sym, ◌∙◌, ap, subst, inl, inr, if◌then◌else◌, arith}
+use Rattle.std.proofs.lemmas.Bool.{eqb-true, and_parts, cases_eq}
 use Rattle.std.proofs.lemmas.Option.{none-some, same_Some}
-use Rattle.record_text.specs.declared.element.Element.{Element}
 use Rattle.multiset_sum.specs.Tally.{Tally}
 use Rattle.verifier_commands.specs.Same.{same_bytes}
 use Rattle.verifier_commands.proofs.SameLemmas.{same_bytes-true}
 use Rattle.soundness.specs.History.{Event}
-use Rattle.soundness.specs.Certified.{added_in, evicted_in, sum_over, same_sum, is_balanced, balanced_from}
-use Rattle.soundness.specs.Permutation.{is_permutation, count_of}
+use Rattle.soundness.specs.Certified.{added_in, evicted_in, same_sum, is_balanced, balanced_from}
+use Rattle.soundness.specs.Permutation.{is_permutation}
 use Rattle.soundness.specs.Collision.{first_uneven}
 use Rattle.soundness.specs.Sound.{AreBalanced}
-use Rattle.soundness.proofs.PermutationLemmas.{count_permuted}
 
 pub same_sum-true : (a b : Tally) → same_sum a b ≡ true → a ≡ b
 same_sum-true a b same =

@@ -197,8 +197,8 @@ every-behind number index clock (event ∷ events) ticks =
         subst (λ (s : Stamp). IsUpTo clock.at s) (sym ticks.3) up_to,
       ),
       every-weaker (IsBehind number (suc index) ticks.0.at) (IsBehind number index clock.at)
-      (behind-earlier number index (suc index) clock.at ticks.0.at (omega arith) up_to) events
-      (every-behind number (suc index) ticks.0 events ticks.5),
+          (behind-earlier number index (suc index) clock.at ticks.0.at (omega arith) up_to) events
+          (every-behind number (suc index) ticks.0 events ticks.5),
     )
 
 -- what is behind another event of one verifier does not come before it
@@ -212,10 +212,10 @@ pub events-merged : (number index : ℕ) (clock : Reading) (events : List Event)
 events-merged number index clock [] ticks = tt
 events-merged number index clock (event ∷ events) ticks = (
   every-weaker (IsBehind number (suc index) ticks.0.at) (λ other. comes_before event_moment other event ≡ false)
-  (λ other behind. not_before (event_moment event) (event_moment other) (behind.0 ∙ sym ticks.1)
-  (omega (arith, behind.1, ticks.2))
-  (subst (λ (s : Stamp). IsUpTo s other.at) (sym ticks.3) behind.2)) events
-  (every-behind number (suc index) ticks.0 events ticks.5),
+      (λ other behind. not_before (event_moment event) (event_moment other) (behind.0 ∙ sym ticks.1)
+      (omega (arith, behind.1, ticks.2))
+      (subst (λ (s : Stamp). IsUpTo s other.at) (sym ticks.3) behind.2)) events
+      (every-behind number (suc index) ticks.0 events ticks.5),
   events-merged number (suc index) ticks.0 events ticks.5,
 )
 

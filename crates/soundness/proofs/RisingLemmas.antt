@@ -1,5 +1,5 @@
 -- The elements that a verifier evicts are of its number, and the stamp of each is above those of all before it.
-use Rattle.std.proofs.Common.{◌≡◌, ◌⊎◌, ℕ, suc, ◌<◌, not, nat_le, List, [], ◌∷◌, ◌++◌, is_some, Ok, Err, refl, sym, ap, subst, ◌∙◌, inl, inr, arith}
+use Rattle.std.proofs.Common.{◌≡◌, ℕ, suc, not, nat_le, List, [], ◌∷◌, ◌++◌, is_some, Ok, Err, refl, ap, subst, ◌∙◌, inl, inr, arith}
 use Rattle.std.specs.List.{AllByRecursion}
 use Rattle.std.specs.Ordering.{is_lt}
 use Rattle.std.proofs.lemmas.Result.{IfOk-at_ok}
@@ -112,7 +112,7 @@ own_events rules number index state (command ∷ commands) =
 -- The elements that a log evicts are of its verifier.
 pub log_own : (digest : Digest) (lanes : List ℕ → List ℕ) (header : Header) (number : ℕ) (commands : List Command)
     → AllByRecursion (λ element. element.verifier ≡ number)
-      (evicted_among (log_events digest lanes header number commands))
+    (evicted_among (log_events digest lanes header number commands))
 log_own digest lanes header number commands =
     own_events (rules_under digest lanes header number) number 0 (opening number header) commands
 
@@ -155,8 +155,8 @@ rising_front : (old new : Reading) (element : Element) (elements : List Element)
     → AreAbove new.at elements → IsRising elements → IsRising (element ∷ elements)
 rising_front old new element elements is above rising = (
   every-weaker (λ later. IsLater later.stamp new.at) (λ later. IsEarlier element.stamp later.stamp)
-  (λ later passed. subst (λ (s : Stamp). IsEarlier s later.stamp) (sent-at old new element.stamp is)
-  (ap is_lt ((IsLater-cmp new.at later.stamp).0 passed))) elements above,
+      (λ later passed. subst (λ (s : Stamp). IsEarlier s later.stamp) (sent-at old new element.stamp is)
+      (ap is_lt ((IsLater-cmp new.at later.stamp).0 passed))) elements above,
   rising,
 )
 

@@ -1,30 +1,26 @@
 -- Soundness whole: of epochs that are balanced, either there is nothing to exhibit and the operations are serial, or
 -- the exhibit collides.
-use Rattle.std.proofs.Common.{◌≡◌, ◌≢◌, ◌⊎◌, ℕ, zero, suc, ◌+◌, ◌<◌, ◌≤◌, Bool, true, false, List, [], ◌∷◌, ◌++◌, map, filter, Option, Some, None, refl, sym, ◌∙◌, ap, subst, inl, inr, if◌then◌else◌, arith, append-nil, nat_le}
+use Rattle.std.proofs.Common.{◌≡◌, ◌⊎◌, ℕ, zero, suc, ◌+◌, ◌≤◌, Bool, true, false, List, [], ◌∷◌, ◌++◌, map, Option, Some, None, refl, sym, ◌∙◌, ap, subst, inl, inr, if◌then◌else◌, arith, nat_le}
 use Rattle.std.specs.List.{AllByRecursion}
 use Rattle.std.proofs.lemmas.Bool.{leb-true}
 use Rattle.lamport_clocks.specs.declared.header.Header.{Header}
-use Rattle.record_text.specs.declared.element.Element.{Element}
 use Rattle.record_text.specs.Format.{short_keys}
-use Rattle.record_text.specs.Texts.{value_text}
 use Rattle.record_text.proofs.FieldLemmas.{wide64}
 use Rattle.record_text.proofs.OneTextLemmas.{one_value}
 use Rattle.log_codec.specs.declared.command.Command.{Command}
 use Rattle.merkle_records.specs.Merkle.{Digest, GivesDigests}
-use Rattle.stamp_order.specs.Serial.{none_everywhere, IsSerial}
+use Rattle.stamp_order.specs.Serial.{none_everywhere}
 use Rattle.stamp_order.specs.Merged.{IsMerged, up_to}
 use Rattle.stamp_order.proofs.InOrderLemmas.{every-weaker}
 use Rattle.soundness.specs.History.{Event, log_events, histories_of}
-use Rattle.soundness.specs.Certified.{event_moment, operations_in, order_of, order_up_to, order_within, added_in, evicted_in, sum_over, is_balanced}
-use Rattle.soundness.specs.Exhibit.{Strings, none_taken, first_clash, IsCollision}
-use Rattle.soundness.specs.Permutation.{is_permutation, count_of}
-use Rattle.soundness.specs.Collision.{Exhibit, nothing, strings, multisets, first_uneven, exhibit_by, exhibit_of, Collides}
+use Rattle.soundness.specs.Certified.{event_moment, order_of, order_up_to, order_within, added_in, evicted_in, sum_over}
+use Rattle.soundness.specs.Exhibit.{Strings, none_taken, first_clash}
+use Rattle.soundness.specs.Collision.{first_uneven, exhibit_by, exhibit_of, Collides}
 use Rattle.soundness.specs.Timed.{IsTimed}
 use Rattle.soundness.specs.Typed.{IsTyped}
 use Rattle.soundness.specs.Sound.{AreBalanced, IsSerialOrCollides}
 use Rattle.soundness.proofs.KnownLemmas.{HasOneText}
 use Rattle.soundness.proofs.PermutationLemmas.{count_permuted}
-use Rattle.soundness.proofs.RunLemmas.{IsRun}
 use Rattle.soundness.proofs.SerialLemmas.{IsWaiting, run_keeps}
 use Rattle.soundness.proofs.SerialLemmas.{Collides as CollidesAt, IsSound}
 use Rattle.soundness.proofs.ScheduleLemmas.{AreEven, scheduled}

@@ -1,11 +1,10 @@
 -- What the clock tells of the elements that come and go holds of each event of a log.
-use Rattle.std.proofs.Common.{◌≡◌, ℕ, suc, ◌≤◌, List, [], ◌∷◌, Option, Ok, refl, sym, ◌∙◌, ap, subst, inl, inr, arith}
-use Rattle.std.specs.List.{AllByRecursion}
+use Rattle.std.proofs.Common.{◌≡◌, ℕ, suc, ◌≤◌, List, [], ◌∷◌, Ok, refl, sym, ◌∙◌, ap, subst, inl, inr, arith}
 use Rattle.std.specs.Ordering.{is_lt}
 use Rattle.lamport_clocks.specs.declared.header.Header.{Header}
 use Rattle.lamport_clocks.specs.declared.stamp.Stamp.{Stamp}
 use Rattle.lamport_clocks.specs.Reading.{Reading}
-use Rattle.lamport_clocks.specs.Clock.{received, sent, turned}
+use Rattle.lamport_clocks.specs.Clock.{received}
 use Rattle.lamport_clocks.proofs.StampLaws.{IsLater-cmp}
 use Rattle.lamport_clocks.proofs.ClockLaws.{open_epochs, received-ok, received-above, sent-at}
 use Rattle.record_text.specs.declared.element.Element.{Element}
@@ -67,9 +66,9 @@ pub timed_ticking : (first number index : ℕ) (clock : Reading) (events : List 
 timed_ticking first number index clock [] from ticks = tt
 timed_ticking first number index clock (event ∷ events) from ticks = (
   subst (λ (at : Stamp). IsTimed first at event.change) (sym ticks.3)
-  (timed_ticks first clock ticks.0 event.change from ticks.4),
+      (timed_ticks first clock ticks.0 event.change from ticks.4),
   timed_ticking first number (suc index) ticks.0 events
-  (from_ticks first clock ticks.0 event.change from ticks.4) ticks.5,
+      (from_ticks first clock ticks.0 event.change from ticks.4) ticks.5,
 )
 
 -- The elements of a log's events are timed.

@@ -18,11 +18,13 @@ AreTyped logs = AllByRecursion (AllByRecursion (IsTyped short_keys)) logs
 
 -- each of so many epochs from one on is balanced
 abbrev pub AreBalanced : (List ℕ → List ℕ) → List Event → ℕ → ℕ → Type 0
-AreBalanced lanes events first count = (epoch : ℕ) → first ≤ epoch → epoch < first + count → is_balanced lanes events epoch ≡ true
+AreBalanced lanes events first count =
+    (epoch : ℕ) → first ≤ epoch → epoch < first + count → is_balanced lanes events epoch ≡ true
 
 -- the exhibit is nothing and the operations are serial, or the exhibit collides
 abbrev pub IsSerialOrCollides : Digest → (List ℕ → List ℕ) → Exhibit → List Event → Type 0
-IsSerialOrCollides digest lanes exhibit events = ((exhibit ≡ nothing) × IsSerial (operations_in events)) ⊎ Collides digest lanes exhibit
+IsSerialOrCollides digest lanes exhibit events =
+    ((exhibit ≡ nothing) × IsSerial (operations_in events)) ⊎ Collides digest lanes exhibit
 
 -- the commands of each log, of which these are the bytes
 abbrev pub commands_of : List (List ℕ) → List (List Command)

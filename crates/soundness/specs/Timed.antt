@@ -40,4 +40,5 @@ evicted_among events = flat_map (λ event. evicted_by event.change) events
 -- each element is stamped before all that stand behind it
 abbrev pub IsRising : List Element → Type 0
 IsRising [] = Unit {0}
-IsRising (element ∷ elements) = AllByRecursion (λ later. IsEarlier element.stamp later.stamp) elements × IsRising elements
+IsRising (element ∷ elements) =
+    AllByRecursion (λ later. IsEarlier element.stamp later.stamp) elements × IsRising elements
