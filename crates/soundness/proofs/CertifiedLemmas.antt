@@ -1,16 +1,15 @@
 -- What a certified epoch and an exhibit tell of each epoch.
-use Rattle.std.proofs.Common.{◌≡◌, ◌≢◌, ◌⊎◌, ℕ, zero, suc, ◌+◌, ◌<◌, ◌≤◌, ◌&&◌, ◌==◌, Bool, true, false, List, [], ◌∷◌, Option, Some, None, refl, sym, ◌∙◌, ap, subst, inl, inr, if◌then◌else◌, arith}
-use Rattle.std.proofs.lemmas.Bool.{false≢true, true≢false, eqb-true, and_parts, cases_eq}
+use Rattle.std.proofs.Common.{◌≡◌, ◌⊎◌, ℕ, zero, suc, ◌+◌, ◌<◌, ◌≤◌, ◌==◌, Bool, true, false, List, Some, None, refl, sym, ◌∙◌, ap, subst, inl, inr, if◌then◌else◌, arith}
+use Rattle.std.proofs.lemmas.Bool.{eqb-true, and_parts, cases_eq}
 use Rattle.std.proofs.lemmas.Option.{none-some, same_Some}
-use Rattle.record_text.specs.declared.element.Element.{Element}
 use Rattle.multiset_sum.specs.Tally.{Tally}
 use Rattle.record_text.specs.Same.{same_bytes}
 use Rattle.record_text.proofs.SameTestLemmas.{same_bytes-true}
 use Rattle.soundness.specs.History.{Event}
-use Rattle.soundness.specs.Certified.{added_in, evicted_in, sum_over, same_sum, is_balanced, balanced_from}
-use Rattle.soundness.specs.Permutation.{is_permutation, count_of}
+use Rattle.soundness.specs.Certified.{added_in, evicted_in, same_sum, is_balanced, balanced_from}
+use Rattle.soundness.specs.Permutation.{is_permutation}
 use Rattle.soundness.specs.Collision.{first_uneven}
-use Rattle.soundness.proofs.PermutationLemmas.{count_permuted}
+use Rattle.soundness.specs.Sound.{AreBalanced}
 
 pub same_sum-true : (a b : Tally) → same_sum a b ≡ true → a ≡ b
 same_sum-true a b same =
@@ -25,10 +24,6 @@ cases_le a b within = go (cases_eq a b)
     go : (a ≡ b) ⊎ (a ≡ b → ⊥) → (a ≡ b) ⊎ (suc a ≤ b)
     go (inl same) = inl same
     go (inr apart) = inr (omega (arith, within, apart))
-
--- each of so many epochs from one on is balanced
-abbrev pub AreBalanced : (List ℕ → List ℕ) → List Event → ℕ → ℕ → Type 0
-AreBalanced lanes events first count = (epoch : ℕ) → first ≤ epoch → epoch < first + count → is_balanced lanes events epoch ≡ true
 
 -- the epochs that are counted as certified are balanced
 pub counted_balanced : (lanes : List ℕ → List ℕ) (events : List Event) (first sealed : ℕ) → AreBalanced lanes events first (balanced_from lanes events first sealed)

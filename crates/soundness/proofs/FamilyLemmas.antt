@@ -1,8 +1,7 @@
 -- What an accepted add, evict or deferral of a child under its parent tells, and what it makes of the two.
-use Rattle.std.proofs.Common.{◌≡◌, ◌≢◌, ◌⊎◌, ℕ, ◌==◌, Bool, true, false, not, ◌||◌, List, [], ◌∷◌, length, Option, Some, None, is_some, Result, Ok, Err, refl, sym, ◌∙◌, ap, subst, inl, inr, if◌then◌else◌}
+use Rattle.std.proofs.Common.{◌≡◌, ◌≢◌, Bool, true, false, not, ◌||◌, List, Option, Some, None, is_some, Result, Ok, Err, refl, sym, ◌∙◌, ap, subst, if◌then◌else◌}
 use Rattle.std.specs.Option.{option_map}
 use Rattle.std.proofs.lemmas.Bool.{false≢true, true≢false}
-use Rattle.std.proofs.lemmas.Option.{none-some, same_Some}
 use Rattle.tree_keys.specs.Path.{side, same_path}
 use Rattle.tree_keys.proofs.PathLemmas.{same_path-true}
 use Rattle.lamport_clocks.specs.InOrder.{test, need}
@@ -12,7 +11,7 @@ use Rattle.record_text.specs.declared.value.Value.{Value}
 use Rattle.record_text.specs.declared.value.Value.TheVariants as values
 use Rattle.record_text.specs.declared.refusal.Refusal.{Refusal}
 use Rattle.record_text.specs.declared.refusal.Refusal.TheVariants as refusals
-use Rattle.record_text.specs.Format.{Format, path_bits}
+use Rattle.record_text.specs.Format.{Format}
 use Rattle.record_text.specs.Value.{node_side, with_side, empty_node, initial_value}
 use Rattle.record_text.specs.Texts.{value_text}
 use Rattle.merkle_records.specs.declared.cases.AddCase.{AddCase}
@@ -20,7 +19,6 @@ use Rattle.merkle_records.specs.declared.cases.AddCase.TheVariants as cases
 use Rattle.merkle_records.specs.Merkle.{Digest, case_of, pointing, Added, added_by, after_add, after_evict, after_defer, taken_over, deferred_pointer}
 use Rattle.verifier_cache.specs.declared.entry.Entry.{Entry}
 use Rattle.verifier_cache.specs.Entry.{kid_of, set_kid, has_kid}
-use Rattle.verifier_commands.specs.declared.changes.Parent.{Parent}
 use Rattle.verifier_commands.specs.declared.changes.Family.{Family}
 use Rattle.record_text.specs.Same.{same_value, same_bytes}
 use Rattle.record_text.proofs.SameTestLemmas.{same_value-true, same_bytes-true}

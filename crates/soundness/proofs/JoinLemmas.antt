@@ -1,9 +1,8 @@
 -- A child that comes in under its parent keeps the world; or it is what the exhibit shows, and that collides.
-use Rattle.std.proofs.Common.{◌≡◌, ◌≢◌, ◌⊎◌, ℕ, Bool, true, false, List, [], ◌∷◌, length, Option, Some, None, Ok, refl, sym, ◌∙◌, ap, subst, inl, inr, if◌then◌else◌, ◌==◌, arith}
+use Rattle.std.proofs.Common.{◌≡◌, ◌≢◌, ◌⊎◌, ℕ, Bool, true, false, List, length, Option, Some, None, refl, sym, ◌∙◌, ap, subst, inl, inr, if◌then◌else◌, ◌==◌, arith}
 use Rattle.std.proofs.lemmas.Bool.{false≢true, true≢false}
 use Rattle.std.proofs.lemmas.Option.{none-some, same_Some}
-use Rattle.tree_keys.specs.Path.{side, same_path}
-use Rattle.tree_keys.proofs.PathLemmas.{same_path-self}
+use Rattle.tree_keys.specs.Path.{side}
 use Rattle.record_text.specs.declared.value.Pointer.{Pointer}
 use Rattle.record_text.specs.declared.value.Node.{Node}
 use Rattle.record_text.specs.declared.value.Value.{Value}
@@ -17,21 +16,16 @@ use Rattle.merkle_records.proofs.KindLemmas.{IsOf-after_evict, IsOf-with_side, i
 use Rattle.verifier_cache.specs.declared.entry.Entry.{Entry}
 use Rattle.verifier_cache.specs.declared.entry.Hold.TheVariants.{M}
 use Rattle.verifier_cache.specs.Entry.{kid_of, set_kid, new_entry}
-use Rattle.verifier_commands.specs.declared.changes.Family.{Family}
-use Rattle.verifier_commands.specs.declared.changes.Parent.{Parent}
-use Rattle.record_text.specs.Same.{same_bytes}
-use Rattle.record_text.proofs.SameTestLemmas.{same_bytes-self, same_bytes-true}
-use Rattle.verifier_commands.specs.Changes.{node_of, above, above_on, set_kid_on}
+use Rattle.verifier_commands.specs.Changes.{node_of}
 use Rattle.verifier_commands.specs.Outcome.{blob_of}
-use Rattle.verifier_commands.specs.Change.{joins}
-use Rattle.soundness.specs.Exhibit.{Taken, Strings, is_known, differing, clash_at, clash_of, IsCollision}
+use Rattle.soundness.specs.Exhibit.{Taken}
 use Rattle.soundness.specs.Deeds.{Shown, ShowSame, showing_both, DidJoin}
-use Rattle.soundness.specs.Spot.{Spot, untouched, cached, merkle, waiting, Spots, is_touched, side_of, pointer_at, home_of, LeadsBy, IsKeptBy, Leads, Covers, IsKind, IsTree}
+use Rattle.soundness.specs.Spot.{Spot, untouched, cached, merkle, waiting, Spots, is_touched, side_of, pointer_at, home_of, LeadsBy, IsKeptBy, Covers, IsKind, IsTree}
 use Rattle.soundness.proofs.SideLemmas.{above_apart, above_no_prefix}
-use Rattle.soundness.proofs.MovedLemmas.{this_or_other, pointer_kind, pointer_touched}
-use Rattle.soundness.proofs.FamilyLemmas.{IsAdd, on_empty, on_same, on_split, IsAdded, added_how, pointer_set, pointer_set_other, kid_set, kid_set_other}
-use Rattle.soundness.proofs.UnderLemmas.{FitsUnder, pair_moves, changed_parent, nothing_there, fits_empty, fits_known, fits_split}
-use Rattle.soundness.proofs.WorldLemmas.{cached_in, cached_here, cached_elsewhere, spot_of_shown, blob_in, blob_at, AllShown, with_shown, Stored, IsWorld, with_pair, with_pair_parent, with_pair_other, with_spot_at, with_spot, world_pair}
+use Rattle.soundness.proofs.MovedLemmas.{this_or_other, pointer_kind}
+use Rattle.soundness.proofs.FamilyLemmas.{IsAdded, added_how, pointer_set, pointer_set_other, kid_set}
+use Rattle.soundness.proofs.UnderLemmas.{FitsUnder, pair_moves, changed_parent, nothing_there, fits_empty, fits_split}
+use Rattle.soundness.proofs.WorldLemmas.{cached_in, cached_here, cached_elsewhere, spot_of_shown, blob_at, AllShown, with_shown, Stored, IsWorld, with_pair, with_pair_parent, with_pair_other, with_spot_at, with_spot, world_pair}
 
 -- ---- what the parts of a spot tell
 
@@ -143,13 +137,15 @@ pub join_world : (format : Format) (digest : Digest) (shown : AllShown) (taken :
     → blob_of child.value ≡ blob_at (spots child.path)
     → ((element : Element) → spots child.path ≡ waiting element → ⊥)
     → WorldAfter format digest (with_shown shown home next) taken stored spots
-join_world format digest shown taken stored spots home next parent child on at now pointer world was is_node below shows points to flag others kind child_kind hold fits hidden blob free =
-    (new, world_pair format digest shown taken taken stored spots home next parent after child.path (cached home child) world tree was apart
-    (subst (λ (e : Option Entry). ShowSame next (showing_both (shown home) after child.path e)) (sym (cached_here home child)) shows)
-    (λ other away. cached_elsewhere home other child away ∙ sym (hidden other))
-    (sym (node_blob parent.value at is_node)) blob
-    (taken_pair taken spots home after child.path (cached home child) apart refl world.was_taken),
-    pair_keeps spots home parent after child.path (cached home child) was free)
+join_world format digest shown taken stored spots home next parent child on at now pointer world was is_node below shows points to flag others kind child_kind hold fits hidden blob free = (
+  new,
+  world_pair format digest shown taken taken stored spots home next parent after child.path (cached home child) world tree was apart
+      (subst (λ (e : Option Entry). ShowSame next (showing_both (shown home) after child.path e)) (sym (cached_here home child)) shows)
+      (λ other away. cached_elsewhere home other child away ∙ sym (hidden other))
+      (sym (node_blob parent.value at is_node)) blob
+      (taken_pair taken spots home after child.path (cached home child) apart refl world.was_taken),
+  pair_keeps spots home parent after child.path (cached home child) was free,
+)
   where
     after : Entry
     after = changed_parent parent now on true

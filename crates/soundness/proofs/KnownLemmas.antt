@@ -1,7 +1,6 @@
 -- A child that comes back by its digest: with the value that it left with, or it shows a collision. And all joins.
-use Rattle.std.proofs.Common.{◌≡◌, ◌≢◌, ◌⊎◌, ℕ, Bool, true, false, List, [], ◌∷◌, Option, Some, None, is_some, refl, sym, ◌∙◌, ap, subst, inl, inr, if◌then◌else◌}
-use Rattle.std.proofs.lemmas.Bool.{false≢true, true≢false}
-use Rattle.std.proofs.lemmas.Option.{none-some, same_Some}
+use Rattle.std.proofs.Common.{◌≡◌, ◌≢◌, ◌⊎◌, ℕ, Bool, true, false, List, Option, Some, None, refl, sym, ◌∙◌, ap, subst, inl, inr, if◌then◌else◌}
+use Rattle.std.proofs.lemmas.Bool.{true≢false}
 use Rattle.tree_keys.specs.Path.{side, same_path}
 use Rattle.tree_keys.proofs.PathLemmas.{same_path-self, same_path-apart}
 use Rattle.record_text.specs.declared.value.Pointer.{Pointer}
@@ -24,7 +23,7 @@ use Rattle.soundness.specs.Exhibit.{Taken, Strings, is_known, differing, clash_a
 use Rattle.soundness.specs.Deeds.{Shown, ShowSame, showing_both, DidJoin}
 use Rattle.soundness.specs.Spot.{Spot, cached, merkle, Spots, is_touched, side_of, pointer_at, home_of, LeadsBy, IsKind, IsTree}
 use Rattle.soundness.proofs.SideLemmas.{above_apart}
-use Rattle.soundness.proofs.FamilyLemmas.{IsAdd, on_empty, on_same, on_split, IsAdded}
+use Rattle.soundness.proofs.FamilyLemmas.{IsAdd, on_empty, on_same, on_split}
 use Rattle.soundness.proofs.UnderLemmas.{changed_parent, fits_known}
 use Rattle.soundness.proofs.WorldLemmas.{cached_in, AllShown, with_shown, Stored, IsWorld, blob_at}
 use Rattle.soundness.proofs.JoinLemmas.{kept_value, not_waiting, join_world, Joining, joining, WorldAfter, parent_pointer, parent_kind, join_empty, join_split}
@@ -177,7 +176,7 @@ join_step format digest shown taken stored spots home next parent after child on
         by (inl same) = inr (
           shows ∙ same.1,
           join_same format digest shown taken stored spots home next parent after child world j pointer there to flag
-          (k.at ∙ ap merkle (one child.path k.kept j.value k.kind j.kind same.0)) after_is child_is,
+              (k.at ∙ ap merkle (one child.path k.kept j.value k.kind j.kind same.0)) after_is child_is,
         )
         by (inr apart) = inl ((value_text format k.kept, value_text format j.value), shows ∙ apart.1, record { differ = apart.0; same = k.same })
 
@@ -185,7 +184,7 @@ join_step format digest shown taken stored spots home next parent after child on
     go (on_empty none initial family) = inr (
       no_clash (ap (λ (o : Option Pointer). leads_to o child.path) none),
       join_empty format digest shown taken stored spots home next parent after child digests world j none initial
-      (ap (λ (f : Family). f.parent) family) (ap (λ (f : Family). f.child) family),
+          (ap (λ (f : Family). f.parent) family) (ap (λ (f : Family). f.child) family),
     )
     go (on_same pointer there to flag keeps no_kid family) =
         back pointer there to flag
@@ -194,5 +193,5 @@ join_step format digest shown taken stored spots home next parent after child on
     go (on_split pointer there which further initial family) = inr (
       no_clash (ap (λ (o : Option Pointer). leads_to o child.path) there ∙ same_path-apart pointer.path child.path (λ same. above_apart child.path pointer.path which further (sym same))),
       join_split format digest shown taken stored spots home next parent after child digests world j pointer there which further initial
-      (ap (λ (f : Family). f.parent) family) (ap (λ (f : Family). f.child) family),
+          (ap (λ (f : Family). f.parent) family) (ap (λ (f : Family). f.child) family),
     )

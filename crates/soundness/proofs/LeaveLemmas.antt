@@ -1,9 +1,8 @@
 -- A child that leaves its parent, by its digest or with an element, keeps the world.
 use Rattle.std.proofs.Common.{◌≡◌, ◌≢◌, ◌⊎◌, ℕ, Bool, true, false, List, Option, Some, None, refl, sym, ◌∙◌, ap, subst, inl, inr, if◌then◌else◌}
-use Rattle.std.proofs.lemmas.Bool.{false≢true, true≢false}
-use Rattle.std.proofs.lemmas.Option.{none-some, same_Some}
+use Rattle.std.proofs.lemmas.Bool.{false≢true}
 use Rattle.std.specs.Option.{option_map}
-use Rattle.tree_keys.specs.Path.{side, same_path}
+use Rattle.tree_keys.specs.Path.{same_path}
 use Rattle.tree_keys.proofs.PathLemmas.{same_path-self, same_path-apart}
 use Rattle.record_text.specs.declared.value.Pointer.{Pointer}
 use Rattle.record_text.specs.declared.value.Node.{Node}
@@ -12,12 +11,9 @@ use Rattle.record_text.specs.declared.value.Value.TheVariants as values
 use Rattle.record_text.specs.declared.element.Element.{Element}
 use Rattle.record_text.specs.Format.{Format}
 use Rattle.record_text.specs.Value.{IsOf, node_side, with_side}
-use Rattle.merkle_records.specs.Merkle.{Digest, GivesDigests, pointer_to, pointing, deferred_pointer}
+use Rattle.merkle_records.specs.Merkle.{Digest, GivesDigests, pointer_to, deferred_pointer}
 use Rattle.merkle_records.proofs.KindLemmas.{IsOf-after_evict, IsOf-after_defer}
 use Rattle.verifier_cache.specs.declared.entry.Entry.{Entry}
-use Rattle.verifier_cache.specs.Entry.{kid_of, has_kid}
-use Rattle.verifier_commands.specs.Changes.{node_of, left_by}
-use Rattle.verifier_commands.specs.Outcome.{blob_of}
 use Rattle.soundness.specs.Exhibit.{Taken, with_taken}
 use Rattle.soundness.specs.Deeds.{Shown, ShowSame, showing_both, DidLeave, DidDefer}
 use Rattle.soundness.specs.Spot.{Spot, untouched, cached, merkle, waiting, Spots, value_at, is_touched, pointer_in, pointer_at, home_of, LeadsBy, IsKind, IsTree}
@@ -25,7 +21,7 @@ use Rattle.soundness.proofs.SideLemmas.{above_apart}
 use Rattle.soundness.proofs.MovedLemmas.{this_or_other}
 use Rattle.soundness.proofs.FamilyLemmas.{IsLeft, evicted_into, evicted_how, deferred_in, deferred_how, pointer_set, pointer_set_other, no_kids}
 use Rattle.soundness.proofs.UnderLemmas.{changed_parent, pair_moves, fits_known}
-use Rattle.soundness.proofs.WorldLemmas.{cached_in, cached_here, cached_elsewhere, spot_of_shown, blob_in, blob_at, AllShown, with_shown, Stored, IsWorld, with_spot, with_spot_at, with_pair, with_pair_parent, with_pair_other, world_pair}
+use Rattle.soundness.proofs.WorldLemmas.{cached_in, cached_elsewhere, spot_of_shown, blob_in, blob_at, AllShown, with_shown, Stored, IsWorld, with_spot, with_spot_at, with_pair, with_pair_parent, with_pair_other, world_pair}
 use Rattle.soundness.proofs.JoinLemmas.{is_merkle, KeepsWaiting, not_waiting, pair_keeps, taken_pair, WorldAfter, node_blob, parent_pointer, parent_kind}
 
 -- What a child leaves: its spot has its value, and no cache shows it.
@@ -55,16 +51,18 @@ leave_world : (format : Format) (digest : Digest) (shown : AllShown) (taken now_
     → LeadsBy format digest pointer.deferred None pointer.digest spot
     → ((path : List Bool) (value : Value) → with_pair spots home (changed_parent parent (changed left.at left.on left.pointer) left.on false) child.path spot path ≡ merkle value → now_taken path ≡ Some value)
     → LeftAt format digest (with_shown shown home next) now_taken stored spots child.path spot
-leave_world format digest shown taken now_taken stored spots home next parent child after changed spot pointer world left had_parent had_child shows out child_kind points to others kind leads taken_is =
-    (new, world_pair format digest shown taken now_taken stored spots home next parent now_parent child.path spot world tree was apart
-    (subst (λ (e : Option Entry). ShowSame next (showing_both (shown home) now_parent child.path e)) (sym (out.hidden home))
-    (subst (λ (a : Entry). ShowSame next (showing_both (shown home) a child.path None)) left.after_is shows))
-    (λ other away. out.hidden other ∙ sym (ap (cached_in other) was_child ∙ cached_elsewhere home other child away))
-    (sym (node_blob parent.value left.at left.is_node))
-    (ap blob_in out.value ∙ ap blob_at (sym was_child))
-    taken_is,
-    pair_keeps spots home parent now_parent child.path spot was (λ element waits. not_waiting (spots child.path) (cached home child) element was_child refl waits),
-    with_spot_at (with_spot spots now_parent.path (cached home now_parent)) child.path spot)
+leave_world format digest shown taken now_taken stored spots home next parent child after changed spot pointer world left had_parent had_child shows out child_kind points to others kind leads taken_is = (
+  new,
+  world_pair format digest shown taken now_taken stored spots home next parent now_parent child.path spot world tree was apart
+      (subst (λ (e : Option Entry). ShowSame next (showing_both (shown home) now_parent child.path e)) (sym (out.hidden home))
+      (subst (λ (a : Entry). ShowSame next (showing_both (shown home) a child.path None)) left.after_is shows))
+      (λ other away. out.hidden other ∙ sym (ap (cached_in other) was_child ∙ cached_elsewhere home other child away))
+      (sym (node_blob parent.value left.at left.is_node))
+      (ap blob_in out.value ∙ ap blob_at (sym was_child))
+      taken_is,
+  pair_keeps spots home parent now_parent child.path spot was (λ element waits. not_waiting (spots child.path) (cached home child) element was_child refl waits),
+  with_spot_at (with_spot spots now_parent.path (cached home now_parent)) child.path spot,
+)
   where
     now : Node
     now = changed left.at left.on left.pointer
@@ -162,15 +160,15 @@ pub defer_step : (format : Format) (digest : Digest) (shown : AllShown) (taken :
 defer_step format digest shown taken stored spots home next parent after child element world did =
     subst (λ (i : List Bool). LeftAt format digest (with_shown shown home next) taken stored spots i (waiting element)) (sym did.path)
     (leave_world format digest shown taken taken stored spots home next parent child after deferred_in
-        (waiting element) (deferred_pointer left.pointer) world left did.had_parent did.had_child did.shown
-        (record { value = ap Some did.value; touched = refl; homeless = λ which. refl; hidden = λ home. refl })
-        (did.path, subst (IsOf format child.path) (sym did.value) of_kind)
-        (pointer_set left.at left.on _) left.leads (λ which other. pointer_set_other left.at left.on which _ other)
-        (λ above. subst (λ (o : Option Pointer). IsOf format parent.path (values.Node (with_side left.at left.on (option_map deferred_pointer o)))) left.points
-        (IsOf-after_defer format parent.path left.on left.at above))
-        tt
-        (taken_pair taken spots home (changed_parent parent (deferred_in left.at left.on left.pointer) left.on false) child.path (waiting element)
-        (above_apart parent.path child.path left.on left.below) refl world.was_taken))
+    (waiting element) (deferred_pointer left.pointer) world left did.had_parent did.had_child did.shown
+    (record { value = ap Some did.value; touched = refl; homeless = λ which. refl; hidden = λ home. refl })
+    (did.path, subst (IsOf format child.path) (sym did.value) of_kind)
+    (pointer_set left.at left.on _) left.leads (λ which other. pointer_set_other left.at left.on which _ other)
+    (λ above. subst (λ (o : Option Pointer). IsOf format parent.path (values.Node (with_side left.at left.on (option_map deferred_pointer o)))) left.points
+    (IsOf-after_defer format parent.path left.on left.at above))
+    tt
+    (taken_pair taken spots home (changed_parent parent (deferred_in left.at left.on left.pointer) left.on false) child.path (waiting element)
+    (above_apart parent.path child.path left.on left.below) refl world.was_taken))
   where
     left : IsLeft parent child after deferred_in
     left = deferred_how parent child after did.deferred

@@ -25,3 +25,5 @@ pub mod OpeningLemmas
 pub mod CertifiedLemmas
 pub mod SoundLemmas
 pub mod TypedLemmas
+pub mod RisingLemmas
+pub mod WholeLemmas

@@ -1,22 +1,21 @@
 -- The tree stays a tree where one spot changes, or a parent's and its child's.
-use Rattle.std.proofs.Common.{◌≡◌, ◌≢◌, ◌⊎◌, ℕ, Bool, true, false, not, List, [], ◌∷◌, ◌++◌, Option, Some, None, IsSome, refl, sym, ◌∙◌, ap, subst, inl, inr, if◌then◌else◌}
-use Rattle.std.proofs.lemmas.Bool.{false≢true, true≢false}
+use Rattle.std.proofs.Common.{◌≡◌, ◌≢◌, ◌⊎◌, ℕ, Bool, true, false, List, Option, Some, None, refl, sym, ◌∙◌, ap, subst, inl, inr}
+use Rattle.std.proofs.lemmas.Bool.{true≢false}
 use Rattle.std.proofs.lemmas.Option.{none-some, same_Some}
-use Rattle.tree_keys.specs.Path.{side, is_prefix, same_path}
-use Rattle.tree_keys.proofs.PathLemmas.{same_path-self, same_path-true, same_path-apart}
+use Rattle.tree_keys.specs.Path.{side, same_path}
+use Rattle.tree_keys.proofs.PathLemmas.{same_path-self, same_path-true}
 use Rattle.record_text.specs.declared.value.Pointer.{Pointer}
-use Rattle.record_text.specs.declared.value.Node.{Node}
 use Rattle.record_text.specs.declared.value.Value.{Value}
 use Rattle.record_text.specs.declared.value.Value.TheVariants as values
 use Rattle.record_text.specs.Format.{Format}
-use Rattle.record_text.specs.Value.{IsOf, IsPointer, node_side}
+use Rattle.record_text.specs.Value.{IsOf, IsPointer}
 use Rattle.merkle_records.specs.Merkle.{Digest}
 use Rattle.merkle_records.proofs.KindLemmas.{IsSide-node_side}
 use Rattle.record_text.specs.Value.{IsSide}
 use Rattle.verifier_cache.specs.declared.entry.Entry.{Entry}
 use Rattle.verifier_commands.specs.Changes.{node_of}
-use Rattle.soundness.specs.Spot.{Spot, untouched, cached, merkle, waiting, Spots, is_touched, value_at, pointer_in, pointer_at, home_of, IsByElement, IsKidOf, IsKeptBy, LeadsBy, Leads, Covers, IsKind, IsTree, side_of}
-use Rattle.soundness.proofs.SideLemmas.{is_prefix-self, is_prefix-trans, prefix_of_side, side_of_prefix, prefix_cases, side-prefix, side-trans, side-compare, above_no_prefix, above_apart}
+use Rattle.soundness.specs.Spot.{Spot, untouched, cached, merkle, waiting, Spots, is_touched, pointer_at, home_of, LeadsBy, Leads, Covers, IsKind, IsTree, side_of}
+use Rattle.soundness.proofs.SideLemmas.{side_of_prefix}
 
 -- ---- where pointers lead
 

@@ -1,24 +1,22 @@
 -- The world before the first command: the root stands in the cache of verifier 0, and nothing else is touched.
-use Rattle.std.proofs.Common.{◌≡◌, ◌≢◌, ◌⊎◌, ℕ, zero, suc, ◌<◌, ◌==◌, Bool, true, false, List, [], ◌∷◌, length, Option, Some, None, eqb, refl, sym, ◌∙◌, ap, subst, inl, inr, if◌then◌else◌, arith}
-use Rattle.std.proofs.lemmas.Bool.{false≢true, true≢false, eq-eqb, ne_eqb, cases_eq}
+use Rattle.std.proofs.Common.{◌≡◌, ◌≢◌, ◌⊎◌, ℕ, Bool, true, false, List, [], ◌∷◌, length, Some, None, refl, sym, ◌∙◌, ap, subst, inl, inr, arith}
+use Rattle.std.proofs.lemmas.Bool.{false≢true, cases_eq}
 use Rattle.std.proofs.lemmas.Option.{none-some}
 use Rattle.tree_keys.specs.Bits.{number_of}
-use Rattle.tree_keys.specs.Path.{side, same_path}
-use Rattle.tree_keys.proofs.PathLemmas.{same_path-true}
+use Rattle.tree_keys.specs.Path.{side}
 use Rattle.lamport_clocks.specs.declared.header.Header.{Header}
 use Rattle.record_text.specs.declared.value.Pointer.{Pointer}
 use Rattle.record_text.specs.declared.value.Value.{Value}
 use Rattle.record_text.specs.Format.{short_keys, path_bits}
 use Rattle.merkle_records.specs.Merkle.{Digest}
-use Rattle.verifier_cache.specs.declared.entry.Entry.{Entry}
-use Rattle.verifier_commands.specs.State.{root_entry, opening}
+use Rattle.verifier_commands.specs.State.{root_entry}
 use Rattle.stamp_order.specs.Serial.{none_everywhere}
 use Rattle.soundness.specs.Exhibit.{none_taken}
-use Rattle.soundness.specs.Deeds.{Shown, shown_by, showing}
+use Rattle.soundness.specs.Deeds.{showing}
 use Rattle.soundness.specs.Spot.{Spot, untouched, cached, merkle, waiting, Spots, is_touched, pointer_at, home_of, Leads, Covers, IsKind, IsTree}
 use Rattle.soundness.proofs.LawfulLemmas.{opening_shown-root, opening_shown-other}
 use Rattle.soundness.proofs.OrderLemmas.{opening_shown}
-use Rattle.soundness.proofs.WorldLemmas.{cached_in, cached_here, cached_elsewhere, blob_at, AllShown, IsWorld}
+use Rattle.soundness.proofs.WorldLemmas.{cached_in, cached_elsewhere, blob_at, IsWorld}
 
 -- the root stands in the cache of verifier 0, and nothing else is touched
 abbrev pub opening_spots : Spots

@@ -15,11 +15,11 @@ use Rattle.verifier_commands.specs.State.{opening}
 use Rattle.soundness.specs.History.{Event, log_events, histories_from, histories_of}
 use Rattle.soundness.specs.Certified.{event_moment, all_events, order_of, order_up_to}
 use Rattle.soundness.specs.Deeds.{shown_by}
-use Rattle.soundness.specs.Timed.{IsTimed}
+use Rattle.soundness.specs.Timed.{IsTimed, AreTimed}
 use Rattle.soundness.proofs.LawfulLemmas.{IsChain}
 use Rattle.soundness.proofs.WorldLemmas.{AllShown}
 use Rattle.soundness.proofs.RunLemmas.{IsRun, run_of_parts}
-use Rattle.soundness.proofs.TimedLemmas.{AreTimed, log_timed}
+use Rattle.soundness.proofs.TimedLemmas.{log_timed}
 use Rattle.soundness.proofs.SplitLemmas.{SplitsAt, split_up_to, log_run_up_to}
 
 -- ---- filters
@@ -112,7 +112,7 @@ module _ (digest : Digest) (lanes : List ℕ → List ℕ) (header : Header) whe
       let others = all_events (histories_from digest lanes header (suc number) logs) in
       filter-append (λ event. eqb event.verifier v) events others
       ∙ ap (λ zs. zs ++ of_verifier event_moment v others)
-        (part_other number v events (λ same. absurd (omega arith)) (known.whose number log))
+      (part_other number v events (λ same. absurd (omega arith)) (known.whose number log))
       ∙ part_before known (suc number) logs v (omega arith)
 
   -- A verifier's part of all events is its history.
@@ -142,7 +142,7 @@ module _ (digest : Digest) (lanes : List ℕ → List ℕ) (header : Header) whe
       go (inr apart) rest =
           filter-append (λ event. eqb event.verifier v) events others
           ∙ ap (λ zs. zs ++ of_verifier event_moment v others)
-            (part_other number v events apart (known.whose number log))
+          (part_other number v events apart (known.whose number log))
           ∙ rest
           ∙ sym (ap (λ (b : Bool). if b then events else behind) (ne_eqb number v apart))
 
@@ -172,7 +172,7 @@ module _ (digest : Digest) (lanes : List ℕ → List ℕ) (header : Header) whe
   history_chain : AreHistories digest lanes header → (number : ℕ) (logs : List (List Command)) (epoch v : ℕ)
       → AllByRecursion (AllByRecursion (IsTyped short_keys)) logs
       → IsChain short_keys digest (shown_by (opening v header))
-        (up_to event_moment epoch (history_of digest lanes header number logs v))
+      (up_to event_moment epoch (history_of digest lanes header number logs v))
   history_chain known number [] epoch v ranges = tt
   history_chain known number (log ∷ logs) epoch v ranges =
       go (cases_eq number v) (history_chain known (suc number) logs epoch v ranges.1)

@@ -1,7 +1,7 @@
 -- Permutations have the same elements, each as often.
-use Rattle.std.proofs.Common.{◌≡◌, ℕ, zero, suc, ◌==◌, ◌&&◌, Bool, true, false, List, [], ◌∷◌, Option, Some, None, eqb, refl, sym, ◌∙◌, ap, if◌then◌else◌, arith}
+use Rattle.std.proofs.Common.{◌≡◌, ℕ, suc, ◌==◌, ◌&&◌, Bool, true, false, List, [], ◌∷◌, Option, Some, None, refl, sym, ◌∙◌, ap, if◌then◌else◌, arith}
 use Rattle.std.specs.Option.{option_map}
-use Rattle.std.proofs.lemmas.Bool.{false≢true, true≢false, eqb-true, eq-eqb, and_parts, and_from}
+use Rattle.std.proofs.lemmas.Bool.{false≢true, eqb-true, eq-eqb, and_parts, and_from}
 use Rattle.std.proofs.lemmas.Option.{none-some, same_Some}
 use Rattle.tree_keys.specs.Path.{same_path}
 use Rattle.tree_keys.proofs.PathLemmas.{same_path-self, same_path-true}
@@ -89,7 +89,8 @@ without_there x (y ∷ ys) n is = go (λ there. without_there x ys n there) (sam
     go : (count_of x ys ≡ suc n → (rest : List Element) × (without_one x ys ≡ Some rest)) → (b : Bool) → same_element x y ≡ b → one_more b (count_of x ys) ≡ suc n → (rest : List Element) × (without_one x (y ∷ ys) ≡ Some rest)
     go deeper true same is = (ys, ap (λ (b : Bool). if b then Some ys else option_map (λ (more : List Element). y ∷ more) (without_one x ys)) same)
     go deeper false apart is =
-        let further = deeper is in
-        (y ∷ further.0,
-        ap (λ (b : Bool). if b then Some ys else option_map (λ (more : List Element). y ∷ more) (without_one x ys)) apart
-        ∙ ap (option_map (λ (more : List Element). y ∷ more)) further.1)
+        let further = deeper is in (
+          y ∷ further.0,
+          ap (λ (b : Bool). if b then Some ys else option_map (λ (more : List Element). y ∷ more) (without_one x ys)) apart
+              ∙ ap (option_map (λ (more : List Element). y ∷ more)) further.1,
+        )

@@ -1,18 +1,16 @@
 -- Where each epoch's added elements are a permutation of its evicted ones, each element that comes was evicted
 -- before and waits: a clock is above the stamps that it took in (Lamport 1978).
-use Rattle.std.proofs.Common.{◌≡◌, ◌≢◌, ◌⊎◌, ℕ, zero, suc, ◌+◌, ◌<◌, ◌≤◌, ◌==◌, Bool, true, false, List, [], ◌∷◌, ◌++◌, filter, Option, Some, None, eqb, refl, sym, ◌∙◌, ap, subst, inl, inr, if◌then◌else◌, arith, append_assoc, append-nil}
+use Rattle.std.proofs.Common.{◌≡◌, ◌⊎◌, ℕ, zero, suc, ◌+◌, ◌<◌, ◌≤◌, Bool, true, false, List, [], ◌∷◌, ◌++◌, Some, eqb, refl, sym, ◌∙◌, ap, subst, inl, inr, if◌then◌else◌, arith, append_assoc}
 use Rattle.std.specs.List.{flat_map, AllByRecursion}
 use Rattle.std.specs.Ordering.{is_lt, ordering_then, nat_cmp}
 use Rattle.std.specs.declared.cmp.Ordering.{Ordering}
 use Rattle.std.specs.declared.cmp.Ordering.TheVariants.{Less, Equal, Greater}
-use Rattle.std.proofs.lemmas.Bool.{false≢true, true≢false, eqb-true, eq-eqb}
+use Rattle.std.proofs.lemmas.Bool.{false≢true, true≢false, eq-eqb}
 use Rattle.std.proofs.lemmas.Grind.{flat_map-append}
 use Rattle.lamport_clocks.specs.declared.stamp.Stamp.{Stamp}
 use Rattle.lamport_clocks.specs.Stamp.{stamp_cmp}
 use Rattle.lamport_clocks.proofs.StampLaws.{in_order}
 use Rattle.record_text.specs.declared.element.Element.{Element}
-use Rattle.stamp_order.specs.declared.moment.Moment.{Moment}
-use Rattle.stamp_order.specs.Moment.{moment_cmp, is_before}
 use Rattle.stamp_order.specs.InOrder.{IsInOrder}
 use Rattle.stamp_order.specs.Merged.{comes_before, IsMerged}
 use Rattle.verifier_commands.specs.Change.{Change, joins, leaves, comes, goes, defers, reads, writes, turns}
@@ -191,11 +189,25 @@ balance_added pending rest front event element balance out adds_it evicts_none x
 
     go : (b : Bool) → same_element x element ≡ b → count_of x rest + count_of x (adds (front ++ event ∷ [])) ≡ count_of x (evicts (front ++ event ∷ []))
     go true is =
-        omega (arith, balance x, added true is, evicted, count_adds x front (event ∷ []), count_evicts x front (event ∷ []),
-        count_without x element pending rest out ∙ ap (λ (c : Bool). one_more c (count_of x rest)) is)
+        omega (
+          arith,
+          balance x,
+          added true is,
+          evicted,
+          count_adds x front (event ∷ []),
+          count_evicts x front (event ∷ []),
+          count_without x element pending rest out ∙ ap (λ (c : Bool). one_more c (count_of x rest)) is,
+        )
     go false is =
-        omega (arith, balance x, added false is, evicted, count_adds x front (event ∷ []), count_evicts x front (event ∷ []),
-        count_without x element pending rest out ∙ ap (λ (c : Bool). one_more c (count_of x rest)) is)
+        omega (
+          arith,
+          balance x,
+          added false is,
+          evicted,
+          count_adds x front (event ∷ []),
+          count_evicts x front (event ∷ []),
+          count_without x element pending rest out ∙ ap (λ (c : Bool). one_more c (count_of x rest)) is,
+        )
 
 balance_evicted : (pending : List Element) (front : List Event) (event : Event) (element : Element) → IsBalance pending front
     → added_by event.change ≡ [] → evicted_by event.change ≡ element ∷ [] → IsBalance (element ∷ pending) (front ++ event ∷ [])
@@ -219,8 +231,14 @@ balance_evicted pending front event element balance adds_none evicts_it x = go (
 balance_same : (pending : List Element) (front : List Event) (event : Event) → IsBalance pending front
     → added_by event.change ≡ [] → evicted_by event.change ≡ [] → IsBalance pending (front ++ event ∷ [])
 balance_same pending front event balance adds_none evicts_none x =
-    omega (arith, balance x, count_adds x front (event ∷ []), count_evicts x front (event ∷ []),
-    ap (λ (l : List Element). count_of x (l ++ [])) adds_none, ap (λ (l : List Element). count_of x (l ++ [])) evicts_none)
+    omega (
+      arith,
+      balance x,
+      count_adds x front (event ∷ []),
+      count_evicts x front (event ∷ []),
+      ap (λ (l : List Element). count_of x (l ++ [])) adds_none,
+      ap (λ (l : List Element). count_of x (l ++ [])) evicts_none,
+    )
 
 -- From a front of the events on: what waits behind it goes on as scheduled.
 scheduled_from : (first last : ℕ) (front here later : List Event) (pending : List Element)

@@ -1,8 +1,8 @@
 -- A run in which each element that comes was waiting is serial, or its first clash is a collision.
-use Rattle.std.proofs.Common.{◌≡◌, ◌≢◌, ◌⊎◌, ℕ, zero, suc, ◌≤◌, Bool, true, false, List, [], ◌∷◌, map, Option, Some, None, refl, sym, ◌∙◌, ap, subst, inl, inr, if◌then◌else◌, arith, eqb}
+use Rattle.std.proofs.Common.{◌≡◌, ◌≢◌, ◌⊎◌, ℕ, zero, suc, ◌≤◌, Bool, true, false, List, [], ◌∷◌, map, Option, Some, None, refl, sym, ◌∙◌, ap, subst, inl, inr, arith, eqb}
 use Rattle.std.specs.Option.{option_or}
 use Rattle.std.specs.Map.{update}
-use Rattle.std.proofs.lemmas.Bool.{false≢true, true≢false}
+use Rattle.std.proofs.lemmas.Bool.{true≢false}
 use Rattle.tree_keys.specs.Bits.{number_of}
 use Rattle.record_text.specs.declared.element.Element.{Element}
 use Rattle.record_text.specs.Format.{Format}
@@ -12,18 +12,18 @@ use Rattle.verifier_cache.specs.declared.entry.Entry.{Entry}
 use Rattle.verifier_commands.specs.Outcome.{blob_of}
 use Rattle.verifier_commands.specs.Change.{Change, joins, leaves, comes, goes, defers, reads, writes, turns}
 use Rattle.soundness.specs.History.{Event}
-use Rattle.soundness.specs.Certified.{operations_by, operations_in}
+use Rattle.soundness.specs.Certified.{operations_in}
 use Rattle.soundness.specs.Exhibit.{Taken, Strings, taken_after, clash_of, first_clash, IsCollision}
 use Rattle.soundness.specs.Permutation.{same_element, count_of, without_one}
 use Rattle.soundness.specs.Scheduled.{IsScheduledBy, IsScheduled}
-use Rattle.soundness.specs.Deeds.{Shown, Did}
+use Rattle.soundness.specs.Deeds.{Did}
 use Rattle.soundness.specs.Spot.{Spot, untouched, cached, merkle, waiting, Spots}
 use Rattle.soundness.proofs.PermutationLemmas.{same_element-true, same_element-self, one_more, count_without}
 use Rattle.soundness.proofs.WorldLemmas.{spot_of_shown, AllShown, with_shown, Stored, IsWorld}
-use Rattle.soundness.proofs.JoinLemmas.{KeepsWaiting, not_waiting, WorldAfter}
+use Rattle.soundness.proofs.JoinLemmas.{KeepsWaiting, not_waiting}
 use Rattle.soundness.proofs.KnownLemmas.{HasOneText, Clashes, Passes, join_step}
 use Rattle.soundness.proofs.LeaveLemmas.{LeftAt, leave_step, defer_step}
-use Rattle.soundness.proofs.SingleLemmas.{TookBack, come_step, go_step, same_step, read_value, write_step}
+use Rattle.soundness.proofs.SingleLemmas.{come_step, go_step, same_step, read_value, write_step}
 use Rattle.soundness.proofs.RunLemmas.{IsRun}
 
 -- ---- what waits

@@ -1,8 +1,8 @@
 -- How paths lie to each other: what is a prefix, and on which side.
-use Rattle.std.proofs.Common.{◌≡◌, ◌≢◌, ◌⊎◌, Bool, true, false, List, [], ◌∷◌, ◌++◌, Option, Some, None, refl, sym, ◌∙◌, ap, subst, inl, inr}
+use Rattle.std.proofs.Common.{◌≡◌, ◌≢◌, ◌⊎◌, Bool, true, false, List, [], ◌∷◌, ◌++◌, Some, refl, sym, ◌∙◌, ap, inl, inr}
 use Rattle.std.proofs.lemmas.Bool.{false≢true}
 use Rattle.std.proofs.lemmas.Option.{none-some}
-use Rattle.tree_keys.specs.Path.{side, is_prefix, same_path}
+use Rattle.tree_keys.specs.Path.{side, is_prefix}
 use Rattle.verifier_commands.proofs.BelowLemmas.{side-self}
 
 pub is_prefix-self : (p : List Bool) → is_prefix p p ≡ true

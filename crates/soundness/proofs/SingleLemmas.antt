@@ -1,14 +1,12 @@
 -- A record that comes in with its element, goes out with one, or is read or written, keeps the world.
-use Rattle.std.proofs.Common.{◌≡◌, ◌≢◌, ◌⊎◌, ℕ, ◌<◌, Bool, true, false, List, length, Option, Some, None, eqb, refl, sym, ◌∙◌, ap, subst, inl, inr, if◌then◌else◌, arith}
+use Rattle.std.proofs.Common.{◌≡◌, ◌≢◌, ◌⊎◌, ℕ, Bool, true, false, List, length, Option, Some, None, eqb, refl, sym, ◌∙◌, ap, subst, inl, inr, if◌then◌else◌, arith}
 use Rattle.std.specs.Map.{update}
 use Rattle.std.proofs.lemmas.Bool.{false≢true, true≢false, eq-eqb, ne_eqb, cases_eq}
-use Rattle.std.proofs.lemmas.Option.{none-some, same_Some}
 use Rattle.std.proofs.lemmas.Map.{update_same, update_other}
 use Rattle.tree_keys.specs.Bits.{bits_of, number_of}
 use Rattle.tree_keys.proofs.BitsLemmas.{bits_of-number_of}
 use Rattle.record_text.specs.declared.value.Value.{Value}
 use Rattle.record_text.specs.declared.value.Value.TheVariants as values
-use Rattle.record_text.specs.declared.value.Pointer.{Pointer}
 use Rattle.record_text.specs.declared.element.Element.{Element}
 use Rattle.record_text.specs.Format.{Format, path_bits}
 use Rattle.record_text.specs.Value.{IsOf}
@@ -16,12 +14,12 @@ use Rattle.merkle_records.specs.Merkle.{Digest}
 use Rattle.verifier_cache.specs.declared.entry.Entry.{Entry}
 use Rattle.verifier_cache.specs.declared.entry.Hold.{Hold}
 use Rattle.verifier_cache.specs.declared.entry.Hold.TheVariants.{Root, M, B}
-use Rattle.verifier_cache.specs.Entry.{kid_of, new_entry, with_value}
+use Rattle.verifier_cache.specs.Entry.{kid_of, with_value}
 use Rattle.verifier_commands.specs.Changes.{node_of}
 use Rattle.verifier_commands.specs.Outcome.{blob_of}
 use Rattle.soundness.specs.Exhibit.{Taken}
 use Rattle.soundness.specs.Deeds.{Shown, showing, ShowSame, DidCome, DidGo, DidRead, DidWrite}
-use Rattle.soundness.specs.Spot.{Spot, untouched, cached, merkle, waiting, Spots, is_touched, side_of, pointer_at, home_of, LeadsBy, IsKind, IsTree}
+use Rattle.soundness.specs.Spot.{Spot, cached, merkle, waiting, Spots, is_touched, side_of, pointer_at, home_of, LeadsBy, IsKind}
 use Rattle.soundness.proofs.MovedLemmas.{this_or_other, OneMoves, one_moves, leads_same_hold}
 use Rattle.soundness.proofs.FamilyLemmas.{no_kids}
 use Rattle.soundness.proofs.WorldLemmas.{cached_in, cached_here, cached_elsewhere, spot_of_shown, blob_at, AllShown, with_shown, Stored, IsWorld, with_spot, with_spot_at, with_spot_other, world_one}
@@ -77,15 +75,16 @@ pub come_step : (format : Format) (digest : Digest) (shown : AllShown) (taken : 
     → IsWorld format digest shown taken stored spots → DidCome format (shown home) next child element
     → spots element.path ≡ waiting element
     → TookBack format digest (with_shown shown home next) taken stored spots element.path
-come_step format digest shown taken stored spots home next child element world did waits =
-    (with_spot spots k (cached home child),
-    world_one format digest shown taken taken stored stored spots home next k (cached home child) world
-    (one_moves format digest spots (with_spot spots k (cached home child)) k (cached home child) moves world.tree)
-    (subst (λ (e : Option Entry). ShowSame next (showing_of e)) (sym (cached_here home child)) did.shown)
-    (λ other away. cached_elsewhere home other child away ∙ ap (cached_in other) (sym was))
-    (taken_one taken spots k (cached home child) refl world.was_taken)
-    (holds_one format stored spots k (cached home child) (ap blob_of value_is ∙ ap blob_at (sym was)) world.holds),
-    λ path other apart there. with_spot_other spots k path (cached home child) (λ same. apart (sym path_is ∙ same)) ∙ there)
+come_step format digest shown taken stored spots home next child element world did waits = (
+  with_spot spots k (cached home child),
+  world_one format digest shown taken taken stored stored spots home next k (cached home child) world
+      (one_moves format digest spots (with_spot spots k (cached home child)) k (cached home child) moves world.tree)
+      (subst (λ (e : Option Entry). ShowSame next (showing_of e)) (sym (cached_here home child)) did.shown)
+      (λ other away. cached_elsewhere home other child away ∙ ap (cached_in other) (sym was))
+      (taken_one taken spots k (cached home child) refl world.was_taken)
+      (holds_one format stored spots k (cached home child) (ap blob_of value_is ∙ ap blob_at (sym was)) world.holds),
+  λ path other apart there. with_spot_other spots k path (cached home child) (λ same. apart (sym path_is ∙ same)) ∙ there,
+)
   where
     k : List Bool
     k = child.path
@@ -128,16 +127,17 @@ pub go_step : (format : Format) (digest : Digest) (shown : AllShown) (taken : Ta
     → IsWorld format digest shown taken stored spots → DidGo (shown home) next child element
     → LeftAt format digest (with_shown shown home next) taken stored spots element.path (waiting element)
 go_step format digest shown taken stored spots home next child element world did =
-    subst (λ (i : List Bool). LeftAt format digest (with_shown shown home next) taken stored spots i (waiting element)) (sym did.path)
-    (with_spot spots child.path (waiting element),
-    world_one format digest shown taken taken stored stored spots home next child.path (waiting element) world
-    (one_moves format digest spots (with_spot spots child.path (waiting element)) child.path (waiting element) moves world.tree)
-    did.shown
-    (λ other away. sym (ap (cached_in other) was ∙ cached_elsewhere home other child away))
-    (taken_one taken spots child.path (waiting element) refl world.was_taken)
-    (holds_one format stored spots child.path (waiting element) (ap blob_of did.value ∙ ap blob_at (sym was)) world.holds),
-    keeps_one spots child.path (waiting element) (λ other waits. not_waiting (spots child.path) (cached home child) other was refl waits),
-    with_spot_at spots child.path (waiting element))
+    subst (λ (i : List Bool). LeftAt format digest (with_shown shown home next) taken stored spots i (waiting element)) (sym did.path) (
+      with_spot spots child.path (waiting element),
+      world_one format digest shown taken taken stored stored spots home next child.path (waiting element) world
+          (one_moves format digest spots (with_spot spots child.path (waiting element)) child.path (waiting element) moves world.tree)
+          did.shown
+          (λ other away. sym (ap (cached_in other) was ∙ cached_elsewhere home other child away))
+          (taken_one taken spots child.path (waiting element) refl world.was_taken)
+          (holds_one format stored spots child.path (waiting element) (ap blob_of did.value ∙ ap blob_at (sym was)) world.holds),
+      keeps_one spots child.path (waiting element) (λ other waits. not_waiting (spots child.path) (cached home child) other was refl waits),
+      with_spot_at spots child.path (waiting element),
+    )
   where
     was : spots child.path ≡ cached home child
     was = spot_of_shown home (spots child.path) child (sym (world.shows home child.path) ∙ did.had_child)
@@ -199,15 +199,16 @@ pub write_step : (format : Format) (digest : Digest) (shown : AllShown) (taken :
     → IsWorld format digest shown taken stored spots → DidWrite format (shown home) next before after
     → WorldAfter format digest (with_shown shown home next) taken (update eqb stored (number_of after.path) (blob_of after.value)) spots
 write_step format digest shown taken stored spots home next before after world did =
-    subst (λ (a : Entry). WorldAfter format digest (with_shown shown home next) taken (update eqb stored (number_of a.path) (blob_of a.value)) spots) (sym did.wrote)
-    (with_spot spots before.path spot,
-    world_one format digest shown taken taken stored (update eqb stored (number_of before.path) (blob_of did.value)) spots home next before.path spot world
-    (one_moves format digest spots (with_spot spots before.path spot) before.path spot moves world.tree)
-    (subst (λ (e : Option Entry). ShowSame next (showing (shown home) before.path e)) (ap Some did.wrote ∙ sym (cached_here home now)) did.shown)
-    (λ other away. cached_elsewhere home other now away ∙ sym (ap (cached_in other) was ∙ cached_elsewhere home other before away))
-    (taken_one taken spots before.path spot refl world.was_taken)
-    holds,
-    keeps_one spots before.path spot (λ other waits. not_waiting (spots before.path) (cached home before) other was refl waits))
+    subst (λ (a : Entry). WorldAfter format digest (with_shown shown home next) taken (update eqb stored (number_of a.path) (blob_of a.value)) spots) (sym did.wrote) (
+      with_spot spots before.path spot,
+      world_one format digest shown taken taken stored (update eqb stored (number_of before.path) (blob_of did.value)) spots home next before.path spot world
+          (one_moves format digest spots (with_spot spots before.path spot) before.path spot moves world.tree)
+          (subst (λ (e : Option Entry). ShowSame next (showing (shown home) before.path e)) (ap Some did.wrote ∙ sym (cached_here home now)) did.shown)
+          (λ other away. cached_elsewhere home other now away ∙ sym (ap (cached_in other) was ∙ cached_elsewhere home other before away))
+          (taken_one taken spots before.path spot refl world.was_taken)
+          holds,
+      keeps_one spots before.path spot (λ other waits. not_waiting (spots before.path) (cached home before) other was refl waits),
+    )
   where
     now : Entry
     now = with_value before did.value

@@ -1,36 +1,33 @@
 -- Soundness whole: of epochs that are balanced, either there is nothing to exhibit and the operations are serial, or
 -- the exhibit collides.
-use Rattle.std.proofs.Common.{◌≡◌, ◌≢◌, ◌⊎◌, ℕ, zero, suc, ◌+◌, ◌<◌, ◌≤◌, Bool, true, false, List, [], ◌∷◌, ◌++◌, map, filter, Option, Some, None, refl, sym, ◌∙◌, ap, subst, inl, inr, if◌then◌else◌, arith, append-nil, nat_le}
+use Rattle.std.proofs.Common.{◌≡◌, ◌⊎◌, ℕ, zero, suc, ◌+◌, ◌≤◌, Bool, true, false, List, [], ◌∷◌, ◌++◌, map, Option, Some, None, refl, sym, ◌∙◌, ap, subst, inl, inr, if◌then◌else◌, arith, nat_le}
 use Rattle.std.specs.List.{AllByRecursion}
 use Rattle.std.proofs.lemmas.Bool.{leb-true}
 use Rattle.lamport_clocks.specs.declared.header.Header.{Header}
-use Rattle.record_text.specs.declared.element.Element.{Element}
 use Rattle.record_text.specs.Format.{short_keys}
-use Rattle.record_text.specs.Texts.{value_text}
 use Rattle.record_text.proofs.FieldLemmas.{wide64}
 use Rattle.record_text.proofs.OneTextLemmas.{one_value}
 use Rattle.log_codec.specs.declared.command.Command.{Command}
 use Rattle.merkle_records.specs.Merkle.{Digest, GivesDigests}
-use Rattle.stamp_order.specs.Serial.{none_everywhere, IsSerial}
+use Rattle.stamp_order.specs.Serial.{none_everywhere}
 use Rattle.stamp_order.specs.Merged.{IsMerged, up_to}
 use Rattle.stamp_order.proofs.InOrderLemmas.{every-weaker}
 use Rattle.soundness.specs.History.{Event, log_events, histories_of}
-use Rattle.soundness.specs.Certified.{event_moment, operations_in, order_of, order_up_to, order_within, added_in, evicted_in, sum_over, is_balanced}
-use Rattle.soundness.specs.Exhibit.{Strings, none_taken, first_clash, IsCollision}
-use Rattle.soundness.specs.Permutation.{is_permutation, count_of}
-use Rattle.soundness.specs.Collision.{Exhibit, nothing, strings, multisets, first_uneven, exhibit_by, exhibit_of, Collides}
+use Rattle.soundness.specs.Certified.{event_moment, order_of, order_up_to, order_within, added_in, evicted_in, sum_over}
+use Rattle.soundness.specs.Exhibit.{Strings, none_taken, first_clash}
+use Rattle.soundness.specs.Collision.{first_uneven, exhibit_by, exhibit_of, Collides}
 use Rattle.soundness.specs.Timed.{IsTimed}
 use Rattle.soundness.specs.Typed.{IsTyped}
+use Rattle.soundness.specs.Sound.{AreBalanced, IsSerialOrCollides}
 use Rattle.soundness.proofs.KnownLemmas.{HasOneText}
 use Rattle.soundness.proofs.PermutationLemmas.{count_permuted}
-use Rattle.soundness.proofs.RunLemmas.{IsRun}
 use Rattle.soundness.proofs.SerialLemmas.{IsWaiting, run_keeps}
 use Rattle.soundness.proofs.SerialLemmas.{Collides as CollidesAt, IsSound}
 use Rattle.soundness.proofs.ScheduleLemmas.{AreEven, scheduled}
 use Rattle.soundness.proofs.HistoryLemmas.{IsOfLog, log-merged, log-epochs}
 use Rattle.soundness.proofs.OrderLemmas.{AreHistories, opening_shown, order_run, order_timed, order_sorted, order_splits}
 use Rattle.soundness.proofs.OpeningLemmas.{opening_spots, opening_world}
-use Rattle.soundness.proofs.CertifiedLemmas.{AreBalanced, same_sum-true, even_where_none, uneven_where_some}
+use Rattle.soundness.proofs.CertifiedLemmas.{same_sum-true, even_where_none, uneven_where_some}
 
 -- no two values of a path have one text
 one_text : HasOneText short_keys
@@ -38,7 +35,7 @@ one_text path a b is_a is_b same =
     (one_value short_keys wide64 path path a b [] [] refl is_a is_b (ap (λ (text : List ℕ). text ++ []) same)).0
 
 -- the events of logs are in order, and each log's are its verifier's
-are_histories : (digest : Digest) (lanes : List ℕ → List ℕ) (header : Header) → AreHistories digest lanes header
+pub are_histories : (digest : Digest) (lanes : List ℕ → List ℕ) (header : Header) → AreHistories digest lanes header
 are_histories digest lanes header = record {
   sorted = log-merged digest lanes header;
   whose = λ number commands. every-weaker (IsOfLog number header) (λ event. event.verifier ≡ number)
@@ -46,7 +43,7 @@ are_histories digest lanes header = record {
 }
 
 -- events up to an epoch are of no later one
-all_within : (epoch : ℕ) (events : List Event) → AllByRecursion (λ event. event.at.epoch ≤ epoch) (up_to event_moment epoch events)
+pub all_within : (epoch : ℕ) (events : List Event) → AllByRecursion (λ event. event.at.epoch ≤ epoch) (up_to event_moment epoch events)
 all_within epoch [] = tt
 all_within epoch (event ∷ events) = go (nat_le event.at.epoch epoch) refl (all_within epoch events)
   where
@@ -58,10 +55,6 @@ all_within epoch (event ∷ events) = go (nat_le event.at.epoch epoch) refl (all
 -- nothing waits at the opening
 none_waiting : IsWaiting opening_spots []
 none_waiting = record { each = λ x there. absurd (omega (arith, there)); once = λ x. omega arith }
-
--- the exhibit is nothing and the operations are serial, or the exhibit collides
-abbrev pub IsSerialOrCollides : Digest → (List ℕ → List ℕ) → Exhibit → List Event → Type 0
-IsSerialOrCollides digest lanes exhibit events = ((exhibit ≡ nothing) × IsSerial (operations_in events)) ⊎ Collides digest lanes exhibit
 
 pub sound : (digest : Digest) (lanes : List ℕ → List ℕ) (header : Header) (logs : List (List Command)) (count : ℕ)
     → GivesDigests digest → AllByRecursion (AllByRecursion (IsTyped short_keys)) logs

@@ -59,7 +59,7 @@ module _ {X : Type 0} (at : X → Moment) where
           let all : AreLater epoch (x ∷ xs) = (
             head,
             every-weaker (λ y. comes_before at y x ≡ false) (λ y. epoch < (at y).at.epoch)
-            (λ y after. omega (arith, head, epoch_not_before (at y) (at x) after)) xs sorted.0,
+                (λ y after. omega (arith, head, epoch_not_before (at y) (at x) after)) xs sorted.0,
           ) in
           (x ∷ xs, ap (λ zs. zs ++ x ∷ xs) (sym (up_to-later epoch (x ∷ xs) all)), all)
 
@@ -69,12 +69,12 @@ pub log_run_up_to : (digest : Digest) (lanes : List ℕ → List ℕ) (header : 
     → AllByRecursion (IsTyped short_keys) commands
     → IsMerged event_moment (log_events digest lanes header number commands)
     → IsChain short_keys digest (shown_by (opening number header))
-      (up_to event_moment epoch (log_events digest lanes header number commands))
+    (up_to event_moment epoch (log_events digest lanes header number commands))
 log_run_up_to digest lanes header number epoch commands ranges sorted =
     let events = log_events digest lanes header number commands in
     let split = split_up_to event_moment epoch events sorted in
     let whole : IsChain short_keys digest (shown_by (opening number header)) events =
-      log_run (rules_under digest lanes header number) number 0 (opening number header) commands ranges
-      (opening-distinct number header) in
+    log_run (rules_under digest lanes header number) number 0 (opening number header) commands ranges
+    (opening-distinct number header) in
     chain_front short_keys digest (shown_by (opening number header)) (up_to event_moment epoch events) split.0
     (subst (IsChain short_keys digest (shown_by (opening number header))) split.1 whole)

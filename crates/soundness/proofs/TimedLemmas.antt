@@ -1,11 +1,10 @@
 -- What the clock tells of the elements that come and go holds of each event of a log.
-use Rattle.std.proofs.Common.{◌≡◌, ℕ, suc, ◌≤◌, List, [], ◌∷◌, Option, Ok, refl, sym, ◌∙◌, ap, subst, inl, inr, arith}
-use Rattle.std.specs.List.{AllByRecursion}
+use Rattle.std.proofs.Common.{◌≡◌, ℕ, suc, ◌≤◌, List, [], ◌∷◌, Ok, refl, sym, ◌∙◌, ap, subst, inl, inr, arith}
 use Rattle.std.specs.Ordering.{is_lt}
 use Rattle.lamport_clocks.specs.declared.header.Header.{Header}
 use Rattle.lamport_clocks.specs.declared.stamp.Stamp.{Stamp}
 use Rattle.lamport_clocks.specs.Reading.{Reading}
-use Rattle.lamport_clocks.specs.Clock.{received, sent, turned}
+use Rattle.lamport_clocks.specs.Clock.{received}
 use Rattle.lamport_clocks.proofs.StampLaws.{IsLater-cmp}
 use Rattle.lamport_clocks.proofs.ClockLaws.{open_epochs, received-ok, received-above, sent-at}
 use Rattle.record_text.specs.declared.element.Element.{Element}
@@ -14,7 +13,7 @@ use Rattle.merkle_records.specs.Merkle.{Digest}
 use Rattle.verifier_commands.specs.State.{opening}
 use Rattle.verifier_commands.specs.Change.{Change, joins, leaves, comes, goes, defers, reads, writes, turns}
 use Rattle.soundness.specs.History.{Event, log_events}
-use Rattle.soundness.specs.Timed.{IsOfBefore, IsTimed}
+use Rattle.soundness.specs.Timed.{IsOfBefore, IsTimed, AreTimed}
 use Rattle.soundness.proofs.HistoryLemmas.{Ticks, ticks-epoch, ticks-first, IsTicking, log-ticks}
 
 -- ---- the clock
@@ -61,19 +60,15 @@ timed_ticks first old new (turns sealed) from is = tt
 
 -- ---- a log
 
--- the elements of these events are timed
-abbrev pub AreTimed : ℕ → List Event → Type 0
-AreTimed first events = AllByRecursion (λ event. IsTimed first event.at event.change) events
-
 -- The elements of events are timed where the clock ticks with them.
 pub timed_ticking : (first number index : ℕ) (clock : Reading) (events : List Event) → IsFrom first clock
     → IsTicking number index clock events → AreTimed first events
 timed_ticking first number index clock [] from ticks = tt
 timed_ticking first number index clock (event ∷ events) from ticks = (
   subst (λ (at : Stamp). IsTimed first at event.change) (sym ticks.3)
-  (timed_ticks first clock ticks.0 event.change from ticks.4),
+      (timed_ticks first clock ticks.0 event.change from ticks.4),
   timed_ticking first number (suc index) ticks.0 events
-  (from_ticks first clock ticks.0 event.change from ticks.4) ticks.5,
+      (from_ticks first clock ticks.0 event.change from ticks.4) ticks.5,
 )
 
 -- The elements of a log's events are timed.

@@ -47,7 +47,7 @@ held_length width count word path e =
     let tests = and_parts _ _ c.0 in
     let within : count ≤ width = leb-true _ _ tests.0 in
     let len : length path ≡ count =
-        sym (ap (λ (bits : List Bool). length bits) c.1) ∙ length-bits_of count (word / 2 ^ unused) in
+    sym (ap (λ (bits : List Bool). length bits) c.1) ∙ length-bits_of count (word / 2 ^ unused) in
     omega (arith, len, within)
 
 path_length : (format : Format) (text : List ℕ) (path : List Bool) → path_in format text ≡ Some path
@@ -93,12 +93,12 @@ blob_behind-fits format false bytes blob rest e =
     subst (λ (x : Option (List ℕ) × List ℕ). IsBlob format x.0) (Ok-is (none, bytes) (blob, rest) e) tt
 blob_behind-fits format true bytes blob rest e =
     let count = bind_ok (field 1 (count_in format) bytes)
-        (λ count. run_at count.0 count.1 >>= λ text. Ok (Some text.0, text.1)) (blob, rest) e in
+    (λ count. run_at count.0 count.1 >>= λ text. Ok (Some text.0, text.1)) (blob, rest) e in
     let text = bind_ok (run_at count.0.0 count.0.1) (λ text. Ok (Some text.0, text.1)) (blob, rest) count.2 in
     let counted = field_ok 1 (count_in format) bytes count.0.0 count.0.1 count.1 in
     let within = count_within format (take 1 bytes) count.0.0 counted.1 in
     let fits : length text.0.0 ≤ format.longest =
-        omega (arith, run_length count.0.0 count.0.1 text.0.0 text.0.1 text.1, within) in
+    omega (arith, run_length count.0.0 count.0.1 text.0.0 text.0.1 text.1, within) in
     let some : Option (List ℕ) = Some text.0.0 in
     subst (λ (x : Option (List ℕ) × List ℕ). IsBlob format x.0) (Ok-is (some, text.0.1) (blob, rest) text.2) fits
 
@@ -107,7 +107,7 @@ blob_at-fits : (format : Format) (bytes : List ℕ) (blob : Option (List ℕ)) (
 unfolding blob_at
 blob_at-fits format bytes blob rest e =
     let present =
-        bind_ok (field 1 flag_in bytes) (λ present. blob_behind format present.0 present.1) (blob, rest) e in
+    bind_ok (field 1 flag_in bytes) (λ present. blob_behind format present.0 present.1) (blob, rest) e in
     blob_behind-fits format present.0.0 present.0.1 blob rest present.2
 
 -- ---- nodes
@@ -122,10 +122,10 @@ pointer_behind-side format node side None bytes pointer rest e =
 pointer_behind-side format node side (Some deferred) bytes pointer rest e =
     let prefix : List Bool = node ++ side ∷ [] in
     let path = bind_ok (path_below_at format prefix bytes) (λ path. run_at 32 path.1 >>= λ digest.
-        Ok (Some (record { path = path.0; digest = digest.0; deferred = deferred }), digest.1)) (pointer, rest) e in
+    Ok (Some (record { path = path.0; digest = digest.0; deferred = deferred }), digest.1)) (pointer, rest) e in
     let digest = bind_ok (run_at 32 path.0.1) (λ digest.
-        Ok (Some (record { path = path.0.0; digest = digest.0; deferred = deferred }), digest.1))
-        (pointer, rest) path.2 in
+    Ok (Some (record { path = path.0.0; digest = digest.0; deferred = deferred }), digest.1))
+    (pointer, rest) path.2 in
     let short = path_below-short format prefix bytes path.0.0 path.0.1 path.1 in
     let made : Pointer = record { path = path.0.0; digest = digest.0.0; deferred = deferred } in
     let some : Option Pointer = Some made in
@@ -143,7 +143,7 @@ pointer_at-side : (format : Format) (node : List Bool) (side : Bool) (bytes : Li
 unfolding pointer_at
 pointer_at-side format node side bytes pointer rest e =
     let tag = bind_ok (field 1 pointer_tag_in bytes)
-        (λ tag. pointer_behind format (node ++ side ∷ []) tag.0 tag.1) (pointer, rest) e in
+    (λ tag. pointer_behind format (node ++ side ∷ []) tag.0 tag.1) (pointer, rest) e in
     pointer_behind-side format node side tag.0.0 tag.0.1 pointer rest tag.2
 
 node_at-sides : (format : Format) (path : List Bool) (bytes : List ℕ) (node : Node) (rest : List ℕ)
@@ -152,10 +152,10 @@ node_at-sides : (format : Format) (path : List Bool) (bytes : List ℕ) (node : 
 unfolding node_at
 node_at-sides format path bytes node rest e =
     let a = bind_ok (pointer_at format (path ++ false ∷ []) bytes)
-        (λ side0. pointer_at format (path ++ true ∷ []) side0.1 >>= λ side1.
-        Ok (record { side0 = side0.0; side1 = side1.0 }, side1.1)) (node, rest) e in
+    (λ side0. pointer_at format (path ++ true ∷ []) side0.1 >>= λ side1.
+    Ok (record { side0 = side0.0; side1 = side1.0 }, side1.1)) (node, rest) e in
     let b = bind_ok (pointer_at format (path ++ true ∷ []) a.0.1)
-        (λ side1. Ok (record { side0 = a.0.0; side1 = side1.0 }, side1.1)) (node, rest) a.2 in
+    (λ side1. Ok (record { side0 = a.0.0; side1 = side1.0 }, side1.1)) (node, rest) a.2 in
     let made : Node = record { side0 = a.0.0; side1 = b.0.0 } in
     subst (λ (x : Node × List ℕ). IsSide format path false x.0.side0 × IsSide format path true x.0.side1)
     (Ok-is (made, b.0.1) (node, rest) b.2)
@@ -209,7 +209,7 @@ typed_then format first second next bytes command rest e =
 typed_of : (format : Format) (second : List Bool → Value → List ℕ → Parsed Command)
     → ((path : List Bool) (value : Value) → IsOf format path value → ReadsTyped format (second path value))
     → ReadsTyped format (λ bytes. then_at (path_at format bytes) (λ path left.
-        then_at (value_at format path left) (second path)))
+    then_at (value_at format path left) (second path)))
 typed_of format second next =
     typed_then format (path_at format) (λ path left. then_at (value_at format path left) (second path))
     (λ bytes path left e.
@@ -293,7 +293,7 @@ pub command_typed : (format : Format) (bytes : List ℕ) (command : Command) (re
 unfolding command_at byte_at
 command_typed format bytes command rest e =
     let t = then_ok (field 1 (λ run. Some (first_byte run)) bytes) (λ tag left. command_behind format tag left)
-        command rest e in
+    command rest e in
     behind_typed format t.0 t.1 command rest t.3
 
 -- ---- logs

@@ -1,5 +1,5 @@
 -- What a check has to show: nothing, two strings with one digest, or two multisets of elements with one sum.
-use Rattle.std.specs.Prelude.{◌≡◌, ℕ, zero, suc, Bool, true, false, List, map, Option, Some, None, if◌then◌else◌}
+use Rattle.std.specs.Prelude.{◌≡◌, ℕ, zero, suc, false, List, map, Option, Some, None, if◌then◌else◌}
 use Rattle.record_text.specs.declared.element.Element.{Element}
 use Rattle.record_text.specs.Format.{short_keys}
 use Rattle.merkle_records.specs.Merkle.{Digest}

@@ -4,7 +4,6 @@ use Rattle.std.specs.Prelude.{◌≡◌, ◌≢◌, ℕ, Bool, true, false, List
 use Rattle.std.specs.Option.{option_or}
 use Rattle.tree_keys.specs.Path.{same_path}
 use Rattle.record_text.specs.declared.value.Value.{Value}
-use Rattle.record_text.specs.declared.element.Element.{Element}
 use Rattle.record_text.specs.Format.{Format}
 use Rattle.record_text.specs.Value.{node_side}
 use Rattle.record_text.specs.Texts.{value_text}

@@ -9,3 +9,4 @@ pub mod Timed
 pub mod Permutation
 pub mod Collision
 pub mod Scheduled
+pub mod Sound

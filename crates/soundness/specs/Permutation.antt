@@ -1,5 +1,5 @@
 -- When two lists of elements are one multiset: the one is a permutation of the other.
-use Rattle.std.specs.Prelude.{ℕ, zero, suc, ◌==◌, ◌&&◌, Bool, true, false, List, [], ◌∷◌, Option, Some, None, if◌then◌else◌}
+use Rattle.std.specs.Prelude.{ℕ, suc, ◌==◌, ◌&&◌, Bool, true, false, List, [], ◌∷◌, Option, Some, None, if◌then◌else◌}
 use Rattle.std.specs.Option.{option_map}
 use Rattle.tree_keys.specs.Path.{same_path}
 use Rattle.lamport_clocks.specs.declared.stamp.Stamp.{Stamp}

@@ -1,11 +1,13 @@
 -- What the clock tells of the elements that come and go (Lamport 1978).
-use Rattle.std.specs.Prelude.{◌≡◌, ℕ, ◌≤◌, Bool, true}
+use Rattle.std.specs.Prelude.{◌≡◌, ℕ, ◌≤◌, true, List, [], ◌∷◌}
+use Rattle.std.specs.List.{flat_map, AllByRecursion}
 use Rattle.std.specs.Ordering.{is_lt}
 use Rattle.lamport_clocks.specs.declared.stamp.Stamp.{Stamp}
 use Rattle.lamport_clocks.specs.Stamp.{stamp_cmp}
 use Rattle.record_text.specs.declared.element.Element.{Element}
 use Rattle.verifier_commands.specs.Change.{Change, joins, leaves, comes, goes, defers, reads, writes, turns}
 use Rattle.soundness.specs.History.{Event}
+use Rattle.soundness.specs.Certified.{evicted_by}
 
 -- a stamp is before another
 abbrev pub IsEarlier : Stamp → Stamp → Type 0
@@ -26,3 +28,17 @@ IsTimed first at (defers parent after child element) = element.stamp ≡ at
 IsTimed first at (reads entry) = Unit {0}
 IsTimed first at (writes before after) = Unit {0}
 IsTimed first at (turns sealed) = Unit {0}
+
+-- each of these events is timed
+abbrev pub AreTimed : ℕ → List Event → Type 0
+AreTimed first events = AllByRecursion (λ event. IsTimed first event.at event.change) events
+
+-- the elements that go with events
+abbrev pub evicted_among : List Event → List Element
+evicted_among events = flat_map (λ event. evicted_by event.change) events
+
+-- each element is stamped before all that stand behind it
+abbrev pub IsRising : List Element → Type 0
+IsRising [] = Unit {0}
+IsRising (element ∷ elements) =
+    AllByRecursion (λ later. IsEarlier element.stamp later.stamp) elements × IsRising elements

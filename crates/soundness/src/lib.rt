@@ -1,2 +1,20 @@
-//! Why a certified report can be believed: laws over the definitions of verifiers' histories.
+//! Why a certified report can be believed: in the one order of all verifiers' logs each get answers the last
+//! put to its key, or the exhibit shows two texts with one digest, or two multisets of elements with one sum
+//! (Blum et al. 1994).
+//!
+//! A history is what each accepted command of a verifier's log did. The histories of all logs are merged by
+//! their clocks (Lamport 1978). An epoch is certified once all verifiers have sealed it, and the sum over the
+//! elements that were added of it is the sum over those that were evicted. No digest and no sum is trusted
+//! here: the laws hold for whatever functions these are, and what an attack would have to find is the exhibit.
+//!
+//! The crate stands on `verifier_commands`, whose transition says what a command does, on `log_codec`,
+//! `multiset_sum` and `stamp_order`; it has no code to run. Begin with `laws.rt`, whose first law is the
+//! theorem, then read `specs/` in the order of its `Lib.antt`.
 #![tactic(auto)]
+
+mod laws;
+
+pub use laws::{
+    certified_is_serial_or_collides, even_epochs_are_scheduled, evicted_elements_are_timed,
+    merged_order_keeps_each_log,
+};

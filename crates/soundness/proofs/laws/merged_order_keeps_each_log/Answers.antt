@@ -1,0 +1,5 @@
+use Rattle.soundness.proofs.WholeLemmas.{order_part}
+use Rattle.soundness.proofs.laws.merged_order_keeps_each_log.Goals as goal
+
+pub returns : goal.returns
+returns c = record { part = order_part }

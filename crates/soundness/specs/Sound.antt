@@ -1,0 +1,35 @@
+-- What certified epochs promise: their operations are serial, or the exhibit collides.
+use Rattle.std.specs.Prelude.{◌≡◌, ◌⊎◌, ℕ, ◌+◌, ◌<◌, ◌≤◌, true, List, map}
+use Rattle.std.specs.List.{AllByRecursion}
+use Rattle.lamport_clocks.specs.declared.header.Header.{Header}
+use Rattle.record_text.specs.Format.{short_keys}
+use Rattle.log_codec.specs.declared.command.Command.{Command}
+use Rattle.log_codec.specs.Log.{read_log}
+use Rattle.merkle_records.specs.Merkle.{Digest}
+use Rattle.stamp_order.specs.Serial.{IsSerial}
+use Rattle.soundness.specs.History.{Event, histories_of}
+use Rattle.soundness.specs.Certified.{operations_in, is_balanced}
+use Rattle.soundness.specs.Typed.{IsTyped}
+use Rattle.soundness.specs.Collision.{Exhibit, nothing, Collides}
+
+-- the commands of each log are typed
+abbrev pub AreTyped : List (List Command) → Type 0
+AreTyped logs = AllByRecursion (AllByRecursion (IsTyped short_keys)) logs
+
+-- each of so many epochs from one on is balanced
+abbrev pub AreBalanced : (List ℕ → List ℕ) → List Event → ℕ → ℕ → Type 0
+AreBalanced lanes events first count =
+    (epoch : ℕ) → first ≤ epoch → epoch < first + count → is_balanced lanes events epoch ≡ true
+
+-- the exhibit is nothing and the operations are serial, or the exhibit collides
+abbrev pub IsSerialOrCollides : Digest → (List ℕ → List ℕ) → Exhibit → List Event → Type 0
+IsSerialOrCollides digest lanes exhibit events =
+    ((exhibit ≡ nothing) × IsSerial (operations_in events)) ⊎ Collides digest lanes exhibit
+
+-- the commands of each log, of which these are the bytes
+abbrev pub commands_of : List (List ℕ) → List (List Command)
+commands_of logs = map (λ bytes. (read_log short_keys bytes).commands) logs
+
+-- the histories of logs of which these are the bytes, that of verifier 0 first
+abbrev pub histories_read : Digest → (List ℕ → List ℕ) → Header → List (List ℕ) → List (List Event)
+histories_read digest lanes header logs = histories_of digest lanes header (commands_of logs)
