@@ -1,15 +1,15 @@
 -- What a certified report means: its operations are serial, or the exhibit defined from the bundle collides.
-use Rattle.std.specs.Prelude.{◌≡◌, ◌⊎◌, ℕ, ◌==◌, List, [], ◌∷◌, Option, Some, None, if◌then◌else◌}
+use Rattle.std.specs.Prelude.{ℕ, ◌==◌, List, [], ◌∷◌, Option, Some, None, if◌then◌else◌}
 use Rattle.record_hash.specs.Hmac.{key_block}
 use Rattle.record_hash.specs.ShaDigests.{sha_text_digest, sha_element_lanes}
 use Rattle.lamport_clocks.specs.declared.header.Header.{Header}
 use Rattle.record_text.specs.declared.operation.Operation.{Operation}
 use Rattle.record_text.specs.Format.{short_keys}
 use Rattle.log_codec.specs.Log.{Log, read_log}
-use Rattle.stamp_order.specs.Serial.{IsSerial}
 use Rattle.soundness.specs.History.{Event}
 use Rattle.soundness.specs.Certified.{certified_count, certified_operations}
-use Rattle.soundness.specs.Collision.{Exhibit, nothing, exhibit_of, Collides}
+use Rattle.soundness.specs.Collision.{Exhibit, nothing, exhibit_of}
+use Rattle.soundness.specs.Sound.{IsSerialOrCollides}
 use Rattle.fastver_top.specs.Intake.{Logged, logged_of}
 use Rattle.fastver_top.specs.BundleReport.{histories_in}
 
@@ -31,13 +31,9 @@ abbrev pub exhibit_at : (List ℕ → List ℕ) → (List ℕ → List ℕ) → 
 exhibit_at digest lanes None log = nothing
 exhibit_at digest lanes (Some header) log = certified_exhibit lanes header.first (histories_in digest lanes header (taken_logs header log))
 
--- there is nothing to exhibit and the operations are serial, or the exhibit collides
-abbrev pub SerialOrCollides : (List ℕ → List ℕ) → (List ℕ → List ℕ) → Exhibit → List Operation → Type 0
-SerialOrCollides digest lanes exhibit operations = ((exhibit ≡ nothing) × IsSerial operations) ⊎ Collides digest lanes exhibit
-
 -- The headline, of a bundle that was read.
 abbrev pub IsSoundAt : (List ℕ → List ℕ) → (List ℕ → List ℕ) → Option Header → List ℕ → Type 0
-IsSoundAt digest lanes found log = SerialOrCollides digest lanes (exhibit_at digest lanes found log) (operations_at digest lanes found log)
+IsSoundAt digest lanes found log = IsSerialOrCollides digest lanes (exhibit_at digest lanes found log) (operations_at digest lanes found log)
 
 -- The headline, of any bytes.
 abbrev pub IsSound : (List ℕ → List ℕ) → (List ℕ → List ℕ) → List ℕ → Type 0

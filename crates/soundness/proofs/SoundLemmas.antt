@@ -13,7 +13,7 @@ use Rattle.stamp_order.specs.Serial.{none_everywhere}
 use Rattle.stamp_order.specs.Merged.{IsMerged, up_to}
 use Rattle.stamp_order.proofs.InOrderLemmas.{every-weaker}
 use Rattle.soundness.specs.History.{Event, log_events, histories_of}
-use Rattle.soundness.specs.Certified.{event_moment, order_of, order_up_to, order_within, added_in, evicted_in, sum_over}
+use Rattle.soundness.specs.Certified.{operations_in, event_moment, order_of, order_up_to, order_within, added_in, evicted_in, sum_over}
 use Rattle.soundness.specs.Exhibit.{Strings, none_taken, first_clash}
 use Rattle.soundness.specs.Collision.{first_uneven, exhibit_by, exhibit_of, Collides}
 use Rattle.soundness.specs.Timed.{IsTimed}
@@ -59,7 +59,8 @@ none_waiting = record { each = λ x there. absurd (omega (arith, there)); once =
 pub sound : (digest : Digest) (lanes : List ℕ → List ℕ) (header : Header) (logs : List (List Command)) (count : ℕ)
     → GivesDigests digest → AllByRecursion (AllByRecursion (IsTyped short_keys)) logs
     → AreBalanced lanes (order_of (histories_of digest lanes header logs)) header.first count
-    → IsSerialOrCollides digest lanes (exhibit_of header.first count (histories_of digest lanes header logs)) (order_within header.first count (histories_of digest lanes header logs))
+    → IsSerialOrCollides digest lanes (exhibit_of header.first count (histories_of digest lanes header logs))
+    (operations_in (order_within header.first count (histories_of digest lanes header logs)))
 sound digest lanes header logs count digests typed balanced = by (first_uneven order header.first count) refl
   where
     histories : List (List Event)
@@ -99,14 +100,14 @@ sound digest lanes header logs count digests typed balanced = by (first_uneven o
 
     ended : first_uneven order header.first count ≡ None
         → CollidesAt short_keys digest none_taken within ⊎ IsSound short_keys none_taken none_everywhere within
-        → IsSerialOrCollides digest lanes (exhibit_of header.first count histories) within
+        → IsSerialOrCollides digest lanes (exhibit_of header.first count histories) (operations_in within)
     ended none (inl collides) =
         inr (subst (Collides digest lanes)
         (sym (ap (λ (o : Option ℕ). exhibit_by order o clash) none ∙ ap (exhibit_by order None) collides.1)) collides.2)
     ended none (inr serial) =
         inl (ap (λ (o : Option ℕ). exhibit_by order o clash) none ∙ ap (exhibit_by order None) serial.0, serial.1)
 
-    by : (o : Option ℕ) → first_uneven order header.first count ≡ o → IsSerialOrCollides digest lanes (exhibit_of header.first count histories) within
+    by : (o : Option ℕ) → first_uneven order header.first count ≡ o → IsSerialOrCollides digest lanes (exhibit_of header.first count histories) (operations_in within)
     by None none = ended none (at_count count none)
     by (Some epoch) is =
         let uneven = uneven_where_some order header.first count epoch is in

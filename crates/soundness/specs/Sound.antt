@@ -2,13 +2,14 @@
 use Rattle.std.specs.Prelude.{◌≡◌, ◌⊎◌, ℕ, ◌+◌, ◌<◌, ◌≤◌, true, List, map}
 use Rattle.std.specs.List.{AllByRecursion}
 use Rattle.lamport_clocks.specs.declared.header.Header.{Header}
+use Rattle.record_text.specs.declared.operation.Operation.{Operation}
 use Rattle.record_text.specs.Format.{short_keys}
 use Rattle.log_codec.specs.declared.command.Command.{Command}
 use Rattle.log_codec.specs.Log.{read_log}
 use Rattle.merkle_records.specs.Merkle.{Digest}
 use Rattle.stamp_order.specs.Serial.{IsSerial}
 use Rattle.soundness.specs.History.{Event, histories_of}
-use Rattle.soundness.specs.Certified.{operations_in, is_balanced}
+use Rattle.soundness.specs.Certified.{is_balanced}
 use Rattle.soundness.specs.Typed.{IsTyped}
 use Rattle.soundness.specs.Collision.{Exhibit, nothing, Collides}
 
@@ -22,9 +23,8 @@ AreBalanced lanes events first count =
     (epoch : ℕ) → first ≤ epoch → epoch < first + count → is_balanced lanes events epoch ≡ true
 
 -- the exhibit is nothing and the operations are serial, or the exhibit collides
-abbrev pub IsSerialOrCollides : Digest → (List ℕ → List ℕ) → Exhibit → List Event → Type 0
-IsSerialOrCollides digest lanes exhibit events =
-    ((exhibit ≡ nothing) × IsSerial (operations_in events)) ⊎ Collides digest lanes exhibit
+abbrev pub IsSerialOrCollides : Digest → (List ℕ → List ℕ) → Exhibit → List Operation → Type 0
+IsSerialOrCollides digest lanes exhibit operations = ((exhibit ≡ nothing) × IsSerial operations) ⊎ Collides digest lanes exhibit
 
 -- the commands of each log, of which these are the bytes
 abbrev pub commands_of : List (List ℕ) → List (List Command)

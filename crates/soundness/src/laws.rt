@@ -7,7 +7,7 @@ ghost use Rattle.log_codec.specs.declared.command.Command.{Command};
 ghost use Rattle.merkle_records.specs.Merkle.{Digest, GivesDigests};
 ghost use Rattle.stamp_order.specs.Merged.{up_to, of_verifier};
 ghost use Rattle.soundness.specs.History.{log_events, histories_of};
-ghost use Rattle.soundness.specs.Certified.{event_moment, order_of, order_up_to, order_within, certified_count};
+ghost use Rattle.soundness.specs.Certified.{event_moment, order_of, order_up_to, order_within, operations_in, certified_count, certified_operations};
 ghost use Rattle.soundness.specs.Timed.{AreTimed, evicted_among, IsRising};
 ghost use Rattle.soundness.specs.Collision.{exhibit_of};
 ghost use Rattle.soundness.specs.Scheduled.{IsScheduled, ArePermuted};
@@ -21,14 +21,14 @@ pub fn certified_is_serial_or_collides()
         → let histories = histories_of digest lanes header logs in
         GivesDigests digest → AreTyped logs → AreBalanced lanes (order_of histories) header.first count
         → IsSerialOrCollides digest lanes (exhibit_of header.first count histories)
-        (order_within header.first count histories) }
+        (operations_in (order_within header.first count histories)) }
     ensures certified { (digest : Digest) (lanes : List ℕ → List ℕ) (header : Header)
         (logs : List (List ℕ))
         → let histories = histories_read digest lanes header logs in
         let count = certified_count lanes header.first histories in
         GivesDigests digest
         → IsSerialOrCollides digest lanes (exhibit_of header.first count histories)
-        (order_within header.first count histories) }
+        (certified_operations lanes header.first histories) }
 {}
 
 /// A clock is above the stamps that it took in, and an evicted element is stamped with it. A verifier evicts
