@@ -1,5 +1,5 @@
 -- What a check says of a bundle with one verifier, by the trace of its log, is the report by the log's history.
-use Rattle.std.proofs.Common.{◌≡◌, ℕ, zero, suc, ◌+◌, ◌<◌, ◌≤◌, ◌==◌, ◌&&◌, nat_lt, Bool, if◌then◌else◌, List, [], ◌∷◌, ◌++◌, length, map, take, drop, Option, Some, None, refl, sym, ◌∙◌, ap, add-zero, zero-add, arith}
+use Rattle.std.proofs.Common.{◌≡◌, ℕ, zero, suc, ◌+◌, ◌<◌, ◌≤◌, nat_lt, Bool, if◌then◌else◌, List, [], ◌∷◌, ◌++◌, length, map, take, drop, Option, Some, None, refl, sym, ◌∙◌, ap, add-zero, zero-add, arith}
 use Rattle.std.specs.List.{flat_map}
 use Rattle.std.specs.Option.{option_map, option_or}
 use Rattle.std.proofs.lemmas.Bool.{cond_both}
@@ -13,7 +13,6 @@ use Rattle.log_codec.specs.Log.{Log, read_log}
 use Rattle.multiset_sum.specs.declared.part.Part.{Part}
 use Rattle.report_text.specs.declared.status.Status.{Status}
 use Rattle.report_text.specs.Status.{last_line}
-use Rattle.record_text.specs.Same.{same_bytes}
 use Rattle.verifier_commands.specs.State.{opening}
 use Rattle.verifier_commands.specs.Machine.{opening_machine}
 use Rattle.verifier_run.specs.Trace.{Trace, trace, operations_of}

@@ -1,5 +1,5 @@
 -- The headline holds of any bytes.
-use Rattle.std.proofs.Common.{◌≡◌, ℕ, ◌==◌, Bool, true, false, List, [], ◌∷◌, map, Option, Some, None, IfSome, refl, inl, if◌then◌else◌}
+use Rattle.std.proofs.Common.{ℕ, ◌==◌, Bool, true, false, List, [], ◌∷◌, map, Option, Some, None, IfSome, refl, inl, if◌then◌else◌}
 use Rattle.std.specs.List.{AllByRecursion}
 use Rattle.record_hash.specs.Digests.{IsDigest}
 use Rattle.record_hash.specs.Hmac.{key_block}
@@ -7,7 +7,6 @@ use Rattle.record_hash.specs.ShaDigests.{sha_text_digest, sha_element_lanes}
 use Rattle.record_hash.specs.Shapes.{IsDigest-sha256}
 use Rattle.lamport_clocks.specs.declared.header.Header.{Header}
 use Rattle.record_text.specs.Format.{short_keys}
-use Rattle.log_codec.specs.declared.command.Command.{Command}
 use Rattle.log_codec.specs.Log.{Log, read_log}
 use Rattle.merkle_records.specs.Merkle.{GivesDigests}
 use Rattle.soundness.specs.History.{Event}

@@ -1,12 +1,12 @@
 -- The report of a bundle and how it ends, by the histories of its logs.
-use Rattle.std.specs.Prelude.{ℕ, zero, suc, ◌+◌, ◌==◌, nat_lt, Bool, List, [], ◌∷◌, ◌++◌, length, map, filter, Option, Some, None, if◌then◌else◌}
+use Rattle.std.specs.Prelude.{ℕ, zero, suc, ◌+◌, ◌==◌, nat_lt, List, [], ◌∷◌, ◌++◌, length, map, filter, Option, Some, None, if◌then◌else◌}
 use Rattle.std.specs.List.{flat_map}
 use Rattle.std.specs.Option.{option_map, option_or}
 use Rattle.lamport_clocks.specs.declared.header.Header.{Header}
 use Rattle.record_text.specs.declared.operation.Operation.{Operation}
 use Rattle.record_text.specs.declared.refusal.Refusal.{Refusal}
 use Rattle.record_text.specs.Format.{short_keys}
-use Rattle.bundle_frames.specs.Bundle.{Bundle, Frame, log_of, bundle_of}
+use Rattle.bundle_frames.specs.Bundle.{Frame, log_of}
 use Rattle.log_codec.specs.Log.{Log, read_log}
 use Rattle.verifier_run.specs.LogCourse.{refusal_by}
 use Rattle.report_text.specs.declared.status.Status.{Status}

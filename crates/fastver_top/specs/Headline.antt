@@ -10,7 +10,7 @@ use Rattle.soundness.specs.History.{Event}
 use Rattle.soundness.specs.Certified.{certified_count, certified_operations}
 use Rattle.soundness.specs.Collision.{Exhibit, nothing, exhibit_of}
 use Rattle.soundness.specs.Sound.{IsSerialOrCollides}
-use Rattle.fastver_top.specs.Intake.{Logged, logged_of}
+use Rattle.fastver_top.specs.Intake.{logged_of}
 use Rattle.fastver_top.specs.BundleReport.{histories_in}
 
 -- the exhibit of the certified epochs of histories

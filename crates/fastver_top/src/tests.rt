@@ -79,8 +79,10 @@ fn checked<D: Digests>(
     Ok((source, out, status))
 }
 
-#[test]
-fn bundles_have_their_reports(rt: HostRuntime) -> Result<(), Fail> {
+fn whole_bundles_have_their_reports<R: Threads + Wait + Sync + Abort>(
+    rt: &R,
+    alloc: Global,
+) -> Result<(), Fail> {
     let table = [
         (
             "the first vector",
@@ -156,13 +158,15 @@ fn bundles_have_their_reports(rt: HostRuntime) -> Result<(), Fail> {
         ),
     ];
     for (name, bundle, report, number) in table {
-        assert_report(&rt, rt.alloc(), name, bundle, report, number)?;
+        assert_report(rt, alloc, name, bundle, report, number)?;
     }
     Ok(())
 }
 
-#[test]
-fn adds_and_evicts_in_the_tree_are_refused(rt: HostRuntime) -> Result<(), Fail> {
+fn adds_and_evicts_in_the_tree_are_refused<R: Threads + Wait + Sync + Abort>(
+    rt: &R,
+    alloc: Global,
+) -> Result<(), Fail> {
     let table = [
         (
             "the root is not added",
@@ -236,13 +240,15 @@ fn adds_and_evicts_in_the_tree_are_refused(rt: HostRuntime) -> Result<(), Fail> 
         ),
     ];
     for (name, bundle, report) in table {
-        assert_report(&rt, rt.alloc(), name, bundle, report, 8)?;
+        assert_report(rt, alloc, name, bundle, report, 8)?;
     }
     Ok(())
 }
 
-#[test]
-fn stamps_and_values_are_refused(rt: HostRuntime) -> Result<(), Fail> {
+fn stamps_and_values_are_refused<R: Threads + Wait + Sync + Abort>(
+    rt: &R,
+    alloc: Global,
+) -> Result<(), Fail> {
     let table = [
         (
             "a get of another value",
@@ -291,9 +297,16 @@ fn stamps_and_values_are_refused(rt: HostRuntime) -> Result<(), Fail> {
         ),
     ];
     for (name, bundle, report) in table {
-        assert_report(&rt, rt.alloc(), name, bundle, report, 8)?;
+        assert_report(rt, alloc, name, bundle, report, 8)?;
     }
     Ok(())
+}
+
+#[test]
+fn bundles_have_their_reports(rt: HostRuntime) -> Result<(), Fail> {
+    whole_bundles_have_their_reports(&rt, rt.alloc())?;
+    adds_and_evicts_in_the_tree_are_refused(&rt, rt.alloc())?;
+    stamps_and_values_are_refused(&rt, rt.alloc())
 }
 
 #[test]

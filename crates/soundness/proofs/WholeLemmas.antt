@@ -6,7 +6,7 @@ use Rattle.log_codec.specs.declared.command.Command.{Command}
 use Rattle.merkle_records.specs.Merkle.{Digest, GivesDigests}
 use Rattle.stamp_order.specs.Merged.{IsMerged, up_to, of_verifier}
 use Rattle.soundness.specs.History.{Event, log_events, histories_from, histories_of}
-use Rattle.soundness.specs.Certified.{certified_operations, event_moment, order_of, order_up_to, order_within, added_in, evicted_in, certified_count, sealed_by_all}
+use Rattle.soundness.specs.Certified.{certified_operations, event_moment, order_of, order_up_to, added_in, evicted_in, certified_count, sealed_by_all}
 use Rattle.soundness.specs.Collision.{exhibit_of}
 use Rattle.soundness.specs.Timed.{AreTimed}
 use Rattle.soundness.specs.Scheduled.{IsScheduled, ArePermuted}

@@ -25,6 +25,6 @@ returns-in_default-clause-report g c =
     untaken : verdict_none ≡ verdict_by digest lanes (logged c.args.intake.now)
     untaken =
         elim c.in_default.branch [
-          in_default-via-in-Some+else-header-eq1 w ↦ other_verifiers digest lanes c.args.intake.now.header w.in-Some.header c.args.intake.now.log.items c.args.intake.now.bad w.in-Some.is w.if-header-eq1.false
-        | in_default-via-in_default w ↦ no_header digest lanes c.args.intake.now.header c.args.intake.now.log.items c.args.intake.now.bad w.in_default.is
+          | in_default-via-in-Some+else-header-eq1 w ↦ other_verifiers digest lanes c.args.intake.now.header w.in-Some.header c.args.intake.now.log.items c.args.intake.now.bad w.in-Some.is w.if-header-eq1.false
+          | in_default-via-in_default w ↦ no_header digest lanes c.args.intake.now.header c.args.intake.now.log.items c.args.intake.now.bad w.in_default.is
         ]
