@@ -1,13 +1,1 @@
--- What reading a source comes to, what is certified, and that with one verifier it is the report by its history.
-pub mod TookLemmas
-pub mod ReportLemmas
-pub mod MeaningLemmas
-pub mod PassLemmas
-pub mod HistoryRunLemmas
-pub mod CountedLemmas
-pub mod SealedLemmas
-pub mod PartLemmas
-pub mod EpochTextLemmas
-pub mod BundleReportLemmas
-pub mod VerdictLemmas
-pub mod HeadlineLemmas
+pub mod KeyLemmas

@@ -1,9 +1,3 @@
--- What the clauses of the top call cite, in reading order.
+-- What the clauses of the top call cite.
 pub mod Words
-pub mod Intake
-pub mod Taken
-pub mod Outcomes
-pub mod BundleReport
-pub mod Verdict
-pub mod Headline
-pub mod Report
+pub use Rattle.check_core.specs

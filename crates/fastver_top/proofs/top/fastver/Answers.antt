@@ -1,9 +1,9 @@
 use Rattle.std.proofs.Common.{◌≡◌, ℕ, List, IfSome, sym, ◌∙◌, subst}
 use Rattle.record_hash.specs.ShaDigests.{sha_text_digest, sha_element_lanes}
 use Rattle.fv_outside.specs.Written.{Grows, GrowsByFront}
-use Rattle.fastver_top.specs.Verdict.{verdict}
-use Rattle.fastver_top.proofs.VerdictLemmas.{same_block}
-use Rattle.fastver_top.proofs.HeadlineLemmas.{sha_headline_left}
+use Rattle.check_core.specs.Verdict.{verdict}
+use Rattle.fastver_top.proofs.KeyLemmas.{same_block}
+use Rattle.check_core.proofs.HeadlineLemmas.{sha_headline_left}
 use Rattle.fastver_top.proofs.top.fastver.Goals as goal
 
 pub returns-in-Some-clause-status : goal.returns-in-Some-clause-status

@@ -1,0 +1,42 @@
+use Rattle.std.proofs.Common.{◌≤◌, is_ok, true≢false, arith, refl, sym, subst, ap}
+use Rattle.bundle_frames.specs.Progress.{Progress, position}
+use Rattle.check_core.specs.Intake.{behind_at}
+use Rattle.check_core.proofs.TookLemmas.{TookJust-none, TookJust-then, TookAtMost-then}
+use Rattle.check_core.proofs.MeaningLemmas.{Means-start, Means-then, Means-end}
+use Rattle.check_core.proofs.reading.read_bundle.Goals as goal
+
+pub pieces-init : goal.pieces-init
+pieces-init g c = record {
+  room = c.in_ok-room.ensures.len;
+  limit = omega arith;
+  position = subst (λ (p : Progress). position p ≤ 0) (sym c.in_ok-splitter.ensures.starts) (omega arith);
+  header = ap (λ (p : Progress). p.header) (sym c.in_ok-splitter.ensures.starts);
+  took = TookJust-none _;
+  means = Means-start _ _ _ c.new-2.ensures.items c.in_ok-splitter.ensures.starts;
+  faults = omega arith;
+}
+
+pub pieces-preserved : goal.pieces-preserved
+pieces-preserved g c =
+    let within = rw c.in-Ok-Some.field-0-is at c.in-Ok-Some.ensures.within in
+    let position = rw c.in-Ok-Some.field-0-is at c.in-Ok-Some.ensures.position in
+    let took = rw c.in-Ok-Some.field-0-is at c.in-Ok-Some.ensures.took in
+    record {
+      room = c.pieces.invariant.room;
+      limit = within;
+      position = position;
+      header = c.in-Ok-Some.ensures.header;
+      took = TookJust-then _ _ _ _ _ _ c.pieces.invariant.took took refl;
+      means = Means-then _ _ _ _ _ _ c.pieces.invariant.means c.in-Ok-Some.ensures.means;
+      faults = omega (arith, c.pieces.invariant.faults, c.read_turn.ensures.never_falls);
+    }
+
+pub returns-clause-within : goal.returns-clause-within
+returns-clause-within g c = λ other. TookAtMost-then _ _ _ _ _ _ c.pieces.invariant.took (c.in-Ok-None.ensures.last (λ is. true≢false (ap is_ok is))) (omega (arith, c.pieces.invariant.limit))
+
+pub returns-clause-bundle : goal.returns-clause-bundle
+returns-clause-bundle g c =
+    let p : Progress = c.read_turn.new.splitter in
+    let ends = rw c.in-Ok-None.field-0-is at c.in-Ok-None.ensures.end in
+    let means = Means-then _ _ _ _ _ (behind_at _ p) c.pieces.invariant.means c.in-Ok-None.ensures.means in
+    Means-end _ _ _ p _ _ means (ends refl) c.in-Ok-None.ensures.header c.end-intake.ensures.rest

@@ -1,0 +1,20 @@
+use Rattle.std.proofs.Common.{◌≡◌, ◌-◌, ◌≤◌, vec_len}
+use Rattle.bundle_frames.specs.Progress.{position}
+use Rattle.check_core.specs.Intake.{Means, behind_at, logged_of}
+use Rattle.check_core.specs.Taken.{TookJust}
+use Rattle.check_core.proofs.reading.read_bundle.Given as goal
+
+-- what was read so far
+abbrev pub invariant-pieces : goal.invariant-pieces
+invariant-pieces g l = record {
+  room : vec_len l.room ≡ 65536;
+  limit : l.taken ≤ l.limit;
+  position : position l.splitter ≤ l.taken;
+  header : l.intake.header ≡ l.splitter.header;
+  took : TookJust l.taken (g.S.Source.left l.fn.source) (g.S.Source.left l.source);
+  means : Means (g.S.Source.left l.fn.source) (g.S.Source.left l.source) logged_of (behind_at l.intake.log.items l.splitter);
+  faults : g.S.Source.faults l.fn.source ≤ g.S.Source.faults l.source;
+}
+
+abbrev pub decreases-pieces : goal.decreases-pieces
+decreases-pieces g l = l.limit - l.taken

@@ -1,0 +1,20 @@
+//! A check of a bundle of logs: which epochs are certified, with which answers, and how its report ends.
+//!
+//! `check` reads a bundle from a source and writes its report to a sink. Its contract says that this is the
+//! report by `specs/BundleReport.antt`, and what it means by `specs/Headline.antt`: the certified answers are
+//! serial, or the exhibit defined from the bundle is a real collision. `reading.rt` reads a source to the
+//! joined log, and `report.rt` says what is certified and writes the lines.
+//!
+//! The crate stands on `bundle_frames` and `verifier_run`, which read, on `soundness`, whose theorem is the
+//! headline, and on `report_text`. Begin with `checking.rt`.
+#![tactic(auto)]
+
+mod checking;
+mod intake;
+mod reading;
+mod report;
+#[cfg(test)]
+mod tests;
+
+pub use checking::check;
+pub use report_text::Status;

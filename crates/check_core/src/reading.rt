@@ -1,0 +1,173 @@
+//! A source, read to its end or to the first bad frame.
+ghost use Rattle.std.specs.Prelude.{◌≡◌, ◌≢◌, ℕ, ◌+◌, ◌-◌, ◌^◌, ◌<◌, ◌≤◌, List, [], ◌++◌, length, drop, unwrap_or, false, take, Some, None, IfOk, IfSome, IsNone, OnOk, OnErr, Err, vec_len};
+ghost use Rattle.fv_outside.specs.Faults.{Counts, Rose};
+ghost use Rattle.bundle_frames.specs.Bundle.{bundle_of};
+ghost use Rattle.bundle_frames.specs.Progress.{position, rest_of};
+ghost use Rattle.check_core.specs.Intake.{behind, behind_at, logged, logged_of, Means};
+ghost use Rattle.check_core.specs.Taken.{TookAtMost, TookJust, ReadsOn};
+
+use crate::intake::{Intake, Stop};
+use bundle_frames::{Found, Splitter};
+use fv_outside::{Failed, Memory, Source};
+use std::alloc::{AllocError, Global};
+
+/// The most bytes that are read at a time.
+pub const PIECE_BYTES: usize = 65_536;
+
+/// Reads a bundle from a source, to its end or to the first bad frame, and no more than so many bytes.
+pub fn read_bundle<S: Source>(alloc: Global, limit: u64, source: &mut S) -> Result<Intake, Stop>
+    requires limit { limit ≤ 2 ^ 40 }
+    ensures bundle { IfOk result (λ intake. IfSome (S.left source.old) (λ bytes. logged intake ≡ logged_of bytes)) }
+    ensures fault { result ≡ Err Stop.ReadFault → Rose (S.faults source.old) (S.faults source.new) }
+    ensures limit { result ≡ Err Stop.InputLimit → TookJust (limit + 1) (S.left source.old) (S.left source.new) }
+    ensures within { result ≢ Err Stop.InputLimit → TookAtMost limit (S.left source.old) (S.left source.new) }
+    ensures never_falls { S.faults source.old ≤ S.faults source.new }
+{
+    let mut splitter = Splitter::new(alloc)?;
+    let mut room = new_room(alloc)?;
+    let mut intake = Intake {
+        header: None,
+        log: Vec::new(alloc),
+        bad: None,
+    };
+    let mut taken = 0;
+    'pieces: loop {
+        match read_turn(limit, taken, source, &mut room, &mut splitter, &mut intake) {
+            Ok(Some(count)) => taken += count,
+            Ok(None) => break,
+            Err(stop) => return Err(stop),
+        }
+    }
+    intake.bad = splitter.end();
+    Ok(intake)
+}
+
+// Room for a piece.
+fn new_room(alloc: Global) -> Result<Vec<u8>, AllocError>
+    ensures len { IfOk result (λ room. vec_len room ≡ PIECE_BYTES) }
+{
+    vec![in alloc; 0u8; PIECE_BYTES]
+}
+
+// Reads a piece and joins what is found in it. It answers how many bytes were read, if more is to be read.
+fn read_turn<S: Source>(
+    limit: u64,
+    taken: u64,
+    source: &mut S,
+    room: &mut [u8],
+    splitter: &mut Splitter,
+    intake: &mut Intake,
+) -> Result<Option<u64>, Stop>
+    requires limit { limit ≤ 2 ^ 40 }
+    requires within { taken ≤ limit }
+    requires room { length room.old ≡ PIECE_BYTES }
+    requires position { position splitter.old ≤ taken }
+    requires header { intake.old.header ≡ splitter.old.header }
+    ensures some { IfOk result (λ turn. IfSome turn (λ count. 0 < count)) }
+    ensures within { IfOk result (λ turn. IfSome turn (λ count. taken + count ≤ limit)) }
+    ensures position { IfOk result (λ turn. IfSome turn (λ count. position splitter.new ≤ taken + count)) }
+    ensures header { OnOk result (intake.new.header ≡ splitter.new.header) }
+    ensures took { IfOk result (λ turn. IfSome turn (λ count. TookJust count (S.left source.old) (S.left source.new))) }
+    ensures means { OnOk result (Means (S.left source.old) (S.left source.new)
+        (behind_at intake.old.log.items splitter.old) (behind_at intake.new.log.items splitter.new)) }
+    ensures end { IfOk result (λ turn. IsNone turn → IfSome (S.left source.new) (λ left. rest_of splitter.new left ≡ rest_of splitter.new [])) }
+    ensures last { result ≢ Err Stop.InputLimit → TookAtMost (limit - taken) (S.left source.old) (S.left source.new) }
+    ensures fault { result ≡ Err Stop.ReadFault → Rose (S.faults source.old) (S.faults source.new) }
+    ensures limit { result ≡ Err Stop.InputLimit → TookJust (limit + 1 - taken) (S.left source.old) (S.left source.new) }
+    ensures never_falls { S.faults source.old ≤ S.faults source.new }
+{
+    let want = wanted(limit, taken);
+    let count = match read_some(source, room, want) {
+        Ok(count) => count,
+        Err(_) => return Err(Stop::ReadFault),
+    };
+    if count == 0 {
+        return Ok(None);
+    }
+    let read = count as u64;
+    if taken + read > limit {
+        return Err(Stop::InputLimit);
+    }
+    if take(splitter, intake, &room[..count])? {
+        return Ok(Some(read));
+    }
+    Ok(None)
+}
+
+// How many bytes are asked for: no more than the limit leaves, and once it is reached one more, so that
+// it doesn't matter how reads are cut.
+fn wanted(limit: u64, taken: u64) -> usize
+    requires within { taken ≤ limit }
+    ensures some { 0 < result }
+    ensures room { result ≤ PIECE_BYTES }
+    ensures limit { taken + result ≤ limit + 1 }
+{
+    let left = (limit - taken).min(PIECE_BYTES as u64);
+    (left as usize).max(1)
+}
+
+// Reads into the front of the room.
+fn read_some<S: Source>(source: &mut S, room: &mut [u8], want: usize) -> Result<usize, Failed>
+    requires some { 0 < want }
+    requires within { want ≤ length room.old }
+    ensures bound { IfOk result (λ count. count ≤ want) }
+    ensures took { IfOk result (λ count. TookJust count (S.left source.old) (S.left source.new)) }
+    ensures kept { OnErr result (TookJust 0 (S.left source.old) (S.left source.new)) }
+    ensures bytes { ReadsOn (S.left source.old) (S.left source.new) result room.new }
+    ensures counts { Counts (S.faults source.old) (S.faults source.new) result }
+{
+    source.read(&mut room[..want])
+}
+
+// Feeds a piece, and joins what is found in it. It answers whether more is to be read.
+fn take(splitter: &mut Splitter, intake: &mut Intake, piece: &[u8]) -> Result<bool, Memory>
+    requires fits { position splitter.old + length piece.now < 2 ^ 63 }
+    requires header { intake.old.header ≡ splitter.old.header }
+    ensures rest { OnOk result ((more : List ℕ) → behind intake.old.log.items (rest_of splitter.old (piece.now ++ more))
+        ≡ behind intake.new.log.items (rest_of splitter.new more)) }
+    ensures last { IfOk result (λ more_due. more_due ≡ false → (more : List ℕ) → rest_of splitter.new more ≡ rest_of splitter.new []) }
+    ensures header { OnOk result (intake.new.header ≡ splitter.new.header) }
+    ensures position { OnOk result (position splitter.new ≤ position splitter.old + length piece.now) }
+{
+    let mut done = 0;
+    while done < piece.len() {
+        match take_one(splitter, intake, &piece[done..])? {
+            Some(taken) => done += taken,
+            None => return Ok(false),
+        }
+    }
+    Ok(true)
+}
+
+// Feeds a piece once, and answers how much of it was taken, if there may be more to read.
+fn take_one(
+    splitter: &mut Splitter,
+    intake: &mut Intake,
+    piece: &[u8],
+) -> Result<Option<usize>, Memory>
+    requires fits { position splitter.old + length piece.now < 2 ^ 63 }
+    requires some { 0 < length piece.now }
+    requires header { intake.old.header ≡ splitter.old.header }
+    ensures last { IfOk result (λ taken. IsNone taken → (more : List ℕ) → rest_of splitter.new more ≡ rest_of splitter.new []) }
+    ensures rest { IfOk result (λ taken. (more : List ℕ) → behind intake.old.log.items (rest_of splitter.old (piece.now ++ more))
+        ≡ behind intake.new.log.items (rest_of splitter.new (drop (unwrap_or taken (length piece.now)) piece.now ++ more))) }
+    ensures header { OnOk result (intake.new.header ≡ splitter.new.header) }
+    ensures position { IfOk result (λ taken. position splitter.new ≤ position splitter.old + unwrap_or taken (length piece.now)) }
+    ensures taken { IfOk result (λ taken. IfSome taken (λ n. (0 < n) × (n ≤ length piece.now))) }
+{
+    let fed = splitter.feed(piece);
+    match fed.found {
+        Found::Nothing => Ok(Some(fed.taken)),
+        Found::Bad(_) => Ok(None),
+        Found::Head(header) => {
+            intake.header = Some(header);
+            Ok(Some(fed.taken))
+        }
+        Found::Frame(verifier) => {
+            if verifier == 0 {
+                intake.log.extend_from_slice(splitter.body())?;
+            }
+            Ok(Some(fed.taken))
+        }
+    }
+}

@@ -1,7 +1,0 @@
-use Rattle.std.proofs.Common.{◌≡◌, ◌+◌, drop}
-use Rattle.fastver_top.specs.Report.{front_count}
-use Rattle.fastver_top.proofs.report.count_of.Given as goal
-
--- all operations so far are counted, and those that are left go on
-abbrev pub invariant-loop-count : goal.invariant-loop-count
-invariant-loop-count l = front_count l.epoch l.operations ≡ l.count + front_count l.epoch (drop l.count l.operations)
