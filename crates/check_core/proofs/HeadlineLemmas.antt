@@ -17,26 +17,23 @@ use Rattle.soundness.proofs.SoundLemmas.{sound}
 use Rattle.soundness.proofs.TypedLemmas.{read_typed}
 use Rattle.check_core.specs.Intake.{logged_of}
 use Rattle.check_core.specs.BundleReport.{histories_in}
-use Rattle.check_core.specs.Headline.{taken_logs, IsSoundAt, IsSound, IsShaSound}
+use Rattle.check_core.specs.Headline.{IsSoundAt, IsSound, IsShaSound}
 
-typed : (header : Header) (log : List ℕ) → AllByRecursion (AllByRecursion (IsTyped short_keys)) (map (λ (log : Log). log.commands) (taken_logs header log))
-typed header log = go (header.verifiers == 1)
-  where
-    go : (b : Bool) → AllByRecursion (AllByRecursion (IsTyped short_keys)) (map (λ (log : Log). log.commands) (if b then read_log short_keys log ∷ [] else []))
-    go true = (read_typed log, tt)
-    go false = tt
+typed : (logs : List (List ℕ)) → AllByRecursion (AllByRecursion (IsTyped short_keys)) (map (λ (log : Log). log.commands) (map (read_log short_keys) logs))
+typed [] = tt
+typed (log ∷ logs) = (read_typed log, typed logs)
 
-sound_at : (digest lanes : List ℕ → List ℕ) (found : Option Header) (log : List ℕ) → GivesDigests digest → IsSoundAt digest lanes found log
-sound_at digest lanes None log digests = inl (refl, tt)
-sound_at digest lanes (Some header) log digests =
-    sound digest lanes header (map (λ (log : Log). log.commands) (taken_logs header log)) (certified_count lanes header.first histories) digests (typed header log)
+sound_at : (digest lanes : List ℕ → List ℕ) (found : Option Header) (logs : List (List ℕ)) → GivesDigests digest → IsSoundAt digest lanes found logs
+sound_at digest lanes None logs digests = inl (refl, tt)
+sound_at digest lanes (Some header) logs digests =
+    sound digest lanes header (map (λ (log : Log). log.commands) (map (read_log short_keys) logs)) (certified_count lanes header.first histories) digests (typed logs)
     (counted_balanced lanes (order_of histories) header.first (sealed_by_all histories))
   where
     histories : List (List Event)
-    histories = histories_in digest lanes header (taken_logs header log)
+    histories = histories_in digest lanes header (map (read_log short_keys) logs)
 
 pub headline : (digest lanes : List ℕ → List ℕ) (bytes : List ℕ) → GivesDigests digest → IsSound digest lanes bytes
-headline digest lanes bytes digests = sound_at digest lanes (logged_of bytes).header (logged_of bytes).log digests
+headline digest lanes bytes digests = sound_at digest lanes (logged_of bytes).header (logged_of bytes).logs digests
 
 pub sha_headline : (key bytes : List ℕ) → IsShaSound key bytes
 sha_headline key bytes = headline sha_text_digest (sha_element_lanes (key_block key)) bytes (λ text. (IsDigest-sha256 text).size)

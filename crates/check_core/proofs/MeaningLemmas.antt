@@ -1,15 +1,54 @@
 -- What is left of a source, and what was read of it, mean the bundle that it had.
-use Rattle.std.proofs.Common.{◌≡◌, ℕ, List, [], ◌++◌, take, Option, Some, None, IfSome, refl, sym, ◌∙◌, ap, subst, append-nil}
+use Rattle.std.proofs.Common.{◌≡◌, ◌≢◌, ℕ, zero, suc, ◌+◌, ◌<◌, List, [], ◌∷◌, ◌++◌, length, take, map, Option, Some, None, IfSome, eqb, refl, sym, ◌∙◌, ap, subst, append-nil, append_assoc, if◌then◌else◌, arith}
+use Rattle.std.proofs.lemmas.Bool.{eq-eqb, ne_eqb}
 use Rattle.std.specs.Io.KnownBytes.{Consumes, IsAtEnd}
 use Rattle.lamport_clocks.specs.declared.header.Header.{Header}
+use Rattle.bundle_frames.specs.Bundle.{Bundle, Frame, body_for, log_of, bundle_of}
 use Rattle.bundle_frames.specs.Progress.{Progress, start, rest_of}
+use Rattle.check_core.specs.Logs.{log_count, joined_from, appended, logs_so_far}
 use Rattle.check_core.specs.Intake.{Logged, Means, behind, behind_at, logged_of}
 
+-- ---- logs and frames
+
+-- no frames add nothing
+pub joined_none : (number : ℕ) (logs : List (List ℕ)) → joined_from number logs [] ≡ logs
+joined_none number [] = refl
+joined_none number (log ∷ logs) =
+    ap (λ (l : List ℕ). l ∷ joined_from (suc number) logs []) (append-nil log) ∙ ap (λ (more : List (List ℕ)). log ∷ more) (joined_none (suc number) logs)
+
+-- a frame of a verifier before these adds nothing to their logs
+joined_other : (number : ℕ) (logs : List (List ℕ)) (frame : Frame) (frames : List Frame) → frame.verifier < number
+    → joined_from number logs (frame ∷ frames) ≡ joined_from number logs frames
+joined_other number [] frame frames before = refl
+joined_other number (log ∷ logs) frame frames before =
+    ap (λ (b : List ℕ). (log ++ (b ++ log_of number frames)) ∷ joined_from (suc number) logs (frame ∷ frames))
+    (ap (λ (t : _). if t then frame.body else []) (ne_eqb frame.verifier number (λ same. absurd (omega (arith, same, before)))))
+    ∙ ap (λ (more : List (List ℕ)). (log ++ log_of number frames) ∷ more) (joined_other (suc number) logs frame frames (omega (arith, before)))
+
+-- a frame adds its body to its verifier's log
+pub joined_frame : (number index : ℕ) (bytes : List ℕ) (logs : List (List ℕ)) (frame : Frame) (frames : List Frame) → frame.verifier ≡ number + index → frame.body ≡ bytes
+    → index < length logs
+    → joined_from number logs (frame ∷ frames) ≡ joined_from number (appended index bytes logs) frames
+joined_frame number index bytes [] frame frames is body within = absurd (omega (arith, within))
+joined_frame number zero bytes (log ∷ logs) frame frames is body within =
+    ap (λ (t : _). (log ++ ((if t then frame.body else []) ++ log_of number frames)) ∷ joined_from (suc number) logs (frame ∷ frames))
+    (eq-eqb frame.verifier number (omega (arith, is)))
+    ∙ ap (λ (b : List ℕ). (log ++ (b ++ log_of number frames)) ∷ joined_from (suc number) logs (frame ∷ frames)) body
+    ∙ ap (λ (l : List ℕ). l ∷ joined_from (suc number) logs (frame ∷ frames)) (sym (append_assoc log bytes (log_of number frames)))
+    ∙ ap (λ (more : List (List ℕ)). ((log ++ bytes) ++ log_of number frames) ∷ more) (joined_other (suc number) logs frame frames (omega (arith, is)))
+joined_frame number (suc index) bytes (log ∷ logs) frame frames is body within =
+    ap (λ (t : _). (log ++ ((if t then frame.body else []) ++ log_of number frames)) ∷ joined_from (suc number) logs (frame ∷ frames))
+    (ne_eqb frame.verifier number (λ same. absurd (omega (arith, same, is))))
+    ∙ ap (λ (more : List (List ℕ)). (log ++ log_of number frames) ∷ more)
+    (joined_frame (suc number) index bytes logs frame frames (omega (arith, is)) body (omega (arith, within)))
+
+-- ---- a source, read in turns
+
 -- before anything is read
-pub Means-start : (x : Option (List ℕ)) (log : List ℕ) (p : Progress) → log ≡ [] → p ≡ start → Means x x logged_of (behind_at log p)
-Means-start None log p empty is = tt
-Means-start (Some bytes) log p empty is =
-    subst (λ (l : List ℕ). logged_of bytes ≡ behind_at l p bytes) (sym empty)
+pub Means-start : (x : Option (List ℕ)) (logs : List (List ℕ)) (p : Progress) → logs ≡ [] → p ≡ start → Means x x logged_of (behind_at logs p)
+Means-start None logs p empty is = tt
+Means-start (Some bytes) logs p empty is =
+    subst (λ (l : List (List ℕ)). logged_of bytes ≡ behind_at l p bytes) (sym empty)
     (subst (λ (q : Progress). logged_of bytes ≡ behind_at [] q bytes) (sym is) refl)
 
 -- one step after another
@@ -41,13 +80,20 @@ pub any-left : (x : Option (List ℕ)) (p : Progress) → ((more : List ℕ) →
 any-left None p same = tt
 any-left (Some bytes) p same = same bytes
 
+-- logs of which none is left to come
+all_joined : (header : Option Header) (logs : List (List ℕ)) → length logs ≡ log_count header → joined_from 0 (logs_so_far header logs header) [] ≡ logs
+all_joined None [] count = refl
+all_joined None (log ∷ logs) count = absurd (omega (arith, count))
+all_joined (Some header) logs count = joined_none 0 logs
+
 -- where nothing is left that counts, what was read is what the bundle means
-pub Means-end : (x y : Option (List ℕ)) (log : List ℕ) (p : Progress) (header : Option Header) (bad : Option ℕ) → Means x y logged_of (behind_at log p)
+pub Means-end : (x y : Option (List ℕ)) (logs : List (List ℕ)) (p : Progress) (header : Option Header) (bad : Option ℕ) → Means x y logged_of (behind_at logs p)
     → IfSome y (λ left. rest_of p left ≡ rest_of p []) → header ≡ p.header → rest_of p [] ≡ record { header = p.header; frames = []; bad = bad }
-    → IfSome x (λ bytes. record { header = header; log = log; bad = bad } ≡ logged_of bytes)
-Means-end None y log p header bad means ends is rest = tt
-Means-end (Some bytes) None log p header bad means ends is rest = absurd means
-Means-end (Some bytes) (Some left) log p header bad means ends is rest =
-    ap (λ (h : Option Header). record { header = h; log = log; bad = bad }) is
-    ∙ ap (λ (l : List ℕ). record { header = p.header; log = l; bad = bad }) (sym (append-nil log))
-    ∙ sym (means ∙ ap (behind log) (ends ∙ rest))
+    → length logs ≡ log_count header
+    → IfSome x (λ bytes. record { header = header; logs = logs; bad = bad } ≡ logged_of bytes)
+Means-end None y logs p header bad means ends is rest count = tt
+Means-end (Some bytes) None logs p header bad means ends is rest count = absurd means
+Means-end (Some bytes) (Some left) logs p header bad means ends is rest count =
+    ap (λ (h : Option Header). record { header = h; logs = logs; bad = bad }) is
+    ∙ ap (λ (l : List (List ℕ)). record { header = p.header; logs = l; bad = bad }) (sym (all_joined p.header logs (count ∙ ap log_count is)))
+    ∙ sym (means ∙ ap (behind p.header logs) (ends ∙ rest))

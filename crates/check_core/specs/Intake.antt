@@ -1,23 +1,29 @@
--- The log of verifier 0 of a bundle, as it comes.
-use Rattle.std.specs.Prelude.{◌≡◌, ℕ, List, [], ◌++◌, ⊤, Option, Some, None}
+-- The logs of a bundle, as they come.
+use Rattle.std.specs.Prelude.{◌≡◌, ℕ, List, [], map, ⊤, Option, Some, None}
 use Rattle.lamport_clocks.specs.declared.header.Header.{Header}
-use Rattle.bundle_frames.specs.Bundle.{Bundle, log_of, bundle_of}
+use Rattle.bundle_frames.specs.Bundle.{Bundle, bundle_of}
 use Rattle.bundle_frames.specs.Progress.{Progress, rest_of}
 use Rattle.check_core.specs.declared.intake.Intake.{Intake}
+use Rattle.check_core.specs.Logs.{joined_from, logs_so_far}
 
--- the header if it is good, the log of verifier 0, and the offset of what is bad, if anything is
+-- the header if it is good, the log of each verifier, and the offset of what is bad, if anything is
 pub record Logged : Type 0 where
   pub header : Option Header
-  pub log : List ℕ
+  pub logs : List (List ℕ)
   pub bad : Option ℕ
 
--- a log of which so much was read, and what is left of its bundle behind it
-abbrev pub behind : List ℕ → Bundle → Logged
-behind log bundle = record { header = bundle.header; log = log ++ log_of 0 bundle.frames; bad = bundle.bad }
+-- logs of which so much was read, and what is left of their bundle behind it
+abbrev pub behind : Option Header → List (List ℕ) → Bundle → Logged
+behind header logs bundle =
+    record { header = bundle.header; logs = joined_from 0 (logs_so_far header logs bundle.header) bundle.frames; bad = bundle.bad }
+
+-- the bytes of logs that lie in memory
+abbrev pub logs_in : Intake → List (List ℕ)
+logs_in intake = map (λ log. log.items) intake.logs.items
 
 -- what was read, without where it lies in memory
 abbrev pub logged : Intake → Logged
-logged intake = record { header = intake.header; log = intake.log.items; bad = intake.bad }
+logged intake = record { header = intake.header; logs = logs_in intake; bad = intake.bad }
 
 -- where a source tells its bytes: what one function says of those that it had, another says of those that are left
 abbrev pub Means : Option (List ℕ) → Option (List ℕ) → (List ℕ → Logged) → (List ℕ → Logged) → Type 0
@@ -25,10 +31,10 @@ Means None new before after = ⊤
 Means (Some bytes) None before after = ⊥
 Means (Some bytes) (Some rest) before after = before bytes ≡ after rest
 
--- a log so far, and what is left of its bundle at a splitter that has come so far
-abbrev pub behind_at : List ℕ → Progress → List ℕ → Logged
-behind_at log progress left = behind log (rest_of progress left)
+-- logs so far, and what is left of their bundle at a splitter that has come so far
+abbrev pub behind_at : List (List ℕ) → Progress → List ℕ → Logged
+behind_at logs progress left = behind progress.header logs (rest_of progress left)
 
--- what bytes mean as a bundle, by its header, the log of verifier 0, and what is bad
+-- what bytes mean as a bundle, by its header, the log of each verifier, and what is bad
 abbrev pub logged_of : List ℕ → Logged
-logged_of bytes = behind [] (bundle_of bytes)
+logged_of bytes = behind None [] (bundle_of bytes)

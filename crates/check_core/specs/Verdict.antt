@@ -1,5 +1,5 @@
 -- What a check says of bytes: its report, and the status that ends it.
-use Rattle.std.specs.Prelude.{ℕ, ◌==◌, ◌≡◌, List, [], ◌∷◌, Option, Some, None, if◌then◌else◌}
+use Rattle.std.specs.Prelude.{ℕ, ◌≡◌, List, map, Option, Some, None}
 use Rattle.record_hash.specs.Hmac.{key_block}
 use Rattle.record_hash.specs.ShaDigests.{sha_text_digest, sha_element_lanes}
 use Rattle.lamport_clocks.specs.declared.header.Header.{Header}
@@ -28,15 +28,14 @@ verdict_on digest lanes header logs bad = record {
 abbrev pub verdict_none : Verdict
 verdict_none = record { text = last_line (BadBundle 0); status = BadBundle 0 }
 
--- of a bundle with this header, if it is good, and this log of verifier 0: the bundle must have one verifier
-abbrev pub verdict_at : (List ℕ → List ℕ) → (List ℕ → List ℕ) → Option Header → List ℕ → Option ℕ → Verdict
-verdict_at digest lanes None log bad = verdict_none
-verdict_at digest lanes (Some header) log bad =
-    if header.verifiers == 1 then verdict_on digest lanes header (read_log short_keys log ∷ []) bad else verdict_none
+-- of a bundle with this header, if it is good, and these logs
+abbrev pub verdict_at : (List ℕ → List ℕ) → (List ℕ → List ℕ) → Option Header → List (List ℕ) → Option ℕ → Verdict
+verdict_at digest lanes None logs bad = verdict_none
+verdict_at digest lanes (Some header) logs bad = verdict_on digest lanes header (map (read_log short_keys) logs) bad
 
 -- of a bundle that was read
 abbrev pub verdict_by : (List ℕ → List ℕ) → (List ℕ → List ℕ) → Logged → Verdict
-verdict_by digest lanes bundle = verdict_at digest lanes bundle.header bundle.log bundle.bad
+verdict_by digest lanes bundle = verdict_at digest lanes bundle.header bundle.logs bundle.bad
 
 -- What a check says of bytes, with these digests of texts and lanes of elements.
 abbrev pub verdict : (List ℕ → List ℕ) → (List ℕ → List ℕ) → List ℕ → Verdict

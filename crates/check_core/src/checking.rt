@@ -1,20 +1,24 @@
 //! A check of a bundle: what is certified, and how its report ends.
-ghost use Rattle.std.specs.Prelude.{◌≡◌, ◌+◌, ◌≤◌, ◌^◌, ℕ, IfSome, ◌≢◌, ◌⊎◌};
+ghost use Rattle.std.specs.Prelude.{◌≡◌, ◌+◌, ◌≤◌, ◌^◌, ℕ, length, map, vec_len, IfSome, ◌≢◌, ◌⊎◌};
 ghost use Rattle.lamport_clocks.specs.Header.{IsHeader};
-ghost use Rattle.verifier_commands.specs.Machine.{opening_machine};
-ghost use Rattle.verifier_run.specs.LogCourse.{log_course};
 ghost use Rattle.fv_outside.specs.Faults.{Rose};
 ghost use Rattle.fv_outside.specs.Written.{Grows, GrowsByFront};
-ghost use Rattle.check_core.specs.Intake.{logged};
+ghost use Rattle.check_core.specs.Intake.{logs_in, logged};
 ghost use Rattle.check_core.specs.Taken.{TookAtMost, TookJust};
 ghost use Rattle.check_core.specs.Outcomes.{IsEnd, IsOutcome};
 ghost use Rattle.check_core.specs.Headline.{IsSound};
 ghost use Rattle.check_core.specs.Verdict.{Reports, verdict, verdict_by};
-ghost use Rattle.check_core.specs.Report.{verdict_of, verdict_with};
+ghost use Rattle.check_core.specs.Report.{verdict_with};
+ghost use Rattle.check_core.specs.RunReport.{courses_of, parts_at};
+ghost use Rattle.check_core.specs.Judged.{CanBeJudged, verdict_of_runs};
 
 use crate::intake::{Intake, Stop};
 use crate::reading::read_bundle;
-use crate::report::{certified_count, exit_of, write_report};
+use crate::judging::judge;
+use crate::report::{
+    certified_parts, exit_of, first_refused, last_epoch, operations_up_to, write_report,
+};
+use crate::running::run_logs;
 use fv_outside::{Sink, Source};
 use lamport_clocks::Header;
 use multiset_sum::Part;
@@ -22,10 +26,12 @@ use record_hash::Digests;
 use record_text::Operation;
 use report_text::Status;
 use std::alloc::Global;
-use verifier_run::run_log;
+use std::thread::Threads;
+use verifier_run::Run;
 
-/// Reads a bundle of one verifier, of no more than so many bytes, and writes its report.
-pub fn check<D: Digests, S: Source, O: Sink>(
+/// Reads a bundle of no more than so many bytes, runs its logs side by side, and writes its report.
+pub fn check<R: Threads + Sync, D: Digests + Sync, S: Source, O: Sink>(
+    rt: &R,
     alloc: Global,
     d: &D,
     limit: u64,
@@ -55,7 +61,7 @@ pub fn check<D: Digests, S: Source, O: Sink>(
     ensures write_fault { result ≡ Status.WriteFault → Rose (O.faults out.old) (O.faults out.new) }
 {
     match read_bundle(alloc, limit, source) {
-        Ok(intake) => conclude(alloc, d, &intake, out),
+        Ok(intake) => conclude(rt, alloc, d, &intake, out),
         Err(Stop::Memory) => Status::Memory,
         Err(Stop::ReadFault) => Status::ReadFault,
         Err(Stop::InputLimit) => Status::InputLimit { taken: limit },
@@ -63,7 +69,13 @@ pub fn check<D: Digests, S: Source, O: Sink>(
 }
 
 // Checks what was read, and writes the report.
-fn conclude<D: Digests, O: Sink>(alloc: Global, d: &D, intake: &Intake, out: &mut O) -> Status
+fn conclude<R: Threads + Sync, D: Digests + Sync, O: Sink>(
+    rt: &R,
+    alloc: Global,
+    d: &D,
+    intake: &Intake,
+    out: &mut O,
+) -> Status
     ensures outcome { IsOutcome result }
     ensures words { result ≢ Status.Usage }
     ensures no_read { result ≢ Status.ReadFault }
@@ -74,13 +86,14 @@ fn conclude<D: Digests, O: Sink>(alloc: Global, d: &D, intake: &Intake, out: &mu
     ensures write_fault { result ≡ Status.WriteFault → Rose (O.faults out.old) (O.faults out.new) }
 {
     match intake.header {
-        Some(header) if header.verifiers == 1 => certify(alloc, d, &header, intake, out),
-        _ => written(&[], &[], Status::BadBundle { offset: 0 }, out),
+        Some(header) => certify(rt, alloc, d, &header, intake, out),
+        None => written(&[], &[], Status::BadBundle { offset: 0 }, out),
     }
 }
 
-// Checks the log of the one verifier, and writes the report.
-fn certify<D: Digests, O: Sink>(
+// Runs the logs, and writes the report of what they came to.
+fn certify<R: Threads + Sync, D: Digests + Sync, O: Sink>(
+    rt: &R,
     alloc: Global,
     d: &D,
     header: &Header,
@@ -88,23 +101,45 @@ fn certify<D: Digests, O: Sink>(
     out: &mut O,
 ) -> Status
     requires header { IsHeader header.now }
+    requires count { vec_len intake.now.logs ≡ header.now.verifiers }
     ensures outcome { IsOutcome result }
     ensures words { result ≢ Status.Usage }
     ensures no_read { result ≢ Status.ReadFault }
     ensures no_limit { (taken : ℕ) → result ≢ Status.InputLimit taken }
     ensures report { Reports result (O.held out.old) (O.held out.new)
-        (verdict_of (log_course (D.text_digest d.now) (D.element_lanes d.now) (opening_machine 0 header.now) intake.now.log.items) intake.now.bad) }
+        (verdict_of_runs (courses_of (D.text_digest d.now) (D.element_lanes d.now) header.now (logs_in intake.now)) intake.now.bad) }
     ensures unwritten { (IsEnd result → ⊥) → result ≢ Status.WriteFault → out.new ≡ out.old }
     ensures write_fault { result ≡ Status.WriteFault → Rose (O.faults out.old) (O.faults out.new) }
 {
-    let run = match run_log(alloc, d, 0, header, &intake.log) {
-        Ok(run) => run,
+    match run_logs(rt, alloc, d, header, &intake.logs) {
+        Ok(runs) => report_runs(alloc, &runs, intake.bad, out),
+        Err(_) => Status::Memory,
+    }
+}
+
+// Writes the report of what all logs came to.
+fn report_runs<O: Sink>(alloc: Global, runs: &[Run], bad: Option<u64>, out: &mut O) -> Status
+    requires few { length runs.now ≤ 64 }
+    requires parts { (index : ℕ) → CanBeJudged (length runs.now) (parts_at index (map (λ run. run.course) runs.now)) }
+    ensures outcome { IsOutcome result }
+    ensures words { result ≢ Status.Usage }
+    ensures no_read { result ≢ Status.ReadFault }
+    ensures no_limit { (taken : ℕ) → result ≢ Status.InputLimit taken }
+    ensures report { Reports result (O.held out.old) (O.held out.new) (verdict_of_runs (map (λ run. run.course) runs.now) bad) }
+    ensures unwritten { (IsEnd result → ⊥) → result ≢ Status.WriteFault → out.new ≡ out.old }
+    ensures write_fault { result ≡ Status.WriteFault → Rose (O.faults out.old) (O.faults out.new) }
+{
+    let judged = match judge(alloc, runs) {
+        Ok(judged) => judged,
         Err(_) => return Status::Memory,
     };
-    let parts = run.parts();
-    let certified = certified_count(parts);
-    let status = exit_of(parts, certified, run.refused(), intake.bad);
-    written(&parts[..certified], run.ops(), status, out)
+    let certified = certified_parts(runs, judged.count);
+    let operations = match operations_up_to(alloc, runs, last_epoch(certified)) {
+        Ok(operations) => operations,
+        Err(_) => return Status::Memory,
+    };
+    let status = exit_of(&judged, first_refused(runs), bad);
+    written(certified, &operations, status, out)
 }
 
 // Writes a report that ends so, and answers how the run ended.

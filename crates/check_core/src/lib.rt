@@ -11,8 +11,10 @@
 
 mod checking;
 mod intake;
+mod judging;
 mod reading;
 mod report;
+mod running;
 #[cfg(test)]
 mod tests;
 

@@ -1,14 +1,17 @@
-//! A source, read to its end or to the first bad frame.
-ghost use Rattle.std.specs.Prelude.{◌≡◌, ◌≢◌, ℕ, ◌+◌, ◌-◌, ◌^◌, ◌<◌, ◌≤◌, List, [], ◌++◌, length, drop, unwrap_or, false, take, Some, None, IfOk, IfSome, IsNone, OnOk, OnErr, Err, vec_len};
+//! A source, read to its end or to the first bad frame, and the logs joined.
+ghost use Rattle.std.specs.Prelude.{◌≡◌, ◌≢◌, ℕ, ◌+◌, ◌-◌, ◌^◌, ◌<◌, ◌≤◌, List, [], ◌++◌, length, map, drop, unwrap_or, false, take, Some, None, IfOk, IfSome, IsNone, OnOk, OnErr, Err, vec_len};
 ghost use Rattle.fv_outside.specs.Faults.{Counts, Rose};
 ghost use Rattle.bundle_frames.specs.Bundle.{bundle_of};
 ghost use Rattle.bundle_frames.specs.Progress.{position, rest_of};
-ghost use Rattle.check_core.specs.Intake.{behind, behind_at, logged, logged_of, Means};
+ghost use Rattle.lamport_clocks.specs.Header.{IsHeader};
+ghost use Rattle.check_core.specs.Logs.{empty_logs, appended};
+ghost use Rattle.check_core.specs.Intake.{behind_at, logs_in, logged, logged_of, Means};
 ghost use Rattle.check_core.specs.Taken.{TookAtMost, TookJust, ReadsOn};
 
 use crate::intake::{Intake, Stop};
 use bundle_frames::{Found, Splitter};
 use fv_outside::{Failed, Memory, Source};
+use lamport_clocks::Header;
 use std::alloc::{AllocError, Global};
 
 /// The most bytes that are read at a time.
@@ -27,12 +30,12 @@ pub fn read_bundle<S: Source>(alloc: Global, limit: u64, source: &mut S) -> Resu
     let mut room = new_room(alloc)?;
     let mut intake = Intake {
         header: None,
-        log: Vec::new(alloc),
+        logs: Vec::new(alloc),
         bad: None,
     };
     let mut taken = 0;
     'pieces: loop {
-        match read_turn(limit, taken, source, &mut room, &mut splitter, &mut intake) {
+        match read_turn(alloc, limit, taken, source, &mut room, &mut splitter, &mut intake) {
             Ok(Some(count)) => taken += count,
             Ok(None) => break,
             Err(stop) => return Err(stop),
@@ -51,6 +54,7 @@ fn new_room(alloc: Global) -> Result<Vec<u8>, AllocError>
 
 // Reads a piece and joins what is found in it. It answers how many bytes were read, if more is to be read.
 fn read_turn<S: Source>(
+    alloc: Global,
     limit: u64,
     taken: u64,
     source: &mut S,
@@ -69,7 +73,7 @@ fn read_turn<S: Source>(
     ensures header { OnOk result (intake.new.header ≡ splitter.new.header) }
     ensures took { IfOk result (λ turn. IfSome turn (λ count. TookJust count (S.left source.old) (S.left source.new))) }
     ensures means { OnOk result (Means (S.left source.old) (S.left source.new)
-        (behind_at intake.old.log.items splitter.old) (behind_at intake.new.log.items splitter.new)) }
+        (behind_at (logs_in intake.old) splitter.old) (behind_at (logs_in intake.new) splitter.new)) }
     ensures end { IfOk result (λ turn. IsNone turn → IfSome (S.left source.new) (λ left. rest_of splitter.new left ≡ rest_of splitter.new [])) }
     ensures last { result ≢ Err Stop.InputLimit → TookAtMost (limit - taken) (S.left source.old) (S.left source.new) }
     ensures fault { result ≡ Err Stop.ReadFault → Rose (S.faults source.old) (S.faults source.new) }
@@ -88,7 +92,7 @@ fn read_turn<S: Source>(
     if taken + read > limit {
         return Err(Stop::InputLimit);
     }
-    if take(splitter, intake, &room[..count])? {
+    if take(alloc, splitter, intake, &room[..count])? {
         return Ok(Some(read));
     }
     Ok(None)
@@ -120,18 +124,23 @@ fn read_some<S: Source>(source: &mut S, room: &mut [u8], want: usize) -> Result<
 }
 
 // Feeds a piece, and joins what is found in it. It answers whether more is to be read.
-fn take(splitter: &mut Splitter, intake: &mut Intake, piece: &[u8]) -> Result<bool, Memory>
+fn take(
+    alloc: Global,
+    splitter: &mut Splitter,
+    intake: &mut Intake,
+    piece: &[u8],
+) -> Result<bool, Memory>
     requires fits { position splitter.old + length piece.now < 2 ^ 63 }
     requires header { intake.old.header ≡ splitter.old.header }
-    ensures rest { OnOk result ((more : List ℕ) → behind intake.old.log.items (rest_of splitter.old (piece.now ++ more))
-        ≡ behind intake.new.log.items (rest_of splitter.new more)) }
+    ensures rest { OnOk result ((more : List ℕ) → behind_at (logs_in intake.old) splitter.old (piece.now ++ more)
+        ≡ behind_at (logs_in intake.new) splitter.new more) }
     ensures last { IfOk result (λ more_due. more_due ≡ false → (more : List ℕ) → rest_of splitter.new more ≡ rest_of splitter.new []) }
     ensures header { OnOk result (intake.new.header ≡ splitter.new.header) }
     ensures position { OnOk result (position splitter.new ≤ position splitter.old + length piece.now) }
 {
     let mut done = 0;
     while done < piece.len() {
-        match take_one(splitter, intake, &piece[done..])? {
+        match take_one(alloc, splitter, intake, &piece[done..])? {
             Some(taken) => done += taken,
             None => return Ok(false),
         }
@@ -141,6 +150,7 @@ fn take(splitter: &mut Splitter, intake: &mut Intake, piece: &[u8]) -> Result<bo
 
 // Feeds a piece once, and answers how much of it was taken, if there may be more to read.
 fn take_one(
+    alloc: Global,
     splitter: &mut Splitter,
     intake: &mut Intake,
     piece: &[u8],
@@ -149,8 +159,8 @@ fn take_one(
     requires some { 0 < length piece.now }
     requires header { intake.old.header ≡ splitter.old.header }
     ensures last { IfOk result (λ taken. IsNone taken → (more : List ℕ) → rest_of splitter.new more ≡ rest_of splitter.new []) }
-    ensures rest { IfOk result (λ taken. (more : List ℕ) → behind intake.old.log.items (rest_of splitter.old (piece.now ++ more))
-        ≡ behind intake.new.log.items (rest_of splitter.new (drop (unwrap_or taken (length piece.now)) piece.now ++ more))) }
+    ensures rest { IfOk result (λ taken. (more : List ℕ) → behind_at (logs_in intake.old) splitter.old (piece.now ++ more)
+        ≡ behind_at (logs_in intake.new) splitter.new (drop (unwrap_or taken (length piece.now)) piece.now ++ more)) }
     ensures header { OnOk result (intake.new.header ≡ splitter.new.header) }
     ensures position { IfOk result (λ taken. position splitter.new ≤ position splitter.old + unwrap_or taken (length piece.now)) }
     ensures taken { IfOk result (λ taken. IfSome taken (λ n. (0 < n) × (n ≤ length piece.now))) }
@@ -160,14 +170,46 @@ fn take_one(
         Found::Nothing => Ok(Some(fed.taken)),
         Found::Bad(_) => Ok(None),
         Found::Head(header) => {
-            intake.header = Some(header);
+            *intake = begun(alloc, header)?;
             Ok(Some(fed.taken))
         }
         Found::Frame(verifier) => {
-            if verifier == 0 {
-                intake.log.extend_from_slice(splitter.body())?;
-            }
+            append(&mut intake.logs, verifier, splitter.body())?;
             Ok(Some(fed.taken))
         }
     }
+}
+
+// What is read of a bundle once its header is.
+fn begun(alloc: Global, header: Header) -> Result<Intake, Memory>
+    requires header { IsHeader header }
+    ensures header { IfOk result (λ intake. intake.header ≡ Some header) }
+    ensures logs { IfOk result (λ intake. logs_in intake ≡ empty_logs header.verifiers) }
+{
+    Ok(Intake {
+        header: Some(header),
+        logs: new_logs(alloc, header.verifiers)?,
+        bad: None,
+    })
+}
+
+// So many logs of no bytes.
+fn new_logs(alloc: Global, count: u16) -> Result<Vec<Vec<u8>>, AllocError>
+    ensures len { IfOk result (λ logs. vec_len logs ≡ count) }
+    ensures empty { IfOk result (λ logs. map (λ log. log.items) logs.items ≡ empty_logs count) }
+{
+    let mut logs = Vec::new(alloc);
+    for _ in 0..count {
+        logs.push(Vec::new(alloc))?;
+    }
+    Ok(logs)
+}
+
+// Appends bytes to the log of a verifier.
+fn append(logs: &mut Vec<Vec<u8>>, verifier: u16, bytes: &[u8]) -> Result<(), AllocError>
+    requires verifier { verifier < vec_len logs.old }
+    ensures len { vec_len logs.new ≡ vec_len logs.old }
+    ensures appended { OnOk result (map (λ log. log.items) logs.new.items ≡ appended verifier bytes.now (map (λ log. log.items) logs.old.items)) }
+{
+    logs[verifier as usize].extend_from_slice(bytes)
 }

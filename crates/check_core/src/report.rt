@@ -1,65 +1,123 @@
-//! What is certified of a verifier's run, and how its report is written.
-ghost use Rattle.std.specs.Prelude.{◌≡◌, ◌≤◌, ◌++◌, drop, length, OnOk, OnErr};
+//! What is certified of all runs, and how their report is written.
+ghost use Rattle.std.specs.Prelude.{◌≡◌, ◌≤◌, ◌++◌, map, take, length, OnOk, OnErr, IfOk};
 ghost use Rattle.fv_outside.specs.Faults.{Counts};
 ghost use Rattle.fv_outside.specs.Written.{Grows, GrowsByFront};
 ghost use Rattle.report_text.specs.Page.{Passes};
-ghost use Rattle.check_core.specs.Report.{is_balanced, balanced_count, exit_by, front_count, epoch_text, report_of};
+ghost use Rattle.check_core.specs.Report.{front_count, epoch_text, report_of};
+ghost use Rattle.check_core.specs.RunReport.{operations_among};
+ghost use Rattle.check_core.specs.Judged.{first_parts, last_epoch, operations_by, refused_log, ends_by};
 ghost use Rattle.check_core.specs.Outcomes.{IsEnd, IsOutcome};
 
-use fv_outside::{Failed, Sink};
+use crate::judging::Judged;
+use fv_outside::{Failed, Memory, Sink};
 use multiset_sum::Part;
 use record_text::{Operation, Refusal};
 use report_text::{Page, Status, epoch_line, last_line, operation_line};
+use stamp_order::merge;
+use std::alloc::{AllocError, Global};
+use verifier_run::Run;
 
-// Whether what was added of a sealed epoch is what was evicted.
-fn is_balanced(part: &Part) -> bool
-    ensures value { result ≡ is_balanced part.now }
-{
-    part.added == part.evicted
+/// A log that is refused: whose, the number of the refused command, and why.
+#[derive(Clone, Copy, Debug, PartialEq, Eq)]
+pub struct RefusedLog {
+    pub verifier: u16,
+    pub index: u64,
+    pub refusal: Refusal,
 }
 
-/// How many epochs are certified: those that are sealed, up to the first whose sums differ.
-pub fn certified_count(parts: &[Part]) -> usize
-    ensures value { result ≡ balanced_count parts.now }
-    ensures within { result ≤ length parts.now }
+/// The parts of so many sealed epochs, as the first run handed them in.
+pub fn certified_parts(runs: &[Run], count: usize) -> &[Part]
+    requires count { count ≤ length (first_parts (map (λ run. run.course) runs.now)) }
+    ensures value { result.now ≡ take count (first_parts (map (λ run. run.course) runs.now)) }
 {
-    let mut count = 0;
-    for part in parts {
-        if !is_balanced(part) {
-            return count;
-        }
-        count += 1;
+    match runs.first() {
+        Some(run) => &run.parts()[..count],
+        None => &[],
     }
-    count
 }
 
-/// How a report ends of whose sealed epochs so many are certified, by the refusal and what is bad.
-pub fn exit_of(
-    parts: &[Part],
-    certified: usize,
-    refused: Option<(u64, Refusal)>,
-    bad: Option<u64>,
-) -> Status
-    ensures value { result ≡ exit_by certified (drop certified parts.now) refused bad }
+/// The epoch of the last of these parts.
+pub fn last_epoch(parts: &[Part]) -> Option<u32>
+    ensures value { result ≡ last_epoch parts.now }
+{
+    match parts.last() {
+        Some(part) => Some(part.epoch),
+        None => None,
+    }
+}
+
+/// The operations of all runs up to an epoch, in the one order of their moments; none where there is no epoch.
+pub fn operations_up_to(
+    alloc: Global,
+    runs: &[Run],
+    epoch: Option<u32>,
+) -> Result<Vec<Operation>, Memory>
+    ensures value { IfOk result (λ ops. ops.items ≡ operations_by epoch (map (λ run. run.course) runs.now)) }
+{
+    match epoch {
+        Some(epoch) => merge(alloc, &all_operations(alloc, runs)?, epoch),
+        None => Ok(Vec::new(alloc)),
+    }
+}
+
+// The operations of all runs, one run after another.
+fn all_operations(alloc: Global, runs: &[Run]) -> Result<Vec<Operation>, AllocError>
+    ensures value { IfOk result (λ ops. ops.items ≡ operations_among (map (λ run. run.course) runs.now)) }
+{
+    let mut all = Vec::new(alloc);
+    for run in runs {
+        append_copies(&mut all, run.ops())?;
+    }
+    Ok(all)
+}
+
+// Appends copies of operations.
+fn append_copies(all: &mut Vec<Operation>, operations: &[Operation]) -> Result<(), AllocError>
+    ensures items { OnOk result (all.new.items ≡ all.old.items ++ operations.now) }
+{
+    for operation in operations {
+        all.push(operation.copy())?;
+    }
+    Ok(())
+}
+
+/// The first of the logs that is refused.
+pub fn first_refused(runs: &[Run]) -> Option<RefusedLog>
+    requires few { length runs.now ≤ 64 }
+    ensures value { result ≡ refused_log 0 (map (λ run. run.course) runs.now) }
+{
+    for (number, run) in runs.iter().enumerate() {
+        if let Some((index, refusal)) = run.refused() {
+            return Some(RefusedLog {
+                verifier: number as u16,
+                index,
+                refusal,
+            });
+        }
+    }
+    None
+}
+
+/// How a report ends: an epoch whose sums differ goes before a refused log, and that before what is bad.
+pub fn exit_of(judged: &Judged, refused: Option<RefusedLog>, bad: Option<u64>) -> Status
+    ensures value { result ≡ ends_by judged.now.count judged.now.unbalanced refused bad }
     ensures outcome { IsOutcome result }
     ensures end { IsEnd result }
 {
-    if let Some(part) = parts.get(certified) {
-        return Status::Unbalanced {
-            epoch: part.epoch,
-            added: part.added,
-            evicted: part.evicted,
-        };
-    }
-    match (refused, bad) {
-        (Some((index, refusal)), _) => Status::Refused {
-            verifier: 0,
-            index,
-            refusal,
+    match (judged.unbalanced, refused, bad) {
+        (Some(uneven), _, _) => Status::Unbalanced {
+            epoch: uneven.epoch,
+            added: uneven.added,
+            evicted: uneven.evicted,
         },
-        (None, Some(offset)) => Status::BadBundle { offset },
-        (None, None) => Status::Done {
-            epochs: certified as u64,
+        (None, Some(log), _) => Status::Refused {
+            verifier: log.verifier,
+            index: log.index,
+            refusal: log.refusal,
+        },
+        (None, None, Some(offset)) => Status::BadBundle { offset },
+        (None, None, None) => Status::Done {
+            epochs: judged.count as u64,
         },
     }
 }
