@@ -9,5 +9,6 @@ pub mod SealedLemmas
 pub mod PartLemmas
 pub mod EpochTextLemmas
 pub mod BundleReportLemmas
+pub mod RunReportLemmas
 pub mod VerdictLemmas
 pub mod HeadlineLemmas

@@ -5,4 +5,5 @@ pub mod Outcomes
 pub mod BundleReport
 pub mod Verdict
 pub mod Headline
+pub mod RunReport
 pub mod Report
