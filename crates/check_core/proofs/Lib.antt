@@ -10,5 +10,6 @@ pub mod PartLemmas
 pub mod EpochTextLemmas
 pub mod BundleReportLemmas
 pub mod RunReportLemmas
+pub mod RunTextLemmas
 pub mod VerdictLemmas
 pub mod HeadlineLemmas

@@ -107,7 +107,7 @@ module _ (digest lanes : List ℕ → List ℕ) (header : Header) where
       histories_from digest lanes header number (map (λ (log : Log). log.commands) (map (read_log short_keys) logs))
 
   -- the operations of all courses are those of all events
-  operations-among : (number : ℕ) (logs : List (List ℕ))
+  pub operations-among : (number : ℕ) (logs : List (List ℕ))
       → operations_among (courses_from digest lanes header number logs)
       ≡ operations_in (all_events (told_from number logs))
   operations-among number [] = refl
