@@ -11,5 +11,6 @@ pub mod EpochTextLemmas
 pub mod BundleReportLemmas
 pub mod RunReportLemmas
 pub mod RunTextLemmas
+pub mod SmallPartLemmas
 pub mod VerdictLemmas
 pub mod HeadlineLemmas
