@@ -12,5 +12,6 @@ pub mod BundleReportLemmas
 pub mod RunReportLemmas
 pub mod RunTextLemmas
 pub mod SmallPartLemmas
+pub mod OrderSumLemmas
 pub mod VerdictLemmas
 pub mod HeadlineLemmas
