@@ -13,5 +13,6 @@ pub mod RunReportLemmas
 pub mod RunTextLemmas
 pub mod SmallPartLemmas
 pub mod OrderSumLemmas
+pub mod EpochPartLemmas
 pub mod VerdictLemmas
 pub mod HeadlineLemmas
