@@ -14,5 +14,6 @@ pub mod RunTextLemmas
 pub mod SmallPartLemmas
 pub mod OrderSumLemmas
 pub mod EpochPartLemmas
+pub mod EpochVerdictLemmas
 pub mod VerdictLemmas
 pub mod HeadlineLemmas
