@@ -15,5 +15,6 @@ pub mod SmallPartLemmas
 pub mod OrderSumLemmas
 pub mod EpochPartLemmas
 pub mod EpochVerdictLemmas
+pub mod CertifiedCountLemmas
 pub mod VerdictLemmas
 pub mod HeadlineLemmas
