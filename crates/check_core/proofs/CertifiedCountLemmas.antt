@@ -1,17 +1,16 @@
 -- How many epochs are certified, verdict after verdict, and how the report then ends.
-use Rattle.std.proofs.Common.{◌≡◌, ℕ, zero, suc, ◌+◌, ◌-◌, ◌<◌, ◌≤◌, Bool, if◌then◌else◌, List, length, map, Option, sym, ◌∙◌, ap, zero-add, add-zero, arith}
+use Rattle.std.proofs.Common.{◌≡◌, ℕ, suc, ◌+◌, ◌-◌, ◌≤◌, Bool, if◌then◌else◌, List, length, map, Option, sym, ◌∙◌, ap, zero-add, add-zero, arith}
 use Rattle.lamport_clocks.specs.declared.header.Header.{Header}
 use Rattle.record_text.specs.Format.{short_keys}
 use Rattle.log_codec.specs.Log.{read_log}
 use Rattle.multiset_sum.specs.Tally.{Tally}
 use Rattle.epoch_gather.specs.declared.outcome.Verdict.TheVariants.{Balanced, Unbalanced, Missing}
-use Rattle.report_text.specs.declared.status.Status.{Status}
 use Rattle.report_text.specs.declared.status.Status.TheVariants as statuses
 use Rattle.soundness.specs.History.{Event}
-use Rattle.soundness.specs.Certified.{order_of, added_in, evicted_in, sum_over, sealed_by_all, is_balanced, balanced_from, certified_count}
+use Rattle.soundness.specs.Certified.{order_of, added_in, sum_over, sealed_by_all, is_balanced, balanced_from, certified_count}
 use Rattle.check_core.specs.BundleReport.{done_or_bad, status_or, exit_of, histories_in}
 use Rattle.check_core.specs.RunReport.{courses_of, first_refused}
-use Rattle.check_core.proofs.EpochVerdictLemmas.{verdict_at, verdict-balanced, verdict-unbalanced, verdict-missing}
+use Rattle.check_core.proofs.EpochVerdictLemmas.{epoch_verdict, verdict-balanced, verdict-unbalanced, verdict-missing}
 use Rattle.check_core.proofs.RunTextLemmas.{exit-unbalanced, exit-whole}
 
 module _ (digest lanes : List ℕ → List ℕ) (header : Header) (logs : List (List ℕ)) where
@@ -44,7 +43,7 @@ module _ (digest lanes : List ℕ → List ℕ) (header : Header) (logs : List (
 
   module _ (whole : length logs ≡ header.verifiers) (some : 1 ≤ header.verifiers) (done : ℕ) where
     -- A balanced epoch is certified, and the count goes on.
-    pub counted-balanced : verdict_at digest lanes header logs done ≡ Balanced
+    pub counted-balanced : epoch_verdict digest lanes header logs done ≡ Balanced
         → counted_from (done + 1) ≡ counted_from done
     counted-balanced is =
         let told = verdict-balanced digest lanes header logs whole some done is in
@@ -61,7 +60,7 @@ module _ (digest lanes : List ℕ → List ℕ) (header : Header) (logs : List (
 
     -- At an unbalanced epoch the count ends.
     pub counted-unbalanced : (added evicted : Tally)
-        → verdict_at digest lanes header logs done ≡ Unbalanced added evicted → counted_from done ≡ done
+        → epoch_verdict digest lanes header logs done ≡ Unbalanced added evicted → counted_from done ≡ done
     counted-unbalanced added evicted is =
         let told = verdict-unbalanced digest lanes header logs whole some done added evicted is in
         let left = sealed_by_all histories - (done + 1) in
@@ -72,7 +71,7 @@ module _ (digest lanes : List ℕ → List ℕ) (header : Header) (logs : List (
         ∙ add-zero done
 
     -- So it does where a verifier is missing.
-    pub counted-missing : (verifier : ℕ) → verdict_at digest lanes header logs done ≡ Missing verifier
+    pub counted-missing : (verifier : ℕ) → epoch_verdict digest lanes header logs done ≡ Missing verifier
         → counted_from done ≡ done
     counted-missing verifier is =
         let past = verdict-missing digest lanes header logs whole some done verifier is in
@@ -84,7 +83,7 @@ module _ (digest lanes : List ℕ → List ℕ) (header : Header) (logs : List (
     -- With the sums of an unbalanced epoch, where those before it are balanced.
     pub ends-unbalanced : (bad : Option ℕ) (added evicted : Tally)
         → counted_from done ≡ certified_count lanes header.first histories
-        → verdict_at digest lanes header logs done ≡ Unbalanced added evicted
+        → epoch_verdict digest lanes header logs done ≡ Unbalanced added evicted
         → statuses.Unbalanced (header.first + done) added evicted
         ≡ exit_of digest lanes header (map (read_log short_keys) logs) histories bad
     ends-unbalanced bad added evicted count is =
@@ -98,7 +97,7 @@ module _ (digest lanes : List ℕ → List ℕ) (header : Header) (logs : List (
     -- Where a verifier is missing and the epochs before are balanced: with a refusal, or what is bad, or all is read.
     pub ends-missing : (bad : Option ℕ) (verifier : ℕ)
         → counted_from done ≡ certified_count lanes header.first histories
-        → verdict_at digest lanes header logs done ≡ Missing verifier
+        → epoch_verdict digest lanes header logs done ≡ Missing verifier
         → status_or (first_refused 0 (courses_of digest lanes header logs)) (done_or_bad done bad)
         ≡ exit_of digest lanes header (map (read_log short_keys) logs) histories bad
     ends-missing bad verifier count is =

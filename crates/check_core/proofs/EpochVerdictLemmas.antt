@@ -1,8 +1,8 @@
 -- The verdict on the parts of an epoch that all runs hand in is what the histories say of the epoch.
-use Rattle.std.proofs.Common.{◌≡◌, ◌⊎◌, ℕ, zero, suc, ◌+◌, ◌-◌, ◌<◌, ◌≤◌, ◌==◌, min, nat_lt, Bool, true, false, cond, ◌&&◌, ◌||◌, if◌then◌else◌, List, [], ◌∷◌, ◌++◌, length, map, fold, Option, Some, None, MatchOption, inl, inr, refl, sym, ◌∙◌, ap, subst, append-nil, append_assoc, add-zero, zero-add, arith}
+use Rattle.std.proofs.Common.{◌≡◌, ◌⊎◌, ℕ, suc, ◌+◌, ◌<◌, ◌≤◌, ◌==◌, nat_lt, Bool, true, false, cond, ◌&&◌, ◌||◌, if◌then◌else◌, List, [], ◌∷◌, ◌++◌, length, map, fold, Option, Some, None, MatchOption, inl, inr, refl, sym, ◌∙◌, ap, subst, append-nil, append_assoc, arith}
 use Rattle.std.specs.List.{AllByRecursion}
 use Rattle.std.specs.Str.{bytes_eq}
-use Rattle.std.proofs.lemmas.Bool.{cond_both, cases_lt, cases_eq, eq-eqb, and_from, true≢false}
+use Rattle.std.proofs.lemmas.Bool.{cases_lt, cases_eq, eq-eqb, and_from, true≢false}
 use Rattle.std.proofs.lemmas.Bool.Decides.{nat_tests}
 use Rattle.lamport_clocks.specs.declared.header.Header.{Header}
 use Rattle.record_text.specs.declared.element.Element.{Element}
@@ -15,11 +15,11 @@ use Rattle.multiset_sum.specs.Sum.{joined}
 use Rattle.epoch_gather.specs.declared.outcome.Verdict.{Verdict}
 use Rattle.epoch_gather.specs.declared.outcome.Verdict.TheVariants.{Balanced, Unbalanced, Missing}
 use Rattle.epoch_gather.specs.Parts.{of_epoch, has_part, lowest_missing, total}
-use Rattle.epoch_gather.specs.Verdict.{same_tally, verdict_by, verdict_of}
+use Rattle.epoch_gather.specs.Verdict.{verdict_by, verdict_of}
 use Rattle.epoch_gather.proofs.VerdictLemmas.{lowest_missing-is}
 use Rattle.stamp_order.proofs.InOrderLemmas.{every-weaker}
 use Rattle.soundness.specs.History.{Event}
-use Rattle.soundness.specs.Certified.{all_events, order_of, added_by, evicted_by, added_in, evicted_in, sum_over, same_sum, sealed_count, sealed_by_all, is_balanced, balanced_from, certified_count}
+use Rattle.soundness.specs.Certified.{all_events, order_of, added_by, evicted_by, added_in, evicted_in, sum_over, sealed_count, sealed_by_all, is_balanced}
 use Rattle.check_core.specs.BundleReport.{histories_in}
 use Rattle.check_core.specs.RunReport.{courses_of, parts_at}
 use Rattle.check_core.proofs.PartLemmas.{part_of}
@@ -307,13 +307,13 @@ module _ (digest lanes : List ℕ → List ℕ) (header : Header) (logs : List (
   order = order_of histories
 
   -- the verdict on an epoch by the parts of the runs
-  abbrev pub verdict_at : ℕ → Verdict
-  verdict_at index =
+  abbrev pub epoch_verdict : ℕ → Verdict
+  epoch_verdict index =
       verdict_of header.verifiers (header.first + index) (parts_at index (courses_of digest lanes header logs))
 
   module _ (whole : length logs ≡ header.verifiers) (some : 1 ≤ header.verifiers) (index : ℕ) where
     -- The verdict is what the histories say.
-    pub verdict-courses : Tells lanes header.first index histories (verdict_at index)
+    pub verdict-courses : Tells lanes header.first index histories (epoch_verdict index)
     verdict-courses =
         let all = told_from digest lanes header 0 logs in
         let count = told-length digest lanes header 0 logs in
@@ -325,23 +325,23 @@ module _ (digest lanes : List ℕ → List ℕ) (header : Header) (logs : List (
         (verdict_told lanes header.first index all (omega (arith, count, whole, some))))
 
     -- Where it is balanced, all have sealed the epoch, and its sums are one.
-    pub verdict-balanced : verdict_at index ≡ Balanced
+    pub verdict-balanced : epoch_verdict index ≡ Balanced
         → (index < sealed_by_all histories) × (is_balanced lanes order (header.first + index) ≡ true)
     verdict-balanced is = go verdict-courses
       where
-        go : Tells lanes header.first index histories (verdict_at index)
+        go : Tells lanes header.first index histories (epoch_verdict index)
             → (index < sealed_by_all histories) × (is_balanced lanes order (header.first + index) ≡ true)
         go (inl sealed) = (sealed.0, balanced_choice _ _ _ (sym sealed.1 ∙ is))
         go (inr missing) = absurd (missing_or_balanced missing.1.0 (sym missing.1.1 ∙ is))
 
     -- Where it is unbalanced, all have sealed the epoch, and its sums differ and are these.
-    pub verdict-unbalanced : (added evicted : Tally) → verdict_at index ≡ Unbalanced added evicted
+    pub verdict-unbalanced : (added evicted : Tally) → epoch_verdict index ≡ Unbalanced added evicted
         → (index < sealed_by_all histories) × (is_balanced lanes order (header.first + index) ≡ false)
         × (added ≡ sum_over lanes (added_in (header.first + index) order))
         × (evicted ≡ sum_over lanes (evicted_in (header.first + index) order))
     verdict-unbalanced added evicted is = go verdict-courses
       where
-        go : Tells lanes header.first index histories (verdict_at index)
+        go : Tells lanes header.first index histories (epoch_verdict index)
             → (index < sealed_by_all histories) × (is_balanced lanes order (header.first + index) ≡ false)
             × (added ≡ sum_over lanes (added_in (header.first + index) order))
             × (evicted ≡ sum_over lanes (evicted_in (header.first + index) order))
@@ -351,9 +351,9 @@ module _ (digest lanes : List ℕ → List ℕ) (header : Header) (logs : List (
         go (inr missing) = absurd (missing_or_unbalanced missing.1.0 added evicted (sym missing.1.1 ∙ is))
 
     -- Where a verifier is missing, not all have sealed the epoch.
-    pub verdict-missing : (verifier : ℕ) → verdict_at index ≡ Missing verifier → sealed_by_all histories ≤ index
+    pub verdict-missing : (verifier : ℕ) → epoch_verdict index ≡ Missing verifier → sealed_by_all histories ≤ index
     verdict-missing verifier is = go verdict-courses
       where
-        go : Tells lanes header.first index histories (verdict_at index) → sealed_by_all histories ≤ index
+        go : Tells lanes header.first index histories (epoch_verdict index) → sealed_by_all histories ≤ index
         go (inl sealed) = absurd (never_missing _ _ _ verifier (sym sealed.1 ∙ is))
         go (inr missing) = missing.0

@@ -1,6 +1,6 @@
 -- The refusal and the operations of all verifiers' runs are those of their histories.
-use Rattle.std.proofs.Common.{◌≡◌, ℕ, zero, suc, ◌+◌, nat_le, Bool, true, false, cond, List, [], ◌∷◌, ◌++◌, length, map, filter, Option, refl, sym, ◌∙◌, ap, zero-add}
-use Rattle.std.specs.List.{flat_map, AllByRecursion}
+use Rattle.std.proofs.Common.{◌≡◌, ℕ, zero, suc, ◌+◌, nat_le, Bool, true, false, cond, List, [], ◌∷◌, ◌++◌, length, map, Option, refl, sym, ◌∙◌, ap, zero-add}
+use Rattle.std.specs.List.{AllByRecursion}
 use Rattle.std.specs.Option.{option_map, option_or}
 use Rattle.std.proofs.lemmas.Grind.{flat_map-append}
 use Rattle.std.proofs.lemmas.List.Elements.{filter-append}
@@ -10,17 +10,15 @@ use Rattle.record_text.specs.declared.refusal.Refusal.{Refusal}
 use Rattle.record_text.specs.Format.{short_keys}
 use Rattle.log_codec.specs.Log.{Log, read_log}
 use Rattle.report_text.specs.declared.status.Status.{Status}
-use Rattle.stamp_order.specs.declared.moment.Moment.{Moment}
 use Rattle.stamp_order.specs.Merged.{merged, up_to}
 use Rattle.stamp_order.specs.Operations.{moment_of, merged_up_to}
 use Rattle.stamp_order.proofs.MergedLemmas.{merged-filter, merged-flat_map}
 use Rattle.verifier_commands.specs.Change.{Change, joins, leaves, comes, goes, defers, reads, writes, turns}
 use Rattle.verifier_commands.specs.Machine.{opening_machine}
 use Rattle.verifier_run.specs.Trace.{Trace, trace}
-use Rattle.verifier_run.specs.Course.{Course}
-use Rattle.verifier_run.specs.LogCourse.{refusal_by, course_of, log_course}
-use Rattle.soundness.specs.History.{Event, log_events, log_refusal, histories_from}
-use Rattle.soundness.specs.Certified.{event_moment, all_events, order_of, order_up_to, order_within, operations_by, operations_in}
+use Rattle.verifier_run.specs.LogCourse.{refusal_by, log_course}
+use Rattle.soundness.specs.History.{Event, log_events, histories_from}
+use Rattle.soundness.specs.Certified.{event_moment, all_events, order_up_to, order_within, operations_by, operations_in}
 use Rattle.check_core.specs.BundleReport.{refused_in, refused_status, refused_among, histories_in}
 use Rattle.check_core.specs.RunReport.{courses_from, courses_of, operations_among, operations_within, first_refused}
 use Rattle.check_core.proofs.HistoryRunLemmas.{trace-operations, trace-accepted, trace-refused}

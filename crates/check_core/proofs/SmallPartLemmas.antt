@@ -1,5 +1,5 @@
 -- The parts that a verifier hands in under a good header are small: each element that it counts raises its clock.
-use Rattle.std.proofs.Common.{◌≡◌, ◌⊎◌, ℕ, zero, suc, ◌+◌, ◌<◌, ◌≤◌, ◌^◌, ◌==◌, List, [], ◌∷◌, ◌++◌, slice_get, Option, Some, None, Ok, Err, inl, inr, refl, sym, ap, subst, arith}
+use Rattle.std.proofs.Common.{◌≡◌, ℕ, zero, suc, ◌<◌, ◌^◌, ◌==◌, List, [], ◌∷◌, slice_get, Option, Some, None, Ok, Err, inl, inr, refl, sym, ap, subst, arith}
 use Rattle.std.specs.List.{AllByRecursion}
 use Rattle.std.specs.Option.{option_to_list}
 use Rattle.std.proofs.lemmas.Bool.{cond_both}
@@ -16,17 +16,15 @@ use Rattle.log_codec.specs.declared.command.Command.{Command}
 use Rattle.log_codec.specs.Log.{read_log}
 use Rattle.multiset_sum.specs.declared.part.Part.{Part}
 use Rattle.stamp_order.proofs.InOrderLemmas.{every-append}
-use Rattle.verifier_commands.specs.declared.state.State.{State}
 use Rattle.verifier_commands.specs.declared.sums.Sums.{Sums}
 use Rattle.verifier_commands.specs.Change.{Change, joins, leaves, comes, goes, defers, reads, writes, turns}
 use Rattle.verifier_commands.specs.Outcome.{outcome_of}
-use Rattle.verifier_commands.specs.Sums.{zero_sums, lanes_of, add_to, evict_to, turn_sums, sums_after}
+use Rattle.verifier_commands.specs.Sums.{lanes_of, add_to, evict_to, turn_sums, sums_after}
 use Rattle.verifier_commands.specs.Transition.{Rules, Step, transition}
 use Rattle.verifier_commands.specs.Machine.{Machine, AreBounded, CountsAdd, opening_machine, effect_of, rules_for}
 use Rattle.verifier_commands.proofs.BoundLemmas.{bounded_add, bounded_evict, bounded_turn}
 use Rattle.multiset_sum.specs.Sum.{with_lanes}
 use Rattle.verifier_run.specs.Trace.{trace, parts_of, part_in}
-use Rattle.verifier_run.specs.Course.{Course}
 use Rattle.soundness.proofs.HistoryLemmas.{Ticks, ticks_step}
 use Rattle.check_core.specs.RunReport.{courses_from, parts_at}
 use Rattle.check_core.proofs.HistoryRunLemmas.{changed, step_trace}
