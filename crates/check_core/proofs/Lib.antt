@@ -9,5 +9,12 @@ pub mod SealedLemmas
 pub mod PartLemmas
 pub mod EpochTextLemmas
 pub mod BundleReportLemmas
+pub mod RunReportLemmas
+pub mod RunTextLemmas
+pub mod SmallPartLemmas
+pub mod OrderSumLemmas
+pub mod EpochPartLemmas
+pub mod EpochVerdictLemmas
+pub mod CertifiedCountLemmas
 pub mod VerdictLemmas
 pub mod HeadlineLemmas
