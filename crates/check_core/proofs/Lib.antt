@@ -8,7 +8,6 @@ pub mod CountedLemmas
 pub mod SealedLemmas
 pub mod PartLemmas
 pub mod EpochTextLemmas
-pub mod BundleReportLemmas
 pub mod RunReportLemmas
 pub mod RunTextLemmas
 pub mod SmallPartLemmas

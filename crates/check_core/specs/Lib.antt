@@ -6,7 +6,6 @@ pub mod Outcomes
 pub mod BundleReport
 pub mod Verdict
 pub mod Headline
-pub mod RunReport
 pub mod Report
 pub mod RunReport
 pub mod Judged
