@@ -1,9 +1,13 @@
 -- What is left of a source, and what was read of it, mean the bundle that it had.
-use Rattle.std.proofs.Common.{◌≡◌, ◌≢◌, ℕ, zero, suc, ◌+◌, ◌<◌, List, [], ◌∷◌, ◌++◌, length, take, map, Option, Some, None, IfSome, eqb, refl, sym, ◌∙◌, ap, subst, append-nil, append_assoc, if◌then◌else◌, arith}
+use Rattle.std.proofs.Common.{◌≡◌, ◌≢◌, ℕ, zero, suc, ◌+◌, ◌<◌, List, [], ◌∷◌, ◌++◌, length, take, drop, map, Option, Some, None, IfSome, eqb, refl, sym, ◌∙◌, ap, subst, append-nil, append_assoc, if◌then◌else◌, arith}
 use Rattle.std.proofs.lemmas.Bool.{eq-eqb, ne_eqb}
 use Rattle.std.specs.Io.KnownBytes.{Consumes, IsAtEnd}
 use Rattle.lamport_clocks.specs.declared.header.Header.{Header}
-use Rattle.bundle_frames.specs.Bundle.{Bundle, Frame, body_for, log_of, bundle_of}
+use Rattle.bundle_frames.specs.Bundle.{Bundle, body_for, log_of, bundle_of}
+use Rattle.bundle_frames.specs.Bundle.{Frame as FrameOf}
+use Rattle.bundle_frames.specs.declared.found.Found.{Found}
+use Rattle.bundle_frames.specs.declared.found.Found.TheVariants.{Frame, Bad}
+use Rattle.bundle_frames.specs.Finds.{found_then, progress_after}
 use Rattle.bundle_frames.specs.Progress.{Progress, start, rest_of}
 use Rattle.check_core.specs.Logs.{log_count, joined_from, appended, logs_so_far}
 use Rattle.check_core.specs.Intake.{Logged, Means, behind, behind_at, logged_of}
@@ -17,7 +21,7 @@ joined_none number (log ∷ logs) =
     ap (λ (l : List ℕ). l ∷ joined_from (suc number) logs []) (append-nil log) ∙ ap (λ (more : List (List ℕ)). log ∷ more) (joined_none (suc number) logs)
 
 -- a frame of a verifier before these adds nothing to their logs
-joined_other : (number : ℕ) (logs : List (List ℕ)) (frame : Frame) (frames : List Frame) → frame.verifier < number
+joined_other : (number : ℕ) (logs : List (List ℕ)) (frame : FrameOf) (frames : List FrameOf) → frame.verifier < number
     → joined_from number logs (frame ∷ frames) ≡ joined_from number logs frames
 joined_other number [] frame frames before = refl
 joined_other number (log ∷ logs) frame frames before =
@@ -26,7 +30,7 @@ joined_other number (log ∷ logs) frame frames before =
     ∙ ap (λ (more : List (List ℕ)). (log ++ log_of number frames) ∷ more) (joined_other (suc number) logs frame frames (omega (arith, before)))
 
 -- a frame adds its body to its verifier's log
-pub joined_frame : (number index : ℕ) (bytes : List ℕ) (logs : List (List ℕ)) (frame : Frame) (frames : List Frame) → frame.verifier ≡ number + index → frame.body ≡ bytes
+pub joined_frame : (number index : ℕ) (bytes : List ℕ) (logs : List (List ℕ)) (frame : FrameOf) (frames : List FrameOf) → frame.verifier ≡ number + index → frame.body ≡ bytes
     → index < length logs
     → joined_from number logs (frame ∷ frames) ≡ joined_from number (appended index bytes logs) frames
 joined_frame number index bytes [] frame frames is body within = absurd (omega (arith, within))
@@ -97,3 +101,47 @@ Means-end (Some bytes) (Some left) logs p header bad means ends is rest count =
     ap (λ (h : Option Header). record { header = h; logs = logs; bad = bad }) is
     ∙ ap (λ (l : List (List ℕ)). record { header = p.header; logs = l; bad = bad }) (sym (all_joined p.header logs (count ∙ ap log_count is)))
     ∙ sym (means ∙ ap (behind p.header logs) (ends ∙ rest))
+
+-- ---- what a splitter found
+
+-- the progress behind what is bad has the header that it had
+bad_header : (old new : Progress) (front : List ℕ) (at : ℕ) (found : Found) → found ≡ Bad at → new ≡ progress_after old front found → old.header ≡ new.header
+bad_header old new front at found is after = sym (ap (λ (p : Progress). p.header) (after ∙ ap (progress_after old front) is))
+
+-- a bad frame leaves the logs as they are
+pub found_bad : (logs : List (List ℕ)) (old new : Progress) (piece : List ℕ) (taken at : ℕ) (found : Found) → found ≡ Bad at
+    → new ≡ progress_after old (take taken piece) found
+    → ((more : List ℕ) → rest_of old (piece ++ more) ≡ found_then found new.body (rest_of new (drop taken piece ++ more)))
+    → ((more : List ℕ) → rest_of new more ≡ record { header = old.header; frames = []; bad = Some at })
+    → (more : List ℕ) → behind_at logs old (piece ++ more) ≡ behind_at logs new (drop (length piece) piece ++ more)
+found_bad logs old new piece taken at found is after rest last more =
+    ap (behind old.header logs)
+    (rest more ∙ ap (λ (f : Found). found_then f new.body (rest_of new (drop taken piece ++ more))) is
+    ∙ last (drop taken piece ++ more) ∙ sym (last (drop (length piece) piece ++ more)))
+    ∙ ap (λ (h : Option Header). behind h logs (rest_of new (drop (length piece) piece ++ more))) (bad_header old new (take taken piece) at found is after)
+
+-- the progress behind a frame has the header that it had
+frame_header : (old new : Progress) (front : List ℕ) (verifier : ℕ) (found : Found) → found ≡ Frame verifier → new ≡ progress_after old front found → old.header ≡ new.header
+frame_header old new front verifier found is after = sym (ap (λ (p : Progress). p.header) (after ∙ ap (progress_after old front) is))
+
+-- a frame adds its body to its verifier's log
+pub found_frame : (logs now : List (List ℕ)) (header : Header) (old new : Progress) (piece : List ℕ) (taken verifier : ℕ) (found : Found) → found ≡ Frame verifier
+    → old.header ≡ Some header → verifier < length logs
+    → new ≡ progress_after old (take taken piece) found
+    → ((more : List ℕ) → rest_of old (piece ++ more) ≡ found_then found new.body (rest_of new (drop taken piece ++ more)))
+    → now ≡ appended verifier new.body logs
+    → (more : List ℕ) → behind_at logs old (piece ++ more) ≡ behind_at now new (drop taken piece ++ more)
+found_frame logs now header old new piece taken verifier found is known within after rest now_is more =
+    ap (behind old.header logs) (rest more ∙ ap (λ (f : Found). found_then f new.body left) is)
+    ∙ ap (λ (h : Option Header). behind h logs (found_then (Frame verifier) new.body left)) known
+    ∙ ap (λ (joined : List (List ℕ)). record { header = left.header; logs = joined; bad = left.bad })
+    (joined_frame 0 verifier new.body logs (record { verifier = verifier; body = new.body }) left.frames (omega arith) refl within)
+    ∙ ap (λ (l : List (List ℕ)). behind (Some header) l left) (sym now_is)
+    ∙ ap (λ (h : Option Header). behind h now left) (sym known ∙ frame_header old new (take taken piece) verifier found is after)
+  where
+    left : Bundle
+    left = rest_of new (drop taken piece ++ more)
+
+-- as many logs as the header has verifiers
+pub logs_counted : {A : Type 0} (f : A → List ℕ) (items : List A) (header : Option Header) (n : ℕ) → n ≡ length items → n ≡ log_count header → length (map f items) ≡ log_count header
+logs_counted f items header n len count = length-map f items ∙ sym len ∙ count

@@ -1,5 +1,6 @@
 //! A check of a bundle: what is certified, and how its report ends.
-ghost use Rattle.std.specs.Prelude.{◌≡◌, ◌+◌, ◌≤◌, ◌^◌, ℕ, length, map, vec_len, IfSome, ◌≢◌, ◌⊎◌};
+ghost use Rattle.std.specs.Prelude.{◌≡◌, ◌+◌, ◌≤◌, ◌^◌, ℕ, List, length, map, vec_len, IfSome, ◌≢◌, ◌⊎◌};
+ghost use Rattle.record_hash.specs.Digests.{IsDigest};
 ghost use Rattle.lamport_clocks.specs.Header.{IsHeader};
 ghost use Rattle.fv_outside.specs.Faults.{Rose};
 ghost use Rattle.fv_outside.specs.Written.{Grows, GrowsByFront};
@@ -60,12 +61,19 @@ pub fn check<R: Threads + Sync, D: Digests + Sync, S: Source, O: Sink>(
     ensures read_fault { result ≡ Status.ReadFault → Rose (S.faults source.old) (S.faults source.new) }
     ensures write_fault { result ≡ Status.WriteFault → Rose (O.faults out.old) (O.faults out.new) }
 {
+    digests_have_32_bytes(d);
     match read_bundle(alloc, limit, source) {
         Ok(intake) => conclude(rt, alloc, d, &intake, out),
         Err(Stop::Memory) => Status::Memory,
         Err(Stop::ReadFault) => Status::ReadFault,
         Err(Stop::InputLimit) => Status::InputLimit { taken: limit },
     }
+}
+
+// What is known of any digests. It does nothing.
+fn digests_have_32_bytes<D: Digests>(_d: &D)
+    ensures digests { (text : List ℕ) → IsDigest (D.text_digest d.now text) }
+{
 }
 
 // Checks what was read, and writes the report.

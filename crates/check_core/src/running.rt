@@ -1,5 +1,5 @@
 //! The logs of all verifiers, each run by itself, side by side.
-ghost use Rattle.std.specs.Prelude.{◌≡◌, ◌<◌, ℕ, List, IfOk, length, map, vec_len};
+ghost use Rattle.std.specs.Prelude.{◌≡◌, ◌<◌, IfOk, Ok, length, map};
 ghost use Rattle.lamport_clocks.specs.Header.{IsHeader};
 ghost use Rattle.check_core.specs.RunReport.{courses_of};
 
@@ -23,18 +23,24 @@ pub fn run_logs<R: Threads + Sync, D: Digests + Sync>(
     ensures courses { IfOk result (λ runs. map (λ run. run.course) runs.items
         ≡ courses_of (D.text_digest d.now) (D.element_lanes d.now) header.now (map (λ log. log.items) logs.now)) }
 {
-    let outcomes = map_indices(rt, alloc, logs.len(), &|index| {
-        run_log(alloc, d, index as u16, header, &logs[index])
-    })?;
+    let outcomes = map_indices(
+        rt,
+        alloc,
+        logs.len(),
+        &|index: usize| -> Result<Run, Memory>
+            requires { IsHeader header.now × (index < length logs.now) × (index < header.now.verifiers) }
+        { run_log(alloc, d, index as u16, header, &logs[index]) },
+    )?;
     all_done(alloc, outcomes)
 }
 
 // The runs, if memory was there for each.
-fn all_done(alloc: Global, outcomes: Vec<Result<Run, Memory>>) -> Result<Vec<Run>, Memory>
+fn all_done(alloc: Global, mut outcomes: Vec<Result<Run, Memory>>) -> Result<Vec<Run>, Memory>
+    ensures done { IfOk result (λ runs. outcomes.items ≡ map (λ run. Ok run) runs.items) }
 {
     let mut runs = Vec::new(alloc);
-    for outcome in outcomes {
-        runs.push(outcome?)?;
+    while !outcomes.is_empty() {
+        runs.push(outcomes.remove(0)?)?;
     }
     Ok(runs)
 }

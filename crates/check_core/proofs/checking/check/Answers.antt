@@ -3,16 +3,16 @@ use Rattle.check_core.proofs.checking.check.Goals as goal
 
 pub returns-in-Ok-clause-headline : goal.returns-in-Ok-clause-headline
 returns-in-Ok-clause-headline g c =
-    headline_left (g.D.Digests.text_digest c.args.d.now) (g.D.Digests.element_lanes c.args.d.now) (g.S.Source.left c.args.source.now) (g.met.D.Digests.text_digest_shape c.args.d.now)
+    headline_left (g.D.Digests.text_digest c.args.d.now) (g.D.Digests.element_lanes c.args.d.now) (g.S.Source.left c.args.source.now) c.digests_have_32_bytes.ensures.digests
 
 pub returns-in-Err-Memory-clause-headline : goal.returns-in-Err-Memory-clause-headline
 returns-in-Err-Memory-clause-headline g c =
-    headline_left (g.D.Digests.text_digest c.args.d.now) (g.D.Digests.element_lanes c.args.d.now) (g.S.Source.left c.args.source.now) (g.met.D.Digests.text_digest_shape c.args.d.now)
+    headline_left (g.D.Digests.text_digest c.args.d.now) (g.D.Digests.element_lanes c.args.d.now) (g.S.Source.left c.args.source.now) c.digests_have_32_bytes.ensures.digests
 
 pub returns-in-Err-ReadFault-clause-headline : goal.returns-in-Err-ReadFault-clause-headline
 returns-in-Err-ReadFault-clause-headline g c =
-    headline_left (g.D.Digests.text_digest c.args.d.now) (g.D.Digests.element_lanes c.args.d.now) (g.S.Source.left c.args.source.now) (g.met.D.Digests.text_digest_shape c.args.d.now)
+    headline_left (g.D.Digests.text_digest c.args.d.now) (g.D.Digests.element_lanes c.args.d.now) (g.S.Source.left c.args.source.now) c.digests_have_32_bytes.ensures.digests
 
 pub returns-in-Err-InputLimit-clause-headline : goal.returns-in-Err-InputLimit-clause-headline
 returns-in-Err-InputLimit-clause-headline g c =
-    headline_left (g.D.Digests.text_digest c.args.d.now) (g.D.Digests.element_lanes c.args.d.now) (g.S.Source.left c.args.source.now) (g.met.D.Digests.text_digest_shape c.args.d.now)
+    headline_left (g.D.Digests.text_digest c.args.d.now) (g.D.Digests.element_lanes c.args.d.now) (g.S.Source.left c.args.source.now) c.digests_have_32_bytes.ensures.digests

@@ -1,13 +1,10 @@
-use Rattle.std.proofs.Common.{rules, ◌≡◌, ◌≢◌, ℕ, ◌+◌, ◌-◌, ◌^◌, ◌<◌, ◌≤◌, List, [], ◌++◌, length, map, drop, unwrap_or, false, take, Some, None, IfOk, IfSome, IsNone, OnOk, OnErr, Err, vec_len, ◌*◌, ◌/◌, ◌%◌, Bool, true, nat_eq, nat_lt, ◌∷◌, slice_index_or, slice_set, bit_and, bit_or, Fits, w8, w32, w64, Bor, MutBor}
-use Rattle.fv_outside.specs.Faults.{Counts, Rose}
-use Rattle.bundle_frames.specs.Bundle.{bundle_of}
-use Rattle.bundle_frames.specs.Progress.{position, rest_of}
-use Rattle.lamport_clocks.specs.Header.{IsHeader}
-use Rattle.check_core.specs.Logs.{empty_logs, appended}
-use Rattle.check_core.specs.Intake.{behind_at, logs_in, logged, logged_of, Means}
-use Rattle.check_core.specs.Taken.{TookAtMost, TookJust, ReadsOn}
+use Rattle.std.proofs.Common.{◌≡◌, ◌∙◌, ap, ◌++◌, arith}
+use Rattle.check_core.proofs.LogLemmas.{appended_set, on_ok_from, first_of}
 use Rattle.check_core.proofs.reading.append.Goals as goal
 
--- src/reading.rt:209:1
 pub returns-clause-appended : goal.returns-clause-appended
-returns-clause-appended c = ?
+returns-clause-appended c =
+    on_ok_from c.extend_from_slice.result
+    (λ ok. appended_set (λ log. log.items) c.args.logs.now.items c.args.verifier c.extend_from_slice.new.self c.args.bytes.now c.index_mut.result.now (omega (arith, c.requires.verifier, c.args.logs.now.ok))
+    (first_of _ _ _ _ c.extend_from_slice.ensures.items ok
+    ∙ ap (λ log. log.items ++ c.args.bytes.now) c.index_mut.ensures.value))

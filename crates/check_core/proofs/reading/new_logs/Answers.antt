@@ -1,25 +1,19 @@
-use Rattle.std.proofs.Common.{rules, ◌≡◌, ◌≢◌, ℕ, ◌+◌, ◌-◌, ◌^◌, ◌<◌, ◌≤◌, List, [], ◌++◌, length, map, drop, unwrap_or, false, take, Some, None, IfOk, IfSome, IsNone, OnOk, OnErr, Err, vec_len, ◌*◌, ◌/◌, ◌%◌, Bool, true, nat_eq, nat_lt, ◌∷◌, slice_index_or, slice_set, bit_and, bit_or, Fits, w8, w32, w64, Bor, MutBor}
-use Rattle.fv_outside.specs.Faults.{Counts, Rose}
-use Rattle.bundle_frames.specs.Bundle.{bundle_of}
-use Rattle.bundle_frames.specs.Progress.{position, rest_of}
-use Rattle.lamport_clocks.specs.Header.{IsHeader}
-use Rattle.check_core.specs.Logs.{empty_logs, appended}
-use Rattle.check_core.specs.Intake.{behind_at, logs_in, logged, logged_of, Means}
-use Rattle.check_core.specs.Taken.{TookAtMost, TookJust, ReadsOn}
+use Rattle.std.proofs.Common.{◌≡◌, ℕ, ◌+◌, ◌∙◌, ap, map, arith}
+use Rattle.check_core.specs.Logs.{empty_logs}
+use Rattle.check_core.proofs.LogLemmas.{new_log}
 use Rattle.check_core.proofs.reading.new_logs.Goals as goal
 
--- src/reading.rt:202:5
 pub loop-init : goal.loop-init
-loop-init c = ?
+loop-init c = record { len = c.new-logs.ensures.len; empty = ap (map (λ log. log.items)) c.new-logs.ensures.items }
 
--- src/reading.rt:202:5
 pub loop-preserved : goal.loop-preserved
-loop-preserved c = ?
+loop-preserved c = record {
+  len = c.in_ok-push.ensures.len ∙ ap (λ (n : ℕ). n + 1) c.loop.invariant.len;
+  empty = new_log (λ log. log.items) _ _ c.new.result c.loop.counter _ c.in_ok-push.ensures.items c.new.ensures.items (omega arith) c.loop.invariant.empty;
+}
 
--- src/reading.rt:197:1
 pub returns-clause-len : goal.returns-clause-len
-returns-clause-len c = ?
+returns-clause-len c = omega (arith, c.loop.invariant.len, c.loop-test.false, c.loop.auto.counter-end)
 
--- src/reading.rt:197:1
 pub returns-clause-empty : goal.returns-clause-empty
-returns-clause-empty c = ?
+returns-clause-empty c = c.loop.invariant.empty ∙ ap empty_logs (omega (arith, c.loop-test.false, c.loop.auto.counter-end))

@@ -1,8 +1,8 @@
-use Rattle.std.proofs.Common.{◌≤◌, is_ok, true≢false, arith, refl, sym, subst, ap}
+use Rattle.std.proofs.Common.{◌≤◌, is_ok, true≢false, arith, refl, sym, subst, ap, map}
 use Rattle.bundle_frames.specs.Progress.{Progress, position}
 use Rattle.check_core.specs.Intake.{behind_at}
 use Rattle.check_core.proofs.TookLemmas.{TookJust-none, TookJust-then, TookAtMost-then}
-use Rattle.check_core.proofs.MeaningLemmas.{Means-start, Means-then, Means-end}
+use Rattle.check_core.proofs.MeaningLemmas.{Means-start, Means-then, Means-end, logs_counted}
 use Rattle.check_core.proofs.reading.read_bundle.Goals as goal
 
 pub pieces-init : goal.pieces-init
@@ -12,7 +12,7 @@ pieces-init g c = record {
   position = subst (λ (p : Progress). position p ≤ 0) (sym c.in_ok-splitter.ensures.starts) (omega arith);
   header = ap (λ (p : Progress). p.header) (sym c.in_ok-splitter.ensures.starts);
   took = TookJust-none _;
-  means = Means-start _ _ _ c.new-2.ensures.items c.in_ok-splitter.ensures.starts;
+  means = Means-start _ _ _ (ap (map (λ log. log.items)) c.new-2.ensures.items) c.in_ok-splitter.ensures.starts;
   faults = omega arith;
 }
 
@@ -40,3 +40,4 @@ returns-clause-bundle g c =
     let ends = rw c.in-Ok-None.field-0-is at c.in-Ok-None.ensures.end in
     let means = Means-then _ _ _ _ _ (behind_at _ p) c.pieces.invariant.means c.in-Ok-None.ensures.means in
     Means-end _ _ _ p _ _ means (ends refl) c.in-Ok-None.ensures.header c.end-intake.ensures.rest
+    (logs_counted (λ log. log.items) c.read_turn.new.intake.logs.items c.read_turn.new.intake.header c.read_turn.new.intake.logs.len ? c.read_turn.new.intake.count)

@@ -1,6 +1,6 @@
 use Rattle.std.proofs.Common.{◌≡◌, ◌-◌, ◌≤◌, vec_len}
 use Rattle.bundle_frames.specs.Progress.{position}
-use Rattle.check_core.specs.Intake.{Means, behind_at, logged_of}
+use Rattle.check_core.specs.Intake.{Means, behind_at, logs_in, logged_of}
 use Rattle.check_core.specs.Taken.{TookJust}
 use Rattle.check_core.proofs.reading.read_bundle.Given as goal
 
@@ -12,7 +12,7 @@ invariant-pieces g l = record {
   position : position l.splitter ≤ l.taken;
   header : l.intake.header ≡ l.splitter.header;
   took : TookJust l.taken (g.S.Source.left l.fn.source) (g.S.Source.left l.source);
-  means : Means (g.S.Source.left l.fn.source) (g.S.Source.left l.source) logged_of (behind_at l.intake.log.items l.splitter);
+  means : Means (g.S.Source.left l.fn.source) (g.S.Source.left l.source) logged_of (behind_at (logs_in l.intake) l.splitter);
   faults : g.S.Source.faults l.fn.source ≤ g.S.Source.faults l.source;
 }
 

@@ -1,14 +1,14 @@
 use Rattle.std.proofs.Common.{◌≡◌, ℕ, ◌+◌, ◌-◌, ◌≤◌, List, ◌++◌, length, drop}
-use Rattle.bundle_frames.specs.Progress.{position, rest_of}
-use Rattle.check_core.specs.Intake.{behind}
+use Rattle.bundle_frames.specs.Progress.{position}
+use Rattle.check_core.specs.Intake.{behind_at, logs_in}
 use Rattle.check_core.proofs.reading.take.Given as goal
 
 -- the log so far, and the rest behind what is done of the piece, are what was left
 abbrev pub invariant-loop-done : goal.invariant-loop-done
 invariant-loop-done l = record {
   within : l.done ≤ length l.piece;
-  rest : (more : List ℕ) → behind l.fn.intake.log.items (rest_of l.fn.splitter (l.piece ++ more))
-      ≡ behind l.intake.log.items (rest_of l.splitter (drop l.done l.piece ++ more));
+  rest : (more : List ℕ) → behind_at (logs_in l.fn.intake) l.fn.splitter (l.piece ++ more)
+      ≡ behind_at (logs_in l.intake) l.splitter (drop l.done l.piece ++ more);
   header : l.intake.header ≡ l.splitter.header;
   position : position l.splitter ≤ position l.fn.splitter + l.done;
 }
