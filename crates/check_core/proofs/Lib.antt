@@ -16,5 +16,6 @@ pub mod OrderSumLemmas
 pub mod EpochPartLemmas
 pub mod EpochVerdictLemmas
 pub mod CertifiedCountLemmas
+pub mod ManyLemmas
 pub mod VerdictLemmas
 pub mod HeadlineLemmas
