@@ -1,9 +1,10 @@
 -- What is left of a source, and what was read of it, mean the bundle that it had.
-use Rattle.std.proofs.Common.{◌≡◌, ◌≢◌, ℕ, zero, suc, ◌+◌, ◌<◌, List, [], ◌∷◌, ◌++◌, length, take, drop, map, Option, Some, None, IfSome, eqb, refl, sym, ◌∙◌, ap, subst, append-nil, append_assoc, if◌then◌else◌, arith}
+use Rattle.std.proofs.Common.{◌≡◌, ◌≢◌, ℕ, zero, suc, ◌+◌, ◌<◌, List, [], ◌∷◌, ◌++◌, length, take, drop, map, Option, Some, None, IfSome, IsSomeAnd, eqb, refl, sym, ◌∙◌, ap, subst, append-nil, append_assoc, if◌then◌else◌, arith}
 use Rattle.std.proofs.lemmas.Bool.{eq-eqb, ne_eqb}
 use Rattle.std.specs.Io.KnownBytes.{Consumes, IsAtEnd}
 use Rattle.lamport_clocks.specs.declared.header.Header.{Header}
-use Rattle.bundle_frames.specs.Bundle.{Bundle, body_for, log_of, bundle_of}
+use Rattle.std.proofs.lemmas.List.{length-map}
+use Rattle.bundle_frames.specs.Bundle.{Bundle, IsFrame, body_for, log_of, bundle_of}
 use Rattle.bundle_frames.specs.Bundle.{Frame as FrameOf}
 use Rattle.bundle_frames.specs.declared.found.Found.{Found}
 use Rattle.bundle_frames.specs.declared.found.Found.TheVariants.{Frame, Bad}
@@ -142,6 +143,24 @@ found_frame logs now header old new piece taken verifier found is known within a
     left : Bundle
     left = rest_of new (drop taken piece ++ more)
 
+-- what holds of a value that is there
+there : {A : Type 0} {P : A → Type 0} (o : Option A) → IsSomeAnd o P → (value : A) × (o ≡ Some value) × P value
+there None holds = absurd holds
+there (Some value) holds = (value, refl, holds)
+
+-- the same, where the frame is one of the header that is known
+pub found_its_frame : (logs now : List (List ℕ)) (old new : Progress) (piece : List ℕ) (taken verifier : ℕ) (found : Found) → found ≡ Frame verifier
+    → IsSomeAnd old.header (λ header. IsFrame header.verifiers (record { verifier = verifier; body = new.body }))
+    → length logs ≡ log_count old.header
+    → new ≡ progress_after old (take taken piece) found
+    → ((more : List ℕ) → rest_of old (piece ++ more) ≡ found_then found new.body (rest_of new (drop taken piece ++ more)))
+    → now ≡ appended verifier new.body logs
+    → (more : List ℕ) → behind_at logs old (piece ++ more) ≡ behind_at now new (drop taken piece ++ more)
+found_its_frame logs now old new piece taken verifier found is known count after rest now_is =
+    let header = there old.header known in
+    found_frame logs now header.0 old new piece taken verifier found is header.1
+    (omega (arith, header.2.verifier, count ∙ ap log_count header.1)) after rest now_is
+
 -- as many logs as the header has verifiers
 pub logs_counted : {A : Type 0} (f : A → List ℕ) (items : List A) (header : Option Header) (n : ℕ) → n ≡ length items → n ≡ log_count header → length (map f items) ≡ log_count header
-logs_counted f items header n len count = length-map f items ∙ sym len ∙ count
+logs_counted f items header n len count = length-map items f ∙ sym len ∙ count

@@ -5,7 +5,8 @@ use Rattle.bundle_frames.specs.Bundle.{Bundle}
 use Rattle.bundle_frames.specs.Progress.{Progress, rest_of}
 use Rattle.bundle_frames.specs.Finds.{found_then}
 use Rattle.check_core.specs.Intake.{behind, logs_in}
-use Rattle.check_core.proofs.MeaningLemmas.{found_bad, found_frame}
+use Rattle.check_core.specs.Logs.{log_count, appended}
+use Rattle.check_core.proofs.MeaningLemmas.{found_bad, found_its_frame, logs_counted}
 use Rattle.check_core.proofs.reading.take_one.Goals as goal
 
 pub returns-in-Bad-clause-rest : goal.returns-in-Bad-clause-rest
@@ -19,4 +20,9 @@ returns-in-Bad-clause-last c = λ none more.
     fed.ensures.last _ c.in-Bad.is more ∙ sym (fed.ensures.last _ c.in-Bad.is [])
 
 pub returns-in_ok-append-in-Frame-clause-rest : goal.returns-in_ok-append-in-Frame-clause-rest
-returns-in_ok-append-in-Frame-clause-rest c = ?
+returns-in_ok-append-in-Frame-clause-rest c =
+    let fed = c.feed-fed in
+    found_its_frame (logs_in c.args.intake.now) (map (λ log. log.items) c.append.new.logs.items) c.args.splitter.now fed.new.self c.args.piece.now fed.result.taken
+    c.in-Frame.verifier fed.result.found c.in-Frame.is (fed.ensures.frame _ c.in-Frame.is)
+    (logs_counted (λ log. log.items) c.args.intake.now.logs.items c.args.splitter.now.header c.args.intake.now.logs.len ? (c.args.intake.now.count ∙ ap log_count c.requires.header))
+    fed.ensures.after fed.ensures.rest (c.in_ok-append.ensures.appended ∙ ap (λ (body : List ℕ). appended c.in-Frame.verifier body (logs_in c.args.intake.now)) c.body.ensures.value)
