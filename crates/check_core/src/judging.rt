@@ -1,5 +1,6 @@
 //! Which epochs are certified, over all verifiers.
-ghost use Rattle.std.specs.Prelude.{◌≡◌, ◌≤◌, ◌<◌, ℕ, length, map, Some, IfOk, OnOk};
+ghost use Rattle.std.specs.Prelude.{◌≡◌, ◌≤◌, ◌++◌, ℕ, length, map, slice_get, Some, IfOk, OnOk};
+ghost use Rattle.std.specs.Option.{option_to_list};
 ghost use Rattle.check_core.specs.RunReport.{parts_at};
 ghost use Rattle.check_core.specs.Judged.{judged, judged_from, first_parts, CanBeJudged};
 
@@ -90,9 +91,18 @@ fn gather(gathered: &mut Vec<Part>, index: usize, runs: &[Run]) -> Result<(), Al
 {
     gathered.clear();
     for run in runs {
-        if let Some(part) = run.parts().get(index) {
-            gathered.push(*part)?;
-        }
+        append_part(gathered, index, run)?;
+    }
+    Ok(())
+}
+
+// Appends what a run has handed in of this epoch, if it has sealed it.
+fn append_part(gathered: &mut Vec<Part>, index: usize, run: &Run) -> Result<(), AllocError>
+    ensures items { OnOk result (gathered.new.items
+        ≡ gathered.old.items ++ option_to_list (slice_get run.now.course.parts index)) }
+{
+    if let Some(part) = run.parts().get(index) {
+        gathered.push(*part)?;
     }
     Ok(())
 }
