@@ -17,5 +17,6 @@ pub mod EpochPartLemmas
 pub mod EpochVerdictLemmas
 pub mod CertifiedCountLemmas
 pub mod ManyLemmas
+pub mod RunningLemmas
 pub mod VerdictLemmas
 pub mod HeadlineLemmas

@@ -1,12 +1,14 @@
 //! The logs of all verifiers, each run by itself, side by side.
-ghost use Rattle.std.specs.Prelude.{◌≡◌, ◌<◌, IfOk, Ok, length, map};
+ghost use Rattle.std.specs.Prelude.{◌≡◌, ◌<◌, ℕ, IfOk, Ok, length, map, slice_index_or, vec_len};
 ghost use Rattle.lamport_clocks.specs.Header.{IsHeader};
+ghost use Rattle.verifier_commands.specs.Machine.{opening_machine};
+ghost use Rattle.verifier_run.specs.LogCourse.{log_course};
 ghost use Rattle.check_core.specs.RunReport.{courses_of};
 
 use fv_outside::Memory;
 use lamport_clocks::Header;
 use record_hash::Digests;
-use std::alloc::Global;
+use std::alloc::{AllocError, Global};
 use std::thread::{Threads, map_indices};
 use verifier_run::{Run, run_log};
 
@@ -23,15 +25,35 @@ pub fn run_logs<R: Threads + Sync, D: Digests + Sync>(
     ensures courses { IfOk result (λ runs. map (λ run. run.course) runs.items
         ≡ courses_of (D.text_digest d.now) (D.element_lanes d.now) header.now (map (λ log. log.items) logs.now)) }
 {
-    let outcomes = map_indices(
+    let outcomes = run_each(rt, alloc, d, header, logs)?;
+    all_done(alloc, outcomes)
+}
+
+// What each log comes to, if memory was there for it.
+fn run_each<R: Threads + Sync, D: Digests + Sync>(
+    rt: &R,
+    alloc: Global,
+    d: &D,
+    header: &Header,
+    logs: &[Vec<u8>],
+) -> Result<Vec<Result<Run, Memory>>, AllocError>
+    requires header { IsHeader header.now }
+    requires count { length logs.now ≡ header.now.verifiers }
+    ensures len { IfOk result (λ outcomes. vec_len outcomes ≡ length logs.now) }
+    ensures each { IfOk result (λ outcomes. (index : ℕ) (outcome : _) (log : _) → index < length logs.now
+        → IfOk (slice_index_or outcomes.items index outcome) (λ run. run.course
+        ≡ log_course (D.text_digest d.now) (D.element_lanes d.now) (opening_machine index header.now) (slice_index_or logs.now index log).items)) }
+{
+    map_indices(
         rt,
         alloc,
         logs.len(),
         &|index: usize| -> Result<Run, Memory>
             requires { IsHeader header.now × (index < length logs.now) × (index < header.now.verifiers) }
+            ensures { IfOk result (λ run. (log : _) → run.course ≡ log_course (D.text_digest d.entry.now) (D.element_lanes d.entry.now)
+                (opening_machine index header.entry.now) (slice_index_or logs.entry.now index log).items) }
         { run_log(alloc, d, index as u16, header, &logs[index]) },
-    )?;
-    all_done(alloc, outcomes)
+    )
 }
 
 // The runs, if memory was there for each.

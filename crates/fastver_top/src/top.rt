@@ -23,7 +23,7 @@ pub const INPUT_LIMIT: u64 = 1 << 40;
 /// `fastver check --key HEX` reads a bundle from the source and writes its report to the sink: a line for
 /// each certified epoch and each certified operation, and a last line. The vault is left as it is.
 pub fn fastver<R: Threads + Wait + Sync, S: Source, O: Sink, V: Vault, G: Gate + Sync>(
-    _rt: &R,
+    rt: &R,
     alloc: Global,
     words: &[&str],
     source: &mut S,
@@ -67,7 +67,7 @@ pub fn fastver<R: Threads + Wait + Sync, S: Source, O: Sink, V: Vault, G: Gate +
     ensures write_fault { result ≡ Status.WriteFault → Rose (O.faults out.old) (O.faults out.new) }
 {
     match check_digests(words) {
-        Some(d) => check(alloc, &d, INPUT_LIMIT, source, out),
+        Some(d) => check(rt, alloc, &d, INPUT_LIMIT, source, out),
         None => Status::Usage,
     }
 }

@@ -40,4 +40,4 @@ returns-clause-bundle g c =
     let ends = rw c.in-Ok-None.field-0-is at c.in-Ok-None.ensures.end in
     let means = Means-then _ _ _ _ _ (behind_at _ p) c.pieces.invariant.means c.in-Ok-None.ensures.means in
     Means-end _ _ _ p _ _ means (ends refl) c.in-Ok-None.ensures.header c.end-intake.ensures.rest
-    (logs_counted (λ log. log.items) c.read_turn.new.intake.logs.items c.read_turn.new.intake.header c.read_turn.new.intake.logs.len ? c.read_turn.new.intake.count)
+    (logs_counted (λ log. log.items) c.read_turn.new.intake.logs.items c.read_turn.new.intake.header c.read_turn.new.intake.logs.len (omega (arith, c.read_turn.new.intake.logs.ok)) c.read_turn.new.intake.count)

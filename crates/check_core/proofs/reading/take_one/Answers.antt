@@ -24,5 +24,5 @@ returns-in_ok-append-in-Frame-clause-rest c =
     let fed = c.feed-fed in
     found_its_frame (logs_in c.args.intake.now) (map (λ log. log.items) c.append.new.logs.items) c.args.splitter.now fed.new.self c.args.piece.now fed.result.taken
     c.in-Frame.verifier fed.result.found c.in-Frame.is (fed.ensures.frame _ c.in-Frame.is)
-    (logs_counted (λ log. log.items) c.args.intake.now.logs.items c.args.splitter.now.header c.args.intake.now.logs.len ? (c.args.intake.now.count ∙ ap log_count c.requires.header))
-    fed.ensures.after fed.ensures.rest (c.in_ok-append.ensures.appended ∙ ap (λ (body : List ℕ). appended c.in-Frame.verifier body (logs_in c.args.intake.now)) c.body.ensures.value)
+    (logs_counted (λ log. log.items) c.args.intake.now.logs.items c.args.splitter.now.header c.args.intake.now.logs.len (omega (arith, c.args.intake.now.logs.ok)) (c.args.intake.now.count ∙ ap log_count c.requires.header))
+    fed.ensures.after fed.ensures.rest (c.in_ok-append-in-Frame.ensures.appended ∙ ap (λ (body : List ℕ). appended c.in-Frame.verifier body (logs_in c.args.intake.now)) c.body.ensures.value)
