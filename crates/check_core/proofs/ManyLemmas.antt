@@ -66,7 +66,7 @@ module _ (lanes : List ℕ → List ℕ) (number : ℕ) (events : List Event) wh
   last-part : (count epoch : ℕ) → last_epoch (parts_in epoch (suc count)) ≡ Some (epoch + count)
   last-part count epoch =
       let last : length (parts_in epoch (suc count)) - 1 ≡ count =
-          omega (arith, parts-length (suc count) epoch) in
+      omega (arith, parts-length (suc count) epoch) in
       ap (λ (place : ℕ). option_map (λ (part : Part). part.epoch) (slice_get (parts_in epoch (suc count)) place)) last
       ∙ ap (option_map (λ (part : Part). part.epoch)) (part_there count (suc count) epoch (omega arith))
 
@@ -185,9 +185,8 @@ module _ (digest lanes : List ℕ → List ℕ) (header : Header) (logs : List (
     judged-epoch done many epoch at count Balanced is more further =
         let next : suc done ≡ done + 1 = omega arith in
         let behind = further (ap (counted_from digest lanes header logs) next
-            ∙ counted-balanced digest lanes header logs whole some done is ∙ count) in
-        let same : suc done + more.count ≡ done + suc more.count = omega arith in
-        (
+        ∙ counted-balanced digest lanes header logs whole some done is ∙ count) in
+        let same : suc done + more.count ≡ done + suc more.count = omega arith in (
           sym same ∙ behind.0,
           ap (λ (n : ℕ). ends_by n more.unbalanced (refused_log 0 courses) bad) (sym same) ∙ behind.1,
           omega (arith, behind.2),
@@ -214,8 +213,7 @@ module _ (digest lanes : List ℕ → List ℕ) (header : Header) (logs : List (
         (judged_from header.verifiers done (parts_in lanes number events epoch many) courses)
     judged-epochs number events zero done epoch at past count =
         let own : done ≡ certified = sym (counted-past done (omega (arith, past))) ∙ count in
-        let same : done + 0 ≡ certified = add-zero done ∙ own in
-        (
+        let same : done + 0 ≡ certified = add-zero done ∙ own in (
           same,
           ends-even (done + 0) 0 courses bad
               ∙ exit-whole digest lanes header logs bad (done + 0) same (omega (arith, past)),
@@ -244,12 +242,12 @@ module _ (digest lanes : List ℕ → List ℕ) (header : Header) (logs : List (
         let count = found.count in
         let ends = ends_by count found.unbalanced (refused_log 0 courses) bad in
         let parts : take count (first_parts courses) ≡ parts_in lanes number events header.first count =
-            ap (take count) first ∙ take-parts lanes number events count many header.first is.2 in
+        ap (take count) first ∙ take-parts lanes number events count many header.first is.2 in
         let own = operations_within header.first count (operations_among courses) in
         let same : count ≡ 0 + count = omega arith in
         let counted = same ∙ is.0 in
         let ended : ends ≡ exit bad =
-            ap (λ (n : ℕ). ends_by n found.unbalanced (refused_log 0 courses) bad) same ∙ is.1 in
+        ap (λ (n : ℕ). ends_by n found.unbalanced (refused_log 0 courses) bad) same ∙ is.1 in
         ap (λ (ps : List Part). verdict_told
         (certified_text ps (operations_by (last_epoch ps) courses) ++ last_line ends) ends) parts
         ∙ ap (λ (ops : List Operation). verdict_told
@@ -274,12 +272,12 @@ verdict-many digest lanes header (log ∷ logs) bad good whole =
     let events = log_events digest lanes header 0 commands in
     let sealed = sealed_count events in
     let first : first_parts courses ≡ parts_in lanes 0 events header.first sealed =
-        log-parts digest lanes header 0 commands in
+    log-parts digest lanes header 0 commands in
     let found = judged_from header.verifiers 0 (parts_in lanes 0 events header.first sealed) courses in
     let is : judged (length courses) courses ≡ found =
-        ap (λ (verifiers : ℕ). judged verifiers courses) (courses-length digest lanes header 0 all ∙ whole)
-        ∙ judged-first header.verifiers courses
-        ∙ ap (λ (parts : List Part). judged_from header.verifiers 0 parts courses) first in
+    ap (λ (verifiers : ℕ). judged verifiers courses) (courses-length digest lanes header 0 all ∙ whole)
+    ∙ judged-first header.verifiers courses
+    ∙ ap (λ (parts : List Part). judged_from header.verifiers 0 parts courses) first in
     ap (λ (j : Judged). verdict_judged j courses bad) is
     ∙ verdict-judged digest lanes header all whole good.some_verifiers bad 0 events sealed found first
     (judged-epochs digest lanes header all whole good.some_verifiers bad 0 events sealed 0 header.first

@@ -61,9 +61,11 @@ module _ (rules : Rules) (old new : Reading) (sums : Sums) (bounded : AreBounded
       let took = received-ok old new element.stamp is in
       let end = (received-bounds old new element.stamp is).end in
       let counter = ap (λ (r : Reading). r.at.counter) took.2 in
-      bounded_add sums (add_to rules epoch sums element) old new bounded (counts_add rules epoch sums element)
-      (end, counter_later old.at new.at (received-epoch old new element.stamp is)
-      (received-later old new element.stamp is))
+      bounded_add sums (add_to rules epoch sums element) old new bounded (counts_add rules epoch sums element) (
+        end,
+        counter_later old.at new.at (received-epoch old new element.stamp is)
+            (received-later old new element.stamp is),
+      )
       (omega (arith, took.1, end, counter))
 
   bounded_sent : (element : Element) → sent old element.stamp ≡ Ok new

@@ -14,8 +14,8 @@ ghost use Rattle.check_core.specs.RunReport.{courses_of, parts_at};
 ghost use Rattle.check_core.specs.Judged.{CanBeJudged, verdict_of_runs};
 
 use crate::intake::{Intake, Stop};
-use crate::reading::read_bundle;
 use crate::judging::judge;
+use crate::reading::read_bundle;
 use crate::report::{
     certified_parts, exit_of, first_refused, last_epoch, operations_up_to, write_report,
 };

@@ -35,7 +35,15 @@ pub fn read_bundle<S: Source>(alloc: Global, limit: u64, source: &mut S) -> Resu
     };
     let mut taken = 0;
     'pieces: loop {
-        match read_turn(alloc, limit, taken, source, &mut room, &mut splitter, &mut intake) {
+        match read_turn(
+            alloc,
+            limit,
+            taken,
+            source,
+            &mut room,
+            &mut splitter,
+            &mut intake,
+        ) {
             Ok(Some(count)) => taken += count,
             Ok(None) => break,
             Err(stop) => return Err(stop),

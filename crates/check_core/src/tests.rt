@@ -4,6 +4,7 @@ use fv_outside::{MemorySink, MemorySource};
 use record_hash::{Digests, ShaDigests, ToyDigests};
 use std::alloc::Global;
 use std::test::Fail;
+use std::thread::Threads;
 
 // A put and a get of one key, between its add, evict and second add.
 const PUT_AND_GET: &str =
@@ -17,7 +18,8 @@ fn unhex(alloc: Global, digits: &str) -> Result<Vec<u8>, Fail> {
 }
 
 // What a check of these bytes leaves of its source, what it writes, and its status.
-fn checked<D: Digests>(
+fn checked<R: Threads + Sync, D: Digests + Sync>(
+    rt: &R,
     alloc: Global,
     d: &D,
     limit: u64,
@@ -26,7 +28,7 @@ fn checked<D: Digests>(
 ) -> Result<(MemorySource, MemorySink, Status), Fail> {
     let mut source = MemorySource::new(alloc, bundle, piece.max(1), &[])?;
     let mut out = MemorySink::new(alloc, 10_000, piece.max(1), &[])?;
-    let status = check(alloc, d, limit.min(1 << 40), &mut source, &mut out);
+    let status = check(rt, alloc, d, limit.min(1 << 40), &mut source, &mut out);
     Ok((source, out, status))
 }
 
@@ -54,7 +56,7 @@ fn digests_that_collide_certify_what_is_not_serial(rt: HostRuntime) -> Result<()
     ];
     for (name, bundle, report, number) in table {
         let bytes = unhex(rt.alloc(), bundle)?;
-        let (_, out, status) = checked(rt.alloc(), &ToyDigests, 1 << 40, &bytes, 7)?;
+        let (_, out, status) = checked(&rt, rt.alloc(), &ToyDigests, 1 << 40, &bytes, 7)?;
         assert_eq!(rt; out.bytes(), report.as_bytes(), "{name}");
         assert_eq!(rt; status.number(), number, "{name}");
     }
@@ -66,11 +68,11 @@ fn no_more_is_read_than_the_limit(rt: HostRuntime) -> Result<(), Fail> {
     let d = ShaDigests::new(&[0; 32]);
     let bytes = unhex(rt.alloc(), PUT_AND_GET)?;
     for piece in [1, 40, 1000] {
-        let (source, out, status) = checked(rt.alloc(), &d, 50, &bytes, piece)?;
+        let (source, out, status) = checked(&rt, rt.alloc(), &d, 50, &bytes, piece)?;
         assert_eq!(rt; out.bytes(), [].as_slice());
         assert_eq!(rt; status, Status::InputLimit { taken: 50 });
         assert_eq!(rt; source.left().len(), 65);
-        let (source, out, status) = checked(rt.alloc(), &d, 116, &bytes, piece)?;
+        let (source, out, status) = checked(&rt, rt.alloc(), &d, 116, &bytes, piece)?;
         assert_eq!(rt; out.bytes(), REPORT.as_bytes());
         assert_eq!(rt; status, Status::Done { epochs: 1 });
         assert_eq!(rt; source.left().len(), 0);

@@ -12,6 +12,10 @@ use std::thread::Threads;
 const PUT_AND_GET: &str =
     "465642310001000000040000000000ffffff00000000005c0140000000000000000500000000000000000000074000000000000000050102616202400000000000000005000000000000000000014000000000000000050102616200000000000000000006400000000000000005010261620808";
 
+// Two records that wait with their elements, and come back in the next epoch.
+const FIRST_VECTOR: &str =
+    "465642310001000000800000000000ffffff00000000006001010000000000000000000000000000000000000005010000000000000000000000000000000000000000000000000101018000000000000000000000000000000000000005018000000000000000000000000000000000000000000000000200000000005208030100000000000000000000000000000000000100000401000000000000000000000001000000020301800000000000000000000000000000000002000004018000000000000000000000010000000408";
+
 const REPORT: &str = "epoch 0 certified 2\n0.0 v0 put 5 6162\n0.0 v0 get 5 6162\ndone 1\n";
 
 // The key of each check here.
@@ -72,7 +76,7 @@ fn whole_bundles_have_their_reports<R: Threads + Wait + Sync + Abort>(
     let table = [
         (
             "the first vector",
-            "465642310001000000800000000000ffffff00000000006001010000000000000000000000000000000000000005010000000000000000000000000000000000000000000000000101018000000000000000000000000000000000000005018000000000000000000000000000000000000000000000000200000000005208030100000000000000000000000000000000000100000401000000000000000000000001000000020301800000000000000000000000000000000002000004018000000000000000000000010000000408",
+            FIRST_VECTOR,
             "epoch 0 certified 0\ndone 1\n",
             0,
         ),
@@ -136,11 +140,53 @@ fn whole_bundles_have_their_reports<R: Threads + Wait + Sync + Abort>(
             "epoch 0 certified 2\n0.0 v0 put 5 6162\n0.0 v0 get 5 6162\ndone 1\n",
             0,
         ),
+    ];
+    for (name, bundle, report, number) in table {
+        assert_report(rt, alloc, name, bundle, report, number)?;
+    }
+    Ok(())
+}
+
+fn many_verifiers_have_one_report<R: Threads + Wait + Sync + Abort>(
+    rt: &R,
+    alloc: Global,
+) -> Result<(), Fail> {
+    let table = [
         (
-            "two verifiers",
+            "a record goes from one verifier to another",
+            "465642310002000000040000000000ffffff0000000000630140000000000000000500000000000000000000074000000000000000050102616205400000000000000005000000000000000000000000000000000108034000000000000000050101630000000000000003000106400000000000000005010163080001000000470340000000000000000501026162000000000000000100000640000000000000000501026162074000000000000000050101630440000000000000000500000000000000030808",
+            "epoch 0 certified 3\n0.0 v0 put 5 6162\n0.2 v1 get 5 6162\n0.2 v1 put 5 63\ndone 1\n",
+            0,
+        ),
+        (
+            "one element is added by two verifiers",
+            "465642310002000000040000000000ffffff000000000065014000000000000000050000000000000000000007400000000000000005010261620540000000000000000500000000000000000000000000000000010340000000000000000501026162000000000000000100000640000000000000000501026162080800010000002803400000000000000005010261620000000000000001000007400000000000000005010261630808",
+            "epoch 0 unbalanced added 2 evicted 1\n",
+            9,
+        ),
+        (
+            "an epoch that one verifier has not sealed",
+            "465642310002000000040000000000ffffff000000000002080800010000000108",
+            "done 0\n",
+            0,
+        ),
+        (
+            "the second log is refused",
+            "465642310002000000040000000000ffffff000000000002080800010000000109",
+            "refused v1 command 0 Malformed\n",
+            8,
+        ),
+        (
+            "the lowest refused log is named",
+            "465642310002000000040000000000ffffff0000000000010900010000000109",
+            "refused v0 command 0 Malformed\n",
+            8,
+        ),
+        (
+            "two verifiers with empty logs",
             "465642310002000000040000000000ffffff",
-            "bad bundle at byte 0\n",
-            7,
+            "done 0\n",
+            0,
         ),
     ];
     for (name, bundle, report, number) in table {
@@ -292,7 +338,8 @@ fn stamps_and_values_are_refused<R: Threads + Wait + Sync + Abort>(
 fn bundles_have_their_reports(rt: HostRuntime) -> Result<(), Fail> {
     whole_bundles_have_their_reports(&rt, rt.alloc())?;
     adds_and_evicts_in_the_tree_are_refused(&rt, rt.alloc())?;
-    stamps_and_values_are_refused(&rt, rt.alloc())
+    stamps_and_values_are_refused(&rt, rt.alloc())?;
+    many_verifiers_have_one_report(&rt, rt.alloc())
 }
 
 // The report and status of the first bytes of the put and get.
@@ -305,16 +352,38 @@ fn report_of_cut(len: usize) -> (&'static str, u8) {
     }
 }
 
-#[test]
-fn a_bundle_is_cut_at_each_length(rt: HostRuntime) -> Result<(), Fail> {
-    let bytes = unhex(rt.alloc(), PUT_AND_GET)?;
+// The same of the first vector, which has two frames.
+fn report_of_vector(len: usize) -> (&'static str, u8) {
+    match len {
+        0..18 => ("bad bundle at byte 0\n", 7),
+        18 | 120 => ("done 0\n", 0),
+        19..120 => ("bad bundle at byte 18\n", 7),
+        121..208 => ("bad bundle at byte 120\n", 7),
+        _ => ("epoch 0 certified 0\ndone 1\n", 0),
+    }
+}
+
+// A bundle has the report that is said of its first bytes, wherever it is cut.
+fn assert_cuts<R: Threads + Wait + Sync + Abort>(
+    rt: &R,
+    alloc: Global,
+    bundle: &str,
+    reports: fn(usize) -> (&'static str, u8),
+) -> Result<(), Fail> {
+    let bytes = unhex(alloc, bundle)?;
     for len in 0..bytes.len() + 1 {
-        let (report, number) = report_of_cut(len);
-        let (out, status) = run(&rt, rt.alloc(), &bytes[..len], 1000)?;
+        let (report, number) = reports(len);
+        let (out, status) = run(rt, alloc, &bytes[..len], 1000)?;
         assert_eq!(rt; out.bytes(), report.as_bytes(), "{len}");
         assert_eq!(rt; status.number(), number, "{len}");
     }
     Ok(())
+}
+
+#[test]
+fn a_bundle_is_cut_at_each_length(rt: HostRuntime) -> Result<(), Fail> {
+    assert_cuts(&rt, rt.alloc(), PUT_AND_GET, report_of_cut)?;
+    assert_cuts(&rt, rt.alloc(), FIRST_VECTOR, report_of_vector)
 }
 
 #[test]
