@@ -4,9 +4,9 @@
 usage: random_cases.py FOLDER COUNT SEED
 
 A host is played that walks over few keys: most of its commands are right, some are anything, and some
-bundles are cut or have a byte changed. The first bundle is longer than what a program reads at a time.
-A few cases more have words that are refused, one of them no text. It says how many cases it wrote, and
-fails where that is none.
+bundles are cut or have a byte changed. Every second bundle has 2 to 4 verifiers, between which records move
+under stamps. The first two bundles are longer than what a program reads at a time. A few cases more have words
+that are refused, one of them no text. It says how many cases it wrote, and fails where that is none.
 """
 import os
 import random
@@ -52,46 +52,83 @@ def command_text(command):
     return text
 
 
+def nodes_above(verifier, path):
+    return [node for node in NODES if node in verifier.cache and slow.side(node, path) is not None]
+
+
 class Host:
-    """Plays a host of one verifier: it remembers the records that left the cache."""
+    """Plays a host of one or more verifiers: it remembers the records that left their caches."""
 
     def __init__(self, chance, key, header):
-        self.chance, self.verifier = chance, slow.Verifier(key, 0, header)
-        self.left, self.away, self.log = {}, {}, b""
+        self.chance = chance
+        self.verifiers = [slow.Verifier(key, number, header) for number in range(header[0])]
+        self.logs = [b""] * header[0]
+        self.lies = 0.02 if header[0] == 1 else chance.choice([0, 0, 0.02])
+        self.left, self.away = {}, {}  # by path: the value it left with; the stamp and verifier it was deferred by
 
-    def give(self, command):
-        """Gives a command to the verifier and, if that takes it, to the log. A refused one changes nothing."""
-        entry = self.verifier.cache.get(command[1]) if len(command) > 1 else None
+    def give(self, verifier, command):
+        """Gives a command to a verifier and, if that takes it, to its log. A refused one changes nothing."""
+        entry = verifier.cache.get(command[1]) if len(command) > 1 else None
         try:
-            self.verifier.step(command)
+            verifier.step(command)
         except slow.Fault:
             return False
-        self.log += command_text(command)
+        self.logs[verifier.number] += command_text(command)
         if command[0] in ("evictM", "evictB", "evictBM"):
             self.left[command[1]] = entry.value
         if command[0] in ("evictB", "evictBM"):
-            self.away[command[1]] = command[-1]
+            self.away[command[1]] = (command[-1], verifier.number)
         if command[0] == "addB":
             self.away.pop(command[1], None)
         return True
 
     def read_often(self, path, times):
-        self.give(("addM", path, None, ""))
-        for _ in range(times):
-            self.give(("get", path, None))
+        """Has each verifier in turn read one record. It goes from one to the next under a stamp."""
+        self.give(self.verifiers[0], ("addM", path, None, ""))
+        for verifier in self.verifiers:
+            if path in self.away:
+                self.give(verifier, ("addB", path, None, *self.away[path]))
+            for _ in range(times):
+                self.give(verifier, ("get", path, None))
+            parent = ("",) if verifier.number == 0 else ()
+            name = "evictBM" if parent else "evictB"
+            self.give(verifier, (name, path, *parent, (verifier.epoch, verifier.counter + 1)))
 
-    def any_command(self):
-        chance, verifier = self.chance, self.verifier
-        path = chance.choice(KEYS + NODES)
+    def next_of(self, path):
+        """A verifier, and what it may well do next with a path: bring it in, use it, or send it to the others."""
+        chance = self.chance
+        holders = [verifier for verifier in self.verifiers if path in verifier.cache]
+        above = {verifier.number: nodes_above(verifier, path) for verifier in self.verifiers}
+        able = [verifier for verifier in self.verifiers if path in self.away or above[verifier.number]]
+        verifier = chance.choice(holders or able or self.verifiers)
+        parent = max(above[verifier.number], key=len, default="")
+        if not holders:
+            return verifier, self.adds(verifier, path, parent, (verifier.epoch, verifier.counter + 1))
+        stamp = (verifier.epoch, verifier.counter + chance.choice([1, 1, 1, 2, 5]))
+        entry, blob = verifier.cache[path], chance.choice([None, b"", b"ab", bytes(64)])
+        sends = ("evictB", path, stamp) if entry.hold == "B" else ("evictBM", path, parent, stamp)
+        return verifier, chance.choice([("get", path, entry.value), ("put", path, blob), sends])
+
+    def adds(self, verifier, path, parent, stamp):
+        """A command that brings a path back as it left, or now and then in a way that it did not."""
+        chance, value = self.chance, self.left.get(path, slow.initial(path))
+        if path not in self.away and chance.random() >= self.lies:
+            return ("addM", path, value, parent)
+        stamp, sender = self.away.get(path, (stamp, chance.randrange(len(self.verifiers))))
+        if chance.random() < self.lies:
+            return ("addB", path, value, stamp, chance.randrange(len(self.verifiers) + 1))
+        if chance.random() < self.lies:
+            return ("addB", path, slow.initial(path), stamp, sender)
+        return ("addB", path, value, stamp, sender)
+
+    def any_command(self, verifier):
+        chance, path = self.chance, self.chance.choice(KEYS + NODES)
         parent = chance.choice([node for node in NODES if node in verifier.cache] or NODES)
         stamp = (verifier.epoch, verifier.counter + chance.choice([1, 1, 1, 2, 5]))
-        value = self.left.get(path, slow.initial(path))
         blob = chance.choice([None, b"", b"ab", bytes(64)])
-        known = verifier.cache[path].value if path in verifier.cache else blob if len(path) == 64 else value
-        if path not in self.away and chance.random() < 0.98:
-            adds = ("addM", path, value, parent)
-        else:
-            adds = ("addB", path, value, self.away.get(path, stamp), 0)
+        value = blob if len(path) == 64 else self.left.get(path, slow.initial(path))
+        known = verifier.cache[path].value if path in verifier.cache else value
+        adds = self.adds(verifier, path, parent, stamp)
         return chance.choice(
             [
                 adds,
@@ -100,41 +137,62 @@ class Host:
                 ("evictB", path, stamp),
                 ("evictBM", path, parent, stamp),
                 ("get", path, known),
-                ("put", path, blob if len(path) == 64 else value),
+                ("put", path, value),
             ]
         )
 
-    def turn(self):
-        """Brings back what left in the epoch before, most times, and turns to the next."""
-        if self.chance.random() < 0.9:
-            for path, stamp in list(self.away.items()):
-                if stamp[0] < self.verifier.epoch:
-                    self.make_room()
-                    self.give(("addB", path, self.left[path], stamp, 0))
-        self.give(("nextEpoch",))
+    def bring_back(self):
+        """Brings back what left in an epoch before, each record to any verifier."""
+        for path, (stamp, sender) in list(self.away.items()):
+            for verifier in self.chance.sample(self.verifiers, len(self.verifiers)):
+                if path in self.away and stamp[0] < verifier.epoch:
+                    self.make_room(verifier)
+                    self.give(verifier, ("addB", path, self.left[path], stamp, sender))
 
-    def make_room(self):
-        for path in list(self.verifier.cache):
-            if len(self.verifier.cache) < self.verifier.room:
+    def make_room(self, verifier):
+        for path in list(verifier.cache):
+            if len(verifier.cache) < verifier.room:
                 return
-            self.give(("evictB", path, (self.verifier.epoch, self.verifier.counter + 1)))
+            self.give(verifier, ("evictB", path, (verifier.epoch, verifier.counter + 1)))
+
+    def turn(self):
+        """Most times brings back what is due; then the verifiers turn to the next epoch, others at work meanwhile."""
+        if self.chance.random() >= 5 * self.lies:
+            self.bring_back()
+        for verifier in self.chance.sample(self.verifiers, len(self.verifiers)):
+            if self.chance.random() >= self.lies / 4:
+                self.give(verifier, ("nextEpoch",))
+            if len(self.verifiers) > 1 and self.chance.random() < 0.3:
+                self.work()
+
+    def work(self):
+        """Gives a command to a verifier. Very few logs hold one that is refused."""
+        verifier = self.chance.choice(self.verifiers)
+        if len(self.verifiers) > 1 and self.chance.random() < 0.5:
+            verifier, command = self.next_of(self.chance.choice(KEYS))
+        else:
+            command = self.any_command(verifier)
+        if not self.give(verifier, command) and self.chance.random() < 0.002 / len(self.verifiers):
+            self.logs[verifier.number] += command_text(command)
 
     def play(self, commands):
         for _ in range(commands):
-            if self.chance.random() < 0.06:
+            if self.chance.random() < 0.06 / len(self.verifiers):
                 self.turn()
-            elif not self.give(command := self.any_command()) and self.chance.random() < 0.002:
-                self.log += command_text(command)
+            else:
+                self.work()
         self.turn()
         self.turn()
 
 
-def framed(chance, header, log):
+def framed(chance, header, logs):
+    """The bundle of some logs, each cut anywhere, their frames between each other's."""
     bundle = b"FVB1" + b"".join(number.to_bytes(size, "big") for number, size in zip(header, (2, 4, 4, 4)))
-    while log:
-        size = chance.choice([1, 7, 40, 300, 65536])
-        bundle += bytes(2) + len(log[:size]).to_bytes(4, "big") + log[:size]
-        log = log[size:]
+    logs = list(logs)
+    while rest := [verifier for verifier, log in enumerate(logs) if log]:
+        verifier, size = chance.choice(rest), chance.choice([1, 7, 40, 300, 65536])
+        body, logs[verifier] = logs[verifier][:size], logs[verifier][size:]
+        bundle += verifier.to_bytes(2, "big") + len(body).to_bytes(4, "big") + body
     return bundle
 
 
@@ -149,17 +207,19 @@ def marred(chance, bundle):
 
 
 def random_case(chance, number):
-    """The words and the bundle of a case. That of the first is long and whole."""
+    """The words and the bundle of a case: of one verifier and of several in turn. The first two are long and whole."""
     key = chance.randbytes(chance.choice([16, 32, 64]))
-    header = (1, chance.choice([4, 5, 8]), chance.choice([0, 3, 2**32 - 4]), chance.choice([40, 500, 16777215]))
-    if number == 0:
-        header = (1, 8, 0, 16777215)
+    verifiers = 1 if number % 2 == 0 else chance.choice([2, 3, 4])
+    room, first = chance.choice([4, 5, 8]), chance.choice([0, 3, 2**32 - 4])
+    header = (verifiers, room, first, chance.choice([40, 500, 16777215]))
+    if number < 2:
+        header = (verifiers, 8, 0, 16777215)
     host = Host(chance, key, header)
-    if number == 0:
-        host.read_often(KEYS[0], 10000)
-    host.play(chance.choice([10, 60, 200]))
-    bundle = framed(chance, header, host.log)
-    return ["check", "--key", key.hex()], bundle if number == 0 else marred(chance, bundle)
+    if number < 2:
+        host.read_often(KEYS[0], 10000 // verifiers)
+    host.play(chance.choice([10, 60, 200]) * verifiers)
+    bundle = framed(chance, header, host.logs)
+    return ["check", "--key", key.hex()], bundle if number < 2 else marred(chance, bundle)
 
 
 def write_case(folder, name, words, bundle):

@@ -160,7 +160,8 @@ class Verifier:
         self.cache = {"": Entry((None, None), "Root")} if number == 0 else {}
         self.added, self.evicted = {}, {}
         self.accepted = 0
-        self.operations, self.parts = [], []
+        self.operations = []  # each with its stamp: epoch, counter, verifier, and its index in the log
+        self.parts = []  # of each epoch that was sealed, from the first on: what was added, and what evicted
 
     def step(self, command):
         getattr(self, command[0])(*command[1:])
@@ -262,7 +263,8 @@ class Verifier:
         return self.cache[path]
 
     def tell(self, word, path, value):
-        self.operations.append((self.epoch, self.counter, self.number, word, int(path, 2), value))
+        stamp = (self.epoch, self.counter, self.number, self.accepted)
+        self.operations.append((stamp, word, int(path, 2), value))
 
     def get(self, path, value):
         test(self.data(path).value != value, "WrongValue")
@@ -276,7 +278,7 @@ class Verifier:
         test(self.epoch == 2**32 - 1, "ClockEnd")
         if self.epoch > self.first:
             sealed = self.epoch - 1
-            self.parts.append((sealed, self.added.get(sealed, Tally()), self.evicted.get(sealed, Tally())))
+            self.parts.append((self.added.get(sealed, Tally()), self.evicted.get(sealed, Tally())))
         self.epoch, self.counter = self.epoch + 1, 0
 
     def join(self, sums, epoch, text):
@@ -291,50 +293,70 @@ class Verifier:
 
 
 def read_bundle(data):
-    """The header, the log of verifier 0, and the offset of what is bad, if anything is."""
+    """The header, the log of each verifier, and the offset of what is bad, if anything is."""
     if len(data) < 18 or data[:4] != b"FVB1":
-        return None, b"", 0
+        return None, [], 0
     header = tuple(int.from_bytes(data[a:b], "big") for a, b in ((4, 6), (6, 10), (10, 14), (14, 18)))
     verifiers, cache, _, end = header
     if not (1 <= verifiers <= 64 and 4 <= cache <= 65536 and 1 <= end <= 16777215):
-        return None, b"", 0
-    log, at = b"", 18
+        return None, [], 0
+    logs, at = [b""] * verifiers, 18
     while at < len(data):
         head = data[at : at + 6]
         verifier, length = int.from_bytes(head[:2], "big"), int.from_bytes(head[2:], "big")
         body = data[at + 6 : at + 6 + length]
         if len(head) < 6 or verifier >= verifiers or not 1 <= length <= 65536 or len(body) < length:
-            return header, log, at
-        log, at = log + body, at + 6 + length
-    return header, log, None
+            return header, logs, at
+        logs[verifier] += body
+        at += 6 + length
+    return header, logs, None
+
+
+def read_log(verifier, log):
+    """Has a verifier read its log, up to the first refusal, and tells that refusal, if there is one."""
+    text = Bytes(log)
+    while text.at < len(log):
+        try:
+            verifier.step(text.command())
+        except Fault as fault:
+            return f"refused v{verifier.number} command {verifier.accepted} {fault}\n"
+    return None
+
+
+def together(tallies):
+    """The sum of what all verifiers have added, or have evicted."""
+    lanes = [sum(lane) for lane in zip(*(tally.lanes for tally in tallies))]
+    return Tally(lanes, sum(tally.count for tally in tallies))
 
 
 def check(key, data):
     """The report and the exit status."""
-    header, log, bad = read_bundle(data)
-    if header is None or header[0] != 1:
+    header, logs, bad = read_bundle(data)
+    if header is None:
         return "bad bundle at byte 0\n", 7
-    verifier, refusal, text = Verifier(key, 0, header), None, Bytes(log)
-    while refusal is None and text.at < len(log):
-        try:
-            verifier.step(text.command())
-        except Fault as fault:
-            refusal = f"refused v0 command {verifier.accepted} {fault}\n"
-    report = ""
-    for done, (epoch, added, evicted) in enumerate(verifier.parts):
+    verifiers = [Verifier(key, number, header) for number in range(len(logs))]
+    refusals = [read_log(verifier, log) for verifier, log in zip(verifiers, logs)]
+    operations = sorted((o for verifier in verifiers for o in verifier.operations), key=lambda o: o[0])
+    report, first = "", header[2]
+    sealed_by_all = min(len(verifier.parts) for verifier in verifiers)
+    for place in range(sealed_by_all):
+        epoch = first + place
+        added = together([verifier.parts[place][0] for verifier in verifiers])
+        evicted = together([verifier.parts[place][1] for verifier in verifiers])
         if added != evicted:
             return report + f"epoch {epoch} unbalanced added {added.count} evicted {evicted.count}\n", 9
-        operations = [o for o in verifier.operations if o[0] == epoch]
-        report += f"epoch {epoch} certified {len(operations)}\n" + "".join(map(line, operations))
-    if refusal is not None:
-        return report + refusal, 8
+        lines = [line(o) for o in operations if o[0][0] == epoch]
+        report += f"epoch {epoch} certified {len(lines)}\n" + "".join(lines)
+    for refusal in refusals:
+        if refusal is not None:
+            return report + refusal, 8
     if bad is not None:
         return report + f"bad bundle at byte {bad}\n", 7
-    return report + f"done {len(verifier.parts)}\n", 0
+    return report + f"done {sealed_by_all}\n", 0
 
 
 def line(operation):
-    epoch, counter, verifier, word, key, value = operation
+    (epoch, counter, verifier, _), word, key, value = operation
     text = "none" if value is None else value.hex() or "."
     return f"{epoch}.{counter} v{verifier} {word} {key} {text}\n"
 

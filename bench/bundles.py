@@ -1,0 +1,225 @@
+#!/usr/bin/env python3
+"""Writes accepted bundles for bench/run.py, the same ones for the same seed.
+
+usage: bench/bundles.py FOLDER [SEED]        (FOLDER lies outside the repository, as /tmp/bundles; about 450 MB)
+
+NAME is a bundle and NAME.commands the number of its commands. A cold bundle has each record under the Merkle
+tree: a request brings in the chain of nodes down to its key, gets or puts, and sends the chain back. A hot one has
+few records, which all verifiers pass to each other under stamps. An epoch ends after each 8 MiB.
+"""
+import hashlib
+import os
+import random
+import sys
+
+sys.path.insert(0, os.path.join(os.path.dirname(os.path.abspath(__file__)), "..", "tools"))
+import slow_fastver as slow
+
+MIB = 2**20
+FRAME, EPOCH = 65536, 8 * MIB
+COLD_KEYS, HOT_KEYS = 1024, 256  # cold ones of each verifier, hot ones of all
+FIRST, CACHE, END = 1, 128, 16777215
+
+
+class Bundle:
+    """A bundle under way: each verifier's clock and the bytes of its log that are in no frame yet."""
+
+    def __init__(self, file, verifiers):
+        self.file, self.size, self.commands = file, 0, 0
+        self.epoch, self.counters = FIRST, [0] * verifiers
+        self.waiting = [bytearray() for _ in range(verifiers)]
+        header = ((verifiers, 2), (CACHE, 4), (FIRST, 4), (END, 4))
+        file.write(b"FVB1" + b"".join(number.to_bytes(size, "big") for number, size in header))
+
+    def log(self, verifier, *texts):
+        waiting = self.waiting[verifier]
+        for text in texts:
+            waiting += text
+            self.size += len(text)
+        self.commands += 1
+        if len(waiting) >= FRAME:
+            self.frame(verifier, FRAME)
+
+    def frame(self, verifier, most):
+        body, self.waiting[verifier] = self.waiting[verifier][:most], self.waiting[verifier][most:]
+        if body:
+            self.file.write(verifier.to_bytes(2, "big") + len(body).to_bytes(4, "big") + body)
+
+    def stamp(self, verifier):
+        """The next stamp of a verifier, under which it then sends a record."""
+        self.counters[verifier] += 1
+        return (self.epoch, self.counters[verifier])
+
+    def received(self, verifier, stamp):
+        above = stamp[1] if stamp[0] == self.epoch else 0
+        self.counters[verifier] = 1 + max(self.counters[verifier], above)
+
+    def next_epoch(self):
+        self.epoch, self.counters = self.epoch + 1, [0] * len(self.counters)
+        for verifier in range(len(self.counters)):
+            self.log(verifier, b"\x08")
+            self.frame(verifier, FRAME)
+
+
+def stamp_text(stamp):
+    return stamp[0].to_bytes(4, "big") + stamp[1].to_bytes(4, "big")
+
+
+class Tree:
+    """What a verifier has at the root of its records and below, and the commands that walk there."""
+
+    def __init__(self, bundle, verifier, root):
+        self.bundle, self.verifier, self.root = bundle, verifier, root
+        self.values = {root: (None, None)}
+
+    def chain(self, key):
+        """The paths from below the root down to a key, a new node included where paths part."""
+        at, chain = self.root, []
+        while (pointer := self.values[at][int(key[len(at)])]) is not None and pointer.path != key:
+            if not key.startswith(pointer.path):
+                return chain + [os.path.commonprefix([pointer.path, key]), key]
+            at = pointer.path
+            chain.append(at)
+        return chain + [key]
+
+    def point(self, parent, path, deferred=False):
+        """Has the parent's pointer lead to a path with its value."""
+        digest = hashlib.sha256(slow.value_text(path, self.values[path])).digest()
+        pointer = slow.Pointer(path, digest, deferred)
+        self.values[parent] = slow.with_side(self.values[parent], slow.side(parent, path), pointer)
+
+    def bring_in(self, path, parent):
+        value = self.values.get(path, slow.initial(path))
+        below = self.values[parent][slow.side(parent, path)]
+        self.bundle.log(
+            self.verifier, b"\x01", slow.path_text(path), slow.value_text(path, value), slow.path_text(parent)
+        )
+        if path not in self.values:
+            self.values[path] = value
+            self.point(parent, path)
+            if below is not None:
+                self.values[path] = slow.with_side(value, slow.side(path, below.path), below)
+
+    def send_back(self, path, parent):
+        self.point(parent, path)
+        self.bundle.log(self.verifier, b"\x02", slow.path_text(path), slow.path_text(parent))
+
+    def defer(self, path, parent):
+        self.point(parent, path, deferred=True)
+        stamp = self.bundle.stamp(self.verifier)
+        self.bundle.log(self.verifier, b"\x05", slow.path_text(path), slow.path_text(parent), stamp_text(stamp))
+        return stamp
+
+    def walk(self, key, use):
+        """Brings in the chain to a key, uses it with its parent, and sends the rest of the chain back."""
+        chain = [self.root] + self.chain(key)
+        for parent, path in zip(chain, chain[1:]):
+            self.bring_in(path, parent)
+        result = use(key, chain[-2])
+        for parent, path in reversed(list(zip(chain[:-2], chain[1:-1]))):
+            self.send_back(path, parent)
+        return result
+
+
+def request(chance, bundle, verifier, key, value):
+    """A get of a key that has the value, or a put; the value after it."""
+    if chance.random() < 0.5:
+        value = chance.randbytes(8)
+        bundle.log(verifier, b"\x07", slow.path_text(key), slow.value_text(key, value))
+    else:
+        bundle.log(verifier, b"\x06", slow.path_text(key), slow.value_text(key, value))
+    return value
+
+
+def add_by_stamp(bundle, verifier, path, value, sent):
+    stamp, sender = sent
+    bundle.received(verifier, stamp)
+    texts = slow.path_text(path), slow.value_text(path, value), stamp_text(stamp), sender.to_bytes(2, "big")
+    bundle.log(verifier, b"\x03", *texts)
+
+
+def trees(bundle, verifiers):
+    """A tree for each verifier: the first one sends the others theirs under stamps. The number is a power of 2."""
+    top, sent = Tree(bundle, 0, ""), {}
+    bits = verifiers.bit_length() - 1
+    if bits == 0:
+        return [top]
+
+    def visit(path, parent):
+        top.bring_in(path, parent)
+        if len(path) == bits:
+            sent[path] = (top.defer(path, parent), 0)
+            return
+        visit(path + "0", path)
+        visit(path + "1", path)
+        top.send_back(path, parent)
+
+    visit("0", "")
+    visit("1", "")
+    for verifier, path in enumerate(sorted(sent)):
+        add_by_stamp(bundle, verifier, path, (None, None), sent[path])
+    return [Tree(bundle, verifier, path) for verifier, path in enumerate(sorted(sent))]
+
+
+def cold(chance, bundle, verifiers, size):
+    served = [
+        (tree, [tree.root + format(chance.getrandbits(64), "064b")[len(tree.root) :] for _ in range(COLD_KEYS)])
+        for tree in trees(bundle, verifiers)
+    ]
+    while bundle.size < size:
+        tree, keys = chance.choice(served)
+
+        def use(key, parent):
+            tree.values[key] = request(chance, bundle, tree.verifier, key, tree.values[key])
+            tree.send_back(key, parent)
+
+        tree.walk(chance.choice(keys), use)
+        if bundle.size >= EPOCH * (bundle.epoch - FIRST + 1):
+            bundle.next_epoch()
+    bundle.next_epoch()
+    bundle.next_epoch()
+
+
+def hot(chance, bundle, verifiers, size):
+    tree = Tree(bundle, 0, "")
+    keys = [format(chance.getrandbits(64), "064b") for _ in range(HOT_KEYS)]
+    values, sent = {}, {}
+    for key in keys:
+        sent[key], values[key] = (tree.walk(key, tree.defer), 0), None
+
+    def pass_on(verifier, key, asked):
+        add_by_stamp(bundle, verifier, key, values[key], sent[key])
+        if asked:
+            values[key] = request(chance, bundle, verifier, key, values[key])
+        sent[key] = (bundle.stamp(verifier), verifier)
+        bundle.log(verifier, b"\x04", slow.path_text(key), stamp_text(sent[key][0]))
+
+    def close():
+        bundle.next_epoch()
+        for key in keys:
+            pass_on(chance.randrange(verifiers), key, asked=False)
+
+    while bundle.size < size:
+        pass_on(chance.randrange(verifiers), chance.choice(keys), asked=True)
+        if bundle.size >= EPOCH * (bundle.epoch - FIRST + 1):
+            close()
+    close()
+    bundle.next_epoch()
+
+
+def main():
+    folder, seed = sys.argv[1], sys.argv[2] if len(sys.argv) > 2 else "1"
+    os.makedirs(folder, exist_ok=True)
+    for size in (1, 8, 64):
+        for verifiers in (1, 4, 16):
+            for mix in (cold, hot):
+                name = f"{mix.__name__}-{verifiers:02}-verifiers-{size:02}-MiB"
+                with open(os.path.join(folder, name), "wb") as file:
+                    bundle = Bundle(file, verifiers)
+                    mix(random.Random(seed + name), bundle, verifiers, size * MIB)
+                with open(os.path.join(folder, name + ".commands"), "w") as file:
+                    file.write(f"{bundle.commands}\n")
+
+
+if __name__ == "__main__":
+    main()
