@@ -12,3 +12,5 @@ pub use top::{INPUT_LIMIT, fastver};
 
 #[cfg(test)]
 mod tests;
+#[cfg(test)]
+mod tree_tests;
