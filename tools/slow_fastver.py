@@ -383,8 +383,8 @@ def compare(folder):
         if name.endswith((".args", ".stdout")) or not os.path.isfile(base):
             continue
         cases += 1
-        with open(base, "rb") as bundle, open(base + ".args") as words, open(base + ".stdout") as report:
-            got = fastver(words.read().split("\n")[:-1], bundle.read())
+        with open(base, "rb") as bundle, open(base + ".args", "rb") as words, open(base + ".stdout") as report:
+            got = fastver(os.fsdecode(words.read()).split("\n")[:-1], bundle.read())
             if got != (report.read(), int(kept(folder, "status", name)), kept(folder, "stderr", name)):
                 differ.append(base)
     return cases, differ
