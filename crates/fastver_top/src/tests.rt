@@ -177,6 +177,18 @@ fn many_verifiers_have_one_report<R: Threads + Wait + Sync + Abort>(
             8,
         ),
         (
+            "the root is in the cache of verifier 0 alone",
+            "465642310002000000040000000000ffffff0001000000140140000000000000000500000000000000000000",
+            "refused v1 command 0 ParentNotCached\n",
+            8,
+        ),
+        (
+            "the lowest refused log is named, whichever came first",
+            "465642310002000000040000000000ffffff00010000000b064000000000000000050000000000000b0640000000000000000500",
+            "refused v0 command 0 NotCached\n",
+            8,
+        ),
+        (
             "the lowest refused log is named",
             "465642310002000000040000000000ffffff0000000000010900010000000109",
             "refused v0 command 0 Malformed\n",

@@ -125,7 +125,15 @@ fn nodes_and_splits_have_their_reports(rt: HostRuntime) -> Result<(), Fail> {
         let mut source = MemorySource::new(rt.alloc(), &bytes, 1000, &[])?;
         let mut out = MemorySink::new(rt.alloc(), 10_000, 1000, &[])?;
         let mut vault = MemoryVault::new(rt.alloc(), 100, 1, &[])?;
-        let status = fastver(&rt, rt.alloc(), &words, &mut source, &mut out, &mut vault, &FreeGate);
+        let status = fastver(
+            &rt,
+            rt.alloc(),
+            &words,
+            &mut source,
+            &mut out,
+            &mut vault,
+            &FreeGate,
+        );
         assert_eq!(rt; out.bytes(), report.as_bytes());
         assert_eq!(rt; status.number(), number);
     }
