@@ -354,48 +354,48 @@ fn bundles_have_their_reports(rt: HostRuntime) -> Result<(), Fail> {
     many_verifiers_have_one_report(&rt, rt.alloc())
 }
 
-// The report and status of the first bytes of the put and get.
-fn report_of_cut(len: usize) -> (&'static str, u8) {
-    match len {
-        0..18 => ("bad bundle at byte 0\n", 7),
-        18 => ("done 0\n", 0),
-        19..116 => ("bad bundle at byte 18\n", 7),
-        _ => (REPORT, 0),
-    }
+// A bundle that is cut.
+#[derive(Clone, Copy)]
+enum Cut {
+    PutAndGet,
+    FirstVector,
 }
 
-// The same of the first vector, which has two frames.
-fn report_of_vector(len: usize) -> (&'static str, u8) {
-    match len {
-        0..18 => ("bad bundle at byte 0\n", 7),
-        18 | 120 => ("done 0\n", 0),
-        19..120 => ("bad bundle at byte 18\n", 7),
-        121..208 => ("bad bundle at byte 120\n", 7),
-        _ => ("epoch 0 certified 0\ndone 1\n", 0),
+impl Cut {
+    fn bundle(self) -> &'static str {
+        match self {
+            Cut::PutAndGet => PUT_AND_GET,
+            Cut::FirstVector => FIRST_VECTOR,
+        }
     }
-}
 
-// A bundle has the report that is said of its first bytes, wherever it is cut.
-fn assert_cuts<R: Threads + Wait + Sync + Abort>(
-    rt: &R,
-    alloc: Global,
-    bundle: &str,
-    reports: fn(usize) -> (&'static str, u8),
-) -> Result<(), Fail> {
-    let bytes = unhex(alloc, bundle)?;
-    for len in 0..bytes.len() + 1 {
-        let (report, number) = reports(len);
-        let (out, status) = run(rt, alloc, &bytes[..len], 1000)?;
-        assert_eq!(rt; out.bytes(), report.as_bytes(), "{len}");
-        assert_eq!(rt; status.number(), number, "{len}");
+    // The report and status of its first bytes, so many of them.
+    fn report(self, len: usize) -> (&'static str, u8) {
+        match (self, len) {
+            (_, 0..18) => ("bad bundle at byte 0\n", 7),
+            (_, 18) => ("done 0\n", 0),
+            (Cut::PutAndGet, 19..116) => ("bad bundle at byte 18\n", 7),
+            (Cut::PutAndGet, _) => (REPORT, 0),
+            (Cut::FirstVector, 19..120) => ("bad bundle at byte 18\n", 7),
+            (Cut::FirstVector, 120) => ("done 0\n", 0),
+            (Cut::FirstVector, 121..208) => ("bad bundle at byte 120\n", 7),
+            (Cut::FirstVector, _) => ("epoch 0 certified 0\ndone 1\n", 0),
+        }
     }
-    Ok(())
 }
 
 #[test]
-fn a_bundle_is_cut_at_each_length(rt: HostRuntime) -> Result<(), Fail> {
-    assert_cuts(&rt, rt.alloc(), PUT_AND_GET, report_of_cut)?;
-    assert_cuts(&rt, rt.alloc(), FIRST_VECTOR, report_of_vector)
+fn bundles_are_cut_at_each_length(rt: HostRuntime) -> Result<(), Fail> {
+    for cut in [Cut::PutAndGet, Cut::FirstVector] {
+        let bytes = unhex(rt.alloc(), cut.bundle())?;
+        for len in 0..bytes.len() + 1 {
+            let (report, number) = cut.report(len);
+            let (out, status) = run(&rt, rt.alloc(), &bytes[..len], 1000)?;
+            assert_eq!(rt; out.bytes(), report.as_bytes(), "{len}");
+            assert_eq!(rt; status.number(), number, "{len}");
+        }
+    }
+    Ok(())
 }
 
 #[test]
