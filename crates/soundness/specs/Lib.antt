@@ -5,6 +5,7 @@ pub mod Exhibit
 pub mod Spot
 pub mod Typed
 pub mod Deeds
+pub mod World
 pub mod Timed
 pub mod Permutation
 pub mod Collision
