@@ -18,7 +18,7 @@ use Rattle.soundness.specs.Permutation.{same_element, count_of, without_one}
 use Rattle.soundness.specs.Scheduled.{IsScheduledBy, IsScheduled}
 use Rattle.soundness.specs.Deeds.{Did}
 use Rattle.soundness.specs.Spot.{Spot, untouched, cached, merkle, waiting, Spots}
-use Rattle.soundness.specs.World.{AllShown, with_shown, Stored, IsWorld}
+use Rattle.soundness.specs.World.{AllShown, with_shown, Stored, IsWorld, IsWaiting}
 use Rattle.soundness.proofs.PermutationLemmas.{same_element-true, same_element-self, one_more, count_without}
 use Rattle.soundness.proofs.WorldLemmas.{spot_of_shown}
 use Rattle.soundness.proofs.JoinLemmas.{KeepsWaiting, not_waiting}
@@ -28,11 +28,6 @@ use Rattle.soundness.proofs.SingleLemmas.{come_step, go_step, same_step, read_va
 use Rattle.soundness.proofs.RunLemmas.{IsRun}
 
 -- ---- what waits
-
--- The elements that were evicted and not added back each wait at the spot of their path, and none twice.
-pub record IsWaiting (spots : Spots) (pending : List Element) : Type 0 where
-  pub each : (x : Element) → 1 ≤ count_of x pending → spots x.path ≡ waiting x
-  pub once : (x : Element) → count_of x pending ≤ 1
 
 pub wait_on : (old new : Spots) (pending : List Element) → KeepsWaiting old new → IsWaiting old pending → IsWaiting new pending
 wait_on old new pending keeps waits = record { each = λ x there. keeps x.path x (waits.each x there); once = waits.once }

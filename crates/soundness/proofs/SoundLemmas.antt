@@ -19,10 +19,10 @@ use Rattle.soundness.specs.Collision.{first_uneven, exhibit_by, exhibit_of, Coll
 use Rattle.soundness.specs.Timed.{IsTimed}
 use Rattle.soundness.specs.Typed.{IsTyped}
 use Rattle.soundness.specs.Sound.{AreBalanced, IsSerialOrCollides}
-use Rattle.soundness.specs.World.{opening_shown}
+use Rattle.soundness.specs.World.{IsWaiting, opening_shown}
 use Rattle.soundness.proofs.KnownLemmas.{HasOneText}
 use Rattle.soundness.proofs.PermutationLemmas.{count_permuted}
-use Rattle.soundness.proofs.SerialLemmas.{IsWaiting, run_keeps}
+use Rattle.soundness.proofs.SerialLemmas.{run_keeps}
 use Rattle.soundness.proofs.SerialLemmas.{Collides as CollidesAt, IsSound}
 use Rattle.soundness.proofs.ScheduleLemmas.{AreEven, scheduled}
 use Rattle.soundness.proofs.HistoryLemmas.{IsOfLog, log-merged, log-epochs}

@@ -5,9 +5,9 @@ pub mod Exhibit
 pub mod Spot
 pub mod Typed
 pub mod Deeds
-pub mod World
 pub mod Timed
 pub mod Permutation
 pub mod Collision
 pub mod Scheduled
+pub mod World
 pub mod Sound

@@ -1,8 +1,10 @@
 -- All caches together, what was taken and the plain map, and the spots that agree with them; and what events leave.
-use Rattle.std.specs.Prelude.{◌≡◌, ◌⊎◌, ℕ, ◌==◌, Bool, List, [], ◌∷◌, map, length, Option, Some, None, if◌then◌else◌}
+use Rattle.std.specs.Prelude.{◌≡◌, ◌⊎◌, ℕ, ◌≤◌, ◌==◌, Bool, List, [], ◌∷◌, map, length, Option, Some, None, if◌then◌else◌}
+use Rattle.std.specs.Option.{unwrap_or}
 use Rattle.tree_keys.specs.Bits.{number_of}
 use Rattle.lamport_clocks.specs.declared.header.Header.{Header}
 use Rattle.record_text.specs.declared.value.Value.{Value}
+use Rattle.record_text.specs.declared.element.Element.{Element}
 use Rattle.record_text.specs.declared.operation.Operation.{Operation}
 use Rattle.record_text.specs.Format.{Format, short_keys, path_bits}
 use Rattle.merkle_records.specs.Merkle.{Digest}
@@ -14,6 +16,7 @@ use Rattle.verifier_commands.specs.Change.{Change, joins, leaves, comes, goes, d
 use Rattle.soundness.specs.History.{Event}
 use Rattle.soundness.specs.Certified.{operations_in}
 use Rattle.soundness.specs.Exhibit.{Taken, none_taken, taken_after}
+use Rattle.soundness.specs.Permutation.{count_of, without_one}
 use Rattle.soundness.specs.Deeds.{Shown, shown_by, showing, showing_both}
 use Rattle.soundness.specs.Spot.{Spot, untouched, cached, merkle, waiting, Spots, value_at, IsTree}
 
@@ -58,6 +61,11 @@ pub record IsWorld (format : Format) (digest : Digest) (shown : AllShown) (taken
   pub was_taken : (path : List Bool) (value : Value) → spots path ≡ merkle value → taken path ≡ Some value
   pub holds : (path : List Bool) → length path ≡ path_bits format → blob_at (spots path) ≡ stored (number_of path)
 
+-- The elements that were evicted and not added back each wait at the spot of their path, and none twice.
+pub record IsWaiting (spots : Spots) (pending : List Element) : Type 0 where
+  pub each : (x : Element) → 1 ≤ count_of x pending → spots x.path ≡ waiting x
+  pub once : (x : Element) → count_of x pending ≤ 1
+
 -- ---- what events leave
 
 -- what each verifier's cache shows at the start
@@ -90,6 +98,22 @@ abbrev pub taken_behind : Taken → List Change → Taken
 taken_behind taken [] = taken
 taken_behind taken (change ∷ changes) = taken_behind (taken_after taken change) changes
 
+-- the elements that wait, once this was done
+abbrev pub pending_after : List Element → Change → List Element
+pending_after pending (joins parent after child) = pending
+pending_after pending (leaves parent after child) = pending
+pending_after pending (comes child element) = unwrap_or (without_one element pending) pending
+pending_after pending (goes child element) = element ∷ pending
+pending_after pending (defers parent after child element) = element ∷ pending
+pending_after pending (reads entry) = pending
+pending_after pending (writes before after) = pending
+pending_after pending (turns sealed) = pending
+
+-- the elements that wait, once all this was done
+abbrev pub pending_behind : List Element → List Change → List Element
+pending_behind pending [] = pending
+pending_behind pending (change ∷ changes) = pending_behind (pending_after pending change) changes
+
 -- the plain map behind operations
 abbrev pub stored_behind : Stored → List Operation → Stored
 stored_behind stored [] = stored
@@ -97,11 +121,12 @@ stored_behind stored (operation ∷ operations) = stored_behind (map_after opera
 
 -- ---- the spots behind events
 
--- the spots agree with what the caches show behind these events, what was taken by them, and their plain map
-abbrev pub IsBehind : Digest → Header → List Event → Spots → Type 0
-IsBehind digest header events spots =
-    IsWorld short_keys digest (shown_behind (opening_shown header) events) (taken_behind none_taken (changes_in events))
-    (stored_behind none_everywhere (operations_in events)) spots
+-- The spots agree with what the caches show behind these events, what was taken by them, and their plain map; and
+-- what was evicted and not added back waits.
+pub record IsBehind (digest : Digest) (header : Header) (events : List Event) (spots : Spots) : Type 0 where
+  pub world : IsWorld short_keys digest (shown_behind (opening_shown header) events)
+      (taken_behind none_taken (changes_in events)) (stored_behind none_everywhere (operations_in events)) spots
+  pub waits : IsWaiting spots (pending_behind [] (changes_in events))
 
 -- each path has one place behind these events
 abbrev pub HavePlaces : Digest → Header → List Event → Type 0

@@ -66,10 +66,11 @@ pub fn merged_order_keeps_each_log()
         ≡ up_to event_moment epoch (get_or (histories_of digest lanes header logs) verifier []) }
 {}
 
-/// Each path has one place: untouched, in the cache of one verifier, kept by its parent's digest, or waiting with
-/// its element. Each pointer leads to the place of its child, and covers all that is touched on its side. So it is
-/// behind each front of the merged order that shows no clash: the caches are what its changes left, what is kept by
-/// its digest is what the path's last evictM took, and the data values are those of the plain map.
+/// Each path has one place: untouched, in the cache of one verifier, kept by its parent's digest, or waiting
+/// with its element. Each pointer leads to the place of its child, and covers all that is touched on its side.
+/// It is so behind each front of the merged order that shows no clash: the caches are what its changes left,
+/// what is kept by its digest is what the path's last evictM took, what was evicted and not added back waits,
+/// and the data values are those of the plain map.
 pub fn records_have_one_place()
     ensures places { (digest : Digest) (lanes : List ℕ → List ℕ) (header : Header)
         (logs : List (List Command)) (last : ℕ) (front back : List Event)
@@ -80,8 +81,9 @@ pub fn records_have_one_place()
         → HavePlaces digest header front }
 {}
 
-/// What an add brings in is what is at its place. An addM that shows no clash finds its path untouched, or kept by its
-/// digest with the value that it brings, which the last evictM took; an addB finds the element that waits there.
+/// What an add brings in is what is at its place. An addM that shows no clash finds its path untouched, or kept
+/// by its digest with the value that it brings, which the last evictM took. An addB finds the element that it
+/// brings waiting, and its record has the element's value.
 pub fn adds_take_what_is_there()
     ensures takes { (digest : Digest) (lanes : List ℕ → List ℕ) (header : Header)
         (logs : List (List Command)) (last : ℕ) (front : List Event) (event : Event) (back : List Event)

@@ -7,8 +7,8 @@
 //! elements that were added of it is the sum over those that were evicted. No digest and no sum is trusted
 //! here: the laws hold for whatever functions these are, and what an attack would have to find is the exhibit.
 //!
-//! Why it is so is a law of its own: behind each front of that order that shows no clash, each path has one place, and
-//! each add takes what is there.
+//! What makes it so is told by two laws more: behind each front of that order that shows no clash, each path
+//! has one place, and each add takes what is there.
 //!
 //! The crate stands on `verifier_commands`, whose transition says what a command does, on `log_codec`,
 //! `multiset_sum` and `stamp_order`; it has no code to run. Begin with `laws.rt`, whose first law is the
