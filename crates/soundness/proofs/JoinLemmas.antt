@@ -21,11 +21,12 @@ use Rattle.verifier_commands.specs.Outcome.{blob_of}
 use Rattle.soundness.specs.Exhibit.{Taken}
 use Rattle.soundness.specs.Deeds.{Shown, ShowSame, showing_both, DidJoin}
 use Rattle.soundness.specs.Spot.{Spot, untouched, cached, merkle, waiting, Spots, is_touched, side_of, pointer_at, home_of, LeadsBy, IsKeptBy, Covers, IsKind, IsTree}
+use Rattle.soundness.specs.World.{cached_in, blob_at, AllShown, with_shown, Stored, IsWorld}
 use Rattle.soundness.proofs.SideLemmas.{above_apart, above_no_prefix}
 use Rattle.soundness.proofs.MovedLemmas.{this_or_other, pointer_kind}
 use Rattle.soundness.proofs.FamilyLemmas.{IsAdded, added_how, pointer_set, pointer_set_other, kid_set}
 use Rattle.soundness.proofs.UnderLemmas.{FitsUnder, pair_moves, changed_parent, nothing_there, fits_empty, fits_split}
-use Rattle.soundness.proofs.WorldLemmas.{cached_in, cached_here, cached_elsewhere, spot_of_shown, blob_at, AllShown, with_shown, Stored, IsWorld, with_pair, with_pair_parent, with_pair_other, with_spot_at, with_spot, world_pair}
+use Rattle.soundness.proofs.WorldLemmas.{cached_here, cached_elsewhere, spot_of_shown, with_pair, with_pair_parent, with_pair_other, with_spot_at, with_spot, world_pair}
 
 -- ---- what the parts of a spot tell
 
@@ -198,6 +199,26 @@ parent_kind format digest spots home parent at tree was is_node =
     subst (IsOf format parent.path) (node_is parent.value at is_node)
     (subst (IsKind format parent.path) was (tree.kind parent.path)).1
 
+-- Where the pointer leads nowhere, the child is untouched.
+pub empty_untouched : (format : Format) (digest : Digest) (shown : AllShown) (spots : Spots) (home : ℕ) (next : Shown) (parent after child : Entry)
+    → IsTree format digest spots → (j : Joining format digest shown spots home next parent after child)
+    → node_side j.added.at j.added.on ≡ None → spots child.path ≡ untouched
+empty_untouched format digest shown spots home next parent after child tree j none =
+    untouched_since (spots child.path)
+    (λ touched. nothing_there format digest spots parent.path j.added.on tree (ap is_touched j.was)
+    (parent_pointer spots home parent j.added.at j.added.on j.was j.added.is_node ∙ none) child.path touched j.added.below)
+
+-- And so it is where the pointer leads below it.
+pub split_untouched : (format : Format) (digest : Digest) (shown : AllShown) (spots : Spots) (home : ℕ) (next : Shown) (parent after child : Entry)
+    → IsTree format digest spots → (j : Joining format digest shown spots home next parent after child)
+    → (pointer : Pointer) → node_side j.added.at j.added.on ≡ Some pointer → (which : Bool) → side child.path pointer.path ≡ Some which
+    → spots child.path ≡ untouched
+split_untouched format digest shown spots home next parent after child tree j pointer there which further =
+    untouched_since (spots child.path)
+    (λ touched. above_no_prefix child.path pointer.path which further
+    (subst (λ (o : Option Pointer). Covers o child.path) (parent_pointer spots home parent j.added.at j.added.on j.was j.added.is_node ∙ there)
+    (tree.cover parent.path child.path j.added.on (ap is_touched j.was) touched j.added.below)))
+
 -- Where the pointer led nowhere.
 pub join_empty : (format : Format) (digest : Digest) (shown : AllShown) (taken : Taken) (stored : Stored) (spots : Spots) (home : ℕ) (next : Shown) (parent after child : Entry)
     → GivesDigests digest → IsWorld format digest shown taken stored spots → (j : Joining format digest shown spots home next parent after child)
@@ -237,9 +258,7 @@ join_empty format digest shown taken stored spots home next parent after child d
     bare_side = parent_pointer spots home parent at on j.was j.added.is_node ∙ none
 
     was_untouched : spots child.path ≡ untouched
-    was_untouched =
-        untouched_since (spots child.path)
-        (λ touched. nothing_there format digest spots parent.path on world.tree above bare_side child.path touched j.added.below)
+    was_untouched = empty_untouched format digest shown spots home next parent after child world.tree j none
 
 -- Where the pointer led below the child.
 pub join_split : (format : Format) (digest : Digest) (shown : AllShown) (taken : Taken) (stored : Stored) (spots : Spots) (home : ℕ) (next : Shown) (parent after child : Entry)
@@ -299,8 +318,4 @@ join_split format digest shown taken stored spots home next parent after child d
         ∙ ap (λ (s : Spot). home_of s on) (sym j.was)
 
     was_untouched : spots child.path ≡ untouched
-    was_untouched =
-        untouched_since (spots child.path)
-        (λ touched. above_no_prefix child.path pointer.path which further
-        (subst (λ (o : Option Pointer). Covers o child.path) points
-        (world.tree.cover parent.path child.path on (ap is_touched j.was) touched j.added.below)))
+    was_untouched = split_untouched format digest shown spots home next parent after child world.tree j pointer there which further

@@ -1,6 +1,7 @@
 -- A child that comes back by its digest: with the value that it left with, or it shows a collision. And all joins.
 use Rattle.std.proofs.Common.{◌≡◌, ◌≢◌, ◌⊎◌, ℕ, Bool, true, false, List, Option, Some, None, refl, sym, ◌∙◌, ap, subst, inl, inr, if◌then◌else◌}
 use Rattle.std.proofs.lemmas.Bool.{true≢false}
+use Rattle.std.proofs.lemmas.Option.{none-some}
 use Rattle.tree_keys.specs.Path.{side, same_path}
 use Rattle.tree_keys.proofs.PathLemmas.{same_path-self, same_path-apart}
 use Rattle.record_text.specs.declared.value.Pointer.{Pointer}
@@ -21,12 +22,12 @@ use Rattle.verifier_commands.specs.Outcome.{blob_of}
 use Rattle.verifier_commands.specs.Change.{Change, joins}
 use Rattle.soundness.specs.Exhibit.{Taken, Strings, is_known, differing, clash_at, clash_of, IsCollision}
 use Rattle.soundness.specs.Deeds.{Shown, ShowSame, showing_both, DidJoin}
-use Rattle.soundness.specs.Spot.{Spot, cached, merkle, Spots, is_touched, side_of, pointer_at, home_of, LeadsBy, IsKind, IsTree}
+use Rattle.soundness.specs.Spot.{Spot, untouched, cached, merkle, Spots, is_touched, side_of, pointer_at, home_of, LeadsBy, IsKind, IsTree}
+use Rattle.soundness.specs.World.{cached_in, AllShown, with_shown, Stored, IsWorld, blob_at}
 use Rattle.soundness.proofs.SideLemmas.{above_apart}
 use Rattle.soundness.proofs.FamilyLemmas.{IsAdd, on_empty, on_same, on_split}
 use Rattle.soundness.proofs.UnderLemmas.{changed_parent, fits_known}
-use Rattle.soundness.proofs.WorldLemmas.{cached_in, AllShown, with_shown, Stored, IsWorld, blob_at}
-use Rattle.soundness.proofs.JoinLemmas.{kept_value, not_waiting, join_world, Joining, joining, WorldAfter, parent_pointer, parent_kind, join_empty, join_split}
+use Rattle.soundness.proofs.JoinLemmas.{kept_value, not_waiting, join_world, Joining, joining, WorldAfter, parent_pointer, parent_kind, empty_untouched, split_untouched, join_empty, join_split}
 
 -- no two values of a path have one text
 abbrev pub HasOneText : Format → Type 0
@@ -127,6 +128,23 @@ differing_cases format old new = go (same_bytes (value_text format old) (value_t
       ap (λ (b : Bool). if b then None else Some (value_text format old, value_text format new)) apart,
     )
 
+-- what a join shows where the pointer leads to the child
+known_shows : (format : Format) (digest : Digest) (shown : AllShown) (taken : Taken) (stored : Stored) (spots : Spots) (home : ℕ) (next : Shown) (parent after child : Entry)
+    → IsWorld format digest shown taken stored spots → (j : Joining format digest shown spots home next parent after child)
+    → (pointer : Pointer) → node_side j.added.at j.added.on ≡ Some pointer → pointer.path ≡ child.path
+    → (k : Known format digest spots child.path j.value) → child ≡ new_entry child.path j.value M
+    → clash_of format taken (joins parent after child) ≡ differing format (Some k.kept) j.value
+known_shows format digest shown taken stored spots home next parent after child world j pointer there to k child_is =
+    clash_where format taken parent child after j.added.on j.added.at j.added.below j.added.is_node
+    ∙ ap (λ (b : Bool). clash_at format taken b child) leads
+    ∙ ap (λ (o : Option Value). differing format o child.value) (world.was_taken child.path k.kept k.at)
+    ∙ ap (λ (e : Entry). differing format (Some k.kept) e.value) child_is
+  where
+    leads : leads_to (node_side j.added.at j.added.on) child.path ≡ true
+    leads =
+        ap (λ (o : Option Pointer). leads_to o child.path) there
+        ∙ ap (λ (i : List Bool). same_path i child.path) to ∙ same_path-self child.path
+
 -- a change shows two strings with one digest
 abbrev pub Clashes : Format → Digest → Taken → Change → Type 0
 Clashes format digest taken change = (strings : Strings) × (clash_of format taken change ≡ Some strings) × IsCollision digest strings
@@ -159,16 +177,8 @@ join_step format digest shown taken stored spots home next parent after child on
         → after ≡ changed_parent parent j.added.at j.added.on true → child ≡ new_entry child.path j.value M → Outcome
     back pointer there to flag k after_is child_is = by (differing_cases format k.kept j.value)
       where
-        leads : leads_to (node_side j.added.at j.added.on) child.path ≡ true
-        leads =
-            ap (λ (o : Option Pointer). leads_to o child.path) there
-            ∙ ap (λ (i : List Bool). same_path i child.path) to ∙ same_path-self child.path
-
         shows : clash_of format taken (joins parent after child) ≡ differing format (Some k.kept) j.value
-        shows =
-            clash_is ∙ ap (λ (b : Bool). clash_at format taken b child) leads
-            ∙ ap (λ (o : Option Value). differing format o child.value) (world.was_taken child.path k.kept k.at)
-            ∙ ap (λ (e : Entry). differing format (Some k.kept) e.value) child_is
+        shows = known_shows format digest shown taken stored spots home next parent after child world j pointer there to k child_is
 
         by : ((value_text format k.kept ≡ value_text format j.value) × (differing format (Some k.kept) j.value ≡ None))
             ⊎ ((value_text format k.kept ≢ value_text format j.value) × (differing format (Some k.kept) j.value ≡ Some (value_text format k.kept, value_text format j.value)))
@@ -195,3 +205,36 @@ join_step format digest shown taken stored spots home next parent after child on
       join_split format digest shown taken stored spots home next parent after child digests world j pointer there which further initial
           (ap (λ (f : Family). f.parent) family) (ap (λ (f : Family). f.child) family),
     )
+
+-- A join that shows nothing finds its path untouched, or kept by its digest with the value that it brings.
+pub join_takes : (format : Format) (digest : Digest) (shown : AllShown) (taken : Taken) (stored : Stored) (spots : Spots) (home : ℕ) (next : Shown) (parent after child : Entry)
+    → HasOneText format → IsWorld format digest shown taken stored spots → DidJoin format digest (shown home) next parent after child
+    → clash_of format taken (joins parent after child) ≡ None
+    → (spots child.path ≡ untouched) ⊎ (spots child.path ≡ merkle child.value)
+join_takes format digest shown taken stored spots home next parent after child one world did free = go j.added.how
+  where
+    j : Joining format digest shown spots home next parent after child
+    j = joining format digest shown taken stored spots home next parent after child world did
+
+    Found : Type 0
+    Found = (spots child.path ≡ untouched) ⊎ (spots child.path ≡ merkle child.value)
+
+    back : (k : Known format digest spots child.path j.value) → child ≡ new_entry child.path j.value M
+        → clash_of format taken (joins parent after child) ≡ differing format (Some k.kept) j.value → Found
+    back k child_is shows = by (differing_cases format k.kept j.value)
+      where
+        by : ((value_text format k.kept ≡ value_text format j.value) × (differing format (Some k.kept) j.value ≡ None))
+            ⊎ ((value_text format k.kept ≢ value_text format j.value) × (differing format (Some k.kept) j.value ≡ Some (value_text format k.kept, value_text format j.value)))
+            → Found
+        by (inl same) =
+            inr (k.at ∙ ap merkle (one child.path k.kept j.value k.kind j.kind same.0 ∙ sym (ap (λ (e : Entry). e.value) child_is)))
+        by (inr apart) = absurd (none-some (value_text format k.kept, value_text format j.value) (sym free ∙ shows ∙ apart.1))
+
+    go : IsAdd format digest parent child.path j.value j.added.on j.added.at (record { parent = after; child = child }) → Found
+    go (on_empty none initial family) = inl (empty_untouched format digest shown spots home next parent after child world.tree j none)
+    go (on_same pointer there to flag keeps no_kid family) =
+        let k = known format digest spots home parent child.path j.value j.added.on j.added.at pointer world.tree j.was j.added.is_node there to flag keeps no_kid in
+        let child_is = ap (λ (f : Family). f.child) family in
+        back k child_is (known_shows format digest shown taken stored spots home next parent after child world j pointer there to k child_is)
+    go (on_split pointer there which further initial family) =
+        inl (split_untouched format digest shown spots home next parent after child world.tree j pointer there which further)

@@ -17,11 +17,12 @@ use Rattle.verifier_cache.specs.declared.entry.Entry.{Entry}
 use Rattle.soundness.specs.Exhibit.{Taken, with_taken}
 use Rattle.soundness.specs.Deeds.{Shown, ShowSame, showing_both, DidLeave, DidDefer}
 use Rattle.soundness.specs.Spot.{Spot, untouched, cached, merkle, waiting, Spots, value_at, is_touched, pointer_in, pointer_at, home_of, LeadsBy, IsKind, IsTree}
+use Rattle.soundness.specs.World.{cached_in, blob_in, blob_at, AllShown, with_shown, Stored, IsWorld}
 use Rattle.soundness.proofs.SideLemmas.{above_apart}
 use Rattle.soundness.proofs.MovedLemmas.{this_or_other}
 use Rattle.soundness.proofs.FamilyLemmas.{IsLeft, evicted_into, evicted_how, deferred_in, deferred_how, pointer_set, pointer_set_other, no_kids}
 use Rattle.soundness.proofs.UnderLemmas.{changed_parent, pair_moves, fits_known}
-use Rattle.soundness.proofs.WorldLemmas.{cached_in, cached_elsewhere, spot_of_shown, blob_in, blob_at, AllShown, with_shown, Stored, IsWorld, with_spot, with_spot_at, with_pair, with_pair_parent, with_pair_other, world_pair}
+use Rattle.soundness.proofs.WorldLemmas.{cached_elsewhere, spot_of_shown, with_spot, with_spot_at, with_pair, with_pair_parent, with_pair_other, world_pair}
 use Rattle.soundness.proofs.JoinLemmas.{is_merkle, KeepsWaiting, not_waiting, pair_keeps, taken_pair, WorldAfter, node_blob, parent_pointer, parent_kind}
 
 -- What a child leaves: its spot has its value, and no cache shows it.

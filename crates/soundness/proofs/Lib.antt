@@ -27,3 +27,4 @@ pub mod SoundLemmas
 pub mod TypedLemmas
 pub mod RisingLemmas
 pub mod WholeLemmas
+pub mod PlaceLemmas

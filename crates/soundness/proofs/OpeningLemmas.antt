@@ -14,9 +14,9 @@ use Rattle.stamp_order.specs.Serial.{none_everywhere}
 use Rattle.soundness.specs.Exhibit.{none_taken}
 use Rattle.soundness.specs.Deeds.{showing}
 use Rattle.soundness.specs.Spot.{Spot, untouched, cached, merkle, waiting, Spots, is_touched, pointer_at, home_of, Leads, Covers, IsKind, IsTree}
+use Rattle.soundness.specs.World.{opening_shown, cached_in, blob_at, IsWorld}
 use Rattle.soundness.proofs.LawfulLemmas.{opening_shown-root, opening_shown-other}
-use Rattle.soundness.proofs.OrderLemmas.{opening_shown}
-use Rattle.soundness.proofs.WorldLemmas.{cached_in, cached_elsewhere, blob_at, IsWorld}
+use Rattle.soundness.proofs.WorldLemmas.{cached_elsewhere}
 
 -- the root stands in the cache of verifier 0, and nothing else is touched
 abbrev pub opening_spots : Spots

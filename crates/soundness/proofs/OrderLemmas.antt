@@ -16,8 +16,8 @@ use Rattle.soundness.specs.History.{Event, log_events, histories_from, histories
 use Rattle.soundness.specs.Certified.{event_moment, all_events, order_of, order_up_to}
 use Rattle.soundness.specs.Deeds.{shown_by}
 use Rattle.soundness.specs.Timed.{IsTimed, AreTimed}
+use Rattle.soundness.specs.World.{opening_shown}
 use Rattle.soundness.proofs.LawfulLemmas.{IsChain}
-use Rattle.soundness.proofs.WorldLemmas.{AllShown}
 use Rattle.soundness.proofs.RunLemmas.{IsRun, run_of_parts}
 use Rattle.soundness.proofs.TimedLemmas.{log_timed}
 use Rattle.soundness.proofs.SplitLemmas.{SplitsAt, split_up_to, log_run_up_to}
@@ -61,10 +61,6 @@ module _ {X : Type 0} where
           ∙ sym (ap (filter q) (filter-dropped p x xs fails))
       go false false fails other rest =
           ap (filter p) (filter-dropped q x xs other) ∙ rest ∙ sym (ap (filter q) (filter-dropped p x xs fails))
-
--- what each verifier's cache shows at the start
-abbrev pub opening_shown : Header → AllShown
-opening_shown header = λ number. shown_by (opening number header)
 
 -- ---- each verifier's part
 

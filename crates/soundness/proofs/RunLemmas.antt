@@ -7,8 +7,8 @@ use Rattle.stamp_order.specs.Merged.{of_verifier}
 use Rattle.soundness.specs.History.{Event}
 use Rattle.soundness.specs.Certified.{event_moment}
 use Rattle.soundness.specs.Deeds.{Shown, Did}
+use Rattle.soundness.specs.World.{AllShown, with_shown}
 use Rattle.soundness.proofs.LawfulLemmas.{IsChain}
-use Rattle.soundness.proofs.WorldLemmas.{AllShown, with_shown}
 
 -- Each event is a step of its verifier's cache, from these caches on.
 abbrev pub IsRun : Format → Digest → AllShown → List Event → Type 0

@@ -18,8 +18,9 @@ use Rattle.soundness.specs.Permutation.{same_element, count_of, without_one}
 use Rattle.soundness.specs.Scheduled.{IsScheduledBy, IsScheduled}
 use Rattle.soundness.specs.Deeds.{Did}
 use Rattle.soundness.specs.Spot.{Spot, untouched, cached, merkle, waiting, Spots}
+use Rattle.soundness.specs.World.{AllShown, with_shown, Stored, IsWorld, IsWaiting}
 use Rattle.soundness.proofs.PermutationLemmas.{same_element-true, same_element-self, one_more, count_without}
-use Rattle.soundness.proofs.WorldLemmas.{spot_of_shown, AllShown, with_shown, Stored, IsWorld}
+use Rattle.soundness.proofs.WorldLemmas.{spot_of_shown}
 use Rattle.soundness.proofs.JoinLemmas.{KeepsWaiting, not_waiting}
 use Rattle.soundness.proofs.KnownLemmas.{HasOneText, Clashes, Passes, join_step}
 use Rattle.soundness.proofs.LeaveLemmas.{LeftAt, leave_step, defer_step}
@@ -28,16 +29,11 @@ use Rattle.soundness.proofs.RunLemmas.{IsRun}
 
 -- ---- what waits
 
--- The elements that were evicted and not added back each wait at the spot of their path, and none twice.
-pub record IsWaiting (spots : Spots) (pending : List Element) : Type 0 where
-  pub each : (x : Element) → 1 ≤ count_of x pending → spots x.path ≡ waiting x
-  pub once : (x : Element) → count_of x pending ≤ 1
-
-wait_on : (old new : Spots) (pending : List Element) → KeepsWaiting old new → IsWaiting old pending → IsWaiting new pending
+pub wait_on : (old new : Spots) (pending : List Element) → KeepsWaiting old new → IsWaiting old pending → IsWaiting new pending
 wait_on old new pending keeps waits = record { each = λ x there. keeps x.path x (waits.each x there); once = waits.once }
 
 -- one element more waits, where its record didn't
-wait_more : (old new : Spots) (pending : List Element) (element : Element) → KeepsWaiting old new → new element.path ≡ waiting element
+pub wait_more : (old new : Spots) (pending : List Element) (element : Element) → KeepsWaiting old new → new element.path ≡ waiting element
     → ((x : Element) → old element.path ≡ waiting x → ⊥) → IsWaiting old pending → IsWaiting new (element ∷ pending)
 wait_more old new pending element keeps at free waits = record { each = λ x. each x (same_element x element) refl; once = λ x. once x (same_element x element) refl (count_of x pending) refl }
   where
@@ -54,7 +50,7 @@ wait_more old new pending element keeps at free waits = record { each = λ x. ea
         absurd (free x (subst (λ (y : Element). old y.path ≡ waiting x) (same_element-true x element same) (waits.each x (omega (arith, is)))))
 
 -- an element that waited came back
-wait_less : (old new : Spots) (pending rest : List Element) (element : Element) → without_one element pending ≡ Some rest
+pub wait_less : (old new : Spots) (pending rest : List Element) (element : Element) → without_one element pending ≡ Some rest
     → ((path : List Bool) (x : Element) → element.path ≢ path → old path ≡ waiting x → new path ≡ waiting x)
     → IsWaiting old pending → IsWaiting new rest
 wait_less old new pending rest element out keeps waits = record { each = each; once = once }
@@ -88,6 +84,19 @@ wait_less old new pending rest element out keeps waits = record { each = each; o
 
     once : (x : Element) → count_of x rest ≤ 1
     once x = omega (arith, waits.once x, counted x, fewer (same_element x element) (count_of x rest))
+
+-- an element that can be taken out is there
+pub waits_once_out : (element : Element) (pending rest : List Element) → without_one element pending ≡ Some rest → 1 ≤ count_of element pending
+waits_once_out element pending rest out =
+    subst (λ (n : ℕ). 1 ≤ n) (sym (count_without element element pending rest out ∙ ap (λ (b : Bool). one_more b (count_of element rest)) (same_element-self element))) (omega arith)
+
+-- a record that goes with an element stood in the cache, so it didn't wait
+pub free_at : (format : Format) (digest : Digest) (shown : AllShown) (taken : Taken) (stored : Stored) (spots : Spots) (home : ℕ) (child : Entry) (element : Element)
+    → IsWorld format digest shown taken stored spots → shown home child.path ≡ Some child → element.path ≡ child.path
+    → (x : Element) → spots element.path ≡ waiting x → ⊥
+free_at format digest shown taken stored spots home child element world had path x there =
+    not_waiting (spots element.path) (cached home child) x
+    (ap spots path ∙ spot_of_shown home (spots child.path) child (sym (world.shows home child.path) ∙ had)) refl there
 
 -- ---- the run
 
@@ -158,13 +167,6 @@ run_keeps format digest one digests (event ∷ events) shown taken stored spots 
         plain (joins parent after child) passes.0 (λ serial. serial)
         (further taken stored world_then.0 pending world_then.1 (wait_on spots world_then.0 pending world_then.2 waits) scheduled)
 
-    -- a record that goes with an element stood in the cache
-    free_at : (child : Entry) (element : Element) → shown event.verifier child.path ≡ Some child → element.path ≡ child.path
-        → (x : Element) → spots element.path ≡ waiting x → ⊥
-    free_at child element had path x there =
-        not_waiting (spots element.path) (cached event.verifier child) x
-        (ap spots path ∙ spot_of_shown event.verifier (spots child.path) child (sym (world.shows event.verifier child.path) ∙ had)) refl there
-
     went : Further → (change : Change) (element : Element) → clash_of format taken change ≡ None → taken_after taken change ≡ taken
         → (IsSerialFrom stored (operations_in events) → IsSerialFrom stored (operations_in (record event { change = change } ∷ events)))
         → ((x : Element) → spots element.path ≡ waiting x → ⊥)
@@ -182,18 +184,14 @@ run_keeps format digest one digests (event ∷ events) shown taken stored spots 
         plain (leaves parent after child) refl (λ serial. serial)
         (further (taken_after taken (leaves parent after child)) stored world_then.0 pending world_then.1 (wait_on spots world_then.0 pending world_then.2 waits) scheduled)
     go further (comes child element) did scheduled =
-        let back = come_step format digest shown taken stored spots event.verifier run.0 child element world did (waits.each element (there element pending scheduled.0 scheduled.1)) in
+        let back = come_step format digest shown taken stored spots event.verifier run.0 child element world did (waits.each element (waits_once_out element pending scheduled.0 scheduled.1)) in
         plain (comes child element) refl (λ serial. serial)
         (further taken stored back.0 scheduled.0 back.1 (wait_less spots back.0 pending scheduled.0 element scheduled.1 back.2 waits) scheduled.2)
-      where
-        there : (element : Element) (pending rest : List Element) → without_one element pending ≡ Some rest → 1 ≤ count_of element pending
-        there element pending rest out =
-            subst (λ (n : ℕ). 1 ≤ n) (sym (count_without element element pending rest out ∙ ap (λ (b : Bool). one_more b (count_of element rest)) (same_element-self element))) (omega arith)
     go further (goes child element) did scheduled =
-        went further (goes child element) element refl refl (λ serial. serial) (free_at child element did.had_child did.path)
+        went further (goes child element) element refl refl (λ serial. serial) (free_at format digest shown taken stored spots event.verifier child element world did.had_child did.path)
         (go_step format digest shown taken stored spots event.verifier run.0 child element world did) scheduled
     go further (defers parent after child element) did scheduled =
-        went further (defers parent after child element) element refl refl (λ serial. serial) (free_at child element did.had_child did.path)
+        went further (defers parent after child element) element refl refl (λ serial. serial) (free_at format digest shown taken stored spots event.verifier child element world did.had_child did.path)
         (defer_step format digest shown taken stored spots event.verifier run.0 parent after child element world did) scheduled
     go further (reads entry) did scheduled =
         plain (reads entry) refl

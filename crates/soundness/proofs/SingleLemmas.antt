@@ -20,9 +20,10 @@ use Rattle.verifier_commands.specs.Outcome.{blob_of}
 use Rattle.soundness.specs.Exhibit.{Taken}
 use Rattle.soundness.specs.Deeds.{Shown, showing, ShowSame, DidCome, DidGo, DidRead, DidWrite}
 use Rattle.soundness.specs.Spot.{Spot, cached, merkle, waiting, Spots, is_touched, side_of, pointer_at, home_of, LeadsBy, IsKind}
+use Rattle.soundness.specs.World.{cached_in, blob_at, AllShown, with_shown, Stored, IsWorld}
 use Rattle.soundness.proofs.MovedLemmas.{this_or_other, OneMoves, one_moves, leads_same_hold}
 use Rattle.soundness.proofs.FamilyLemmas.{no_kids}
-use Rattle.soundness.proofs.WorldLemmas.{cached_in, cached_here, cached_elsewhere, spot_of_shown, blob_at, AllShown, with_shown, Stored, IsWorld, with_spot, with_spot_at, with_spot_other, world_one}
+use Rattle.soundness.proofs.WorldLemmas.{cached_here, cached_elsewhere, spot_of_shown, with_spot, with_spot_at, with_spot_other, world_one}
 use Rattle.soundness.proofs.JoinLemmas.{is_merkle, KeepsWaiting, not_waiting, WorldAfter}
 use Rattle.soundness.proofs.LeaveLemmas.{LeftAt}
 

@@ -19,18 +19,19 @@ use Rattle.soundness.specs.Collision.{first_uneven, exhibit_by, exhibit_of, Coll
 use Rattle.soundness.specs.Timed.{IsTimed}
 use Rattle.soundness.specs.Typed.{IsTyped}
 use Rattle.soundness.specs.Sound.{AreBalanced, IsSerialOrCollides}
+use Rattle.soundness.specs.World.{IsWaiting, opening_shown}
 use Rattle.soundness.proofs.KnownLemmas.{HasOneText}
 use Rattle.soundness.proofs.PermutationLemmas.{count_permuted}
-use Rattle.soundness.proofs.SerialLemmas.{IsWaiting, run_keeps}
+use Rattle.soundness.proofs.SerialLemmas.{run_keeps}
 use Rattle.soundness.proofs.SerialLemmas.{Collides as CollidesAt, IsSound}
 use Rattle.soundness.proofs.ScheduleLemmas.{AreEven, scheduled}
 use Rattle.soundness.proofs.HistoryLemmas.{IsOfLog, log-merged, log-epochs}
-use Rattle.soundness.proofs.OrderLemmas.{AreHistories, opening_shown, order_run, order_timed, order_sorted, order_splits}
+use Rattle.soundness.proofs.OrderLemmas.{AreHistories, order_run, order_timed, order_sorted, order_splits}
 use Rattle.soundness.proofs.OpeningLemmas.{opening_spots, opening_world}
 use Rattle.soundness.proofs.CertifiedLemmas.{same_sum-true, even_where_none, uneven_where_some}
 
 -- no two values of a path have one text
-one_text : HasOneText short_keys
+pub one_text : HasOneText short_keys
 one_text path a b is_a is_b same =
     (one_value short_keys wide64 path path a b [] [] refl is_a is_b (ap (λ (text : List ℕ). text ++ []) same)).0
 
@@ -53,7 +54,7 @@ all_within epoch (event ∷ events) = go (nat_le event.at.epoch epoch) refl (all
     go false is further = further
 
 -- nothing waits at the opening
-none_waiting : IsWaiting opening_spots []
+pub none_waiting : IsWaiting opening_spots []
 none_waiting = record { each = λ x there. absurd (omega (arith, there)); once = λ x. omega arith }
 
 pub sound : (digest : Digest) (lanes : List ℕ → List ℕ) (header : Header) (logs : List (List Command)) (count : ℕ)

@@ -1,5 +1,5 @@
--- All caches together: what they show is what the spots say, and the spots are a tree.
-use Rattle.std.proofs.Common.{◌≡◌, ◌≢◌, ◌⊎◌, ℕ, Bool, List, length, Option, Some, None, eqb, refl, sym, ◌∙◌, ap, subst, inl, inr, if◌then◌else◌}
+-- What the caches show of the spots, and the world once one record moves, or a parent and its child.
+use Rattle.std.proofs.Common.{◌≡◌, ◌≢◌, ◌⊎◌, ℕ, Bool, List, length, Option, Some, None, refl, sym, ◌∙◌, ap, subst, inl, inr, if◌then◌else◌}
 use Rattle.std.proofs.lemmas.Bool.{eq-eqb, ne_eqb, cases_eq}
 use Rattle.std.proofs.lemmas.Option.{none-some, same_Some}
 use Rattle.tree_keys.specs.Bits.{number_of}
@@ -12,17 +12,11 @@ use Rattle.verifier_cache.specs.declared.entry.Entry.{Entry}
 use Rattle.verifier_commands.specs.Outcome.{blob_of}
 use Rattle.soundness.specs.Exhibit.{Taken}
 use Rattle.soundness.specs.Deeds.{Shown, showing, ShowSame, showing_both}
-use Rattle.soundness.specs.Spot.{Spot, untouched, cached, merkle, waiting, Spots, value_at, IsTree}
+use Rattle.soundness.specs.Spot.{Spot, untouched, cached, merkle, waiting, Spots, IsTree}
+use Rattle.soundness.specs.World.{cached_in, blob_at, AllShown, with_shown, Stored, IsWorld}
 use Rattle.soundness.proofs.MovedLemmas.{this_or_other}
 
 -- ---- what a spot shows
-
--- the entry that a verifier's cache shows of a record at a spot
-abbrev pub cached_in : ℕ → Spot → Option Entry
-cached_in home untouched = None
-cached_in home (cached verifier entry) = if eqb verifier home then Some entry else None
-cached_in home (merkle value) = None
-cached_in home (waiting element) = None
 
 pub cached_here : (home : ℕ) (entry : Entry) → cached_in home (cached home entry) ≡ Some entry
 cached_here home entry = ap (λ (b : Bool). if b then Some entry else None) (eq-eqb home home refl)
@@ -42,35 +36,6 @@ spot_of_shown home (cached verifier held) entry is = go (cases_eq verifier home)
     go (inr apart) = absurd (none-some entry (sym (ap (λ (b : Bool). if b then Some held else None) (ne_eqb verifier home apart)) ∙ is))
 spot_of_shown home (merkle value) entry is = absurd (none-some entry is)
 spot_of_shown home (waiting element) entry is = absurd (none-some entry is)
-
--- the data value of what stands at a spot
-abbrev pub blob_in : Option Value → Option (List ℕ)
-blob_in None = None
-blob_in (Some value) = blob_of value
-
-abbrev pub blob_at : Spot → Option (List ℕ)
-blob_at spot = blob_in (value_at spot)
-
--- ---- the world
-
--- what each verifier's cache shows
-abbrev pub AllShown : Type 0
-AllShown = ℕ → Shown
-
-abbrev pub with_shown : AllShown → ℕ → Shown → AllShown
-with_shown shown home next = λ other. if eqb other home then next else shown other
-
--- the data value of each key
-abbrev pub Stored : Type 0
-Stored = ℕ → Option (List ℕ)
-
--- The spots are a tree, the caches show them, a record that is kept by its digest was taken by an evictM, and the
--- data values are those of the plain map.
-pub record IsWorld (format : Format) (digest : Digest) (shown : AllShown) (taken : Taken) (stored : Stored) (spots : Spots) : Type 0 where
-  pub tree : IsTree format digest spots
-  pub shows : (home : ℕ) (path : List Bool) → shown home path ≡ cached_in home (spots path)
-  pub was_taken : (path : List Bool) (value : Value) → spots path ≡ merkle value → taken path ≡ Some value
-  pub holds : (path : List Bool) → length path ≡ path_bits format → blob_at (spots path) ≡ stored (number_of path)
 
 -- ---- spots, once one changes
 

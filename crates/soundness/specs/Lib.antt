@@ -9,4 +9,5 @@ pub mod Timed
 pub mod Permutation
 pub mod Collision
 pub mod Scheduled
+pub mod World
 pub mod Sound

@@ -1,17 +1,20 @@
 //! What follows from the definitions of histories, epochs and exhibits. These functions do nothing: their
 //! contracts are the laws.
-ghost use Rattle.std.specs.Prelude.{◌≡◌, ℕ, List, [], get_or};
+ghost use Rattle.std.specs.Prelude.{◌≡◌, ℕ, List, [], ◌∷◌, ◌++◌, None, get_or};
 ghost use Rattle.std.specs.List.{AllByRecursion};
 ghost use Rattle.lamport_clocks.specs.declared.header.Header.{Header};
 ghost use Rattle.log_codec.specs.declared.command.Command.{Command};
 ghost use Rattle.merkle_records.specs.Merkle.{Digest, GivesDigests};
 ghost use Rattle.stamp_order.specs.Merged.{up_to, of_verifier};
-ghost use Rattle.soundness.specs.History.{log_events, histories_of};
+ghost use Rattle.record_text.specs.Format.{short_keys};
+ghost use Rattle.soundness.specs.History.{Event, log_events, histories_of};
 ghost use Rattle.soundness.specs.Certified.{event_moment, order_of, order_up_to, order_within, operations_in, certified_count, certified_operations};
 ghost use Rattle.soundness.specs.Timed.{AreTimed, evicted_among, IsRising};
+ghost use Rattle.soundness.specs.Exhibit.{none_taken, first_clash};
 ghost use Rattle.soundness.specs.Collision.{exhibit_of};
 ghost use Rattle.soundness.specs.Scheduled.{IsScheduled, ArePermuted};
 ghost use Rattle.soundness.specs.Sound.{AreTyped, AreBalanced, IsSerialOrCollides, histories_read};
+ghost use Rattle.soundness.specs.World.{changes_in, HavePlaces, TakesFromPlaces};
 
 /// Of epochs that are balanced, from the first on, the gets and puts are serial and there is nothing to
 /// exhibit, or the exhibit collides. Whatever bytes the logs are, so it is of the certified epochs.
@@ -61,4 +64,32 @@ pub fn merged_order_keeps_each_log()
         (logs : List (List Command)) (epoch verifier : ℕ)
         → of_verifier event_moment verifier (order_up_to epoch (histories_of digest lanes header logs))
         ≡ up_to event_moment epoch (get_or (histories_of digest lanes header logs) verifier []) }
+{}
+
+/// Each path has one place: untouched, in the cache of one verifier, kept by its parent's digest, or waiting
+/// with its element. Each pointer leads to the place of its child, and covers all that is touched on its side.
+/// It is so behind each front of the merged order that shows no clash: the caches are what its changes left,
+/// what is kept by its digest is what the path's last evictM took, what was evicted and not added back waits,
+/// and the data values are those of the plain map.
+pub fn records_have_one_place()
+    ensures places { (digest : Digest) (lanes : List ℕ → List ℕ) (header : Header)
+        (logs : List (List Command)) (last : ℕ) (front back : List Event)
+        → GivesDigests digest → AreTyped logs
+        → ArePermuted header.first last (order_of (histories_of digest lanes header logs))
+        → order_up_to last (histories_of digest lanes header logs) ≡ front ++ back
+        → first_clash short_keys none_taken (changes_in front) ≡ None
+        → HavePlaces digest header front }
+{}
+
+/// What an add brings in is what is at its place. An addM that shows no clash finds its path untouched, or kept
+/// by its digest with the value that it brings, which the last evictM took. An addB finds the element that it
+/// brings waiting, and its record has the element's value.
+pub fn adds_take_what_is_there()
+    ensures takes { (digest : Digest) (lanes : List ℕ → List ℕ) (header : Header)
+        (logs : List (List Command)) (last : ℕ) (front : List Event) (event : Event) (back : List Event)
+        → GivesDigests digest → AreTyped logs
+        → ArePermuted header.first last (order_of (histories_of digest lanes header logs))
+        → order_up_to last (histories_of digest lanes header logs) ≡ front ++ event ∷ back
+        → first_clash short_keys none_taken (changes_in (front ++ event ∷ [])) ≡ None
+        → TakesFromPlaces digest header front event.change }
 {}

@@ -1,0 +1,7 @@
+use Rattle.soundness.proofs.PlaceLemmas.{takes_next}
+use Rattle.soundness.proofs.laws.adds_take_what_is_there.Goals as goal
+
+pub returns : goal.returns
+returns c = record {
+  takes = λ digest lanes header logs last front event back. takes_next digest lanes header logs last front event back;
+}

@@ -1,0 +1,152 @@
+-- All caches together, what was taken and the plain map, and the spots that agree with them; and what events leave.
+use Rattle.std.specs.Prelude.{◌≡◌, ◌⊎◌, ℕ, ◌≤◌, ◌==◌, Bool, List, [], ◌∷◌, map, length, Option, Some, None, if◌then◌else◌}
+use Rattle.std.specs.Option.{unwrap_or}
+use Rattle.tree_keys.specs.Bits.{number_of}
+use Rattle.lamport_clocks.specs.declared.header.Header.{Header}
+use Rattle.record_text.specs.declared.value.Value.{Value}
+use Rattle.record_text.specs.declared.element.Element.{Element}
+use Rattle.record_text.specs.declared.operation.Operation.{Operation}
+use Rattle.record_text.specs.Format.{Format, short_keys, path_bits}
+use Rattle.merkle_records.specs.Merkle.{Digest}
+use Rattle.stamp_order.specs.Serial.{none_everywhere, map_after}
+use Rattle.verifier_cache.specs.declared.entry.Entry.{Entry}
+use Rattle.verifier_commands.specs.State.{opening}
+use Rattle.verifier_commands.specs.Outcome.{blob_of}
+use Rattle.verifier_commands.specs.Change.{Change, joins, leaves, comes, goes, defers, reads, writes, turns}
+use Rattle.soundness.specs.History.{Event}
+use Rattle.soundness.specs.Certified.{operations_in}
+use Rattle.soundness.specs.Exhibit.{Taken, none_taken, taken_after}
+use Rattle.soundness.specs.Permutation.{count_of, without_one}
+use Rattle.soundness.specs.Deeds.{Shown, shown_by, showing, showing_both}
+use Rattle.soundness.specs.Spot.{Spot, untouched, cached, merkle, waiting, Spots, value_at, IsTree}
+
+-- ---- what a spot shows
+
+-- the entry that a verifier's cache shows of a record at a spot
+abbrev pub cached_in : ℕ → Spot → Option Entry
+cached_in home untouched = None
+cached_in home (cached verifier entry) = if verifier == home then Some entry else None
+cached_in home (merkle value) = None
+cached_in home (waiting element) = None
+
+-- the data value that a value is, if it is one
+abbrev pub blob_in : Option Value → Option (List ℕ)
+blob_in None = None
+blob_in (Some value) = blob_of value
+
+-- the data value of what stands at a spot
+abbrev pub blob_at : Spot → Option (List ℕ)
+blob_at spot = blob_in (value_at spot)
+
+-- ---- the world
+
+-- what each verifier's cache shows
+abbrev pub AllShown : Type 0
+AllShown = ℕ → Shown
+
+-- with this shown by the cache of a verifier
+abbrev pub with_shown : AllShown → ℕ → Shown → AllShown
+with_shown shown home next = λ other. if other == home then next else shown other
+
+-- the data value of each key
+abbrev pub Stored : Type 0
+Stored = ℕ → Option (List ℕ)
+
+-- The spots are a tree, the caches show them, a record that is kept by its digest was taken by an evictM, and the
+-- data values are those of the plain map.
+pub record IsWorld (format : Format) (digest : Digest) (shown : AllShown) (taken : Taken) (stored : Stored)
+    (spots : Spots) : Type 0 where
+  pub tree : IsTree format digest spots
+  pub shows : (home : ℕ) (path : List Bool) → shown home path ≡ cached_in home (spots path)
+  pub was_taken : (path : List Bool) (value : Value) → spots path ≡ merkle value → taken path ≡ Some value
+  pub holds : (path : List Bool) → length path ≡ path_bits format → blob_at (spots path) ≡ stored (number_of path)
+
+-- The elements that were evicted and not added back each wait at the spot of their path, and none twice.
+pub record IsWaiting (spots : Spots) (pending : List Element) : Type 0 where
+  pub each : (x : Element) → 1 ≤ count_of x pending → spots x.path ≡ waiting x
+  pub once : (x : Element) → count_of x pending ≤ 1
+
+-- ---- what events leave
+
+-- what each verifier's cache shows at the start
+abbrev pub opening_shown : Header → AllShown
+opening_shown header = λ number. shown_by (opening number header)
+
+-- what a cache shows, once this was done
+abbrev pub shown_after : Shown → Change → Shown
+shown_after shown (joins parent after child) = showing_both shown after child.path (Some child)
+shown_after shown (leaves parent after child) = showing_both shown after child.path None
+shown_after shown (comes child element) = showing shown child.path (Some child)
+shown_after shown (goes child element) = showing shown child.path None
+shown_after shown (defers parent after child element) = showing_both shown after child.path None
+shown_after shown (reads entry) = shown
+shown_after shown (writes before after) = showing shown before.path (Some after)
+shown_after shown (turns sealed) = shown
+
+-- what each verifier's cache shows behind events
+abbrev pub shown_behind : AllShown → List Event → AllShown
+shown_behind shown [] = shown
+shown_behind shown (event ∷ events) =
+    shown_behind (with_shown shown event.verifier (shown_after (shown event.verifier) event.change)) events
+
+-- what events did
+abbrev pub changes_in : List Event → List Change
+changes_in events = map (λ event. event.change) events
+
+-- what was taken, once all this was done
+abbrev pub taken_behind : Taken → List Change → Taken
+taken_behind taken [] = taken
+taken_behind taken (change ∷ changes) = taken_behind (taken_after taken change) changes
+
+-- the elements that wait, once this was done
+abbrev pub pending_after : List Element → Change → List Element
+pending_after pending (joins parent after child) = pending
+pending_after pending (leaves parent after child) = pending
+pending_after pending (comes child element) = unwrap_or (without_one element pending) pending
+pending_after pending (goes child element) = element ∷ pending
+pending_after pending (defers parent after child element) = element ∷ pending
+pending_after pending (reads entry) = pending
+pending_after pending (writes before after) = pending
+pending_after pending (turns sealed) = pending
+
+-- the elements that wait, once all this was done
+abbrev pub pending_behind : List Element → List Change → List Element
+pending_behind pending [] = pending
+pending_behind pending (change ∷ changes) = pending_behind (pending_after pending change) changes
+
+-- the plain map behind operations
+abbrev pub stored_behind : Stored → List Operation → Stored
+stored_behind stored [] = stored
+stored_behind stored (operation ∷ operations) = stored_behind (map_after operation stored) operations
+
+-- ---- the spots behind events
+
+-- The spots agree with what the caches show behind these events, what was taken by them, and their plain map; and
+-- what was evicted and not added back waits.
+pub record IsBehind (digest : Digest) (header : Header) (events : List Event) (spots : Spots) : Type 0 where
+  pub world : IsWorld short_keys digest (shown_behind (opening_shown header) events)
+      (taken_behind none_taken (changes_in events)) (stored_behind none_everywhere (operations_in events)) spots
+  pub waits : IsWaiting spots (pending_behind [] (changes_in events))
+
+-- each path has one place behind these events
+abbrev pub HavePlaces : Digest → Header → List Event → Type 0
+HavePlaces digest header events = (spots : Spots) × IsBehind digest header events spots
+
+-- a child joins where nothing was, or with the value that its digest keeps and the last evictM took; an element comes
+-- where it waits, and its record comes in with its value
+abbrev pub TakesWhatIsThere : Taken → Spots → Change → Type 0
+TakesWhatIsThere taken spots (joins parent after child) =
+    (spots child.path ≡ untouched) ⊎ ((spots child.path ≡ merkle child.value) × (taken child.path ≡ Some child.value))
+TakesWhatIsThere taken spots (comes child element) = (spots child.path ≡ waiting element) × (child.value ≡ element.value)
+TakesWhatIsThere taken spots (leaves parent after child) = Unit {0}
+TakesWhatIsThere taken spots (goes child element) = Unit {0}
+TakesWhatIsThere taken spots (defers parent after child element) = Unit {0}
+TakesWhatIsThere taken spots (reads entry) = Unit {0}
+TakesWhatIsThere taken spots (writes before after) = Unit {0}
+TakesWhatIsThere taken spots (turns sealed) = Unit {0}
+
+-- each path has one place behind these events, and the next change takes what is there
+abbrev pub TakesFromPlaces : Digest → Header → List Event → Change → Type 0
+TakesFromPlaces digest header events change =
+    (spots : Spots) × IsBehind digest header events spots
+    × TakesWhatIsThere (taken_behind none_taken (changes_in events)) spots change
