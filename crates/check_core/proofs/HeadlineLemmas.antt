@@ -1,6 +1,8 @@
 -- The headline holds of any bytes.
-use Rattle.std.proofs.Common.{ℕ, ◌==◌, Bool, true, false, List, [], ◌∷◌, map, Option, Some, None, IfSome, refl, inl, if◌then◌else◌}
+use Rattle.std.proofs.Common.{◌≡◌, ℕ, ◌==◌, Bool, true, false, List, [], ◌∷◌, map, Option, Some, None, IfSome, refl, inl, if◌then◌else◌, zero, suc, ◌+◌, ◌++◌, get_or, ◌∙◌, ap}
 use Rattle.std.specs.List.{AllByRecursion}
+use Rattle.std.proofs.lemmas.List.Elements.{filter-append}
+use Rattle.log_codec.specs.declared.command.Command.{Command}
 use Rattle.record_hash.specs.Digests.{IsDigest}
 use Rattle.record_hash.specs.Hmac.{key_block}
 use Rattle.record_hash.specs.ShaDigests.{sha_text_digest, sha_element_lanes}
@@ -9,31 +11,99 @@ use Rattle.lamport_clocks.specs.declared.header.Header.{Header}
 use Rattle.record_text.specs.Format.{short_keys}
 use Rattle.log_codec.specs.Log.{Log, read_log}
 use Rattle.merkle_records.specs.Merkle.{GivesDigests}
-use Rattle.soundness.specs.History.{Event}
-use Rattle.soundness.specs.Certified.{order_of, sealed_by_all, certified_count}
+use Rattle.record_text.specs.declared.operation.Operation.{Operation}
+use Rattle.stamp_order.specs.Merged.{of_verifier}
+use Rattle.stamp_order.specs.Operations.{moment_of}
+use Rattle.verifier_commands.specs.Change.{Change, joins, leaves, comes, goes, defers, reads, writes, turns}
+use Rattle.soundness.specs.History.{Event, histories_of}
+use Rattle.soundness.specs.Certified.{event_moment, operation_at, operations_by, operations_in, order_of, order_up_to, order_within, sealed_by_all, certified_count}
+use Rattle.soundness.specs.Sound.{IsSerialOrCollides}
+use Rattle.soundness.proofs.WholeLemmas.{order_part}
 use Rattle.soundness.specs.Typed.{IsTyped}
 use Rattle.soundness.proofs.CertifiedLemmas.{counted_balanced}
 use Rattle.soundness.proofs.SoundLemmas.{sound}
 use Rattle.soundness.proofs.TypedLemmas.{read_typed}
 use Rattle.check_core.specs.Intake.{logged_of}
 use Rattle.check_core.specs.BundleReport.{histories_in}
-use Rattle.check_core.specs.Headline.{IsSoundAt, IsSound, IsShaSound}
+use Rattle.check_core.specs.Headline.{operations_at, exhibit_at, own_operations, KeepsLogsAt, IsSound, IsShaSound}
 
 typed : (logs : List (List ℕ)) → AllByRecursion (AllByRecursion (IsTyped short_keys)) (map (λ (log : Log). log.commands) (map (read_log short_keys) logs))
 typed [] = tt
 typed (log ∷ logs) = (read_typed log, typed logs)
 
-sound_at : (digest lanes : List ℕ → List ℕ) (found : Option Header) (logs : List (List ℕ)) → GivesDigests digest → IsSoundAt digest lanes found logs
-sound_at digest lanes None logs digests = inl (refl, tt)
-sound_at digest lanes (Some header) logs digests =
+serial_at : (digest lanes : List ℕ → List ℕ) (found : Option Header) (logs : List (List ℕ)) → GivesDigests digest
+    → IsSerialOrCollides digest lanes (exhibit_at digest lanes found logs) (operations_at digest lanes found logs)
+serial_at digest lanes None logs digests = inl (refl, tt)
+serial_at digest lanes (Some header) logs digests =
     sound digest lanes header (map (λ (log : Log). log.commands) (map (read_log short_keys) logs)) (certified_count lanes header.first histories) digests (typed logs)
     (counted_balanced lanes (order_of histories) header.first (sealed_by_all histories))
   where
     histories : List (List Event)
     histories = histories_in digest lanes header (map (read_log short_keys) logs)
 
+-- ---- each verifier's order
+
+-- the operations of an event are its verifier's
+own-by : (verifier : ℕ) (event : Event) (change : Change) (b : Bool) → (event.verifier == verifier) ≡ b
+    → of_verifier moment_of verifier (operations_by event change) ≡ (if b then operations_by event change else [])
+own-by verifier event (joins parent after child) true is = refl
+own-by verifier event (joins parent after child) false is = refl
+own-by verifier event (leaves parent after child) true is = refl
+own-by verifier event (leaves parent after child) false is = refl
+own-by verifier event (comes child element) true is = refl
+own-by verifier event (comes child element) false is = refl
+own-by verifier event (goes child element) true is = refl
+own-by verifier event (goes child element) false is = refl
+own-by verifier event (defers parent after child element) true is = refl
+own-by verifier event (defers parent after child element) false is = refl
+own-by verifier event (reads entry) true is = ap (λ (b : Bool). if b then operation_at event false entry ∷ [] else []) is
+own-by verifier event (reads entry) false is = ap (λ (b : Bool). if b then operation_at event false entry ∷ [] else []) is
+own-by verifier event (writes before after) true is = ap (λ (b : Bool). if b then operation_at event true after ∷ [] else []) is
+own-by verifier event (writes before after) false is = ap (λ (b : Bool). if b then operation_at event true after ∷ [] else []) is
+own-by verifier event (turns sealed) true is = refl
+own-by verifier event (turns sealed) false is = refl
+
+-- the operations of a verifier among events are those of its events
+own-operations : (verifier : ℕ) (events : List Event) → of_verifier moment_of verifier (operations_in events) ≡ operations_in (of_verifier event_moment verifier events)
+own-operations verifier [] = refl
+own-operations verifier (event ∷ events) =
+    filter-append (λ (operation : Operation). operation.verifier == verifier) (operations_by event event.change) (operations_in events)
+    ∙ go (event.verifier == verifier) refl (own-operations verifier events)
+  where
+    go : (b : Bool) → (event.verifier == verifier) ≡ b
+        → of_verifier moment_of verifier (operations_in events) ≡ operations_in (of_verifier event_moment verifier events)
+        → of_verifier moment_of verifier (operations_by event event.change) ++ of_verifier moment_of verifier (operations_in events)
+        ≡ operations_in (if b then event ∷ of_verifier event_moment verifier events else of_verifier event_moment verifier events)
+    go true is further =
+        ap (λ (own : List Operation). own ++ of_verifier moment_of verifier (operations_in events)) (own-by verifier event event.change true is)
+        ∙ ap (λ (more : List Operation). operations_by event event.change ++ more) further
+    go false is further =
+        ap (λ (own : List Operation). own ++ of_verifier moment_of verifier (operations_in events)) (own-by verifier event event.change false is) ∙ further
+
+keeps_logs : (digest lanes : List ℕ → List ℕ) (header : Header) (logs : List (List ℕ)) → KeepsLogsAt digest lanes (Some header) logs
+keeps_logs digest lanes header logs = λ verifier. go verifier (certified_count lanes header.first histories)
+  where
+    commands : List (List Command)
+    commands = map (λ (log : Log). log.commands) (map (read_log short_keys) logs)
+
+    histories : List (List Event)
+    histories = histories_of digest lanes header commands
+
+    go : (verifier count : ℕ) → of_verifier moment_of verifier (operations_in (order_within header.first count histories)) ≡ own_operations header.first count (get_or histories verifier [])
+    go verifier zero = refl
+    go verifier (suc count) =
+        own-operations verifier (order_up_to (header.first + count) histories)
+        ∙ ap operations_in (order_part digest lanes header commands (header.first + count) verifier)
+
+keeps_at : (digest lanes : List ℕ → List ℕ) (found : Option Header) (logs : List (List ℕ)) → KeepsLogsAt digest lanes found logs
+keeps_at digest lanes None logs = tt
+keeps_at digest lanes (Some header) logs = keeps_logs digest lanes header logs
+
 pub headline : (digest lanes : List ℕ → List ℕ) (bytes : List ℕ) → GivesDigests digest → IsSound digest lanes bytes
-headline digest lanes bytes digests = sound_at digest lanes (logged_of bytes).header (logged_of bytes).logs digests
+headline digest lanes bytes digests = record {
+  order = keeps_at digest lanes (logged_of bytes).header (logged_of bytes).logs;
+  serial = serial_at digest lanes (logged_of bytes).header (logged_of bytes).logs digests;
+}
 
 pub sha_headline : (key bytes : List ℕ) → IsShaSound key bytes
 sha_headline key bytes = headline sha_text_digest (sha_element_lanes (key_block key)) bytes (λ text. (IsDigest-sha256 text).size)
