@@ -1,10 +1,10 @@
 -- What is left of a source, and what was read of it, mean the bundle that it had.
-use Rattle.std.proofs.Common.{◌≡◌, ◌≢◌, ℕ, zero, suc, ◌+◌, ◌<◌, List, [], ◌∷◌, ◌++◌, length, take, drop, map, Option, Some, None, IfSome, IsSomeAnd, eqb, refl, sym, ◌∙◌, ap, subst, append-nil, append_assoc, if◌then◌else◌, arith}
+use Rattle.std.proofs.Common.{◌≡◌, ℕ, zero, suc, ◌+◌, ◌<◌, List, [], ◌∷◌, ◌++◌, length, take, drop, map, Option, Some, None, IfSome, IsSomeAnd, refl, sym, ◌∙◌, ap, subst, append-nil, append_assoc, if◌then◌else◌, arith}
 use Rattle.std.proofs.lemmas.Bool.{eq-eqb, ne_eqb}
 use Rattle.std.specs.Io.KnownBytes.{Consumes, IsAtEnd}
 use Rattle.lamport_clocks.specs.declared.header.Header.{Header}
 use Rattle.std.proofs.lemmas.List.{length-map}
-use Rattle.bundle_frames.specs.Bundle.{Bundle, IsFrame, body_for, log_of, bundle_of}
+use Rattle.bundle_frames.specs.Bundle.{Bundle, IsFrame, log_of}
 use Rattle.bundle_frames.specs.Bundle.{Frame as FrameOf}
 use Rattle.bundle_frames.specs.declared.found.Found.{Found}
 use Rattle.bundle_frames.specs.declared.found.Found.TheVariants.{Frame, Bad}

@@ -1,5 +1,5 @@
 -- The report as runs tell it: the operations of each certified epoch stand at the front of those that are left.
-use Rattle.std.specs.Prelude.{ℕ, suc, ◌==◌, ◌&&◌, Bool, List, [], ◌∷◌, ◌++◌, length, take, drop, Option, Some, None, if◌then◌else◌}
+use Rattle.std.specs.Prelude.{ℕ, suc, ◌==◌, List, [], ◌∷◌, ◌++◌, length, take, drop, if◌then◌else◌}
 use Rattle.std.specs.List.{flat_map}
 use Rattle.multiset_sum.specs.declared.part.Part.{Part}
 use Rattle.record_text.specs.declared.operation.Operation.{Operation}

@@ -1,4 +1,4 @@
-use Rattle.std.proofs.Common.{◌≡◌, ◌∙◌, ap, ◌++◌, arith}
+use Rattle.std.proofs.Common.{◌∙◌, ap, ◌++◌, arith}
 use Rattle.check_core.proofs.LogLemmas.{appended_set, on_ok_from, first_of}
 use Rattle.check_core.proofs.reading.append.Goals as goal
 

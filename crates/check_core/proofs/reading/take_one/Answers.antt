@@ -1,10 +1,5 @@
-use Rattle.std.proofs.Common.{◌≡◌, ℕ, ◌+◌, ◌<◌, List, [], ◌∷◌, ◌++◌, length, map, drop, Option, Some, None, refl, sym, ◌∙◌, ap, subst, arith}
-use Rattle.lamport_clocks.specs.declared.header.Header.{Header}
-use Rattle.bundle_frames.specs.declared.found.Found.{Found}
-use Rattle.bundle_frames.specs.Bundle.{Bundle}
-use Rattle.bundle_frames.specs.Progress.{Progress, rest_of}
-use Rattle.bundle_frames.specs.Finds.{found_then}
-use Rattle.check_core.specs.Intake.{behind, logs_in}
+use Rattle.std.proofs.Common.{ℕ, List, [], map, sym, ◌∙◌, ap, arith}
+use Rattle.check_core.specs.Intake.{logs_in}
 use Rattle.check_core.specs.Logs.{log_count, appended}
 use Rattle.check_core.proofs.MeaningLemmas.{found_bad, found_its_frame, logs_counted}
 use Rattle.check_core.proofs.reading.take_one.Goals as goal
