@@ -5,10 +5,11 @@
 //! The crate stands on `tree_keys`, `lamport_clocks` and the kit's `arrayvec`. Begin with the types in
 //! `value.rt`, then `Reader` in `reader.rt` and the writers in `writing.rt`; `laws.rt` says that no text
 //! begins another, and what a text that is cut short is read as. What a get or put reports stands in
-//! `operation.rt`, and the names of the refusals in `refusal.rt`.
+//! `operation.rt`, what an audit shows in `exhibit.rt`, and the names of the refusals in `refusal.rt`.
 #![tactic(auto)]
 
 mod element;
+mod exhibit;
 mod laws;
 mod operation;
 mod reader;
@@ -18,6 +19,7 @@ mod value;
 mod writing;
 
 pub use element::Element;
+pub use exhibit::{Elements, Exhibit, ValueText};
 pub use laws::{
     fronts_are_truncated, initial_values_are_of_their_paths, no_text_begins_another,
     readers_keep_on,
