@@ -3,6 +3,8 @@ use Rattle.std.specs.Prelude.{◌≡◌, ℕ, zero, suc, ◌+◌, List, [], map,
 use Rattle.record_hash.specs.Hmac.{key_block}
 use Rattle.record_hash.specs.ShaDigests.{sha_text_digest, sha_element_lanes}
 use Rattle.lamport_clocks.specs.declared.header.Header.{Header}
+use Rattle.record_text.specs.declared.exhibit.Exhibit.{Exhibit}
+use Rattle.record_text.specs.declared.exhibit.Exhibit.TheVariants.{Clean}
 use Rattle.record_text.specs.declared.operation.Operation.{Operation}
 use Rattle.record_text.specs.Format.{short_keys}
 use Rattle.log_codec.specs.Log.{read_log}
@@ -10,7 +12,7 @@ use Rattle.stamp_order.specs.Merged.{up_to, of_verifier}
 use Rattle.stamp_order.specs.Operations.{moment_of}
 use Rattle.soundness.specs.History.{Event}
 use Rattle.soundness.specs.Certified.{event_moment, operations_in, certified_count, certified_operations}
-use Rattle.soundness.specs.Collision.{Exhibit, nothing, exhibit_of}
+use Rattle.soundness.specs.Collision.{exhibit_of}
 use Rattle.soundness.specs.Sound.{IsSerialOrCollides}
 use Rattle.check_core.specs.Intake.{logged_of}
 use Rattle.check_core.specs.BundleReport.{histories_in}
@@ -26,7 +28,7 @@ operations_at digest lanes (Some header) logs = certified_operations lanes heade
 
 -- the exhibit of a bundle
 abbrev pub exhibit_at : (List ℕ → List ℕ) → (List ℕ → List ℕ) → Option Header → List (List ℕ) → Exhibit
-exhibit_at digest lanes None logs = nothing
+exhibit_at digest lanes None logs = Clean
 exhibit_at digest lanes (Some header) logs = certified_exhibit lanes header.first (histories_in digest lanes header (map (read_log short_keys) logs))
 
 -- the operations of one verifier in so many epochs from the first on, as its own log has them

@@ -2,6 +2,8 @@
 use Rattle.std.specs.Prelude.{◌≡◌, ◌⊎◌, ℕ, ◌+◌, ◌<◌, ◌≤◌, true, List, map}
 use Rattle.std.specs.List.{AllByRecursion}
 use Rattle.lamport_clocks.specs.declared.header.Header.{Header}
+use Rattle.record_text.specs.declared.exhibit.Exhibit.{Exhibit}
+use Rattle.record_text.specs.declared.exhibit.Exhibit.TheVariants.{Clean}
 use Rattle.record_text.specs.declared.operation.Operation.{Operation}
 use Rattle.record_text.specs.Format.{short_keys}
 use Rattle.log_codec.specs.declared.command.Command.{Command}
@@ -11,7 +13,7 @@ use Rattle.stamp_order.specs.Serial.{IsSerial}
 use Rattle.soundness.specs.History.{Event, histories_of}
 use Rattle.soundness.specs.Certified.{is_balanced}
 use Rattle.soundness.specs.Typed.{IsTyped}
-use Rattle.soundness.specs.Collision.{Exhibit, nothing, Collides}
+use Rattle.soundness.specs.Collision.{Collides}
 
 -- the commands of each log are typed
 abbrev pub AreTyped : List (List Command) → Type 0
@@ -22,9 +24,9 @@ abbrev pub AreBalanced : (List ℕ → List ℕ) → List Event → ℕ → ℕ 
 AreBalanced lanes events first count =
     (epoch : ℕ) → first ≤ epoch → epoch < first + count → is_balanced lanes events epoch ≡ true
 
--- the exhibit is nothing and the operations are serial, or the exhibit collides
+-- there is nothing to exhibit and the operations are serial, or the exhibit collides
 abbrev pub IsSerialOrCollides : Digest → (List ℕ → List ℕ) → Exhibit → List Operation → Type 0
-IsSerialOrCollides digest lanes exhibit operations = ((exhibit ≡ nothing) × IsSerial operations) ⊎ Collides digest lanes exhibit
+IsSerialOrCollides digest lanes exhibit operations = ((exhibit ≡ Clean) × IsSerial operations) ⊎ Collides digest lanes exhibit
 
 -- the commands of each log, of which these are the bytes
 abbrev pub commands_of : List (List ℕ) → List (List Command)
