@@ -1,0 +1,4 @@
+-- What the clauses on an audit cite, in reading order.
+pub mod Act
+pub mod Shown
+pub use Rattle.soundness.specs
