@@ -108,11 +108,7 @@ headline digest lanes bytes digests = record {
 pub sha_headline : (key bytes : List ℕ) → IsShaSound key bytes
 sha_headline key bytes = headline sha_text_digest (sha_element_lanes (key_block key)) bytes (λ text. (IsDigest-sha256 text).size)
 
--- the same of the bytes that a source has, if it tells them
-pub headline_left : (digest lanes : List ℕ → List ℕ) (left : Option (List ℕ)) → ((text : List ℕ) → IsDigest (digest text)) → IfSome left (λ bytes. IsSound digest lanes bytes)
-headline_left digest lanes None digests = tt
-headline_left digest lanes (Some bytes) digests = headline digest lanes bytes (λ text. (digests text).size)
-
-pub sha_headline_left : (key : List ℕ) (left : Option (List ℕ)) → IfSome left (λ bytes. IsShaSound key bytes)
-sha_headline_left key None = tt
-sha_headline_left key (Some bytes) = sha_headline key bytes
+-- what holds of any bytes holds of those that a source has, if it tells them
+pub of_left : (P : List ℕ → Type 0) (left : Option (List ℕ)) → ((bytes : List ℕ) → P bytes) → IfSome left P
+of_left P None holds = tt
+of_left P (Some bytes) holds = holds bytes

@@ -259,6 +259,41 @@ module _ (digest lanes : List ℕ → List ℕ) (header : Header) (logs : List (
         (report_by_courses digest lanes header logs bad count own ends counted refl ended)
         ∙ ap (verdict_told (report_of_logs digest lanes header read histories bad)) ended
 
+-- ---- of all verifiers
+
+module _ (digest lanes : List ℕ → List ℕ) (header : Header) (log : List ℕ) (logs : List (List ℕ)) (good : IsHeader header) (whole : length (log ∷ logs) ≡ header.verifiers) where
+  -- what the logs come to
+  abbrev all_courses : List Course
+  all_courses = courses_of digest lanes header (log ∷ logs)
+
+  -- the history of the first log
+  abbrev first_events : List Event
+  first_events = log_events digest lanes header 0 (read_log short_keys log).commands
+
+  -- its parts
+  abbrev its_parts : List Part
+  its_parts = parts_in lanes 0 first_events header.first (sealed_count first_events)
+
+  -- what is judged, by its parts
+  abbrev found : Judged
+  found = judged_from header.verifiers 0 its_parts all_courses
+
+  its-parts : first_parts all_courses ≡ its_parts
+  its-parts = log-parts digest lanes header 0 (read_log short_keys log).commands
+
+  judged-found : judged (length all_courses) all_courses ≡ found
+  judged-found =
+      ap (λ (verifiers : ℕ). judged verifiers all_courses) (courses-length digest lanes header 0 (log ∷ logs) ∙ whole)
+      ∙ judged-first header.verifiers all_courses
+      ∙ ap (λ (parts : List Part). judged_from header.verifiers 0 parts all_courses) its-parts
+
+  found-judged : (bad : Option ℕ) → IsJudged digest lanes header (log ∷ logs) bad 0 (sealed_count first_events) found
+  found-judged bad =
+      judged-epochs digest lanes header (log ∷ logs) whole good.some_verifiers bad 0 first_events (sealed_count first_events) 0 header.first
+      (sym (add-zero header.first))
+      (omega (arith, sealed_first first_events (told_from digest lanes header 1 logs)))
+      (counted-start digest lanes header (log ∷ logs))
+
 -- What the runs of all verifiers come to is the verdict by their logs.
 pub verdict-many : (digest lanes : List ℕ → List ℕ) (header : Header) (logs : List (List ℕ)) (bad : Option ℕ)
     → IsHeader header → length logs ≡ header.verifiers
@@ -266,21 +301,17 @@ pub verdict-many : (digest lanes : List ℕ → List ℕ) (header : Header) (log
     ≡ verdict_on digest lanes header (map (read_log short_keys) logs) bad
 verdict-many digest lanes header [] bad good whole = absurd (omega (arith, whole, good.some_verifiers))
 verdict-many digest lanes header (log ∷ logs) bad good whole =
-    let all = log ∷ logs in
-    let courses = courses_of digest lanes header all in
-    let commands = (read_log short_keys log).commands in
-    let events = log_events digest lanes header 0 commands in
-    let sealed = sealed_count events in
-    let first : first_parts courses ≡ parts_in lanes 0 events header.first sealed =
-    log-parts digest lanes header 0 commands in
-    let found = judged_from header.verifiers 0 (parts_in lanes 0 events header.first sealed) courses in
-    let is : judged (length courses) courses ≡ found =
-    ap (λ (verifiers : ℕ). judged verifiers courses) (courses-length digest lanes header 0 all ∙ whole)
-    ∙ judged-first header.verifiers courses
-    ∙ ap (λ (parts : List Part). judged_from header.verifiers 0 parts courses) first in
-    ap (λ (j : Judged). verdict_judged j courses bad) is
-    ∙ verdict-judged digest lanes header all whole good.some_verifiers bad 0 events sealed found first
-    (judged-epochs digest lanes header all whole good.some_verifiers bad 0 events sealed 0 header.first
-    (sym (add-zero header.first))
-    (omega (arith, sealed_first events (told_from digest lanes header 1 logs)))
-    (counted-start digest lanes header all))
+    ap (λ (j : Judged). verdict_judged j (courses_of digest lanes header (log ∷ logs)) bad) (judged-found digest lanes header log logs good whole)
+    ∙ verdict-judged digest lanes header (log ∷ logs) whole good.some_verifiers bad 0
+    (first_events digest lanes header log logs good whole) (sealed_count (first_events digest lanes header log logs good whole)) (found digest lanes header log logs good whole)
+    (its-parts digest lanes header log logs good whole) (found-judged digest lanes header log logs good whole bad)
+
+-- As many epochs are certified as are judged to be balanced.
+pub count-many : (digest lanes : List ℕ → List ℕ) (header : Header) (logs : List (List ℕ)) → IsHeader header → length logs ≡ header.verifiers
+    → (judged (length (courses_of digest lanes header logs)) (courses_of digest lanes header logs)).count
+    ≡ certified_count lanes header.first (histories_in digest lanes header (map (read_log short_keys) logs))
+count-many digest lanes header [] good whole = absurd (omega (arith, whole, good.some_verifiers))
+count-many digest lanes header (log ∷ logs) good whole =
+    let counted : 0 + (found digest lanes header log logs good whole).count ≡ (found digest lanes header log logs good whole).count = omega arith in
+    ap (λ (j : Judged). j.count) (judged-found digest lanes header log logs good whole)
+    ∙ sym counted ∙ (found-judged digest lanes header log logs good whole None).0

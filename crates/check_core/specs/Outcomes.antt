@@ -2,7 +2,7 @@
 use Rattle.report_text.specs.declared.status.Status.{Status}
 use Rattle.report_text.specs.declared.status.Status.TheVariants.{Done, Usage, Memory, ReadFault, WriteFault, VaultFault, BadBundle, Refused, Unbalanced, ClockEnd, NotTagged, NotCertified, Exhibit, InputLimit}
 
--- a status that the program can end with as yet
+-- a status that a check can end with
 abbrev pub IsOutcome : Status → Type 0
 IsOutcome (Done epochs) = Unit {0}
 IsOutcome Usage = Unit {0}
@@ -19,7 +19,7 @@ IsOutcome NotCertified = ⊥
 IsOutcome Exhibit = ⊥
 IsOutcome (InputLimit taken) = Unit {0}
 
--- a status that ends a report
+-- a status that ends what is written: a report, or what an audit shows
 abbrev pub IsEnd : Status → Type 0
 IsEnd (Done epochs) = Unit {0}
 IsEnd Usage = ⊥
@@ -33,5 +33,5 @@ IsEnd (Unbalanced epoch added evicted) = Unit {0}
 IsEnd (ClockEnd worker at) = Unit {0}
 IsEnd NotTagged = ⊥
 IsEnd NotCertified = ⊥
-IsEnd Exhibit = ⊥
+IsEnd Exhibit = Unit {0}
 IsEnd (InputLimit taken) = ⊥

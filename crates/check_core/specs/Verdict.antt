@@ -9,6 +9,7 @@ use Rattle.report_text.specs.declared.status.Status.{Status}
 use Rattle.report_text.specs.declared.status.Status.TheVariants.{BadBundle, WriteFault}
 use Rattle.report_text.specs.Status.{last_line}
 use Rattle.fv_outside.specs.Written.{Grows, GrowsByFront}
+use Rattle.soundness.specs.Certified.{certified_count}
 use Rattle.check_core.specs.Intake.{Logged, logged_of}
 use Rattle.check_core.specs.Outcomes.{IsEnd}
 use Rattle.check_core.specs.BundleReport.{histories_in, exit_of, report_of_logs}
@@ -32,6 +33,11 @@ verdict_none = record { text = last_line (BadBundle 0); status = BadBundle 0 }
 abbrev pub verdict_at : (List ℕ → List ℕ) → (List ℕ → List ℕ) → Option Header → List (List ℕ) → Option ℕ → Verdict
 verdict_at digest lanes None logs bad = verdict_none
 verdict_at digest lanes (Some header) logs bad = verdict_on digest lanes header (map (read_log short_keys) logs) bad
+
+-- how many epochs of a bundle are certified, with this header, if it is good, and these logs
+abbrev pub certified_at : (List ℕ → List ℕ) → (List ℕ → List ℕ) → Option Header → List (List ℕ) → ℕ
+certified_at digest lanes None logs = 0
+certified_at digest lanes (Some header) logs = certified_count lanes header.first (histories_in digest lanes header (map (read_log short_keys) logs))
 
 -- of a bundle that was read
 abbrev pub verdict_by : (List ℕ → List ℕ) → (List ℕ → List ℕ) → Logged → Verdict

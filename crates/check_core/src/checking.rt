@@ -63,7 +63,7 @@ pub fn check<R: Threads + Sync, D: Digests + Sync, S: Source, O: Sink>(
 {
     digests_have_32_bytes(d);
     match read_bundle(alloc, limit, source) {
-        Ok(intake) => conclude(rt, alloc, d, &intake, out),
+        Ok(intake) => report(rt, alloc, d, &intake, out),
         Err(Stop::Memory) => Status::Memory,
         Err(Stop::ReadFault) => Status::ReadFault,
         Err(Stop::InputLimit) => Status::InputLimit { taken: limit },
@@ -78,7 +78,7 @@ fn digests_have_32_bytes<D: Digests>(d: &D)
 }
 
 // Checks what was read, and writes the report.
-fn conclude<R: Threads + Sync, D: Digests + Sync, O: Sink>(
+fn report<R: Threads + Sync, D: Digests + Sync, O: Sink>(
     rt: &R,
     alloc: Global,
     d: &D,

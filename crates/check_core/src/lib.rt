@@ -3,15 +3,18 @@
 //! `check` reads a bundle from a source and writes its report to a sink. Its contract says that this is the
 //! report by `specs/BundleReport.antt`, and what it means by `specs/Headline.antt`: the certified answers are
 //! serial, or the exhibit defined from the bundle is a real collision. `reading.rt` reads a source to the
-//! joined log, and `report.rt` says what is certified and writes the lines.
+//! joined logs, and `report.rt` says what is certified and writes the lines. An audit takes the parts of a
+//! check: `read_bundle`, and `conclude`, which says how many epochs are certified and writes nothing.
 //!
 //! The crate stands on `bundle_frames` and `verifier_run`, which read, on `soundness`, whose theorem is the
 //! headline, and on `report_text`. Begin with `checking.rt`.
 #![tactic(auto)]
 
 mod checking;
+mod concluding;
 mod intake;
 mod judging;
+mod laws;
 mod reading;
 mod report;
 mod running;
@@ -19,4 +22,8 @@ mod running;
 mod tests;
 
 pub use checking::check;
+pub use concluding::{Conclusion, conclude};
+pub use intake::{Intake, Stop};
+pub use laws::certified_answers_are_sound;
+pub use reading::read_bundle;
 pub use report_text::Status;

@@ -5,7 +5,7 @@ use Rattle.check_core.specs.Verdict.{Reports}
 use Rattle.check_core.specs.Intake.{logs_in}
 use Rattle.check_core.proofs.ManyLemmas.{verdict-many}
 use Rattle.check_core.proofs.VerdictLemmas.{with_header, no_header}
-use Rattle.check_core.proofs.checking.conclude.Goals as goal
+use Rattle.check_core.proofs.checking.report.Goals as goal
 
 pub returns-in-None-clause-report : goal.returns-in-None-clause-report
 returns-in-None-clause-report g c =

@@ -1,0 +1,5 @@
+use Rattle.check_core.proofs.HeadlineLemmas.{headline}
+use Rattle.check_core.proofs.laws.certified_answers_are_sound.Goals as goal
+
+pub returns : goal.returns
+returns c = record { sound = headline }

@@ -1,0 +1,104 @@
+//! What a check comes to, with nothing written.
+ghost use Rattle.std.specs.Prelude.{◌≡◌, ◌≤◌, ℕ, IfOk, length, map, vec_len};
+ghost use Rattle.lamport_clocks.specs.Header.{IsHeader};
+ghost use Rattle.check_core.specs.Intake.{logs_in, logged};
+ghost use Rattle.check_core.specs.Outcomes.{IsEnd, IsOutcome};
+ghost use Rattle.check_core.specs.Verdict.{certified_at, verdict_by};
+ghost use Rattle.check_core.specs.RunReport.{courses_of, parts_at};
+ghost use Rattle.check_core.specs.Judged.{CanBeJudged, judged, verdict_of_runs};
+
+use crate::intake::Intake;
+use crate::judging::judge;
+use crate::report::{exit_of, first_refused};
+use fv_outside::Memory;
+use lamport_clocks::Header;
+use record_hash::Digests;
+use report_text::Status;
+use std::alloc::Global;
+use verifier_run::{Run, run_log};
+
+/// How many epochs of a bundle are certified, from the first on, and how its report ends.
+#[derive(Clone, Copy, Debug, PartialEq, Eq)]
+pub struct Conclusion {
+    pub certified: u64,
+    pub status: Status,
+}
+
+/// What a check of a bundle that was read comes to. It takes no threads: the logs are run one after another.
+pub fn conclude<D: Digests>(alloc: Global, d: &D, intake: &Intake) -> Result<Conclusion, Memory>
+    ensures certified { IfOk result (λ found. found.certified
+        ≡ certified_at (D.text_digest d.now) (D.element_lanes d.now) intake.now.header (logs_in intake.now)) }
+    ensures status { IfOk result (λ found. found.status ≡ (verdict_by (D.text_digest d.now) (D.element_lanes d.now) (logged intake.now)).status) }
+    ensures outcome { IfOk result (λ found. IsOutcome found.status) }
+    ensures end { IfOk result (λ found. IsEnd found.status) }
+{
+    match intake.header {
+        Some(header) => conclude_logs(alloc, d, &header, intake),
+        None => Ok(Conclusion {
+            certified: 0,
+            status: Status::BadBundle { offset: 0 },
+        }),
+    }
+}
+
+// What the logs under a header come to.
+fn conclude_logs<D: Digests>(
+    alloc: Global,
+    d: &D,
+    header: &Header,
+    intake: &Intake,
+) -> Result<Conclusion, Memory>
+    requires header { IsHeader header.now }
+    requires count { vec_len intake.now.logs ≡ header.now.verifiers }
+    ensures certified { IfOk result (λ found.
+        let courses = courses_of (D.text_digest d.now) (D.element_lanes d.now) header.now (logs_in intake.now) in
+        found.certified ≡ (judged (length courses) courses).count) }
+    ensures status { IfOk result (λ found. found.status
+        ≡ (verdict_of_runs (courses_of (D.text_digest d.now) (D.element_lanes d.now) header.now (logs_in intake.now)) intake.now.bad).status) }
+    ensures outcome { IfOk result (λ found. IsOutcome found.status) }
+    ensures end { IfOk result (λ found. IsEnd found.status) }
+{
+    match run_in_turn(alloc, d, header, &intake.logs) {
+        Ok(runs) => conclude_runs(alloc, &runs, intake.bad),
+        Err(_) => Err(Memory),
+    }
+}
+
+// What runs of all logs come to, in a bundle in which so much is bad.
+fn conclude_runs(alloc: Global, runs: &[Run], bad: Option<u64>) -> Result<Conclusion, Memory>
+    requires few { length runs.now ≤ 64 }
+    requires parts { (index : ℕ) → CanBeJudged (length runs.now) (parts_at index (map (λ run. run.course) runs.now)) }
+    ensures certified { IfOk result (λ found. found.certified ≡ (judged (length runs.now) (map (λ run. run.course) runs.now)).count) }
+    ensures status { IfOk result (λ found. found.status ≡ (verdict_of_runs (map (λ run. run.course) runs.now) bad).status) }
+    ensures outcome { IfOk result (λ found. IsOutcome found.status) }
+    ensures end { IfOk result (λ found. IsEnd found.status) }
+{
+    let judged = match judge(alloc, runs) {
+        Ok(judged) => judged,
+        Err(_) => return Err(Memory),
+    };
+    let status = exit_of(&judged, first_refused(runs), bad);
+    Ok(Conclusion {
+        certified: judged.count as u64,
+        status,
+    })
+}
+
+// Runs each log, one after another.
+fn run_in_turn<D: Digests>(
+    alloc: Global,
+    d: &D,
+    header: &Header,
+    logs: &[Vec<u8>],
+) -> Result<Vec<Run>, Memory>
+    requires header { IsHeader header.now }
+    requires count { length logs.now ≡ header.now.verifiers }
+    ensures courses { IfOk result (λ runs. map (λ run. run.course) runs.items
+        ≡ courses_of (D.text_digest d.now) (D.element_lanes d.now) header.now (map (λ log. log.items) logs.now)) }
+{
+    let mut runs = Vec::new(alloc);
+    for (number, log) in logs.iter().enumerate() {
+        runs.push(run_log(alloc, d, number as u16, header, log)?)?;
+    }
+    Ok(runs)
+}
