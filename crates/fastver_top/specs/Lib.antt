@@ -1,3 +1,4 @@
--- What the clauses of the top call cite.
-pub mod Words
+-- What the clauses of the top call cite, in reading order.
+pub mod Auditing
+pub mod Answers
 pub use Rattle.check_core.specs

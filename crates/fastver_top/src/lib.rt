@@ -1,12 +1,15 @@
 //! The top call: the program's words, what it reads and what it writes.
 //!
-//! `fastver` in `top.rt` is what the program runs: it reads its words by `words.rt` and hands a check to
-//! `check_core`. The crate stands on that crate and on the objects of `fv_outside`.
+//! `fastver` in `top.rt` is what the program runs: `program_words` reads its words, a check is `check_core`'s,
+//! and an audit is `audit_text` in `auditing.rt`, which asks `collision_exhibit` for what there is to exhibit.
+//! The crate stands on these, and on the objects of `fv_outside`. Begin with `fastver`, beside
+//! `specs/Answers.antt`.
 #![tactic(auto)]
 
+mod auditing;
 mod top;
-mod words;
 
+pub use auditing::audit_text;
 pub use report_text::Status;
 pub use top::{INPUT_LIMIT, fastver};
 
