@@ -1,7 +1,7 @@
 #!/usr/bin/env python3
 """Writes accepted bundles for bench/run.py, the same ones for the same seed.
 
-usage: bench/bundles.py FOLDER [SEED]        (FOLDER lies outside the repository, as /tmp/bundles; about 450 MB)
+usage: bench/bundles.py FOLDER [SEED]        (FOLDER lies outside the repository, as /tmp/bundles; about 550 MB)
 
 NAME is a bundle and NAME.commands the number of its commands. A cold bundle has each record under the Merkle
 tree: a request brings in the chain of nodes down to its key, gets or puts, and sends the chain back. A hot one has
@@ -207,18 +207,23 @@ def hot(chance, bundle, verifiers, size):
     bundle.next_epoch()
 
 
+def write_bundle(folder, seed, mix, verifiers, size):
+    """Writes a bundle of so many MiB, and the number of its commands."""
+    name = f"{mix.__name__}-{verifiers:02}-verifiers-{size:02}-MiB"
+    with open(os.path.join(folder, name), "wb") as file:
+        bundle = Bundle(file, verifiers)
+        mix(random.Random(seed + name), bundle, verifiers, size * MIB)
+    with open(os.path.join(folder, name + ".commands"), "w") as file:
+        file.write(f"{bundle.commands}\n")
+
+
 def main():
     folder, seed = sys.argv[1], sys.argv[2] if len(sys.argv) > 2 else "1"
     os.makedirs(folder, exist_ok=True)
-    for size in (1, 8, 64):
+    for size in (1, 8, 16, 64):
         for verifiers in (1, 4, 16):
             for mix in (cold, hot):
-                name = f"{mix.__name__}-{verifiers:02}-verifiers-{size:02}-MiB"
-                with open(os.path.join(folder, name), "wb") as file:
-                    bundle = Bundle(file, verifiers)
-                    mix(random.Random(seed + name), bundle, verifiers, size * MIB)
-                with open(os.path.join(folder, name + ".commands"), "w") as file:
-                    file.write(f"{bundle.commands}\n")
+                write_bundle(folder, seed, mix, verifiers, size)
 
 
 if __name__ == "__main__":

@@ -3,6 +3,9 @@
 
 usage: bench/bundles.py FOLDER && bench/run.py FOLDER [PROGRAM]
 
+Each bundle is checked, and those of 1 and 16 MiB and 1 and 4 verifiers are audited too. The last lines say how much
+more time a byte an audit of 16 MiB takes than one of 1 MiB: about 1 where the time is linear.
+
 PROGRAM is crates/fastver_cli/out/fastver_cli where none is named: `rt run` in crates/fastver_cli builds it. Run it
 when nothing else is at work on the machine. The report is thrown away; a status other than 0 is told and fails.
 """
@@ -12,23 +15,45 @@ import sys
 import time
 
 PROGRAM = "crates/fastver_cli/out/fastver_cli"
-WORDS = ["check", "--key", "0" * 64]
+SMALL, LARGE = "-01-MiB", "-16-MiB"
+KINDS = ["cold-01-verifiers", "cold-04-verifiers", "hot-01-verifiers", "hot-04-verifiers"]
+AUDITED = [kind + size for kind in KINDS for size in (SMALL, LARGE)]
 
 
-def timed(program, bundle):
+def words(program, command):
+    return [program, command, "--key", "0" * 64]
+
+
+def timed(program, command, bundle):
     """The wall time in seconds and the exit status."""
     with open(bundle, "rb") as file:
         start = time.monotonic()
-        status = subprocess.run([program] + WORDS, stdin=file, stdout=subprocess.DEVNULL).returncode
+        status = subprocess.run(words(program, command), stdin=file, stdout=subprocess.DEVNULL).returncode
         return time.monotonic() - start, status
 
 
-def peak_memory(program, bundle):
+def peak_memory(program, command, bundle):
     """In KiB. It is asked of `time`, since a child's own count begins with that of Python, which it comes from."""
     with open(bundle, "rb") as file:
-        words = ["/usr/bin/time", "-f", "%M", program] + WORDS
-        said = subprocess.run(words, stdin=file, stdout=subprocess.DEVNULL, stderr=subprocess.PIPE, text=True).stderr
+        asked = ["/usr/bin/time", "-f", "%M"] + words(program, command)
+        said = subprocess.run(asked, stdin=file, stdout=subprocess.DEVNULL, stderr=subprocess.PIPE, text=True).stderr
     return int(said.splitlines()[-1])
+
+
+def measure(program, command, folder, name):
+    """Prints a line of a bundle; the nanoseconds a byte, and whether each run answered 0."""
+    bundle = os.path.join(folder, name)
+    with open(bundle + ".commands") as file:
+        commands = int(file.read())
+    runs = [timed(program, command, bundle) for _ in range(3)]
+    seconds, peak = min(seconds for seconds, _ in runs), peak_memory(program, command, bundle)
+    size = os.path.getsize(bundle)
+    a_byte, a_command = 1e9 * seconds / size, 1e9 * seconds / commands
+    print(f"{name:27} {command} {size:9} {commands:8} {seconds:8.3f} {a_byte:8.1f} {a_command:10.0f} {peak:9}")
+    statuses = [status for _, status in runs]
+    if any(statuses):
+        print(f"  answered {statuses}")
+    return a_byte, not any(statuses)
 
 
 def main():
@@ -36,20 +61,18 @@ def main():
     top = os.path.join(os.path.dirname(os.path.abspath(__file__)), "..")
     program = os.path.abspath(sys.argv[2]) if len(sys.argv) > 2 else os.path.join(top, PROGRAM)
     names = sorted(file[: -len(".commands")] for file in os.listdir(folder) if file.endswith(".commands"))
-    fails = 0
-    print("bundle                          bytes commands  seconds  ns/byte ns/command  peak KiB")
+    fails, audits = 0, {}
+    print("bundle                      command   bytes commands  seconds  ns/byte ns/command  peak KiB")
     for name in names:
-        bundle = os.path.join(folder, name)
-        with open(bundle + ".commands") as file:
-            commands = int(file.read())
-        runs = [timed(program, bundle) for _ in range(3)]
-        seconds, peak = min(seconds for seconds, _ in runs), peak_memory(program, bundle)
-        size = os.path.getsize(bundle)
-        a_byte, a_command = 1e9 * seconds / size, 1e9 * seconds / commands
-        print(f"{name:27} {size:9} {commands:8} {seconds:8.3f} {a_byte:8.1f} {a_command:10.0f} {peak:9}")
-        if any(status for _, status in runs):
-            print(f"  answered {[status for _, status in runs]}")
-            fails += 1
+        _, good = measure(program, "check", folder, name)
+        fails += not good
+        if name in AUDITED:
+            audits[name], good = measure(program, "audit", folder, name)
+            fails += not good
+    for kind in KINDS:
+        if kind + SMALL in audits and kind + LARGE in audits:
+            ratio = audits[kind + LARGE] / audits[kind + SMALL]
+            print(f"{kind}: an audit of 16 MiB takes {ratio:.2f} times as long a byte as one of 1 MiB")
     return 1 if fails or not names else 0
 
 

@@ -5,8 +5,9 @@ usage: random_cases.py FOLDER COUNT SEED
 
 A host is played that walks over few keys: most of its commands are right, some are anything, and some
 bundles are cut or have a byte changed. Every second bundle has 2 to 4 verifiers, between which records move
-under stamps. The first two bundles are longer than what a program reads at a time. A few cases more have words
-that are refused, one of them no text. It says how many cases it wrote, and fails where that is none.
+under stamps. The first two bundles are longer than what a program reads at a time. Every third bundle is also
+audited. A few cases more are of words, most of them refused, one of them no text. It says how many cases it wrote,
+and fails where that is none.
 """
 import os
 import random
@@ -17,23 +18,42 @@ import slow_fastver as slow
 KEYS = [format(key, "064b") for key in (0, 1, 5, 2**63, 2**63 + 1, 2**64 - 1)]
 NODES = ["", "0", "1", "0" * 61, "0" * 63, "1" + "0" * 62, "10", "11"]
 KEY = "00" * 16
-REFUSED_WORDS = [
+LONGEST = "aB3f" * 32
+# one epoch, in which nothing is done
+SMALL = bytes.fromhex("46564231 0001 00000004 00000000 0000ffff 0000 00000002 0808")
+# what may follow a command: the first three are accepted
+ENDS = [
+    ["--key", KEY],
+    ["--key=" + KEY],
+    ["--key", LONGEST],
     [],
+    ["--key"],
+    ["--key", ""],
+    ["--key", KEY[:30]],
+    ["--key", KEY[:31]],
+    ["--key", KEY + "0"],
+    ["--key", LONGEST + "00"],
+    ["--key", KEY[:-1] + "g"],
+    ["--key", KEY, "--key", KEY],
+    ["--key", KEY, "more"],
+    ["--keys", KEY],
+    ["--key", KEY, "--receipts"],
+    ["--", "--key", KEY],
+]
+OTHER_WORDS = [
+    [],
+    [""],
     ["help"],
+    ["--help"],
+    ["-h"],
     ["--version"],
-    ["check"],
-    ["check", "--key"],
-    ["check", "--key", KEY[:30]],
-    ["check", "--key", KEY + "0"],
-    ["check", "--key", KEY[:-1] + "g"],
+    ["check", "--help"],
+    ["--key", KEY, "check"],
+    ["Check", "--key", KEY],
     ["check", "--key", KEY + "\u00e9\u00e9"],
     ["check", "--key", os.fsdecode(b"\xff" * 32)],
-    ["check", "--key", KEY * 5],
-    ["check", "--key", KEY, "more"],
-    ["check", "--keys", KEY],
-    ["Check", "--key", KEY],
-    ["audit", "--key", KEY],
 ]
+ALL_WORDS = [[command] + end for command in ("check", "audit") for end in ENDS] + OTHER_WORDS
 TAGS = {"addM": 1, "evictM": 2, "addB": 3, "evictB": 4, "evictBM": 5, "get": 6, "put": 7, "nextEpoch": 8}
 
 
@@ -59,9 +79,9 @@ def nodes_above(verifier, path):
 class Host:
     """Plays a host of one or more verifiers: it remembers the records that left their caches."""
 
-    def __init__(self, chance, key, header):
+    def __init__(self, chance, digests, header):
         self.chance = chance
-        self.verifiers = [slow.Verifier(key, number, header) for number in range(header[0])]
+        self.verifiers = [slow.Verifier(digests, number, header) for number in range(header[0])]
         self.logs = [b""] * header[0]
         self.lies = 0.02 if header[0] == 1 else chance.choice([0, 0, 0.02])
         self.left, self.away = {}, {}  # by path: the value it left with; the stamp and verifier it was deferred by
@@ -207,19 +227,19 @@ def marred(chance, bundle):
 
 
 def random_case(chance, number):
-    """The words and the bundle of a case: of one verifier and of several in turn. The first two are long and whole."""
+    """The key and the bundle of a case: of one verifier and of several in turn. The first two are long and whole."""
     key = chance.randbytes(chance.choice([16, 32, 64]))
     verifiers = 1 if number % 2 == 0 else chance.choice([2, 3, 4])
     room, first = chance.choice([4, 5, 8]), chance.choice([0, 3, 2**32 - 4])
     header = (verifiers, room, first, chance.choice([40, 500, 16777215]))
     if number < 2:
         header = (verifiers, 8, 0, 16777215)
-    host = Host(chance, key, header)
+    host = Host(chance, slow.ShaDigests(key), header)
     if number < 2:
         host.read_often(KEYS[0], 10000 // verifiers)
     host.play(chance.choice([10, 60, 200]) * verifiers)
     bundle = framed(chance, header, host.logs)
-    return ["check", "--key", key.hex()], bundle if number < 2 else marred(chance, bundle)
+    return key.hex(), bundle if number < 2 else marred(chance, bundle)
 
 
 def write_case(folder, name, words, bundle):
@@ -242,10 +262,13 @@ def main():
     for kind in ("status", "stderr"):
         os.makedirs(os.path.join(folder, kind), exist_ok=True)
     for number in range(count):
-        write_case(folder, f"random-{number:04}", *random_case(chance, number))
-    for number, words in enumerate(REFUSED_WORDS):
-        write_case(folder, f"refused-{number:02}", words, b"FVB1")
-    print(f"{folder}: {count} random cases, {len(REFUSED_WORDS)} with refused words")
+        key, bundle = random_case(chance, number)
+        write_case(folder, f"check-{number:04}", ["check", "--key", key], bundle)
+        if number % 3 == 1:
+            write_case(folder, f"audit-{number:04}", ["audit", "--key", key], bundle)
+    for number, words in enumerate(ALL_WORDS):
+        write_case(folder, f"words-{number:02}", words, SMALL)
+    print(f"{folder}: {count} random bundles, each third one audited too, and {len(ALL_WORDS)} cases of words")
     return 0 if count > 0 else 1
 
 

@@ -1,15 +1,18 @@
 #!/usr/bin/env python3
-"""The definitions of docs/DEFINITIONS.md as a plain slow program: what `fastver check` must print and answer.
+"""The definitions of docs/DEFINITIONS.md as a plain slow program: what `fastver` must print and answer.
 
-usage: slow_fastver.py check --key HEX < BUNDLE
+usage: slow_fastver.py check|audit --key HEX < BUNDLE
+       slow_fastver.py --toy check|audit < BUNDLE
        slow_fastver.py --cases FOLDER..
 
-The second form compares it with a folder of cases: NAME is a bundle, NAME.args its words, one a line,
-NAME.stdout what must be printed, status/NAME the exit status, stderr/NAME what must be said beside.
+The second form has digests that are sums of bytes, so that two texts with one digest are easily found. The third one
+compares it with a folder of cases: NAME is a bundle, NAME.args its words, one a line, NAME.stdout what must be
+printed, status/NAME the exit status, stderr/NAME what must be said beside.
 """
 import hashlib
 import hmac
 import os
+import re
 import sys
 from dataclasses import dataclass, field, replace
 
@@ -119,11 +122,32 @@ def element_text(path, value, stamp, verifier):
     return path_text(path) + value_text(path, value) + numbers
 
 
+# ---- digests
+
+
+class ShaDigests:
+    def __init__(self, key):
+        self.key = key
+
+    def text_digest(self, text):
+        return hashlib.sha256(text).digest()
+
+    def element_lanes(self, text):
+        tag = hmac.new(self.key, b"\1" + text, "sha256").digest()
+        return [int.from_bytes(tag[at : at + 4], "big") for at in range(0, 32, 4)]
+
+
+class ToyDigests:
+    """The sum of the bytes of a text, as its digest and as its first lane."""
+
+    def text_digest(self, text):
+        return (sum(text) % 2**32).to_bytes(32, "big")
+
+    def element_lanes(self, text):
+        return [sum(text) % 2**32] + [0] * 7
+
+
 # ---- one verifier
-
-
-def digest(path, value):
-    return hashlib.sha256(value_text(path, value)).digest()
 
 
 def side(above, below):
@@ -152,20 +176,38 @@ class Tally:
     count: int = 0
 
 
+@dataclass(frozen=True)
+class Event:
+    """What an accepted command did: a `get` or `put` of a path, with the value; an element's text that was `added` or
+    `evicted`, of an epoch; or, of a path, the text of the value that `left` by evictM, or that came `back` by addM
+    where the parent's pointer led to the path."""
+
+    moment: tuple  # epoch and counter after it, verifier, and its index in the log
+    deed: str
+    of: object
+    what: object
+
+
 class Verifier:
-    def __init__(self, key, number, header):
-        self.key, self.number = key, number
+    def __init__(self, digests, number, header):
+        self.digests, self.number = digests, number
         self.verifiers, self.room, self.first, self.end = header
         self.epoch, self.counter = self.first, 0
         self.cache = {"": Entry((None, None), "Root")} if number == 0 else {}
         self.added, self.evicted = {}, {}
         self.accepted = 0
-        self.operations = []  # each with its stamp: epoch, counter, verifier, and its index in the log
+        self.events = []
         self.parts = []  # of each epoch that was sealed, from the first on: what was added, and what evicted
 
     def step(self, command):
         getattr(self, command[0])(*command[1:])
         self.accepted += 1
+
+    def tell(self, deed, of, what):
+        self.events.append(Event((self.epoch, self.counter, self.number, self.accepted), deed, of, what))
+
+    def digest(self, path, value):
+        return self.digests.text_digest(value_text(path, value))
 
     def holder(self, path, parent):
         """The parent of a child that it is to lead to, the child's side, and the parent's pointer of that side."""
@@ -196,13 +238,14 @@ class Verifier:
         entry = Entry(value, "M")
         if pointer is not None and pointer.path == path:
             test(pointer.deferred, "Deferred")
-            test(pointer.digest != digest(path, value), "WrongDigest")
+            test(pointer.digest != self.digest(path, value), "WrongDigest")
             test(holder.kids[on], "HasChild")
+            self.tell("back", path, value_text(path, value))
         else:
             below = None if pointer is None else side(path, pointer.path)
             test(pointer is not None and below is None, "Foreign")
             test(value != initial(path), "NotInitial")
-            holder.value = with_side(holder.value, on, Pointer(path, digest(path, value), False))
+            holder.value = with_side(holder.value, on, Pointer(path, self.digest(path, value), False))
             if below is not None:
                 entry.value = with_side(entry.value, below, pointer)
                 entry.kids[below] = holder.kids[on]
@@ -215,9 +258,10 @@ class Verifier:
         by_digest = holder.kids[on] and not pointer.deferred
         by_stamp = not holder.kids[on] and pointer.deferred
         test(not (by_digest if child.hold == "M" else by_stamp), "WrongHold")
-        holder.value = with_side(holder.value, on, Pointer(path, digest(path, child.value), False))
+        holder.value = with_side(holder.value, on, Pointer(path, self.digest(path, child.value), False))
         holder.kids[on] = False
         del self.cache[path]
+        self.tell("left", path, value_text(path, child.value))
 
     def addB(self, path, value, stamp, verifier):
         self.comes_in(path)
@@ -228,7 +272,7 @@ class Verifier:
         after = 1 + max(self.counter, counter if epoch == self.epoch else 0)
         test(after > self.end, "ClockEnd")
         self.counter = after
-        self.join(self.added, epoch, element_text(path, value, stamp, verifier))
+        self.join(self.added, "added", epoch, element_text(path, value, stamp, verifier))
         self.cache[path] = Entry(value, "B")
 
     def sends(self, stamp):
@@ -238,7 +282,8 @@ class Verifier:
 
     def leaves(self, path, stamp):
         self.counter = stamp[1]
-        self.join(self.evicted, self.epoch, element_text(path, self.cache.pop(path).value, stamp, self.number))
+        text = element_text(path, self.cache.pop(path).value, stamp, self.number)
+        self.join(self.evicted, "evicted", self.epoch, text)
 
     def evictB(self, path, stamp):
         test(path == "", "IsRoot")
@@ -262,10 +307,6 @@ class Verifier:
         test(len(path) != 64, "NotData")
         return self.cache[path]
 
-    def tell(self, word, path, value):
-        stamp = (self.epoch, self.counter, self.number, self.accepted)
-        self.operations.append((stamp, word, int(path, 2), value))
-
     def get(self, path, value):
         test(self.data(path).value != value, "WrongValue")
         self.tell("get", path, value)
@@ -281,12 +322,11 @@ class Verifier:
             self.parts.append((self.added.get(sealed, Tally()), self.evicted.get(sealed, Tally())))
         self.epoch, self.counter = self.epoch + 1, 0
 
-    def join(self, sums, epoch, text):
-        tag = hmac.new(self.key, b"\1" + text, "sha256").digest()
+    def join(self, sums, deed, epoch, text):
         tally = sums.setdefault(epoch, Tally())
-        for lane in range(8):
-            tally.lanes[lane] += int.from_bytes(tag[4 * lane : 4 * lane + 4], "big")
+        tally.lanes = [sum(lane) for lane in zip(tally.lanes, self.digests.element_lanes(text))]
         tally.count += 1
+        self.tell(deed, epoch, text)
 
 
 # ---- a bundle and its report
@@ -329,45 +369,125 @@ def together(tallies):
     return Tally(lanes, sum(tally.count for tally in tallies))
 
 
-def check(key, data):
-    """The report and the exit status."""
-    header, logs, bad = read_bundle(data)
-    if header is None:
-        return "bad bundle at byte 0\n", 7
-    verifiers = [Verifier(key, number, header) for number in range(len(logs))]
-    refusals = [read_log(verifier, log) for verifier, log in zip(verifiers, logs)]
-    operations = sorted((o for verifier in verifiers for o in verifier.operations), key=lambda o: o[0])
-    report, first = "", header[2]
+def certified(verifiers):
+    """How many epochs are certified, and the two sums of the next one, if all have sealed it."""
     sealed_by_all = min(len(verifier.parts) for verifier in verifiers)
     for place in range(sealed_by_all):
-        epoch = first + place
-        added = together([verifier.parts[place][0] for verifier in verifiers])
-        evicted = together([verifier.parts[place][1] for verifier in verifiers])
+        added, evicted = (together([verifier.parts[place][of] for verifier in verifiers]) for of in (0, 1))
         if added != evicted:
-            return report + f"epoch {epoch} unbalanced added {added.count} evicted {evicted.count}\n", 9
-        lines = [line(o) for o in operations if o[0][0] == epoch]
-        report += f"epoch {epoch} certified {len(lines)}\n" + "".join(lines)
+            return place, (added, evicted)
+    return sealed_by_all, None
+
+
+@dataclass
+class Findings:
+    """Of a bundle: its first epoch, how many are certified, all events in order, the report's last line, the status."""
+
+    first: int
+    count: int
+    order: list
+    last: str
+    status: int
+
+    def epochs(self):
+        return range(self.first, self.first + self.count)
+
+
+def findings(digests, data):
+    header, logs, bad = read_bundle(data)
+    if header is None:
+        return Findings(0, 0, [], "bad bundle at byte 0\n", 7)
+    verifiers = [Verifier(digests, number, header) for number in range(len(logs))]
+    refusals = [read_log(verifier, log) for verifier, log in zip(verifiers, logs)]
+    order = sorted((event for verifier in verifiers for event in verifier.events), key=lambda event: event.moment)
+    count, sums = certified(verifiers)
+    return Findings(header[2], count, order, *ending(header[2], count, sums, refusals, bad))
+
+
+def ending(first, count, sums, refusals, bad):
+    """The report's last line and the exit status."""
+    if sums is not None:
+        added, evicted = sums
+        return f"epoch {first + count} unbalanced added {added.count} evicted {evicted.count}\n", 9
     for refusal in refusals:
         if refusal is not None:
-            return report + refusal, 8
+            return refusal, 8
     if bad is not None:
-        return report + f"bad bundle at byte {bad}\n", 7
-    return report + f"done {sealed_by_all}\n", 0
+        return f"bad bundle at byte {bad}\n", 7
+    return f"done {count}\n", 0
 
 
-def line(operation):
-    (epoch, counter, verifier, _), word, key, value = operation
+def check(found):
+    """The report, the exit status, and what is said beside."""
+    report = ""
+    for epoch in found.epochs():
+        lines = [line(event) for event in found.order if event.moment[0] == epoch and event.deed in ("get", "put")]
+        report += f"epoch {epoch} certified {len(lines)}\n" + "".join(lines)
+    return report + found.last, found.status, "fastver: " + found.last if found.status else ""
+
+
+def line(event):
+    (epoch, counter, verifier, _), value = event.moment, event.what
     text = "none" if value is None else value.hex() or "."
-    return f"{epoch}.{counter} v{verifier} {word} {key} {text}\n"
+    return f"{epoch}.{counter} v{verifier} {event.deed} {int(event.of, 2)} {text}\n"
+
+
+# ---- an audit
+
+
+def audit(found):
+    """The exhibit with the report's last line, the exit status, and what is said beside."""
+    shown = uneven(found) or clash(found)
+    if shown is not None:
+        return shown + found.last, 13, "fastver: exhibit\n"
+    return f"clean {found.count}\n" + found.last, *check(found)[1:]
+
+
+def elements(found, deed, epoch):
+    return [event.what for event in found.order if event.deed == deed and event.of == epoch]
+
+
+def uneven(found):
+    """The lines of the first certified epoch whose added elements are no permutation of its evicted ones."""
+    for epoch in found.epochs():
+        added, evicted = elements(found, "added", epoch), elements(found, "evicted", epoch)
+        if sorted(added) != sorted(evicted):
+            lines = [f"added {text.hex()}\n" for text in added] + [f"evicted {text.hex()}\n" for text in evicted]
+            return f"multisets {epoch}\n" + "".join(lines)
+    return None
+
+
+def clash(found):
+    """The line of the first value in certified epochs that came back to a path otherwise than one last left it."""
+    left = {}
+    for event in found.order:
+        if event.moment[0] not in found.epochs():
+            break
+        if event.deed == "left":
+            left[event.of] = event.what
+        if event.deed == "back" and left.get(event.of, event.what) != event.what:
+            return f"strings {left[event.of].hex()} {event.what.hex()}\n"
+    return None
+
+
+# ---- the program
+
+
+def digits_of(words):
+    """The digits of the option --key, which stands alone behind the command; none where the words are others."""
+    if len(words) == 3 and words[1] == "--key":
+        return words[2]
+    return words[1][6:] if len(words) == 2 and words[1].startswith("--key=") else ""
+
+
+COMMANDS = {"check": check, "audit": audit}
 
 
 def fastver(words, data):
-    digits = words[2] if len(words) == 3 else ""
-    of_digits = all(c in "0123456789abcdefABCDEF" for c in digits)
-    if words[:2] != ["check", "--key"] or not 32 <= len(digits) <= 128 or len(digits) % 2 or not of_digits:
+    digits = digits_of(words)
+    if not re.fullmatch("([0-9a-fA-F]{2}){16,64}", digits) or words[0] not in COMMANDS:
         return "", 1, "fastver: usage\n"
-    report, status = check(bytes.fromhex(digits), data)
-    return report, status, "fastver: " + report.splitlines()[-1] + "\n" if status else ""
+    return COMMANDS[words[0]](findings(ShaDigests(bytes.fromhex(digits)), data))
 
 
 def kept(folder, kind, name):
@@ -400,7 +520,10 @@ def main():
         for base in differ:
             print(f"  {base}")
         return 1 if differ else 0
-    report, status, said = fastver(sys.argv[1:], sys.stdin.buffer.read())
+    if sys.argv[1:2] == ["--toy"]:
+        report, status, said = COMMANDS[sys.argv[2]](findings(ToyDigests(), sys.stdin.buffer.read()))
+    else:
+        report, status, said = fastver(sys.argv[1:], sys.stdin.buffer.read())
     sys.stdout.write(report)
     sys.stderr.write(said)
     return status
