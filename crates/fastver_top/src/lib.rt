@@ -14,6 +14,8 @@ pub use report_text::Status;
 pub use top::{INPUT_LIMIT, fastver};
 
 #[cfg(test)]
+mod audit_tests;
+#[cfg(test)]
 mod tests;
 #[cfg(test)]
 mod tree_tests;

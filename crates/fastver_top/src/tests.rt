@@ -26,28 +26,30 @@ fn unhex(alloc: Global, digits: &str) -> Result<Vec<u8>, Fail> {
     Ok(hex::decode(alloc, digits)?)
 }
 
-// Runs `fastver check` between a source and a sink, and answers its status.
+// Runs a command of `fastver` between a source and a sink, and answers its status.
 fn run_between<R: Threads + Wait + Sync>(
     rt: &R,
     alloc: Global,
+    command: &str,
     source: &mut MemorySource,
     out: &mut MemorySink,
 ) -> Result<Status, Fail> {
-    let words = ["fastver", "check", "--key", KEY];
+    let words = ["fastver", command, "--key", KEY];
     let mut vault = MemoryVault::new(alloc, 100, 1, &[])?;
     Ok(fastver(rt, alloc, &words, source, out, &mut vault, &FreeGate))
 }
 
-// What `fastver check` of these bytes writes, and its status, where reads and writes go by so many bytes.
+// What a command of `fastver` writes of these bytes, and its status, where reads and writes go by so many bytes.
 fn run<R: Threads + Wait + Sync>(
     rt: &R,
     alloc: Global,
+    command: &str,
     bundle: &[u8],
     piece: usize,
 ) -> Result<(MemorySink, Status), Fail> {
     let mut source = MemorySource::new(alloc, bundle, piece.max(1), &[])?;
     let mut out = MemorySink::new(alloc, 10_000, piece.max(1), &[])?;
-    let status = run_between(rt, alloc, &mut source, &mut out)?;
+    let status = run_between(rt, alloc, command, &mut source, &mut out)?;
     Ok((out, status))
 }
 
@@ -62,10 +64,28 @@ fn assert_report<R: Threads + Wait + Sync + Abort>(
 ) -> Result<(), Fail> {
     let bytes = unhex(alloc, bundle)?;
     for piece in [1, 100_000] {
-        let (out, status) = run(rt, alloc, &bytes, piece)?;
+        let (out, status) = run(rt, alloc, "check", &bytes, piece)?;
         assert_eq!(rt; out.bytes(), report.as_bytes(), "{name}");
         assert_eq!(rt; status.number(), number, "{name}");
     }
+    Ok(())
+}
+
+// A bundle whose log is refused before an epoch ends has this one line as its report, and an audit of it shows
+// nothing and the same line.
+fn assert_refused<R: Threads + Wait + Sync + Abort>(
+    rt: &R,
+    alloc: Global,
+    name: &str,
+    bundle: &str,
+    line: &str,
+) -> Result<(), Fail> {
+    assert_report(rt, alloc, name, bundle, line, 8)?;
+    let bytes = unhex(alloc, bundle)?;
+    let shown = format!(in alloc; "clean 0\n{line}")?;
+    let (out, status) = run(rt, alloc, "audit", &bytes, 1000)?;
+    assert_eq!(rt; out.bytes(), shown.as_bytes(), "{name}");
+    assert_eq!(rt; status.number(), 8, "{name}");
     Ok(())
 }
 
@@ -283,8 +303,8 @@ fn adds_and_evicts_in_the_tree_are_refused<R: Threads + Wait + Sync + Abort>(
             "refused v0 command 2 HasChild\n",
         ),
     ];
-    for (name, bundle, report) in table {
-        assert_report(rt, alloc, name, bundle, report, 8)?;
+    for (name, bundle, line) in table {
+        assert_refused(rt, alloc, name, bundle, line)?;
     }
     Ok(())
 }
@@ -340,8 +360,8 @@ fn stamps_and_values_are_refused<R: Threads + Wait + Sync + Abort>(
             "refused v0 command 0 ClockEnd\n",
         ),
     ];
-    for (name, bundle, report) in table {
-        assert_report(rt, alloc, name, bundle, report, 8)?;
+    for (name, bundle, line) in table {
+        assert_refused(rt, alloc, name, bundle, line)?;
     }
     Ok(())
 }
@@ -390,7 +410,7 @@ fn bundles_are_cut_at_each_length(rt: HostRuntime) -> Result<(), Fail> {
         let bytes = unhex(rt.alloc(), cut.bundle())?;
         for len in 0..bytes.len() + 1 {
             let (report, number) = cut.report(len);
-            let (out, status) = run(&rt, rt.alloc(), &bytes[..len], 1000)?;
+            let (out, status) = run(&rt, rt.alloc(), "check", &bytes[..len], 1000)?;
             assert_eq!(rt; out.bytes(), report.as_bytes(), "{len}");
             assert_eq!(rt; status.number(), number, "{len}");
         }
@@ -399,33 +419,16 @@ fn bundles_are_cut_at_each_length(rt: HostRuntime) -> Result<(), Fail> {
 }
 
 #[test]
-fn words_that_are_no_checks_are_refused(rt: HostRuntime) -> Result<(), Fail> {
-    let table: [&[&str]; 11] = [
+fn words_that_ask_for_nothing_are_refused(rt: HostRuntime) -> Result<(), Fail> {
+    let table: [&[&str]; 9] = [
         &[],
         &["fastver"],
         &["fastver", "check"],
-        &["fastver", "check", "--key"],
-        &[
-            "fastver",
-            "check",
-            "--key",
-            "000000000000000000000000000000",
-        ],
-        &[
-            "fastver",
-            "check",
-            "--key",
-            "0000000000000000000000000000000",
-        ],
-        &[
-            "fastver",
-            "check",
-            "--key",
-            "0000000000000000000000000000000g",
-        ],
+        &["fastver", "audit"],
+        &["fastver", "check", "--key", "000000000000000000000000000000"],
+        &["fastver", "audit", "--key", "000000000000000000000000000000"],
         &["fastver", "check", "--key", KEY, "more"],
-        &["fastver", "audit", "--key", KEY],
-        &["fastver", "check", "--keys", KEY],
+        &["fastver", "run", "--key", KEY],
         &["fastver", "help"],
     ];
     for words in table {
@@ -451,27 +454,38 @@ fn words_that_are_no_checks_are_refused(rt: HostRuntime) -> Result<(), Fail> {
     Ok(())
 }
 
-#[test]
-fn a_check_by_its_words(rt: HostRuntime) -> Result<(), Fail> {
-    let bytes = unhex(rt.alloc(), PUT_AND_GET)?;
-    let words = ["fastver", "check", "--key", KEY];
-    let mut source = MemorySource::new(rt.alloc(), &bytes, 10, &[])?;
-    let mut out = MemorySink::new(rt.alloc(), 1000, 10, &[])?;
-    let mut vault = MemoryVault::new(rt.alloc(), 100, 1, &[])?;
+// What this command writes of a put and a get, and leaves of the vault.
+fn assert_command<R: Threads + Wait + Sync + Abort>(
+    rt: &R,
+    alloc: Global,
+    command: &str,
+    shown: &str,
+) -> Result<(), Fail> {
+    let bytes = unhex(alloc, PUT_AND_GET)?;
+    let words = ["fastver", command, "--key", KEY];
+    let mut source = MemorySource::new(alloc, &bytes, 10, &[])?;
+    let mut out = MemorySink::new(alloc, 1000, 10, &[])?;
+    let mut vault = MemoryVault::new(alloc, 100, 1, &[])?;
     let status = fastver(
-        &rt,
-        rt.alloc(),
+        rt,
+        alloc,
         &words,
         &mut source,
         &mut out,
         &mut vault,
         &FreeGate,
     );
-    assert_eq!(rt; status, Status::Done { epochs: 1 });
-    assert_eq!(rt; out.bytes(), REPORT.as_bytes());
-    assert_eq!(rt; vault.bytes(), [].as_slice());
-    assert!(rt; vault.name_taken().is_none());
+    assert_eq!(rt; status, Status::Done { epochs: 1 }, "{command}");
+    assert_eq!(rt; out.bytes(), shown.as_bytes(), "{command}");
+    assert_eq!(rt; vault.bytes(), [].as_slice(), "{command}");
+    assert!(rt; vault.name_taken().is_none(), "{command}");
     Ok(())
+}
+
+#[test]
+fn a_check_and_an_audit_by_their_words(rt: HostRuntime) -> Result<(), Fail> {
+    assert_command(&rt, rt.alloc(), "check", REPORT)?;
+    assert_command(&rt, rt.alloc(), "audit", "clean 1\ndone 1\n")
 }
 
 #[test]
@@ -480,14 +494,14 @@ fn objects_that_fail_leave_a_front(rt: HostRuntime) -> Result<(), Fail> {
     for k in 0..bytes.len() as u64 + 1 {
         let mut source = MemorySource::new(rt.alloc(), &bytes, 1, &[k])?;
         let mut out = MemorySink::new(rt.alloc(), 1000, 1, &[])?;
-        let status = run_between(&rt, rt.alloc(), &mut source, &mut out)?;
+        let status = run_between(&rt, rt.alloc(), "check", &mut source, &mut out)?;
         assert_eq!(rt; status.number(), 3, "{k}");
         assert_eq!(rt; out.bytes(), [].as_slice(), "{k}");
     }
     for k in 0..REPORT.len() {
         let mut source = MemorySource::new(rt.alloc(), &bytes, 1, &[])?;
         let mut out = MemorySink::new(rt.alloc(), 1000, 1, &[k as u64])?;
-        let status = run_between(&rt, rt.alloc(), &mut source, &mut out)?;
+        let status = run_between(&rt, rt.alloc(), "check", &mut source, &mut out)?;
         assert_eq!(rt; status.number(), 4, "{k}");
         assert_eq!(rt; out.bytes(), &REPORT.as_bytes()[..k], "{k}");
     }
