@@ -3,7 +3,6 @@ pub mod TookLemmas
 pub mod ReportLemmas
 pub mod LogLemmas
 pub mod MeaningLemmas
-pub mod PassLemmas
 pub mod HistoryRunLemmas
 pub mod CountedLemmas
 pub mod SealedLemmas

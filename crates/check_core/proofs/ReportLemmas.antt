@@ -1,12 +1,10 @@
 -- How many epochs are certified, one part after another, and the lines of their operations.
 use Rattle.std.proofs.Common.{◌≡◌, ◌≢◌, ◌⊎◌, ℕ, suc, ◌+◌, ◌<◌, ◌≤◌, Bool, true, false, List, ◌∷◌, length, drop, get_or, sym, ◌∙◌, ap, if◌then◌else◌, ◌++◌, take, append_assoc, append-nil, eqb, inl, inr}
-use Rattle.std.specs.List.{flat_map}
 use Rattle.std.proofs.lemmas.Bool.{eq-eqb}
 use Rattle.std.proofs.lemmas.Bool.Decides.{eqb_tells}
 use Rattle.std.proofs.lemmas.List.{drop_more, drop_all, drop-drop}
 use Rattle.multiset_sum.specs.declared.part.Part.{Part}
 use Rattle.record_text.specs.declared.operation.Operation.{Operation}
-use Rattle.report_text.specs.Lines.{operation_line}
 use Rattle.check_core.specs.Report.{front_count, epoch_text, certified_text}
 
 -- what is left of the parts begins with the next one
@@ -41,15 +39,6 @@ pub front_past : (epoch : ℕ) (ops : List Operation) (i : ℕ) → length ops �
 front_past epoch ops i past = ap (front_count epoch) (drop_all i ops past)
 
 -- ---- lines
-
--- a line more of an epoch
-pub lines_step : (ops : List Operation) (i : ℕ) (op : Operation) (text line whole : List ℕ) → i < length ops → op ≡ get_or ops i op → line ≡ operation_line op
-    → text ++ flat_map operation_line (drop i ops) ≡ whole → (text ++ line) ++ flat_map operation_line (drop (i + 1) ops) ≡ whole
-lines_step ops i op text line whole below is line_is left =
-    append_assoc text line (flat_map operation_line (drop (i + 1) ops))
-    ∙ ap (λ (l : List ℕ). text ++ l)
-    (ap (λ (l : List ℕ). l ++ flat_map operation_line (drop (i + 1) ops)) line_is ∙ sym (ap (flat_map operation_line) (next_op ops i op below is)))
-    ∙ left
 
 -- the lines of one certified epoch more
 pub epochs_step : (parts : List Part) (ops : List Operation) (i done count : ℕ) (part : Part) (slice : List Operation) (text whole : List ℕ)

@@ -1,2 +1,3 @@
--- Texts that are added one after another.
+-- Texts that are added one after another, to a line and to a page.
 pub mod Pushes
+pub mod PassLemmas

@@ -1,4 +1,5 @@
 -- What the clauses on reports cite, in reading order.
 pub mod Lines
 pub mod Status
+pub mod Exhibit
 pub mod Page

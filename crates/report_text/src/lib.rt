@@ -1,15 +1,18 @@
-//! The report of a bundle, line by line, and the statuses in which the program ends.
+//! The report of a bundle, line by line, the statuses in which the program ends, and what an audit shows.
 //!
-//! Each line is one text, defined in `specs/Lines.antt` and `specs/Status.antt`. The crate stands on
-//! `fv_outside` for the sinks that lines are written to, and on `record_text` and `multiset_sum` for what
-//! they tell. Begin with `Status` in `status.rt` and the writers in `lines.rt`.
+//! Each line is one text, defined in `specs/Lines.antt`, `specs/Status.antt` and `specs/Exhibit.antt`. The
+//! crate stands on `fv_outside` for the sinks that lines are written to, and on `record_text` and
+//! `multiset_sum` for what they tell. Begin with `Status` in `status.rt`, the writers in `lines.rt`, and
+//! `write_exhibit` in `exhibit.rt`.
 #![tactic(auto)]
 
 mod digits;
+mod exhibit;
 mod lines;
 mod page;
 mod status;
 
+pub use exhibit::write_exhibit;
 pub use lines::{
     LONGEST_LINE, epoch_line, last_line, operation_line, write_epoch, write_last, write_operation,
 };

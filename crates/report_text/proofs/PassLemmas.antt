@@ -1,5 +1,7 @@
 -- What was written and what waits on a page, line after line.
-use Rattle.std.proofs.Common.{◌≡◌, ℕ, List, [], ◌++◌, Option, Result, Ok, Err, OnErr, sym, ◌∙◌, ap, subst, append_assoc, append-nil}
+use Rattle.std.proofs.Common.{◌≡◌, ℕ, ◌+◌, ◌<◌, List, [], ◌∷◌, ◌++◌, length, drop, get_or, Option, Result, Ok, Err, OnErr, sym, ◌∙◌, ap, subst, append_assoc, append-nil}
+use Rattle.std.specs.List.{flat_map}
+use Rattle.std.proofs.lemmas.List.{drop_more}
 use Rattle.fv_outside.specs.Written.{Grows, GrowsByFront}
 use Rattle.fv_outside.proofs.WrittenLaws.{Grows-nil, Grows-then, GrowsByFront-more, GrowsByFront-then}
 use Rattle.report_text.specs.Page.{Passes}
@@ -11,6 +13,10 @@ Passes-start a page = record { written = []; grown = Grows-nil a; kept = sym (ap
 -- the same at a page with nothing on it
 pub Passes-empty : (a : Option (List ℕ)) (page : List ℕ) → page ≡ [] → Passes a [] [] a page
 Passes-empty a page empty = record { written = []; grown = Grows-nil a; kept = empty }
+
+-- a first text on a page with nothing on it
+pub Passes-first : (a b : Option (List ℕ)) (page line text p : List ℕ) → page ≡ [] → line ≡ text → Passes a page line b p → Passes a [] text b p
+Passes-first a b page line text p empty is h = subst (λ (l : List ℕ). Passes a [] l b p) is (subst (λ (waited : List ℕ). Passes a waited line b p) empty h)
 
 -- one text and then another
 pub Passes-then : (a b c : Option (List ℕ)) (waited p q first second : List ℕ) → Passes a waited first b p → Passes b p second c q
@@ -50,3 +56,16 @@ Passes-stop a b c waited p text more whole h k all =
 pub on_err : {T E P : Type 0} (r : Result T E) → P → OnErr r P
 on_err (Ok answer) p = tt
 on_err (Err error) p = p
+
+-- a line more of those that things have
+pub lines_step : {A : Type 0} (line_of : A → List ℕ) (things : List A) (i : ℕ) (thing : A) (text line whole : List ℕ)
+    → i < length things → thing ≡ get_or things i thing → line ≡ line_of thing
+    → text ++ flat_map line_of (drop i things) ≡ whole → (text ++ line) ++ flat_map line_of (drop (i + 1) things) ≡ whole
+lines_step {A = A} line_of things i thing text line whole below is line_is left =
+    append_assoc text line (flat_map line_of (drop (i + 1) things))
+    ∙ ap (λ (l : List ℕ). text ++ l)
+    (ap (λ (l : List ℕ). l ++ flat_map line_of (drop (i + 1) things)) line_is ∙ sym (ap (flat_map line_of) next))
+    ∙ left
+  where
+    next : drop i things ≡ thing ∷ drop (i + 1) things
+    next = drop_more things i thing below ∙ ap (λ (t : A). t ∷ drop (i + 1) things) (sym is)
