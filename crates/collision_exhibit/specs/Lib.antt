@@ -1,4 +1,5 @@
 -- What the clauses on an audit cite, in reading order.
 pub mod Act
 pub mod Shown
+pub mod Taken
 pub use Rattle.soundness.specs
