@@ -2,4 +2,5 @@
 pub mod Act
 pub mod Shown
 pub mod Taken
+pub mod Within
 pub use Rattle.soundness.specs

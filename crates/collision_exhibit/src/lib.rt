@@ -9,6 +9,7 @@
 #![tactic(auto)]
 
 mod act;
+mod clash;
 mod taken;
 
 pub use record_text::{Elements, Exhibit, ValueText};
