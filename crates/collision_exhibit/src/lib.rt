@@ -10,6 +10,8 @@
 
 mod act;
 mod clash;
+#[cfg(test)]
+mod clash_tests;
 mod taken;
 
 pub use record_text::{Elements, Exhibit, ValueText};
