@@ -20,7 +20,8 @@ pub(crate) struct Clash {
     pub(crate) added: ValueText,
 }
 
-/// The first clash among the acts of so many epochs from this one on. It takes one pass over the acts.
+/// The first clash among the acts of so many epochs from this one on, and of those before it. It goes over the
+/// acts once, and makes texts only of a record that comes back after it went out.
 pub(crate) fn first_clash(
     alloc: Global,
     acts: &[Act],
@@ -41,10 +42,11 @@ pub(crate) fn first_clash(
     Ok(None)
 }
 
-// Whether an act is of one of so many epochs from this one on, or of an earlier one. No epoch has none before it.
+// Whether an act is of one of so many epochs from this one on, or of one before it. Of no epochs there is none.
 fn is_within(act: &Act, first: u32, epochs: u64) -> bool
     ensures value { result ≡ is_within first epochs act.now }
 {
+    // An epoch before the first counts as the first.
     (act.moment.at.epoch.saturating_sub(first) as u64) < epochs
 }
 
