@@ -1,4 +1,6 @@
 -- What the clauses on an audit cite, in reading order.
 pub mod Act
 pub mod Shown
+pub mod Taken
+pub mod Within
 pub use Rattle.soundness.specs

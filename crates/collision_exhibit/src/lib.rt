@@ -9,5 +9,9 @@
 #![tactic(auto)]
 
 mod act;
+mod clash;
+#[cfg(test)]
+mod clash_tests;
+mod taken;
 
 pub use record_text::{Elements, Exhibit, ValueText};

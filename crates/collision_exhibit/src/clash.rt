@@ -1,0 +1,88 @@
+//! The first record that came back by its digest, with another text than the one that went out.
+ghost use Rattle.std.specs.Prelude.{◌≡◌, IfOk, OnOk, OnErr, Some};
+ghost use Rattle.std.specs.Option.{option_map};
+ghost use Rattle.record_text.specs.Format.{short_keys};
+ghost use Rattle.soundness.specs.Exhibit.{none_taken, differing};
+ghost use Rattle.collision_exhibit.specs.Shown.{acts_within, clash_among, clash_by, taken_by};
+ghost use Rattle.collision_exhibit.specs.Taken.{taken_at};
+ghost use Rattle.collision_exhibit.specs.Within.{is_within};
+
+use crate::act::{Act, Deed};
+use crate::taken::TakenValues;
+use fv_outside::Memory;
+use record_text::{Value, ValueText};
+use std::alloc::Global;
+
+/// Two strings with one digest: what was evicted, and the other that was added for it.
+#[derive(Debug, Drop)]
+pub(crate) struct Clash {
+    pub(crate) evicted: ValueText,
+    pub(crate) added: ValueText,
+}
+
+/// The first clash among the acts of so many epochs from this one on, and of those before it. It goes over the
+/// acts once, and makes texts only of a record that comes back after it went out.
+pub(crate) fn first_clash(
+    alloc: Global,
+    acts: &[Act],
+    first: u32,
+    epochs: u64,
+) -> Result<Option<Clash>, Memory>
+    ensures clash { IfOk result (λ found. option_map (λ c. (c.evicted, c.added)) found ≡ clash_among none_taken (acts_within first epochs acts.now)) }
+{
+    let mut taken = TakenValues::new(alloc);
+    for act in acts {
+        if is_within(act, first, epochs) {
+            match clash_by(&taken, &act.deed) {
+                Some(clash) => return Ok(Some(clash)),
+                None => take(&mut taken, &act.deed)?,
+            }
+        }
+    }
+    Ok(None)
+}
+
+// Whether an act is of one of so many epochs from this one on, or of one before it. Of no epochs there is none.
+fn is_within(act: &Act, first: u32, epochs: u64) -> bool
+    ensures value { result ≡ is_within first epochs act.now }
+{
+    // An epoch before the first counts as the first.
+    (act.moment.at.epoch.saturating_sub(first) as u64) < epochs
+}
+
+// What went out and what came back for it by this deed, if their texts differ.
+fn clash_by(taken: &TakenValues, deed: &Deed) -> Option<Clash>
+    ensures value { option_map (λ c. (c.evicted, c.added)) result ≡ clash_by (taken_at taken.now) deed.now }
+{
+    match deed {
+        Deed::Joined(path, added) => match taken.get(path) {
+            Some(evicted) => differing(evicted, added),
+            None => None,
+        },
+        _ => None,
+    }
+}
+
+// The texts of two values, if they differ.
+fn differing(evicted: &Value, added: &Value) -> Option<Clash>
+    ensures value { option_map (λ c. (c.evicted, c.added)) result ≡ differing short_keys (Some evicted.now) added.now }
+{
+    let evicted = ValueText::of(evicted);
+    let added = ValueText::of(added);
+    if evicted.as_slice() == added.as_slice() {
+        None
+    } else {
+        Some(Clash { evicted, added })
+    }
+}
+
+// Keeps what a deed took out.
+fn take<'a>(taken: &mut TakenValues<'a>, deed: &'a Deed) -> Result<(), Memory>
+    ensures ok { OnOk result (taken_at taken.new ≡ taken_by (taken_at taken.old) deed.now) }
+    ensures err { OnErr result (taken.new ≡ taken.old) }
+{
+    match deed {
+        Deed::Left(path, value) => taken.put(path, value),
+        _ => Ok(()),
+    }
+}

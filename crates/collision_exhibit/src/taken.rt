@@ -1,0 +1,66 @@
+//! What went out of the caches, of each path the last.
+ghost use Rattle.std.specs.Prelude.{◌≡◌, ◌≤◌, length, OnOk, OnErr};
+ghost use Rattle.std.specs.Option.{option_map};
+ghost use Rattle.soundness.specs.Exhibit.{none_taken, with_taken};
+ghost use Rattle.collision_exhibit.specs.Taken.{path_number, taken_at};
+
+use fv_outside::Memory;
+use record_text::Value;
+use std::alloc::Global;
+use std::collections::BTreeMap;
+use std::marker::Model;
+use tree_keys::Path;
+
+/// The value that was taken out last of each path, if one was. Contracts see the entries, and read them as a
+/// function from paths by `taken_at`.
+#[derive(Drop)]
+pub(crate) struct TakenValues<'a> {
+    values: BTreeMap<u128, &'a Value>,
+}
+
+impl<'a> Model for TakenValues<'a> {
+    ghost use Rattle.std.specs.Prelude.{map};
+    ghost use Rattle.collision_exhibit.specs.Taken.{Entries};
+
+    ghost Value = { Entries };
+
+    ghost view = { λ t. map (λ entry. (entry.0, entry.1.now)) t.values.entries };
+}
+
+impl<'a> TakenValues<'a> {
+    /// Nothing was taken. It takes memory from `alloc` as it grows.
+    pub(crate) fn new(alloc: Global) -> Self
+        ensures none { taken_at result ≡ none_taken }
+    {
+        TakenValues {
+            values: BTreeMap::new(alloc),
+        }
+    }
+
+    /// A value was taken out of this path. For want of memory all is as before.
+    pub(crate) fn put(&mut self, path: &Path, value: &'a Value) -> Result<(), Memory>
+        ensures ok { OnOk result (taken_at self.new ≡ with_taken (taken_at self.old) path.now value.now) }
+        ensures err { OnErr result (self.new ≡ self.old) }
+    {
+        self.values.insert(path_number(path), value)?;
+        Ok(())
+    }
+
+    /// What was taken out of a path last.
+    pub(crate) fn get(&self, path: &Path) -> Option<&'a Value>
+        ensures value { option_map (λ value. value.now) result ≡ taken_at self.now path.now }
+    {
+        match self.values.get(&path_number(path)) {
+            Some(value) => Some(*value),
+            None => None,
+        }
+    }
+}
+
+// The number that stands for a path in the map: its length before its word.
+fn path_number(path: &Path) -> u128
+    ensures value { result ≡ path_number path.now }
+    ensures fits { length path.now ≤ 64 }
+{
+    path.len() as u128 * (1 << 64) + path.word() as u128
+}
