@@ -1,6 +1,6 @@
 -- No verifier evicts two elements with one stamp: the stamps of each log's evicts rise, and the logs are of different
 -- verifiers.
-use Rattle.std.proofs.Common.{◌≡◌, ℕ, suc, ◌<◌, ◌≤◌, ◌==◌, ◌&&◌, Bool, true, false, cond, List, [], ◌∷◌, ◌++◌, append_assoc, refl, sym, ◌∙◌, ap, subst, map, flat_map, IsPermutation, if◌then◌else◌, arith}
+use Rattle.std.proofs.Common.{◌≡◌, ℕ, suc, ◌<◌, ◌≤◌, ◌==◌, ◌&&◌, Bool, true, false, List, [], ◌∷◌, ◌++◌, append_assoc, refl, sym, ◌∙◌, ap, subst, map, flat_map, IsPermutation, if◌then◌else◌, arith}
 use Rattle.std.specs.List.{AllByRecursion, IsDistinct}
 use Rattle.std.specs.Ordering.{is_lt}
 use Rattle.std.proofs.lemmas.Bool.{false≢true, cond_both, and_parts, eqb-true}
@@ -9,11 +9,9 @@ use Rattle.std.proofs.lemmas.Grind.{flat_map-append}
 use Rattle.std.proofs.lemmas.List.Sorted.{IsPermutation-refl, IsPermutation-trans, IsPermutation-append_left, IsPermutation-append_right, IsPermutation-append_comm}
 use Rattle.std.proofs.lemmas.Map.Keys.{IsDistinct-head, IsDistinct-tail, IsDistinct-cons, IsDistinct-IsPermutation}
 use Rattle.lamport_clocks.specs.declared.header.Header.{Header}
-use Rattle.lamport_clocks.specs.declared.stamp.Stamp.{Stamp}
 use Rattle.lamport_clocks.specs.Stamp.{stamp_cmp}
 use Rattle.record_text.specs.declared.element.Element.{Element}
 use Rattle.log_codec.specs.declared.command.Command.{Command}
-use Rattle.merkle_records.specs.Merkle.{Digest}
 use Rattle.stamp_order.specs.InOrder.{put_in_order, in_order}
 use Rattle.stamp_order.specs.Merged.{comes_before}
 use Rattle.stamp_order.proofs.InOrderLemmas.{every-weaker, every-append}
@@ -26,8 +24,7 @@ use Rattle.soundness.specs.Permutation.{same_stamp}
 use Rattle.soundness.specs.Timed.{IsEarlier, evicted_among, IsRising}
 use Rattle.soundness.proofs.RisingLemmas.{log_own, log_rising}
 use Rattle.collision_exhibit.specs.declared.act.Act.{Act}
-use Rattle.collision_exhibit.specs.declared.act.Deed.{Deed}
-use Rattle.collision_exhibit.specs.declared.act.Deed.TheVariants.{Joined, Left, Came, Went}
+use Rattle.collision_exhibit.specs.declared.act.Deed.TheVariants.{Joined}
 use Rattle.collision_exhibit.specs.Act.{deeds_by, act_at, acts_by, acts_in}
 use Rattle.collision_exhibit.specs.Shown.{went_by, went_among}
 use Rattle.collision_exhibit.specs.Elements.{same_evict, HaveOwnStamps}
@@ -69,7 +66,9 @@ earlier_apart x y earlier =
     not_before : (e f c d : ℕ) → (e == f && c == d) ≡ true → is_lt (stamp_cmp (record { epoch = e; counter = c }) (record { epoch = f; counter = d })) ≡ false
     not_before e f c d same = grind (arith, nat_tests)
 
+-- elements whose stamps rise are of different evicts
 rising_apart : (xs : List Element) → IsRising xs → HaveOwnStamps xs
+unfolding IsDistinct
 rising_apart [] rising = tt
 rising_apart (x ∷ xs) rising =
     IsDistinct-cons same_evict x xs
@@ -95,47 +94,47 @@ verifiers_apart x y number own later =
     let is = eqb-true x.verifier y.verifier (and_parts (same_stamp x.stamp y.stamp) (x.verifier == y.verifier) same).1 in
     absurd (omega (arith, own, later, is)))
 
-module _ (digest : Digest) (lanes : List ℕ → List ℕ) (header : Header) where
-  evicted_of : ℕ → List Command → List Element
-  evicted_of number log = evicted_among (log_events digest lanes header number log)
+module _ (digest : List ℕ → List ℕ) (lanes : List ℕ → List ℕ) (header : Header) where
+  -- the elements that a log evicts
+  abbrev log_evicts : ℕ → List Command → List Element
+  log_evicts number log = evicted_among (log_events digest lanes header number log)
 
-  evicted_from : ℕ → List (List Command) → List Element
-  evicted_from number logs = evicted_among (all_events (histories_from digest lanes header number logs))
+  -- the elements that the logs evict, one log after another
+  abbrev all_evicts : ℕ → List (List Command) → List Element
+  all_evicts number logs = evicted_among (all_events (histories_from digest lanes header number logs))
 
-  split_evicted : (number : ℕ) (log : List Command) (logs : List (List Command))
-      → evicted_among (all_events (histories_from digest lanes header number (log ∷ logs)))
-      ≡ evicted_among (log_events digest lanes header number log) ++ evicted_among (all_events (histories_from digest lanes header (suc number) logs))
-  split_evicted number log logs =
+  split_evicts : (number : ℕ) (log : List Command) (logs : List (List Command))
+      → all_evicts number (log ∷ logs) ≡ log_evicts number log ++ all_evicts (suc number) logs
+  split_evicts number log logs =
       flat_map-append (λ (event : Event). evicted_by event.change) (log_events digest lanes header number log)
       (all_events (histories_from digest lanes header (suc number) logs))
 
   -- the logs from one number on evict elements of verifiers from it on
   verifiers_from : (number : ℕ) (logs : List (List Command))
-      → AllByRecursion (λ element. number ≤ element.verifier) (evicted_among (all_events (histories_from digest lanes header number logs)))
+      → AllByRecursion (λ element. number ≤ element.verifier) (all_evicts number logs)
   verifiers_from number [] = tt
   verifiers_from number (log ∷ logs) =
-      subst (AllByRecursion (λ (element : Element). number ≤ element.verifier)) (sym (split_evicted number log logs))
-      (every-append (λ element. number ≤ element.verifier) (evicted_among (log_events digest lanes header number log))
-      (evicted_among (all_events (histories_from digest lanes header (suc number) logs)))
+      subst (AllByRecursion (λ (element : Element). number ≤ element.verifier)) (sym (split_evicts number log logs))
+      (every-append (λ element. number ≤ element.verifier) (log_evicts number log) (all_evicts (suc number) logs)
       (every-weaker (λ element. element.verifier ≡ number) (λ element. number ≤ element.verifier) (λ element own. omega (arith, own))
-      (evicted_among (log_events digest lanes header number log)) (log_own digest lanes header number log))
+      (log_evicts number log) (log_own digest lanes header number log))
       (every-weaker (λ element. suc number ≤ element.verifier) (λ element. number ≤ element.verifier) (λ element later. omega (arith, later))
-      (evicted_among (all_events (histories_from digest lanes header (suc number) logs))) (verifiers_from (suc number) logs)))
+      (all_evicts (suc number) logs) (verifiers_from (suc number) logs)))
 
-  all_apart : (number : ℕ) (logs : List (List Command))
-      → HaveOwnStamps (evicted_among (all_events (histories_from digest lanes header number logs)))
+  -- no verifier evicts two elements with one stamp
+  all_apart : (number : ℕ) (logs : List (List Command)) → HaveOwnStamps (all_evicts number logs)
+  unfolding IsDistinct
   all_apart number [] = tt
   all_apart number (log ∷ logs) =
-      subst HaveOwnStamps (sym (split_evicted number log logs))
-      (distinct-append same_evict (evicted_among (log_events digest lanes header number log))
-      (evicted_among (all_events (histories_from digest lanes header (suc number) logs)))
-      (rising_apart (evicted_among (log_events digest lanes header number log)) (log_rising digest lanes header number log))
+      subst HaveOwnStamps (sym (split_evicts number log logs))
+      (distinct-append same_evict (log_evicts number log) (all_evicts (suc number) logs)
+      (rising_apart (log_evicts number log) (log_rising digest lanes header number log))
       (all_apart (suc number) logs)
       (every-weaker (λ x. x.verifier ≡ number)
-      (λ x. AllByRecursion (λ y. same_evict x y ≡ false) (evicted_among (all_events (histories_from digest lanes header (suc number) logs))))
+      (λ x. AllByRecursion (λ y. same_evict x y ≡ false) (all_evicts (suc number) logs))
       (λ x own. every-weaker (λ y. suc number ≤ y.verifier) (λ y. same_evict x y ≡ false) (λ y later. verifiers_apart x y number own later)
-      (evicted_among (all_events (histories_from digest lanes header (suc number) logs))) (verifiers_from (suc number) logs))
-      (evicted_among (log_events digest lanes header number log)) (log_own digest lanes header number log)))
+      (all_evicts (suc number) logs) (verifiers_from (suc number) logs))
+      (log_evicts number log) (log_own digest lanes header number log)))
 
 -- ---- the merged order
 
@@ -166,11 +165,11 @@ module _ {X Y : Type 0} (lt : X → X → Bool) (block : X → List Y) where
       (put-blocks x (in_order lt xs))
 
 -- Of all logs' acts in their order, no verifier evicted two elements with one stamp.
-pub distinct_evicts : (digest : Digest) (lanes : List ℕ → List ℕ) (header : Header) (logs : List (List Command))
+pub distinct_evicts : (digest : List ℕ → List ℕ) (lanes : List ℕ → List ℕ) (header : Header) (logs : List (List Command))
     → HaveOwnStamps (went_among (acts_in (order_of (histories_of digest lanes header logs))))
 distinct_evicts digest lanes header logs =
-    subst HaveOwnStamps (sym (went_in (order_of (histories_of digest lanes header logs))))
-    (IsDistinct-IsPermutation same_evict same_evict-flips
-    (evicted_among (all_events (histories_of digest lanes header logs))) (evicted_among (order_of (histories_of digest lanes header logs)))
-    (ordered-blocks (comes_before event_moment) (λ event. evicted_by event.change) (all_events (histories_of digest lanes header logs)))
+    let histories = histories_of digest lanes header logs in
+    subst HaveOwnStamps (sym (went_in (order_of histories)))
+    (IsDistinct-IsPermutation same_evict same_evict-flips (evicted_among (all_events histories)) (evicted_among (order_of histories))
+    (ordered-blocks (comes_before event_moment) (λ event. evicted_by event.change) (all_events histories))
     (all_apart digest lanes header 0 logs))
