@@ -1,6 +1,7 @@
 -- What the clauses on an audit cite, in reading order.
 pub mod Act
 pub mod Shown
+pub mod Elements
 pub mod Taken
 pub mod Within
 pub use Rattle.soundness.specs

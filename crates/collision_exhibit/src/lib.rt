@@ -9,9 +9,12 @@
 #![tactic(auto)]
 
 mod act;
+mod auditing;
 mod clash;
 #[cfg(test)]
 mod clash_tests;
+mod elements;
 mod taken;
 
+pub use auditing::audit;
 pub use record_text::{Elements, Exhibit, ValueText};

@@ -1,0 +1,64 @@
+//! What an audit of logs shows.
+ghost use Rattle.std.specs.Prelude.{◌≡◌, IfOk, None, length, map};
+ghost use Rattle.soundness.specs.Exhibit.{none_taken};
+ghost use Rattle.lamport_clocks.specs.Header.{IsHeader};
+ghost use Rattle.soundness.specs.Collision.{exhibit_of};
+ghost use Rattle.soundness.specs.Sound.{histories_read};
+ghost use Rattle.collision_exhibit.specs.Elements.{HaveOwnStamps};
+ghost use Rattle.collision_exhibit.specs.Shown.{acts_within, clash_among, went_among, shown_by, exhibit_among};
+
+use crate::act::Act;
+use crate::clash::first_clash;
+use crate::elements::{added_of, evicted_of, first_uneven};
+use crate::history::acts_of;
+use fv_outside::Memory;
+use lamport_clocks::Header;
+use record_hash::Digests;
+use record_text::Exhibit;
+use std::alloc::Global;
+
+/// What an audit of logs shows, that of verifier 0 first, over so many epochs from the header's first on: the
+/// elements of the first epoch whose added ones are no permutation of its evicted ones; or else the texts of the
+/// first record that came back by its digest with another value than it went out with; or else nothing.
+///
+/// Its time is near linear in the bytes of the logs: each is run once, and acts and elements are sorted.
+pub fn audit<D: Digests>(
+    alloc: Global,
+    d: &D,
+    header: &Header,
+    logs: &[Vec<u8>],
+    epochs: u64,
+) -> Result<Exhibit, Memory>
+    requires header { IsHeader header.now }
+    requires count { length logs.now ≡ header.now.verifiers }
+    ensures exhibit { IfOk result (λ exhibit. exhibit ≡ exhibit_of header.now.first epochs
+        (histories_read (D.text_digest d.now) (D.element_lanes d.now) header.now (map (λ log. log.items) logs.now))) }
+{
+    let acts = acts_of(alloc, d, header, logs)?;
+    shown(alloc, &acts, header.first, epochs)
+}
+
+// What acts in order show over so many epochs from the first on.
+fn shown(alloc: Global, acts: &[Act], first: u32, epochs: u64) -> Result<Exhibit, Memory>
+    requires own_stamps { HaveOwnStamps (went_among acts.now) }
+    ensures exhibit { IfOk result (λ exhibit. exhibit ≡ exhibit_among first epochs acts.now) }
+{
+    match first_uneven(alloc, acts, first, epochs)? {
+        Some(epoch) => {
+            let added = added_of(alloc, acts, epoch)?;
+            let evicted = evicted_of(alloc, acts, epoch)?;
+            Ok(Exhibit::Multisets(epoch, added, evicted))
+        }
+        None => strings(alloc, acts, first, epochs),
+    }
+}
+
+// The first clash among acts in order of so many epochs from the first on, if there is one.
+fn strings(alloc: Global, acts: &[Act], first: u32, epochs: u64) -> Result<Exhibit, Memory>
+    ensures exhibit { IfOk result (λ exhibit. exhibit ≡ shown_by acts.now None (clash_among none_taken (acts_within first epochs acts.now))) }
+{
+    match first_clash(alloc, acts, first, epochs)? {
+        Some(clash) => Ok(Exhibit::Strings(clash.evicted, clash.added)),
+        None => Ok(Exhibit::Clean),
+    }
+}
