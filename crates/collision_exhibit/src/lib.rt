@@ -10,5 +10,7 @@
 
 mod act;
 mod elements;
+#[cfg(test)]
+mod elements_tests;
 
 pub use record_text::{Elements, Exhibit, ValueText};
