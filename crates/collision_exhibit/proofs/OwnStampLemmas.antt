@@ -87,7 +87,7 @@ distinct-append alike (x ∷ xs) ys left right apart =
     (distinct-append alike xs ys (IsDistinct-tail alike x xs left) right apart.1)
 
 -- elements of different verifiers are of different evicts
-verifiers_apart : (x y : Element) (number : ℕ) → x.verifier ≡ number → number < y.verifier → same_evict x y ≡ false
+pub verifiers_apart : (x y : Element) (number : ℕ) → x.verifier ≡ number → number < y.verifier → same_evict x y ≡ false
 verifiers_apart x y number own later =
     never (same_evict x y)
     (λ same.

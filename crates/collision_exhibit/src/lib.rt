@@ -14,6 +14,8 @@ mod clash;
 #[cfg(test)]
 mod clash_tests;
 mod elements;
+#[cfg(test)]
+mod elements_tests;
 mod taken;
 
 pub use auditing::audit;
