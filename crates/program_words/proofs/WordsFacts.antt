@@ -1,0 +1,42 @@
+-- What some words ask for, computed from the definitions.
+use Rattle.std.proofs.Common.{◌≡◌, ℕ, List, [], ◌∷◌, Some, None, refl}
+use Rattle.std.specs.Prelude.{codes}
+use Rattle.clap.proofs.OnLiterals.{clap_on_literals}
+use Rattle.hex.proofs.OnLiterals.{hex_on_literals}
+use Rattle.program_words.specs.Words.{asked_of}
+use Rattle.program_words.specs.declared.words.Asked.TheVariants.{Check, Audit}
+
+abbrev key : List ℕ
+key = 0 ∷ 17 ∷ 34 ∷ 51 ∷ 68 ∷ 85 ∷ 102 ∷ 119 ∷ 136 ∷ 153 ∷ 170 ∷ 187 ∷ 204 ∷ 221 ∷ 238 ∷ 255 ∷ []
+
+-- the value may stand apart from the option or be attached to it
+apart : asked_of (codes "fastver" ∷ codes "check" ∷ codes "--key" ∷ codes "00112233445566778899aabbccddeeff" ∷ []) ≡ Some (Check key)
+unfolding clap_on_literals hex_on_literals
+apart = refl
+
+attached : asked_of (codes "fastver" ∷ codes "audit" ∷ codes "--key=00112233445566778899AABBCCDDEEFF" ∷ []) ≡ Some (Audit key)
+unfolding clap_on_literals hex_on_literals
+attached = refl
+
+-- no words at all, and a program's name alone
+no_words : asked_of [] ≡ None
+unfolding clap_on_literals hex_on_literals
+no_words = refl
+
+name_alone : asked_of (codes "fastver" ∷ []) ≡ None
+unfolding clap_on_literals hex_on_literals
+name_alone = refl
+
+-- no key, and two
+no_key : asked_of (codes "fastver" ∷ codes "check" ∷ []) ≡ None
+unfolding clap_on_literals hex_on_literals
+no_key = refl
+
+two_keys : asked_of (codes "fastver" ∷ codes "check" ∷ codes "--key=00112233445566778899aabbccddeeff" ∷ codes "--key=00112233445566778899aabbccddeeff" ∷ []) ≡ None
+unfolding clap_on_literals hex_on_literals
+two_keys = refl
+
+-- 15 bytes
+short_key : asked_of (codes "fastver" ∷ codes "check" ∷ codes "--key=00112233445566778899aabbccddee" ∷ []) ≡ None
+unfolding clap_on_literals hex_on_literals
+short_key = refl

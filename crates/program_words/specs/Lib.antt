@@ -1,0 +1,3 @@
+-- What the clauses on the program's words cite, in reading order.
+pub mod Key
+pub mod Words

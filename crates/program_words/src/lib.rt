@@ -1,0 +1,14 @@
+//! The words of the program: which command they ask for, and with which key.
+//!
+//! `read_words` in `words.rt` reads them by the kit's `clap`, and is proved against clap's own rules: what they
+//! ask for is defined in `specs/Words.antt`. A key is read from its digits in `key.rt` by the kit's `hex`.
+#![tactic(auto)]
+
+mod key;
+mod words;
+
+pub use key::{Key, LONGEST_KEY, SHORTEST_KEY};
+pub use words::{Asked, WordsFault, read_words};
+
+#[cfg(test)]
+mod tests;
