@@ -3,7 +3,6 @@ use Rattle.std.proofs.Common.{◌≡◌, ℕ, ◌==◌, Bool, true, false, List,
 use Rattle.std.specs.List.{AllByRecursion}
 use Rattle.std.proofs.lemmas.List.Elements.{filter-append}
 use Rattle.log_codec.specs.declared.command.Command.{Command}
-use Rattle.record_hash.specs.Digests.{IsDigest}
 use Rattle.record_hash.specs.Hmac.{key_block}
 use Rattle.record_hash.specs.ShaDigests.{sha_text_digest, sha_element_lanes}
 use Rattle.record_hash.specs.Shapes.{IsDigest-sha256}

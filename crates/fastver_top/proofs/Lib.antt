@@ -1,1 +1,2 @@
-pub mod KeyLemmas
+-- How an audit is what it says of bytes.
+pub mod AuditLemmas

@@ -2,8 +2,8 @@
 use Rattle.std.specs.Prelude.{ℕ, List, ◌⊎◌, ◌≡◌}
 use Rattle.record_hash.specs.Hmac.{key_block}
 use Rattle.record_hash.specs.ShaDigests.{sha_text_digest, sha_element_lanes}
-use Rattle.program_words.specs.declared.asked.Asked.{Asked}
-use Rattle.program_words.specs.declared.asked.Asked.TheVariants.{Check, Audit}
+use Rattle.program_words.specs.declared.words.Asked.{Asked}
+use Rattle.program_words.specs.declared.words.Asked.TheVariants.{Check, Audit}
 use Rattle.report_text.specs.declared.status.Status.{Status}
 use Rattle.report_text.specs.declared.status.Status.TheVariants as statuses
 use Rattle.check_core.specs.Outcomes.{IsOutcome}

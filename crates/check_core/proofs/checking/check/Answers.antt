@@ -1,4 +1,3 @@
-use Rattle.std.proofs.Common.{List, ℕ}
 use Rattle.check_core.specs.Headline.{IsSound}
 use Rattle.check_core.proofs.HeadlineLemmas.{headline, of_left}
 use Rattle.check_core.proofs.checking.check.Goals as goal

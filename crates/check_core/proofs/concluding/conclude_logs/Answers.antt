@@ -1,4 +1,4 @@
-use Rattle.std.proofs.Common.{ℕ, List, map, IfOk, ◌≡◌, ◌∙◌, ap, sym, subst}
+use Rattle.std.proofs.Common.{map, ◌∙◌}
 use Rattle.std.proofs.lemmas.List.{length-map}
 use Rattle.check_core.proofs.RunningLemmas.{runs_few, runs_judged}
 use Rattle.check_core.proofs.concluding.conclude_logs.Goals as goal
