@@ -1,0 +1,2 @@
+-- Lemmas on what acts show.
+pub mod ActLemmas
