@@ -1,2 +1,3 @@
 -- Lemmas on what acts show.
 pub mod ActLemmas
+pub mod DeedLemmas

@@ -1,4 +1,5 @@
 -- What the clauses on an audit cite, in reading order.
 pub mod Act
+pub mod Deed
 pub mod Shown
 pub use Rattle.soundness.specs
