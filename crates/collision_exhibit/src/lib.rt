@@ -9,5 +9,6 @@
 #![tactic(auto)]
 
 mod act;
+mod deed;
 
 pub use record_text::{Elements, Exhibit, ValueText};
