@@ -1,3 +1,4 @@
 -- Lemmas on what acts show.
 pub mod ActLemmas
 pub mod DeedLemmas
+pub mod TellLemmas

@@ -2,4 +2,5 @@
 pub mod Act
 pub mod Deed
 pub mod Shown
+pub mod Telling
 pub use Rattle.soundness.specs

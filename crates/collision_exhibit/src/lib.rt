@@ -10,5 +10,6 @@
 
 mod act;
 mod deed;
+mod history;
 
 pub use record_text::{Elements, Exhibit, ValueText};
