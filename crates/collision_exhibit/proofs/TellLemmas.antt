@@ -1,10 +1,20 @@
 -- The acts of a verifier's commands, one command after another.
-use Rattle.std.proofs.Common.{◌≡◌, ℕ, suc, ◌+◌, Bool, true, false, List, [], ◌∷◌, ◌++◌, map, Option, Result, Ok, Err, refl, sym, ◌∙◌, ap, append-nil, append_assoc, add-one}
+use Rattle.std.proofs.Common.{◌≡◌, ℕ, suc, ◌+◌, ◌-◌, ◌<◌, ◌≤◌, Bool, true, false, List, [], ◌∷◌, ◌++◌, length, drop, map, Option, Result, Ok, Err, refl, sym, ◌∙◌, ap, append-nil, append_assoc, add-one, length-drop, arith}
 use Rattle.std.specs.Option.{option_to_list}
+use Rattle.std.proofs.lemmas.List.{drop-drop}
 use Rattle.lamport_clocks.specs.declared.stamp.Stamp.{Stamp}
 use Rattle.record_text.specs.declared.refusal.Refusal.{Refusal}
+use Rattle.record_text.specs.declared.reader.TextFault.{TextFault}
+use Rattle.record_text.specs.declared.reader.TextFault.TheVariants as faults
+use Rattle.record_text.specs.Format.{short_keys}
 use Rattle.stamp_order.specs.declared.moment.Moment.{Moment}
 use Rattle.log_codec.specs.declared.command.Command.{Command}
+use Rattle.log_codec.specs.declared.reading.Decoded.{Decoded}
+use Rattle.log_codec.specs.declared.reading.Decoded.TheVariants.{Read, Malformed, Truncated}
+use Rattle.log_codec.specs.Command.{command_at}
+use Rattle.log_codec.specs.Decoded.{Decodes}
+use Rattle.log_codec.specs.Log.{Log, read_log}
+use Rattle.log_codec.proofs.LogLemmas.{read_log-empty, read_log-step, read_log-fault}
 use Rattle.verifier_cache.specs.Cache.{Held}
 use Rattle.verifier_commands.specs.declared.effect.Effect.{Effect}
 use Rattle.verifier_commands.specs.declared.state.State.{State}
@@ -18,7 +28,7 @@ use Rattle.collision_exhibit.specs.declared.act.Act.{Act}
 use Rattle.collision_exhibit.specs.declared.act.Deed.{Deed}
 use Rattle.collision_exhibit.specs.Act.{deeds_by, act_at, acts_in}
 use Rattle.collision_exhibit.specs.Deed.{deed_of}
-use Rattle.collision_exhibit.specs.Telling.{act_then, acts_from, acts_if}
+use Rattle.collision_exhibit.specs.Telling.{act_then, acts_from, acts_if, acts_read}
 use Rattle.collision_exhibit.proofs.DeedLemmas.{deed_told}
 
 -- the moment of a machine's next command, by its parts
@@ -128,3 +138,83 @@ module _ (digest lanes : List ℕ → List ℕ) where
       (sym (from_step machine command commands
       ∙ refused_behind machine refusal commands (transition (rules_for digest lanes machine) machine.state command) is))
       ∙ seen_as seen machine before (command ∷ commands) same
+
+-- ---- the bytes of a log
+
+-- bytes that begin with no command are a log of none
+read_none : (bytes : List ℕ) (fault : TextFault) → command_at short_keys bytes ≡ Err fault → (read_log short_keys bytes).commands ≡ []
+read_none [] fault is = ap (λ (log : Log). log.commands) (read_log-empty short_keys)
+read_none (byte ∷ bytes) fault is = ap (λ (log : Log). log.commands) (read_log-fault short_keys (byte ∷ bytes) fault (omega arith) is)
+
+-- what bytes begin with that are decoded so, where that is no command
+no_command : (bytes : List ℕ) (decoded : Decoded) → Decodes short_keys bytes decoded → ((command : Command) (len : ℕ) → decoded ≡ Read command len → ⊥)
+    → (read_log short_keys bytes).commands ≡ []
+no_command bytes (Read command len) is none = absurd (none command len refl)
+no_command bytes Malformed is none = read_none bytes faults.Malformed is
+no_command bytes Truncated is none = read_none bytes faults.Truncated is
+
+-- Of so many bytes of a log all is told: with what the rest tells, that is what the whole log tells.
+pub record HasTold (digest lanes : List ℕ → List ℕ) (start : Machine) (before : List Act) (log : List ℕ) (taken : ℕ) (now : Machine) (acts : List Act) : Type 0 where
+  pub within : taken ≤ length log
+  pub accepted : now.accepted ≤ start.accepted + taken
+  pub told : acts ++ acts_read digest lanes now (drop taken log) ≡ before ++ acts_read digest lanes start log
+
+module _ (digest lanes : List ℕ → List ℕ) (start : Machine) (before : List Act) (log : List ℕ) where
+  pub none_told : HasTold digest lanes start before log 0 start before
+  none_told = record { within = omega arith; accepted = omega arith; told = refl }
+
+  -- the rest begins with a command, and then comes what is behind it
+  command_next : (taken len : ℕ) (now : Machine) (acts : List Act) (rest : List ℕ) (command : Command) → HasTold digest lanes start before log taken now acts
+      → rest ≡ drop taken log → command_at short_keys rest ≡ Ok (command, drop len rest)
+      → acts ++ acts_from digest lanes now (command ∷ (read_log short_keys (drop len rest)).commands) ≡ before ++ acts_read digest lanes start log
+  command_next taken len now acts rest command so_far rest_is is =
+      ap (λ (found : Log). acts ++ acts_from digest lanes now found.commands) (sym (read_log-step short_keys rest command (drop len rest) is))
+      ∙ ap (λ (bytes : List ℕ). acts ++ acts_read digest lanes now bytes) rest_is
+      ∙ so_far.told
+
+  -- a command more was accepted
+  pub more_told : (taken len : ℕ) (now after : Machine) (acts next : List Act) (rest : List ℕ) (command : Command) (accepted : Bool)
+      → HasTold digest lanes start before log taken now acts
+      → rest ≡ drop taken log → command_at short_keys rest ≡ Ok (command, drop len rest) → 0 < len → len ≤ length rest → after.accepted ≤ now.accepted + 1
+      → ((commands : List Command) → next ++ acts_if accepted digest lanes after commands ≡ acts ++ acts_from digest lanes now (command ∷ commands))
+      → accepted ≡ true → HasTold digest lanes start before log (taken + len) after next
+  more_told taken len now after acts next rest command accepted so_far rest_is is some fits count tells was =
+      let left : length rest ≡ length log - taken = ap length rest_is ∙ length-drop taken log in
+      let within : taken ≤ length log = so_far.within in
+      let counted : now.accepted ≤ start.accepted + taken = so_far.accepted in
+      record {
+        within = omega arith;
+        accepted = omega arith;
+        told = ap (λ (bytes : List ℕ). next ++ acts_read digest lanes after bytes) (sym (drop-drop len taken log) ∙ ap (drop len) (sym rest_is))
+            ∙ ap (λ (b : Bool). next ++ acts_if b digest lanes after (read_log short_keys (drop len rest)).commands) (sym was)
+            ∙ tells (read_log short_keys (drop len rest)).commands
+            ∙ command_next taken len now acts rest command so_far rest_is is;
+      }
+
+  -- a command was refused
+  pub refused_there : (taken len : ℕ) (now after : Machine) (acts next : List Act) (rest : List ℕ) (command : Command) (accepted : Bool)
+      → HasTold digest lanes start before log taken now acts
+      → rest ≡ drop taken log → command_at short_keys rest ≡ Ok (command, drop len rest)
+      → ((commands : List Command) → next ++ acts_if accepted digest lanes after commands ≡ acts ++ acts_from digest lanes now (command ∷ commands))
+      → accepted ≡ false → next ≡ before ++ acts_read digest lanes start log
+  refused_there taken len now after acts next rest command accepted so_far rest_is is tells was =
+      sym (append-nil next)
+      ∙ ap (λ (b : Bool). next ++ acts_if b digest lanes after (read_log short_keys (drop len rest)).commands) (sym was)
+      ∙ tells (read_log short_keys (drop len rest)).commands
+      ∙ command_next taken len now acts rest command so_far rest_is is
+
+  -- no commands tell nothing
+  nothing_next : (now : Machine) (acts : List Act) → acts ++ [] ≡ acts ++ acts_from digest lanes now []
+  unfolding events_from
+  nothing_next now acts = refl
+
+  -- there is no command more
+  pub ended_there : (taken : ℕ) (now : Machine) (acts : List Act) (rest : List ℕ) (decoded : Decoded) → HasTold digest lanes start before log taken now acts
+      → rest ≡ drop taken log → Decodes short_keys rest decoded → ((command : Command) (len : ℕ) → decoded ≡ Read command len → ⊥)
+      → acts ≡ before ++ acts_read digest lanes start log
+  ended_there taken now acts rest decoded so_far rest_is is none =
+      sym (append-nil acts)
+      ∙ nothing_next now acts
+      ∙ ap (λ (commands : List Command). acts ++ acts_from digest lanes now commands)
+      (sym (no_command rest decoded is none) ∙ ap (λ (bytes : List ℕ). (read_log short_keys bytes).commands) rest_is)
+      ∙ so_far.told

@@ -10,7 +10,7 @@ ghost use Rattle.verifier_commands.specs.Machine.{opening_machine};
 ghost use Rattle.soundness.specs.History.{log_events};
 ghost use Rattle.soundness.specs.Certified.{order_of, all_events};
 ghost use Rattle.soundness.specs.Sound.{histories_read};
-ghost use Rattle.collision_exhibit.specs.Act.{acts_in};
+ghost use Rattle.collision_exhibit.specs.Act.{acts_in, act_moment};
 ghost use Rattle.collision_exhibit.specs.Telling.{act_then, acts_from, acts_if, acts_read};
 
 use crate::act::{Act, Deed};
@@ -100,4 +100,95 @@ fn keep(acts: &mut Vec<Act>, moment: Moment, deed: Option<Deed>) -> Result<(), M
         None => {}
     }
     Ok(())
+}
+
+// Appends the acts of the commands that are whole, up to the first that is refused.
+fn tell<D: Digests>(
+    teller: &mut Teller,
+    d: &D,
+    log: &[u8],
+    acts: &mut Vec<Act>,
+) -> Result<(), Memory>
+    requires room { teller.old.accepted + length log.now < 2 ^ 63 }
+    ensures told { OnOk result (acts.new.items ≡ acts.old.items
+        ++ acts_read (D.text_digest d.now) (D.element_lanes d.now) teller.old log.now) }
+{
+    let mut taken = 0;
+    while let Decoded::Read(command, len) = read(behind(log, taken)) {
+        if !teller.take(d, command, acts)? {
+            return Ok(());
+        }
+        taken += len;
+    }
+    Ok(())
+}
+
+// The bytes behind the first so many.
+fn behind(bytes: &[u8], taken: usize) -> &[u8]
+    requires within { taken ≤ length bytes.now }
+    ensures value { result.now ≡ drop taken bytes.now }
+{
+    &bytes[taken..]
+}
+
+/// Appends the acts of the log of the verifier of this number: of its commands up to the first that is refused
+/// or isn't whole.
+pub(crate) fn append_acts<D: Digests>(
+    alloc: Global,
+    d: &D,
+    number: u16,
+    header: &Header,
+    log: &[u8],
+    acts: &mut Vec<Act>,
+) -> Result<(), Memory>
+    requires header { IsHeader header.now }
+    requires number { number < header.now.verifiers }
+    ensures told { OnOk result (acts.new.items ≡ acts.old.items
+        ++ acts_in (log_events (D.text_digest d.now) (D.element_lanes d.now) header.now number (read_log short_keys log.now).commands)) }
+{
+    let mut teller = Teller::new(alloc, number, header)?;
+    tell(&mut teller, d, log, acts)
+}
+
+// The acts of all logs, one log after another.
+fn told_in_turn<D: Digests>(
+    alloc: Global,
+    d: &D,
+    header: &Header,
+    logs: &[Vec<u8>],
+) -> Result<Vec<Act>, Memory>
+    requires header { IsHeader header.now }
+    requires count { length logs.now ≡ header.now.verifiers }
+    ensures acts { IfOk result (λ acts. acts.items ≡ acts_in (all_events
+        (histories_read (D.text_digest d.now) (D.element_lanes d.now) header.now (map (λ log. log.items) logs.now)))) }
+{
+    let mut acts = Vec::new(alloc);
+    for (index, log) in logs.iter().enumerate() {
+        append_acts(alloc, d, index as u16, header, log, &mut acts)?;
+    }
+    Ok(acts)
+}
+
+/// The acts of all logs, that of verifier 0 first, in the one order of their moments.
+pub(crate) fn acts_of<D: Digests>(
+    alloc: Global,
+    d: &D,
+    header: &Header,
+    logs: &[Vec<u8>],
+) -> Result<Vec<Act>, Memory>
+    requires header { IsHeader header.now }
+    requires count { length logs.now ≡ header.now.verifiers }
+    ensures acts { IfOk result (λ acts. acts.items ≡ acts_in (order_of
+        (histories_read (D.text_digest d.now) (D.element_lanes d.now) header.now (map (λ log. log.items) logs.now)))) }
+{
+    let mut acts = told_in_turn(alloc, d, header, logs)?;
+    acts.sort_by_key(moment_of)?;
+    Ok(acts)
+}
+
+// When an act was done.
+fn moment_of(act: &Act) -> Moment
+    ensures value { result ≡ act_moment act.now }
+{
+    act.moment
 }
