@@ -2,3 +2,4 @@
 pub mod ActLemmas
 pub mod DeedLemmas
 pub mod TellLemmas
+pub mod OrderedLemmas

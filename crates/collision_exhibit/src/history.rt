@@ -150,23 +150,23 @@ pub(crate) fn append_acts<D: Digests>(
     tell(&mut teller, d, log, acts)
 }
 
-// The acts of all logs, one log after another.
-fn told_in_turn<D: Digests>(
+// Appends the acts of all logs, one log after another.
+fn tell_in_turn<D: Digests>(
     alloc: Global,
     d: &D,
     header: &Header,
     logs: &[Vec<u8>],
-) -> Result<Vec<Act>, Memory>
+    acts: &mut Vec<Act>,
+) -> Result<(), Memory>
     requires header { IsHeader header.now }
     requires count { length logs.now ≡ header.now.verifiers }
-    ensures acts { IfOk result (λ acts. acts.items ≡ acts_in (all_events
+    ensures told { OnOk result (acts.new.items ≡ acts.old.items ++ acts_in (all_events
         (histories_read (D.text_digest d.now) (D.element_lanes d.now) header.now (map (λ log. log.items) logs.now)))) }
 {
-    let mut acts = Vec::new(alloc);
     for (index, log) in logs.iter().enumerate() {
-        append_acts(alloc, d, index as u16, header, log, &mut acts)?;
+        append_acts(alloc, d, index as u16, header, log, acts)?;
     }
-    Ok(acts)
+    Ok(())
 }
 
 /// The acts of all logs, that of verifier 0 first, in the one order of their moments.
@@ -181,7 +181,8 @@ pub(crate) fn acts_of<D: Digests>(
     ensures acts { IfOk result (λ acts. acts.items ≡ acts_in (order_of
         (histories_read (D.text_digest d.now) (D.element_lanes d.now) header.now (map (λ log. log.items) logs.now)))) }
 {
-    let mut acts = told_in_turn(alloc, d, header, logs)?;
+    let mut acts = Vec::new(alloc);
+    tell_in_turn(alloc, d, header, logs, &mut acts)?;
     acts.sort_by_key(moment_of)?;
     Ok(acts)
 }
