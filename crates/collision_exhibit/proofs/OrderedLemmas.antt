@@ -1,5 +1,5 @@
 -- The acts of all logs: one log after another, and in the order of their moments.
-use Rattle.std.proofs.Common.{◌≡◌, ℕ, suc, ◌+◌, ◌<◌, List, [], ◌∷◌, ◌++◌, ◌≤◌, length, drop, map, get_or, refl, sym, ◌∙◌, ap, add-one, append-nil, append_assoc, arith}
+use Rattle.std.proofs.Common.{◌≡◌, ℕ, suc, ◌+◌, ◌<◌, List, [], ◌∷◌, ◌++◌, ◌≤◌, length, drop, map, get_or, refl, sym, ◌∙◌, ap, add-one, append-nil, append_assoc}
 use Rattle.std.specs.List.{AllByRecursion}
 use Rattle.std.proofs.Math.Seq.{drop-cons}
 use Rattle.std.proofs.lemmas.List.{drop_all}
@@ -10,8 +10,8 @@ use Rattle.log_codec.specs.Log.{read_log}
 use Rattle.stamp_order.specs.Merged.{merged}
 use Rattle.stamp_order.proofs.MergedLemmas.{merged-flat_map}
 use Rattle.soundness.specs.History.{Event, log_events, histories_from}
-use Rattle.soundness.specs.Certified.{event_moment, all_events, order_of}
-use Rattle.soundness.specs.Sound.{commands_of, histories_read}
+use Rattle.soundness.specs.Certified.{event_moment, all_events}
+use Rattle.soundness.specs.Sound.{commands_of}
 use Rattle.collision_exhibit.specs.declared.act.Act.{Act}
 use Rattle.collision_exhibit.specs.declared.act.Deed.{Deed}
 use Rattle.collision_exhibit.specs.Act.{deeds_by, act_at, acts_by, acts_in, act_moment}
@@ -28,11 +28,6 @@ module _ (digest lanes : List ℕ → List ℕ) (header : Header) where
   one_log number log logs =
       flat_map-append acts_by (log_events digest lanes header number (read_log short_keys log).commands)
       (all_events (histories_from digest lanes header (suc number) (commands_of logs)))
-
-  -- before the first log all is behind
-  pub none_in_turn : (before : List Act) (logs : List (List ℕ))
-      → before ++ acts_behind 0 (drop 0 logs) ≡ before ++ acts_behind 0 logs
-  none_in_turn before logs = refl
 
   -- a log more
   pub more_in_turn : (whole acts next : List Act) (logs : List (List ℕ)) (index : ℕ) (log : List ℕ)

@@ -22,11 +22,10 @@ use Rattle.verifier_commands.specs.Change.{Change}
 use Rattle.verifier_commands.specs.Machine.{Machine, concluded, machine_after, rules_for, stepped}
 use Rattle.verifier_commands.specs.Outcome.{outcome_of, told}
 use Rattle.verifier_commands.specs.Transition.{Step, transition}
-use Rattle.soundness.specs.History.{Event, events_behind, events_from, machinery_under}
-use Rattle.soundness.specs.Certified.{event_moment}
+use Rattle.soundness.specs.History.{events_behind, events_from, machinery_under}
 use Rattle.collision_exhibit.specs.declared.act.Act.{Act}
 use Rattle.collision_exhibit.specs.declared.act.Deed.{Deed}
-use Rattle.collision_exhibit.specs.Act.{deeds_by, act_at, acts_in}
+use Rattle.collision_exhibit.specs.Act.{deeds_by, acts_in}
 use Rattle.collision_exhibit.specs.Deed.{deed_of}
 use Rattle.collision_exhibit.specs.Telling.{act_then, acts_from, acts_if, acts_read}
 use Rattle.collision_exhibit.proofs.DeedLemmas.{deed_told}

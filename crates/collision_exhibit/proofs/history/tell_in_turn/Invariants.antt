@@ -1,4 +1,4 @@
-use Rattle.std.proofs.Common.{◌≡◌, ◌++◌, List, ℕ, drop, map}
+use Rattle.std.proofs.Common.{◌≡◌, ◌++◌, drop, map}
 use Rattle.collision_exhibit.proofs.OrderedLemmas.{acts_behind}
 use Rattle.collision_exhibit.proofs.history.tell_in_turn.Given as goal
 
