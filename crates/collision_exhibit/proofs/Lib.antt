@@ -1,4 +1,8 @@
 -- How what an audit shows is proved, in reading order.
+pub mod ActLemmas
+pub mod DeedLemmas
+pub mod TellLemmas
+pub mod OrderedLemmas
 pub mod ElementLemmas
 pub mod PartingLemmas
 pub mod OwnStampLemmas

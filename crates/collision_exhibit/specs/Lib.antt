@@ -1,5 +1,7 @@
 -- What the clauses on an audit cite, in reading order.
 pub mod Act
+pub mod Deed
+pub mod Telling
 pub mod Shown
 pub mod Elements
 pub mod Taken

@@ -13,9 +13,11 @@ mod auditing;
 mod clash;
 #[cfg(test)]
 mod clash_tests;
+mod deed;
 mod elements;
 #[cfg(test)]
 mod elements_tests;
+mod history;
 mod taken;
 
 pub use auditing::audit;

@@ -1,0 +1,192 @@
+-- What the acts of events show is what the events do: elements, clashes, and the exhibit.
+use Rattle.std.proofs.Common.{◌≡◌, ℕ, zero, suc, ◌+◌, nat_le, Bool, true, false, if◌then◌else◌, List, [], ◌∷◌, ◌++◌, Option, Some, None, refl, sym, ◌∙◌, ap, map, flat_map}
+use Rattle.std.specs.Option.{option_or}
+use Rattle.std.proofs.lemmas.Bool.{cond-true, cond-false}
+use Rattle.std.proofs.lemmas.Grind.{flat_map-append}
+use Rattle.std.proofs.lemmas.List.Elements.{filter-append}
+use Rattle.record_text.specs.declared.element.Element.{Element}
+use Rattle.record_text.specs.Format.{short_keys}
+use Rattle.stamp_order.specs.Merged.{up_to}
+use Rattle.verifier_cache.specs.declared.entry.Entry.{Entry}
+use Rattle.verifier_commands.specs.Changes.{above}
+use Rattle.verifier_commands.specs.Change.{Change, joins, leaves, comes, goes, defers, reads, writes, turns}
+use Rattle.soundness.specs.History.{Event}
+use Rattle.soundness.specs.Certified.{event_moment, order_of, of_epoch, added_by, evicted_by, added_in, evicted_in, order_within}
+use Rattle.soundness.specs.Exhibit.{Taken, Strings, is_known, none_taken, differing, clash_at, taken_after, first_clash}
+use Rattle.soundness.specs.Permutation.{is_permutation}
+use Rattle.soundness.specs.Collision.{first_uneven, exhibit_by, exhibit_of}
+use Rattle.record_text.specs.declared.exhibit.Exhibit.TheVariants as exhibits
+use Rattle.collision_exhibit.specs.declared.act.Act.{Act}
+use Rattle.collision_exhibit.specs.declared.act.Deed.{Deed}
+use Rattle.collision_exhibit.specs.declared.act.Deed.TheVariants.{Joined}
+use Rattle.collision_exhibit.specs.Act.{deeds_by, act_at, acts_by, acts_in, act_moment}
+use Rattle.collision_exhibit.specs.Shown.{came_by, went_by, came_among, went_among, uneven_among, clash_among, acts_within, shown_by, exhibit_among}
+
+-- ---- elements
+
+-- a join adds and evicts nothing, whether or not it is told
+came_known : (event : Event) (deed : Deed) (known : Bool) → came_by deed ≡ []
+    → came_among (map (act_at event) (if known then deed ∷ [] else [])) ≡ []
+came_known event deed true none = ap (λ (elements : List Element). elements ++ []) none
+came_known event deed false none = refl
+
+went_known : (event : Event) (deed : Deed) (known : Bool) → went_by deed ≡ []
+    → went_among (map (act_at event) (if known then deed ∷ [] else [])) ≡ []
+went_known event deed true none = ap (λ (elements : List Element). elements ++ []) none
+went_known event deed false none = refl
+
+came_at : (event : Event) (change : Change) → came_among (map (act_at event) (deeds_by change)) ≡ added_by change
+came_at event (joins parent after child) =
+    came_known event (Joined child.path child.value) (is_known (above parent child.path) child.path) refl
+came_at event (leaves parent after child) = refl
+came_at event (comes child element) = refl
+came_at event (goes child element) = refl
+came_at event (defers parent after child element) = refl
+came_at event (reads entry) = refl
+came_at event (writes before after) = refl
+came_at event (turns sealed) = refl
+
+went_at : (event : Event) (change : Change) → went_among (map (act_at event) (deeds_by change)) ≡ evicted_by change
+went_at event (joins parent after child) =
+    went_known event (Joined child.path child.value) (is_known (above parent child.path) child.path) refl
+went_at event (leaves parent after child) = refl
+went_at event (comes child element) = refl
+went_at event (goes child element) = refl
+went_at event (defers parent after child element) = refl
+went_at event (reads entry) = refl
+went_at event (writes before after) = refl
+went_at event (turns sealed) = refl
+
+-- the elements that acts add are those that their events add
+pub came_in : (events : List Event) → came_among (acts_in events) ≡ flat_map (λ event. added_by event.change) events
+came_in [] = refl
+came_in (event ∷ events) =
+    flat_map-append (λ (act : Act). came_by act.deed) (acts_by event) (acts_in events)
+    ∙ ap (λ (elements : List Element). elements ++ came_among (acts_in events)) (came_at event event.change)
+    ∙ ap (λ (elements : List Element). added_by event.change ++ elements) (came_in events)
+
+-- and the elements that they evict are those that their events evict
+pub went_in : (events : List Event) → went_among (acts_in events) ≡ flat_map (λ event. evicted_by event.change) events
+went_in [] = refl
+went_in (event ∷ events) =
+    flat_map-append (λ (act : Act). went_by act.deed) (acts_by event) (acts_in events)
+    ∙ ap (λ (elements : List Element). elements ++ went_among (acts_in events)) (went_at event event.change)
+    ∙ ap (λ (elements : List Element). evicted_by event.change ++ elements) (went_in events)
+
+-- The elements of an epoch, added and evicted.
+pub came_of_epoch : (epoch : ℕ) (events : List Event) → of_epoch epoch (came_among (acts_in events)) ≡ added_in epoch events
+came_of_epoch epoch events = ap (of_epoch epoch) (came_in events)
+
+pub went_of_epoch : (epoch : ℕ) (events : List Event) → of_epoch epoch (went_among (acts_in events)) ≡ evicted_in epoch events
+went_of_epoch epoch events = ap (of_epoch epoch) (went_in events)
+
+-- The first uneven epoch.
+pub uneven_in : (events : List Event) (epoch count : ℕ) → uneven_among (acts_in events) epoch count ≡ first_uneven events epoch count
+uneven_in events epoch zero = refl
+uneven_in events epoch (suc count) =
+    ap (λ (added : List Element). if is_permutation added (of_epoch epoch (went_among (acts_in events))) then uneven_among (acts_in events) (suc epoch) count else Some epoch)
+    (came_of_epoch epoch events)
+    ∙ ap (λ (evicted : List Element). if is_permutation (added_in epoch events) evicted then uneven_among (acts_in events) (suc epoch) count else Some epoch)
+    (went_of_epoch epoch events)
+    ∙ ap (λ (later : Option ℕ). if is_permutation (added_in epoch events) (evicted_in epoch events) then later else Some epoch)
+    (uneven_in events (suc epoch) count)
+
+-- ---- clashes
+
+-- a join clashes where its pointer led to the child, with what was taken out
+clash_known : (event : Event) (child : Entry) (taken : Taken) (acts : List Act) (later : Option Strings) (known : Bool)
+    → clash_among taken acts ≡ later
+    → clash_among taken (map (act_at event) (if known then Joined child.path child.value ∷ [] else []) ++ acts)
+    ≡ option_or (clash_at short_keys taken known child) later
+clash_known event child taken acts later true behind =
+    ap (option_or (differing short_keys (taken child.path) child.value)) behind
+clash_known event child taken acts later false behind = behind
+
+-- the acts of an event and those behind it clash where the event and what is behind it do
+clash_at_event : (event : Event) (change : Change) (taken : Taken) (acts : List Act) (changes : List Change)
+    → ((now : Taken) → clash_among now acts ≡ first_clash short_keys now changes)
+    → clash_among taken (map (act_at event) (deeds_by change) ++ acts) ≡ first_clash short_keys taken (change ∷ changes)
+clash_at_event event (joins parent after child) taken acts changes behind =
+    clash_known event child taken acts (first_clash short_keys taken changes)
+    (is_known (above parent child.path) child.path) (behind taken)
+clash_at_event event (leaves parent after child) taken acts changes behind = behind (taken_after taken (leaves parent after child))
+clash_at_event event (comes child element) taken acts changes behind = behind taken
+clash_at_event event (goes child element) taken acts changes behind = behind taken
+clash_at_event event (defers parent after child element) taken acts changes behind = behind taken
+clash_at_event event (reads entry) taken acts changes behind = behind taken
+clash_at_event event (writes before after) taken acts changes behind = behind taken
+clash_at_event event (turns sealed) taken acts changes behind = behind taken
+
+-- The first clash.
+pub clash_in : (events : List Event) (taken : Taken)
+    → clash_among taken (acts_in events) ≡ first_clash short_keys taken (map (λ event. event.change) events)
+clash_in [] taken = refl
+clash_in (event ∷ events) taken =
+    clash_at_event event event.change taken (acts_in events) (map (λ (event : Event). event.change) events) (clash_in events)
+
+-- ---- the exhibit
+
+-- the acts of an event are all of epochs up to one, or none is
+up_to_deeds : (epoch : ℕ) (event : Event) (deeds : List Deed) (within : Bool) → nat_le (event_moment event).at.epoch epoch ≡ within
+    → up_to act_moment epoch (map (act_at event) deeds) ≡ (if within then map (act_at event) deeds else [])
+up_to_deeds epoch event [] true is = refl
+up_to_deeds epoch event [] false is = refl
+up_to_deeds epoch event (deed ∷ deeds) true is =
+    cond-true (nat_le (event_moment event).at.epoch epoch) _ _ is
+    ∙ ap (λ (acts : List Act). act_at event deed ∷ acts) (up_to_deeds epoch event deeds true is)
+up_to_deeds epoch event (deed ∷ deeds) false is =
+    cond-false (nat_le (event_moment event).at.epoch epoch) _ _ is ∙ up_to_deeds epoch event deeds false is
+
+-- the acts of events up to an epoch are those of the acts
+pub up_to_acts : (epoch : ℕ) (events : List Event) → up_to act_moment epoch (acts_in events) ≡ acts_in (up_to event_moment epoch events)
+up_to_acts epoch [] = refl
+up_to_acts epoch (event ∷ events) =
+    filter-append (λ (act : Act). nat_le (act_moment act).at.epoch epoch) (acts_by event) (acts_in events)
+    ∙ ap (λ (acts : List Act). up_to act_moment epoch (acts_by event) ++ acts) (up_to_acts epoch events)
+    ∙ go (nat_le (event_moment event).at.epoch epoch) refl
+  where
+    go : (within : Bool) → nat_le (event_moment event).at.epoch epoch ≡ within
+        → up_to act_moment epoch (acts_by event) ++ acts_in (up_to event_moment epoch events)
+        ≡ acts_in (up_to event_moment epoch (event ∷ events))
+    go true is =
+        ap (λ (acts : List Act). acts ++ acts_in (up_to event_moment epoch events))
+        (up_to_deeds epoch event (deeds_by event.change) true is)
+        ∙ sym (ap acts_in (cond-true (nat_le (event_moment event).at.epoch epoch) (event ∷ up_to event_moment epoch events) (up_to event_moment epoch events) is))
+    go false is =
+        ap (λ (acts : List Act). acts ++ acts_in (up_to event_moment epoch events))
+        (up_to_deeds epoch event (deeds_by event.change) false is)
+        ∙ sym (ap acts_in (cond-false (nat_le (event_moment event).at.epoch epoch) (event ∷ up_to event_moment epoch events) (up_to event_moment epoch events) is))
+
+-- The acts within so many epochs.
+pub within_acts : (first count : ℕ) (histories : List (List Event))
+    → acts_within first count (acts_in (order_of histories)) ≡ acts_in (order_within first count histories)
+within_acts first zero histories = refl
+within_acts first (suc count) histories = up_to_acts (first + count) (order_of histories)
+
+-- what is shown by an uneven epoch, if there is one, and else by a clash
+shown_in : (events : List Event) (uneven : Option ℕ) (clash : Option Strings)
+    → shown_by (acts_in events) uneven clash ≡ exhibit_by events uneven clash
+shown_in events (Some epoch) clash =
+    ap (λ (added : List Element). exhibits.Multisets epoch added (of_epoch epoch (went_among (acts_in events))))
+    (came_of_epoch epoch events)
+    ∙ ap (exhibits.Multisets epoch (added_in epoch events)) (went_of_epoch epoch events)
+shown_in events None (Some shown) = refl
+shown_in events None None = refl
+
+-- The exhibit of the acts is the exhibit of the histories.
+pub exhibit_acts : (histories : List (List Event)) (first count : ℕ)
+    → exhibit_among first count (acts_in (order_of histories)) ≡ exhibit_of first count histories
+exhibit_acts histories first count =
+    ap (λ (uneven : Option ℕ). shown_by acts uneven (clash_among none_taken (acts_within first count acts)))
+    (uneven_in events first count)
+    ∙ ap (λ (kept : List Act). shown_by acts (first_uneven events first count) (clash_among none_taken kept))
+    (within_acts first count histories)
+    ∙ ap (shown_by acts (first_uneven events first count)) (clash_in (order_within first count histories) none_taken)
+    ∙ shown_in events (first_uneven events first count)
+    (first_clash short_keys none_taken (map (λ (event : Event). event.change) (order_within first count histories)))
+  where
+    events : List Event
+    events = order_of histories
+
+    acts : List Act
+    acts = acts_in events

@@ -1,0 +1,160 @@
+-- What an accepted command did for an audit is what its verifier's cache told before it.
+use Rattle.std.proofs.Common.{◌≡◌, ℕ, Bool, true, false, not, nat_le, if◌then◌else◌, List, [], ◌∷◌, Option, Some, None, is_some, Result, Ok, refl, sym, ◌∙◌, ap}
+use Rattle.std.specs.Option.{option_map, option_to_list}
+use Rattle.std.proofs.lemmas.Bool.{true≢false}
+use Rattle.std.proofs.lemmas.Result.{IfOk-at_ok}
+use Rattle.tree_keys.specs.Path.{side}
+use Rattle.tree_keys.proofs.PathLemmas.{same_path-apart}
+use Rattle.lamport_clocks.specs.Clock.{received, sent, turned}
+use Rattle.lamport_clocks.specs.InOrder.{need}
+use Rattle.lamport_clocks.proofs.InOrder.{test-ok}
+use Rattle.record_text.specs.declared.value.Node.{Node}
+use Rattle.record_text.specs.declared.value.Pointer.{Pointer}
+use Rattle.record_text.specs.declared.value.Value.{Value}
+use Rattle.record_text.specs.declared.refusal.Refusal.{Refusal}
+use Rattle.record_text.specs.Format.{Format}
+use Rattle.record_text.specs.Same.{same_value}
+use Rattle.record_text.specs.Value.{node_side}
+use Rattle.log_codec.specs.declared.command.Command.{Command}
+use Rattle.log_codec.specs.declared.command.Command.TheVariants.{AddM, EvictM, AddB, EvictB, EvictBM, Get, Put, NextEpoch}
+use Rattle.verifier_cache.specs.declared.entry.Entry.{Entry}
+use Rattle.verifier_cache.specs.Entry.{has_kid}
+use Rattle.verifier_cache.specs.Cache.{entry_of}
+use Rattle.verifier_commands.specs.declared.changes.Family.{Family}
+use Rattle.verifier_commands.specs.declared.state.State.{State}
+use Rattle.verifier_commands.specs.Change.{Change, joins}
+use Rattle.verifier_commands.specs.Changes.{node_of, above, above_on, leads_to, add_under, evict_under, defer_under, is_by_stamp}
+use Rattle.verifier_commands.specs.Transition.{Rules, is_root, is_data, is_full, transition}
+use Rattle.soundness.specs.Exhibit.{is_known}
+use Rattle.soundness.proofs.FamilyLemmas.{IsAdd, on_empty, on_same, on_split, IsAdded, added_how}
+use Rattle.soundness.proofs.InvertLemmas.{need-ok, and_then-ok, timed-ok}
+use Rattle.soundness.proofs.SideLemmas.{above_apart}
+use Rattle.collision_exhibit.specs.declared.act.Deed.{Deed}
+use Rattle.collision_exhibit.specs.declared.act.Deed.TheVariants.{Joined}
+use Rattle.collision_exhibit.specs.Act.{deeds_by}
+use Rattle.collision_exhibit.specs.Deed.{joined_under, left_by, went_with, deed_of}
+
+-- ---- a child that joins
+
+-- a parent's pointer leads to the path where the one of the path's side does
+known_where : (holder : Entry) (path : List Bool) (on : Bool) (at : Node) → side holder.path path ≡ Some on → node_of holder.value ≡ Some at
+    → is_known (above holder path) path ≡ leads_to (node_side at on) path
+known_where holder path on at below is_node =
+    ap (λ (s : Option Bool). is_known (above_on s (node_of holder.value)) path) below
+    ∙ ap (λ (o : Option Node). is_known (above_on (Some on) o) path) is_node
+
+-- the child stands at its path, and where the pointer led to it with its value
+record IsAsAdded (holder : Entry) (path : List Bool) (value : Value) (child : Entry) : Type 0 where
+  pub at_path : child.path ≡ path
+  pub kept : is_known (above holder path) path ≡ true → child.value ≡ value
+
+as_added : (format : Format) (digest : List ℕ → List ℕ) (holder : Entry) (path : List Bool) (value : Value) (family : Family)
+    → add_under format digest holder path value ≡ Ok family → IsAsAdded holder path value family.child
+as_added format digest holder path value family is = go added.how
+  where
+    added : IsAdded format digest holder path value family
+    added = added_how format digest holder path value family is
+
+    go : IsAdd format digest holder path value added.on added.at family → IsAsAdded holder path value family.child
+    go (on_empty none initial made) = record {
+      at_path = ap (λ (f : Family). f.child.path) made;
+      kept = λ known. ap (λ (f : Family). f.child.value) made;
+    }
+    go (on_same pointer there to flag keeps no_kid made) = record {
+      at_path = ap (λ (f : Family). f.child.path) made;
+      kept = λ known. ap (λ (f : Family). f.child.value) made;
+    }
+    go (on_split pointer there which further initial made) = record {
+      at_path = ap (λ (f : Family). f.child.path) made;
+      kept = λ known. absurd (true≢false (sym known
+          ∙ known_where holder path added.on added.at added.below added.is_node
+          ∙ ap (λ (o : Option Pointer). leads_to o path) there
+          ∙ same_path-apart pointer.path path (λ same. above_apart path pointer.path which further (sym same))));
+    }
+
+-- what is told of a child that joins
+joined_told : (path : List Bool) (value : Value) (child : Entry) (known : Bool) → (known ≡ true → child.value ≡ value) → child.path ≡ path
+    → (if known then Joined child.path child.value ∷ [] else []) ≡ option_to_list (if known then Some (Joined path value) else None)
+joined_told path value child true kept at_path =
+    ap (λ (k : List Bool). Joined k child.value ∷ []) at_path ∙ ap (λ (v : Value). Joined path v ∷ []) (kept refl)
+joined_told path value child false kept at_path = refl
+
+-- ---- a command
+
+-- what was done is what was told
+abbrev DidAsTold : Option Deed → Change × State → Type 0
+DidAsTold told done = deeds_by done.0 ≡ option_to_list told
+
+-- a fact of an accepted step that needed an option: of the value that was there
+with_needed : {A X : Type 0} (P : Type 0) (option : Option A) (refusal : Refusal) (next : A → Result X Refusal) (answer : X)
+    → need option refusal next ≡ Ok answer → ((value : A) → option ≡ Some value → next value ≡ Ok answer → P) → P
+with_needed P option refusal next answer is go =
+    let found = need-ok option refusal next answer is in go found.0 found.1 found.2
+
+-- the entry of a path is there, and this is told of it
+told_of : (make : Entry → Deed) (found : Option Entry) (entry : Entry) → found ≡ Some entry → make entry ∷ [] ≡ option_to_list (option_map make found)
+told_of make found entry is = sym (ap (λ (o : Option Entry). option_to_list (option_map make o)) is)
+
+-- a family that is an add of a path under its holder is told
+family_told : (rules : Rules) (path : List Bool) (value : Value) (found : Option Entry) (holder : Entry) (family : Family) → found ≡ Some holder
+    → add_under rules.format rules.digest holder path value ≡ Ok family
+    → deeds_by (joins holder family.parent family.child) ≡ option_to_list (joined_under found path value)
+family_told rules path value found holder family there is =
+    let added = as_added rules.format rules.digest holder path value family is in
+    ap (λ (k : List Bool). if is_known (above holder k) k then Joined family.child.path family.child.value ∷ [] else []) added.at_path
+    ∙ joined_told path value family.child (is_known (above holder path) path) added.kept added.at_path
+    ∙ sym (ap (λ (o : Option Entry). option_to_list (joined_under o path value)) there)
+
+-- An accepted command did for an audit what the cache told before it.
+pub deed_told : (rules : Rules) (state : State) (command : Command) (done : Change × State)
+    → transition rules state command ≡ Ok done → deeds_by done.0 ≡ option_to_list (deed_of rules.number state.cache.entries command)
+deed_told rules state (AddM path value parent) done is =
+    let inner = test-ok (is_root path) _ _ done is in
+    let fresh = test-ok (is_some (entry_of path state.cache.entries)) _ _ done inner.1 in
+    let room = test-ok (is_full state) _ _ done fresh.1 in
+    let told = deed_of rules.number state.cache.entries (AddM path value parent) in
+    with_needed (DidAsTold told done) (entry_of parent state.cache.entries) _ _ done room.1 (λ holder there next.
+    let family = and_then-ok (add_under rules.format rules.digest holder path value) _ done next in
+    IfOk-at_ok (DidAsTold told) family.2 (family_told rules path value (entry_of parent state.cache.entries) holder family.0 there family.1))
+deed_told rules state (EvictM path parent) done is =
+    let inner = test-ok (is_root path) _ _ done is in
+    let told = deed_of rules.number state.cache.entries (EvictM path parent) in
+    with_needed (DidAsTold told done) (entry_of path state.cache.entries) _ _ done inner.1 (λ child there next.
+    with_needed (DidAsTold told done) (entry_of parent state.cache.entries) _ _ done next (λ holder here last.
+    let after = and_then-ok (evict_under rules.format rules.digest holder child) _ done last in
+    IfOk-at_ok (DidAsTold told) after.2 (told_of left_by (entry_of path state.cache.entries) child there)))
+deed_told rules state (AddB path value stamp verifier) done is =
+    let inner = test-ok (is_root path) _ _ done is in
+    let fresh = test-ok (is_some (entry_of path state.cache.entries)) _ _ done inner.1 in
+    let room = test-ok (is_full state) _ _ done fresh.1 in
+    let known = test-ok (nat_le rules.verifiers verifier) _ _ done room.1 in
+    let clock = timed-ok (received state.clock stamp) _ done known.1 in
+    IfOk-at_ok (DidAsTold (deed_of rules.number state.cache.entries (AddB path value stamp verifier))) clock.2 refl
+deed_told rules state (EvictB path stamp) done is =
+    let inner = test-ok (is_root path) _ _ done is in
+    let told = deed_of rules.number state.cache.entries (EvictB path stamp) in
+    with_needed (DidAsTold told done) (entry_of path state.cache.entries) _ _ done inner.1 (λ child there next.
+    let lone = test-ok (has_kid child) _ _ done next in
+    let held = test-ok (not (is_by_stamp child.hold)) _ _ done lone.1 in
+    let clock = timed-ok (sent state.clock stamp) _ done held.1 in
+    IfOk-at_ok (DidAsTold told) clock.2 (told_of (went_with rules.number stamp) (entry_of path state.cache.entries) child there))
+deed_told rules state (EvictBM path parent stamp) done is =
+    let inner = test-ok (is_root path) _ _ done is in
+    let told = deed_of rules.number state.cache.entries (EvictBM path parent stamp) in
+    with_needed (DidAsTold told done) (entry_of path state.cache.entries) _ _ done inner.1 (λ child there next.
+    with_needed (DidAsTold told done) (entry_of parent state.cache.entries) _ _ done next (λ holder here last.
+    let after = and_then-ok (defer_under holder child) _ done last in
+    let clock = timed-ok (sent state.clock stamp) _ done after.2 in
+    IfOk-at_ok (DidAsTold told) clock.2 (told_of (went_with rules.number stamp) (entry_of path state.cache.entries) child there)))
+deed_told rules state (Get path value) done is =
+    with_needed (DidAsTold None done) (entry_of path state.cache.entries) _ _ done is (λ entry there next.
+    let data_path = test-ok (not (is_data rules.format path)) _ _ done next in
+    let same = test-ok (not (same_value entry.value value)) _ _ done data_path.1 in
+    IfOk-at_ok (DidAsTold None) same.1 refl)
+deed_told rules state (Put path value) done is =
+    with_needed (DidAsTold None done) (entry_of path state.cache.entries) _ _ done is (λ entry there next.
+    let data_path = test-ok (not (is_data rules.format path)) _ _ done next in
+    IfOk-at_ok (DidAsTold None) data_path.1 refl)
+deed_told rules state NextEpoch done is =
+    let turn = timed-ok (turned state.clock) _ done is in
+    IfOk-at_ok (DidAsTold None) turn.2 refl

@@ -1,0 +1,195 @@
+//! The acts of all logs, in the one order of their moments.
+ghost use Rattle.std.specs.Prelude.{◌≡◌, ◌+◌, ◌<◌, ◌≤◌, ◌^◌, ◌++◌, ◌∷◌, List, length, map, drop, IfOk, OnOk};
+ghost use Rattle.std.specs.Option.{option_to_list};
+ghost use Rattle.lamport_clocks.specs.Header.{IsHeader};
+ghost use Rattle.record_text.specs.Format.{short_keys};
+ghost use Rattle.log_codec.specs.declared.command.Command.{Command};
+ghost use Rattle.log_codec.specs.Command.{IsCommand};
+ghost use Rattle.log_codec.specs.Log.{read_log};
+ghost use Rattle.verifier_commands.specs.Machine.{opening_machine};
+ghost use Rattle.soundness.specs.History.{log_events};
+ghost use Rattle.soundness.specs.Certified.{order_of, all_events};
+ghost use Rattle.soundness.specs.Sound.{histories_read};
+ghost use Rattle.collision_exhibit.specs.Act.{acts_in, act_moment};
+ghost use Rattle.collision_exhibit.specs.Telling.{act_then, acts_from, acts_if, acts_read};
+
+use crate::act::{Act, Deed};
+use crate::deed::deed_of;
+use fv_outside::Memory;
+use lamport_clocks::Header;
+use log_codec::{Command, Decoded, read};
+use record_hash::Digests;
+use stamp_order::Moment;
+use std::alloc::Global;
+use std::marker::Model;
+use verifier_commands::Verifier;
+
+// A verifier whose acts are told. Contracts see the verifier.
+#[derive(Drop)]
+struct Teller {
+    verifier: Verifier,
+    number: u16,
+    accepted: u64,
+}
+
+impl Model for Teller {
+    ghost use Rattle.std.specs.Prelude.{◌≡◌};
+    ghost use Rattle.verifier_commands.specs.Machine.{Machine};
+
+    ghost Value = { Machine };
+
+    ghost view = { λ t. t.verifier };
+
+    ghost invariant = { λ t. (t.number ≡ t.verifier.number) × (t.accepted ≡ t.verifier.accepted) };
+}
+
+impl Teller {
+    // The verifier of this number before its first command.
+    fn new(alloc: Global, number: u16, header: &Header) -> Result<Self, Memory>
+        requires header { IsHeader header.now }
+        requires number { number < header.now.verifiers }
+        ensures opening { IfOk result (λ teller. teller ≡ opening_machine number header.now) }
+    {
+        let verifier = Verifier::new(alloc, number, header)?;
+        Ok(Teller {
+            verifier,
+            number,
+            accepted: 0,
+        })
+    }
+
+    // Takes one command, appends its act, and answers whether the command was accepted.
+    fn take<D: Digests>(
+        &mut self,
+        d: &D,
+        command: Command,
+        acts: &mut Vec<Act>,
+    ) -> Result<bool, Memory>
+        requires kind { IsCommand short_keys command }
+        requires room { self.old.accepted < 2 ^ 63 }
+
+        // What is told now, and then of the commands behind this one, is what was told and what is told from
+        // this one on.
+        ensures told { IfOk result (λ accepted. (commands : List Command)
+            → acts.new.items ++ acts_if accepted (D.text_digest d.now) (D.element_lanes d.now) self.new commands
+            ≡ acts.old.items ++ acts_from (D.text_digest d.now) (D.element_lanes d.now) self.old (command ∷ commands)) }
+        ensures count { self.new.accepted ≤ self.old.accepted + 1 }
+    {
+        let deed = deed_of(self.number, self.verifier.entries(), &command);
+        match self.verifier.step(d, command) {
+            Ok(_) => {}
+            Err(_) => return Ok(false),
+        }
+        let moment = Moment {
+            at: self.verifier.clock(),
+            verifier: self.number,
+            index: self.accepted,
+        };
+        self.accepted += 1;
+        keep(acts, moment, deed)?;
+        Ok(true)
+    }
+}
+
+// Appends a deed of this moment, if there is one.
+fn keep(acts: &mut Vec<Act>, moment: Moment, deed: Option<Deed>) -> Result<(), Memory>
+    ensures kept { OnOk result (acts.new.items ≡ acts.old.items ++ map (act_then moment) (option_to_list deed)) }
+{
+    match deed {
+        Some(deed) => acts.push(Act { moment, deed })?,
+        None => {}
+    }
+    Ok(())
+}
+
+// Appends the acts of the commands that are whole, up to the first that is refused.
+fn tell<D: Digests>(
+    teller: &mut Teller,
+    d: &D,
+    log: &[u8],
+    acts: &mut Vec<Act>,
+) -> Result<(), Memory>
+    requires room { teller.old.accepted + length log.now < 2 ^ 63 }
+    ensures told { OnOk result (acts.new.items ≡ acts.old.items
+        ++ acts_read (D.text_digest d.now) (D.element_lanes d.now) teller.old log.now) }
+{
+    let mut taken = 0;
+    while let Decoded::Read(command, len) = read(behind(log, taken)) {
+        if !teller.take(d, command, acts)? {
+            return Ok(());
+        }
+        taken += len;
+    }
+    Ok(())
+}
+
+// The bytes behind the first so many.
+fn behind(bytes: &[u8], taken: usize) -> &[u8]
+    requires within { taken ≤ length bytes.now }
+    ensures value { result.now ≡ drop taken bytes.now }
+{
+    &bytes[taken..]
+}
+
+/// Appends the acts of the log of the verifier of this number: of its commands up to the first that is refused
+/// or isn't whole.
+pub(crate) fn append_acts<D: Digests>(
+    alloc: Global,
+    d: &D,
+    number: u16,
+    header: &Header,
+    log: &[u8],
+    acts: &mut Vec<Act>,
+) -> Result<(), Memory>
+    requires header { IsHeader header.now }
+    requires number { number < header.now.verifiers }
+    ensures told { OnOk result (acts.new.items ≡ acts.old.items
+        ++ acts_in (log_events (D.text_digest d.now) (D.element_lanes d.now) header.now number (read_log short_keys log.now).commands)) }
+{
+    let mut teller = Teller::new(alloc, number, header)?;
+    tell(&mut teller, d, log, acts)
+}
+
+// Appends the acts of all logs, one log after another.
+fn tell_in_turn<D: Digests>(
+    alloc: Global,
+    d: &D,
+    header: &Header,
+    logs: &[Vec<u8>],
+    acts: &mut Vec<Act>,
+) -> Result<(), Memory>
+    requires header { IsHeader header.now }
+    requires count { length logs.now ≡ header.now.verifiers }
+    ensures told { OnOk result (acts.new.items ≡ acts.old.items ++ acts_in (all_events
+        (histories_read (D.text_digest d.now) (D.element_lanes d.now) header.now (map (λ log. log.items) logs.now)))) }
+{
+    for (index, log) in logs.iter().enumerate() {
+        append_acts(alloc, d, index as u16, header, log, acts)?;
+    }
+    Ok(())
+}
+
+/// The acts of all logs, that of verifier 0 first, in the one order of their moments.
+pub(crate) fn acts_of<D: Digests>(
+    alloc: Global,
+    d: &D,
+    header: &Header,
+    logs: &[Vec<u8>],
+) -> Result<Vec<Act>, Memory>
+    requires header { IsHeader header.now }
+    requires count { length logs.now ≡ header.now.verifiers }
+    ensures acts { IfOk result (λ acts. acts.items ≡ acts_in (order_of
+        (histories_read (D.text_digest d.now) (D.element_lanes d.now) header.now (map (λ log. log.items) logs.now)))) }
+{
+    let mut acts = Vec::new(alloc);
+    tell_in_turn(alloc, d, header, logs, &mut acts)?;
+    acts.sort_by_key(moment_of)?;
+    Ok(acts)
+}
+
+// When an act was done.
+fn moment_of(act: &Act) -> Moment
+    ensures value { result ≡ act_moment act.now }
+{
+    act.moment
+}
