@@ -1,4 +1,8 @@
 //! Which epoch's added elements are no permutation of its evicted ones, and the elements of an epoch.
+//!
+//! No verifier evicts two elements with one stamp. So the elements of all epochs that are looked at are sorted once,
+//! by stamp and verifier, those that were added and those that were evicted, and compared place by place: where
+//! they part, the lower of the two epochs is the first uneven one. That is near linear, whatever the logs are.
 ghost use Rattle.std.specs.Prelude.{◌≡◌, map, min, IfOk, IsTrue, ◌↔◌};
 ghost use Rattle.stamp_order.specs.Merged.{merged};
 ghost use Rattle.soundness.specs.Certified.{of_epoch};
@@ -92,7 +96,7 @@ fn went_within(
     Ok(elements)
 }
 
-// When an element was evicted, as far as it tells.
+// When an element was evicted, as far as it tells: not by which command.
 fn moment_of_evict(element: &&Element) -> Moment
     ensures moment { result ≡ evict_moment element.now.now }
 {
@@ -103,7 +107,8 @@ fn moment_of_evict(element: &&Element) -> Moment
     }
 }
 
-// The elements in the order of their evicts.
+// The elements in the order of their evicts; those of one stamp and verifier, which only added ones can be, stay as
+// they stood.
 fn in_order(mut elements: Vec<&Element>) -> Result<Vec<&Element>, Memory>
     ensures order { IfOk result (λ v. map (λ e. e.now) v.items ≡ merged evict_moment (map (λ e. e.now) elements.entry.items)) }
 {
@@ -127,7 +132,8 @@ fn is_same(one: &Element, other: &Element) -> bool
     one.value.is_same(&other.value)
 }
 
-// The epoch at which two lists of elements part, if they do.
+// The epoch at which two lists of elements part, if they do: the lower of the two where they first differ, or that
+// of the element at which the other list has ended.
 fn parting(added: &[&Element], evicted: &[&Element]) -> Option<u32>
     ensures epoch { result ≡ parting (map (λ e. e.now) added.now) (map (λ e. e.now) evicted.now) }
 {
