@@ -1,6 +1,6 @@
 -- No verifier evicts two elements with one stamp: the stamps of each log's evicts rise, and the logs are of different
 -- verifiers.
-use Rattle.std.proofs.Common.{◌≡◌, ℕ, suc, ◌<◌, ◌≤◌, ◌==◌, ◌&&◌, Bool, true, false, List, [], ◌∷◌, ◌++◌, append_assoc, refl, sym, ◌∙◌, ap, subst, map, flat_map, IsPermutation, if◌then◌else◌, arith}
+use Rattle.std.proofs.Common.{◌≡◌, ℕ, suc, ◌<◌, ◌≤◌, ◌==◌, ◌&&◌, Bool, true, false, List, [], ◌∷◌, ◌++◌, append_assoc, sym, ◌∙◌, subst, flat_map, IsPermutation, arith}
 use Rattle.std.specs.List.{AllByRecursion, IsDistinct}
 use Rattle.std.specs.Ordering.{is_lt}
 use Rattle.std.proofs.lemmas.Bool.{false≢true, cond_both, and_parts, eqb-true}
@@ -15,45 +15,16 @@ use Rattle.log_codec.specs.declared.command.Command.{Command}
 use Rattle.stamp_order.specs.InOrder.{put_in_order, in_order}
 use Rattle.stamp_order.specs.Merged.{comes_before}
 use Rattle.stamp_order.proofs.InOrderLemmas.{every-weaker, every-append}
-use Rattle.verifier_commands.specs.Changes.{above}
-use Rattle.verifier_commands.specs.Change.{Change, joins, leaves, comes, goes, defers, reads, writes, turns}
 use Rattle.soundness.specs.History.{Event, log_events, histories_from, histories_of}
 use Rattle.soundness.specs.Certified.{event_moment, evicted_by, all_events, order_of}
-use Rattle.soundness.specs.Exhibit.{is_known}
 use Rattle.soundness.specs.Permutation.{same_stamp}
 use Rattle.soundness.specs.Timed.{IsEarlier, evicted_among, IsRising}
 use Rattle.soundness.proofs.RisingLemmas.{log_own, log_rising}
-use Rattle.collision_exhibit.specs.declared.act.Act.{Act}
-use Rattle.collision_exhibit.specs.declared.act.Deed.TheVariants.{Joined}
-use Rattle.collision_exhibit.specs.Act.{deeds_by, act_at, acts_by, acts_in}
-use Rattle.collision_exhibit.specs.Shown.{went_by, went_among}
+use Rattle.collision_exhibit.specs.Act.{acts_in}
+use Rattle.collision_exhibit.specs.Shown.{went_among}
 use Rattle.collision_exhibit.specs.Elements.{same_evict, HaveOwnStamps}
+use Rattle.collision_exhibit.proofs.ActLemmas.{went_in}
 use Rattle.collision_exhibit.proofs.PartingLemmas.{never, same_evict-flips}
-
--- ---- acts and events
-
--- the elements that went by the acts of an event
-went_by_event : (event : Event) (change : Change) → went_among (map (act_at event) (deeds_by change)) ≡ evicted_by change
-went_by_event event (joins parent after child) = go (is_known (above parent child.path) child.path)
-  where
-    go : (b : Bool) → went_among (map (act_at event) (if b then Joined child.path child.value ∷ [] else [])) ≡ []
-    go true = refl
-    go false = refl
-went_by_event event (leaves parent after child) = refl
-went_by_event event (comes child element) = refl
-went_by_event event (goes child element) = refl
-went_by_event event (defers parent after child element) = refl
-went_by_event event (reads entry) = refl
-went_by_event event (writes before after) = refl
-went_by_event event (turns sealed) = refl
-
--- The elements that went by the acts of events are those that were evicted.
-pub went_in : (events : List Event) → went_among (acts_in events) ≡ evicted_among events
-went_in [] = refl
-went_in (event ∷ events) =
-    flat_map-append (λ (act : Act). went_by act.deed) (acts_by event) (acts_in events)
-    ∙ ap (λ zs. zs ++ went_among (acts_in events)) (went_by_event event event.change)
-    ∙ ap (λ zs. evicted_by event.change ++ zs) (went_in events)
 
 -- ---- one log
 

@@ -1,0 +1,28 @@
+use Rattle.std.proofs.Common.{◌≡◌, List, map, IfOk, sym, ◌∙◌, ap, subst}
+use Rattle.record_text.specs.declared.exhibit.Exhibit.{Exhibit}
+use Rattle.soundness.specs.Sound.{commands_of, histories_read}
+use Rattle.collision_exhibit.specs.declared.act.Act.{Act}
+use Rattle.collision_exhibit.specs.Elements.{HaveOwnStamps}
+use Rattle.collision_exhibit.specs.Shown.{went_among, exhibit_among}
+use Rattle.collision_exhibit.proofs.ActLemmas.{exhibit_acts}
+use Rattle.collision_exhibit.proofs.OwnStampLemmas.{distinct_evicts}
+use Rattle.collision_exhibit.proofs.auditing.audit.Goals as goal
+
+pub shown-requires : goal.shown-requires
+shown-requires g c = record {
+  own_stamps =
+      subst (λ (acts : List Act). HaveOwnStamps (went_among acts)) (sym (c.deref.ensures.value ∙ c.in_ok-acts.ensures.acts))
+      (distinct_evicts (g.D.Digests.text_digest c.args.d.now) (g.D.Digests.element_lanes c.args.d.now) c.args.header.now
+      (commands_of (map (λ log. log.items) c.args.logs.now)));
+}
+
+pub returns : goal.returns
+returns g c = record {
+  exhibit =
+      subst (λ (shown : Exhibit). IfOk c.shown.result (λ exhibit. exhibit ≡ shown))
+      (ap (exhibit_among c.args.header.now.first c.args.epochs) (c.deref.ensures.value ∙ c.in_ok-acts.ensures.acts)
+      ∙ exhibit_acts
+      (histories_read (g.D.Digests.text_digest c.args.d.now) (g.D.Digests.element_lanes c.args.d.now) c.args.header.now (map (λ log. log.items) c.args.logs.now))
+      c.args.header.now.first c.args.epochs)
+      c.shown.ensures.exhibit;
+}
