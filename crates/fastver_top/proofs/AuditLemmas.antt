@@ -1,5 +1,5 @@
 -- What an audit shows is the exhibit of what was read, and that is a collision.
-use Rattle.std.proofs.Common.{◌≡◌, ◌≢◌, ◌⊎◌, ℕ, List, map, Option, Some, None, IfSome, refl, sym, ◌∙◌, ap, subst, inl, inr}
+use Rattle.std.proofs.Common.{◌≡◌, ◌≢◌, ◌⊎◌, ℕ, List, [], ◌∷◌, map, Option, Some, None, IfSome, refl, sym, ◌∙◌, ap, subst, inl, inr}
 use Rattle.lamport_clocks.specs.declared.header.Header.{Header}
 use Rattle.record_text.specs.declared.exhibit.Exhibit.{Exhibit}
 use Rattle.record_text.specs.declared.exhibit.Exhibit.TheVariants.{Clean, Strings, Multisets}
@@ -9,7 +9,6 @@ use Rattle.report_text.specs.declared.status.Status.{Status}
 use Rattle.report_text.specs.declared.status.Status.TheVariants as statuses
 use Rattle.log_codec.specs.declared.command.Command.{Command}
 use Rattle.log_codec.specs.Log.{Log, read_log}
-use Rattle.stamp_order.specs.Serial.{IsSerial}
 use Rattle.soundness.specs.History.{histories_of}
 use Rattle.soundness.specs.Collision.{exhibit_of, Collides}
 use Rattle.soundness.specs.Sound.{commands_of, histories_read, IsSerialOrCollides}
@@ -50,8 +49,8 @@ not_shown status outcome is = subst IsOutcome is outcome
 -- where an audit ends with an exhibit there is one
 pub status_shown : (exhibit : Exhibit) (status : Status) → IsOutcome status → audit_status exhibit status ≡ statuses.Exhibit → exhibit ≢ Clean
 status_shown Clean status outcome is = λ same. not_shown status outcome is
-status_shown (Strings evicted added) status outcome is = cc
-status_shown (Multisets epoch added evicted) status outcome is = cc
+status_shown (Strings evicted added) status outcome is = λ same. cc
+status_shown (Multisets epoch added evicted) status outcome is = λ same. cc
 
 -- an audit ends as a check, or as an exhibit
 pub status_audited : (exhibit : Exhibit) (status : Status) → IsOutcome status → IsOutcome (audit_status exhibit status) ⊎ audit_status exhibit status ≡ statuses.Exhibit

@@ -1,2 +1,3 @@
--- How an audit is what it says of bytes.
+-- How what the program answers is what its words ask for.
 pub mod AuditLemmas
+pub mod AnswerLemmas
