@@ -1,5 +1,5 @@
--- Lemmas on what acts show.
+-- Lemmas on acts: what they show, what each command tells, and their order.
 pub mod ActLemmas
 pub mod DeedLemmas
-pub mod TellLemmas
 pub mod OrderedLemmas
+pub mod TellLemmas
