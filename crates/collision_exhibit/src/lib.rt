@@ -9,6 +9,8 @@
 #![tactic(auto)]
 
 mod act;
+#[cfg(test)]
+mod audit_tests;
 mod auditing;
 mod clash;
 #[cfg(test)]
