@@ -16,7 +16,7 @@ use Rattle.check_core.specs.BundleReport.{histories_in}
 use Rattle.check_core.specs.Intake.{Logged, logged_of}
 use Rattle.check_core.specs.Outcomes.{IsOutcome}
 use Rattle.check_core.specs.Verdict.{certified_at}
-use Rattle.check_core.specs.Headline.{exhibit_at, operations_at}
+use Rattle.check_core.specs.Headline.{exhibit_at}
 use Rattle.fastver_top.specs.Auditing.{audit_status, ExhibitCollides}
 
 -- ---- what was read

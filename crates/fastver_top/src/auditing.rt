@@ -70,12 +70,7 @@ fn digests_have_32_bytes<D: Digests>(d: &D)
 }
 
 // Audits what was read, and writes what that shows.
-fn audit_intake<D: Digests, O: Sink>(
-    alloc: Global,
-    d: &D,
-    intake: &Intake,
-    out: &mut O,
-) -> Status
+fn audit_intake<D: Digests, O: Sink>(alloc: Global, d: &D, intake: &Intake, out: &mut O) -> Status
     ensures outcomes { IsAudited result }
     ensures words { result ≢ Status.Usage }
     ensures no_read { result ≢ Status.ReadFault }

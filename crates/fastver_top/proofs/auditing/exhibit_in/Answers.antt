@@ -1,4 +1,4 @@
-use Rattle.std.proofs.Common.{◌≡◌, ℕ, List, map, IfOk, Vec, ◌∙◌, ap, subst}
+use Rattle.std.proofs.Common.{◌≡◌, map, IfOk, ◌∙◌, ap, subst}
 use Rattle.record_text.specs.declared.exhibit.Exhibit.{Exhibit}
 use Rattle.soundness.specs.Collision.{exhibit_of}
 use Rattle.soundness.specs.Sound.{histories_read}

@@ -5,8 +5,8 @@ use Rattle.program_words.specs.declared.words.Asked.{Asked}
 use Rattle.program_words.specs.declared.words.Asked.TheVariants.{Check, Audit}
 use Rattle.check_core.specs.Verdict.{verdict}
 use Rattle.check_core.proofs.HeadlineLemmas.{sha_headline, of_left}
-use Rattle.fastver_top.specs.Auditing.{auditing, ExhibitCollides}
-use Rattle.fastver_top.specs.Answers.{asked_key, answer, IsSoundFor, CollidesFor}
+use Rattle.fastver_top.specs.Auditing.{auditing}
+use Rattle.fastver_top.specs.Answers.{asked_key, answer, IsSoundFor}
 use Rattle.fastver_top.proofs.AnswerLemmas.{asked_is}
 use Rattle.fastver_top.proofs.top.fastver.Goals as goal
 
