@@ -3,6 +3,7 @@ pub mod ActLemmas
 pub mod DeedLemmas
 pub mod TellLemmas
 pub mod OrderedLemmas
+pub mod LaneLemmas
 pub mod ElementLemmas
 pub mod PartingLemmas
 pub mod OwnStampLemmas

@@ -2,6 +2,7 @@
 pub mod Act
 pub mod Deed
 pub mod Telling
+pub mod Lanes
 pub mod Shown
 pub mod Elements
 pub mod Taken

@@ -15,6 +15,7 @@ ghost use Rattle.collision_exhibit.specs.Telling.{act_then, acts_from, acts_if, 
 
 use crate::act::{Act, Deed};
 use crate::deed::deed_of;
+use crate::text_digests::TextDigests;
 use fv_outside::Memory;
 use lamport_clocks::Header;
 use log_codec::{Command, Decoded, read};
@@ -169,7 +170,8 @@ fn tell_in_turn<D: Digests>(
     Ok(())
 }
 
-/// The acts of all logs, that of verifier 0 first, in the one order of their moments.
+/// The acts of all logs, that of verifier 0 first, in the one order of their moments. No element is hashed: what a
+/// log does is the same whatever the lanes of elements are.
 pub(crate) fn acts_of<D: Digests>(
     alloc: Global,
     d: &D,
@@ -182,7 +184,8 @@ pub(crate) fn acts_of<D: Digests>(
         (histories_read (D.text_digest d.now) (D.element_lanes d.now) header.now (map (λ log. log.items) logs.now)))) }
 {
     let mut acts = Vec::new(alloc);
-    tell_in_turn(alloc, d, header, logs, &mut acts)?;
+    let texts = TextDigests { inner: d };
+    tell_in_turn(alloc, &texts, header, logs, &mut acts)?;
     acts.sort_by_key(moment_of)?;
     Ok(acts)
 }

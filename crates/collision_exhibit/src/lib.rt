@@ -1,11 +1,11 @@
 //! What an audit of logs shows: nothing, two strings with one digest, or two multisets of elements with one sum.
 //!
 //! The exhibit is defined by `exhibit_of` in `soundness`, from the histories of all logs. Here each log is run
-//! once, and of each accepted command only what an exhibit can be made of is kept: an `Act`. The acts of all
-//! logs are put into the one order of their moments; then elements are compared epoch by epoch, and what came
-//! back by its digest is compared with what went out. The crate stands on `verifier_commands` and `log_codec`,
-//! which run the logs, and on `soundness`, whose definitions it computes. Begin with `act.rt` and
-//! `specs/Act.antt`.
+//! once, with no element hashed, and of each accepted command only what an exhibit can be made of is kept: an
+//! `Act`. The acts of all logs are put into the one order of their moments; then elements are compared epoch by
+//! epoch, and what came back by its digest is compared with what went out. The crate stands on
+//! `verifier_commands` and `log_codec`, which run the logs, and on `soundness`, whose definitions it computes.
+//! Begin with `act.rt` and `specs/Act.antt`.
 #![tactic(auto)]
 
 mod act;
@@ -21,6 +21,7 @@ mod elements;
 mod elements_tests;
 mod history;
 mod taken;
+mod text_digests;
 
 pub use auditing::audit;
 pub use record_text::{Elements, Exhibit, ValueText};
