@@ -1,5 +1,6 @@
 -- What reading a source comes to, what is certified, and that a run comes to what its history says.
 pub mod TookLemmas
+pub mod ReferenceLemmas
 pub mod ReportLemmas
 pub mod LogLemmas
 pub mod MeaningLemmas

@@ -154,13 +154,13 @@ fn report_runs<O: Sink>(alloc: Global, runs: &[Run], bad: Option<u64>, out: &mut
 // Writes a report that ends so, and answers how the run ended.
 fn written<O: Sink>(
     certified: &[Part],
-    operations: &[Operation],
+    operations: &[&Operation],
     status: Status,
     out: &mut O,
 ) -> Status
     requires end { IsEnd status }
     ensures ends { result ≡ status ⊎ result ≡ Status.WriteFault }
-    ensures report { Reports result (O.held out.old) (O.held out.new) (verdict_with certified.now operations.now status) }
+    ensures report { Reports result (O.held out.old) (O.held out.new) (verdict_with certified.now (map (λ op. op.now) operations.now) status) }
     ensures write_fault { result ≡ Status.WriteFault → Rose (O.faults out.old) (O.faults out.new) }
 {
     match write_report(certified, operations, &status, out) {

@@ -3,6 +3,8 @@ ghost use Rattle.std.specs.Prelude.{◌≡◌, ◌≤◌, ◌++◌, map, take, l
 ghost use Rattle.fv_outside.specs.Faults.{Counts};
 ghost use Rattle.fv_outside.specs.Written.{Grows, GrowsByFront};
 ghost use Rattle.report_text.specs.Page.{Passes};
+ghost use Rattle.stamp_order.specs.Merged.{merged, up_to};
+ghost use Rattle.stamp_order.specs.Operations.{moment_of};
 ghost use Rattle.check_core.specs.Report.{front_count, epoch_text, report_of};
 ghost use Rattle.check_core.specs.RunReport.{operations_among};
 ghost use Rattle.check_core.specs.Judged.{first_parts, last_epoch, operations_by, refused_log, ends_by};
@@ -13,7 +15,7 @@ use fv_outside::{Failed, Memory, Sink};
 use multiset_sum::Part;
 use record_text::{Operation, Refusal};
 use report_text::{Page, Status, epoch_line, last_line, operation_line};
-use stamp_order::merge;
+use stamp_order::Moment;
 use std::alloc::{AllocError, Global};
 use verifier_run::Run;
 
@@ -46,39 +48,67 @@ pub fn last_epoch(parts: &[Part]) -> Option<u32>
     }
 }
 
-/// The operations of all runs up to an epoch, in the one order of their moments; none where there is no epoch.
-pub fn operations_up_to(
+/// The operations of all runs up to an epoch, in the one order of their moments; none where there is no epoch. They
+/// stay in their runs, and only references are put in order.
+pub fn operations_up_to<'a>(
     alloc: Global,
-    runs: &[Run],
+    runs: &'a [Run],
     epoch: Option<u32>,
-) -> Result<Vec<Operation>, Memory>
-    ensures value { IfOk result (λ ops. ops.items ≡ operations_by epoch (map (λ run. run.course) runs.now)) }
+) -> Result<Vec<&'a Operation>, Memory>
+    ensures value { IfOk result (λ ops. map (λ op. op.now) ops.items ≡ operations_by epoch (map (λ run. run.course) runs.now)) }
 {
     match epoch {
-        Some(epoch) => merge(alloc, &all_operations(alloc, runs)?, epoch),
+        Some(epoch) => in_order(kept_up_to(alloc, runs, epoch)?),
         None => Ok(Vec::new(alloc)),
     }
 }
 
-// The operations of all runs, one run after another.
-fn all_operations(alloc: Global, runs: &[Run]) -> Result<Vec<Operation>, AllocError>
-    ensures value { IfOk result (λ ops. ops.items ≡ operations_among (map (λ run. run.course) runs.now)) }
+// The operations of all runs up to an epoch, one run after another.
+fn kept_up_to<'a>(
+    alloc: Global,
+    runs: &'a [Run],
+    epoch: u32,
+) -> Result<Vec<&'a Operation>, AllocError>
+    ensures kept { IfOk result (λ ops. map (λ op. op.now) ops.items
+        ≡ up_to moment_of epoch (operations_among (map (λ run. run.course) runs.now))) }
 {
-    let mut all = Vec::new(alloc);
+    let mut kept = Vec::new(alloc);
     for run in runs {
-        append_copies(&mut all, run.ops())?;
+        append_up_to(&mut kept, run.ops(), epoch)?;
     }
-    Ok(all)
+    Ok(kept)
 }
 
-// Appends copies of operations.
-fn append_copies(all: &mut Vec<Operation>, operations: &[Operation]) -> Result<(), AllocError>
-    ensures items { OnOk result (all.new.items ≡ all.old.items ++ operations.now) }
+// Appends the operations up to an epoch.
+fn append_up_to<'a>(
+    kept: &mut Vec<&'a Operation>,
+    operations: &'a [Operation],
+    epoch: u32,
+) -> Result<(), AllocError>
+    ensures items { OnOk result (map (λ op. op.now) kept.new.items
+        ≡ map (λ op. op.now) kept.old.items ++ up_to moment_of epoch operations.now) }
 {
-    for operation in operations {
-        all.push(operation.copy())?;
+    for op in operations {
+        if op.stamp.epoch <= epoch {
+            kept.push(op)?;
+        }
     }
     Ok(())
+}
+
+// When an operation was done.
+fn moment_behind(op: &&Operation) -> Moment
+    ensures moment { result ≡ moment_of op.now.now }
+{
+    Moment::of(op)
+}
+
+// The operations in the order of their moments; those of one moment stay as they stood.
+fn in_order(mut operations: Vec<&Operation>) -> Result<Vec<&Operation>, Memory>
+    ensures order { IfOk result (λ ops. map (λ op. op.now) ops.items ≡ merged moment_of (map (λ op. op.now) operations.entry.items)) }
+{
+    operations.sort_by_key(moment_behind)?;
+    Ok(operations)
 }
 
 /// The first of the logs that is refused.
@@ -125,12 +155,12 @@ pub fn exit_of(judged: &Judged, refused: Option<RefusedLog>, bad: Option<u64>) -
 /// Writes the lines of the certified epochs, and the last line of the report.
 pub fn write_report<O: Sink>(
     certified: &[Part],
-    operations: &[Operation],
+    operations: &[&Operation],
     status: &Status,
     out: &mut O,
 ) -> Result<(), Failed>
-    ensures whole { OnOk result (Grows (O.held out.old) (O.held out.new) (report_of certified.now operations.now status.now)) }
-    ensures front { OnErr result (GrowsByFront (O.held out.old) (O.held out.new) (report_of certified.now operations.now status.now)) }
+    ensures whole { OnOk result (Grows (O.held out.old) (O.held out.new) (report_of certified.now (map (λ op. op.now) operations.now) status.now)) }
+    ensures front { OnErr result (GrowsByFront (O.held out.old) (O.held out.new) (report_of certified.now (map (λ op. op.now) operations.now) status.now)) }
     ensures counts { Counts (O.faults out.old) (O.faults out.new) result }
 {
     let mut page = Page::new();
@@ -145,8 +175,8 @@ pub fn write_report<O: Sink>(
 }
 
 // How many operations at the front are of this epoch.
-fn count_of(operations: &[Operation], epoch: u32) -> usize
-    ensures value { result ≡ front_count epoch operations.now }
+fn count_of(operations: &[&Operation], epoch: u32) -> usize
+    ensures value { result ≡ front_count epoch (map (λ op. op.now) operations.now) }
     ensures within { result ≤ length operations.now }
 {
     for (count, op) in operations.iter().enumerate() {
@@ -160,12 +190,12 @@ fn count_of(operations: &[Operation], epoch: u32) -> usize
 // Writes the lines of one epoch, whose operations these are.
 fn write_epoch_lines<O: Sink>(
     epoch: u32,
-    operations: &[Operation],
+    operations: &[&Operation],
     page: &mut Page,
     out: &mut O,
 ) -> Result<(), Failed>
-    ensures whole { OnOk result (Passes (O.held out.old) page.old (epoch_text epoch operations.now) (O.held out.new) page.new) }
-    ensures front { OnErr result (GrowsByFront (O.held out.old) (O.held out.new) (page.old ++ epoch_text epoch operations.now)) }
+    ensures whole { OnOk result (Passes (O.held out.old) page.old (epoch_text epoch (map (λ op. op.now) operations.now)) (O.held out.new) page.new) }
+    ensures front { OnErr result (GrowsByFront (O.held out.old) (O.held out.new) (page.old ++ epoch_text epoch (map (λ op. op.now) operations.now))) }
     ensures counts { Counts (O.faults out.old) (O.faults out.new) result }
 {
     let head = epoch_line(epoch, operations.len() as u64);

@@ -1,6 +1,6 @@
 use Rattle.std.proofs.Common.{◌∙◌, arith}
-use Rattle.report_text.specs.Lines.{operation_line}
-use Rattle.report_text.proofs.PassLemmas.{Passes-then, Passes-stop, lines_step, on_err}
+use Rattle.report_text.proofs.PassLemmas.{Passes-then, Passes-stop, on_err}
+use Rattle.check_core.proofs.ReportLemmas.{line_step}
 use Rattle.check_core.proofs.report.write_epoch_lines.Goals as goal
 
 pub returns-in_err-write-2-clause-front : goal.returns-in_err-write-2-clause-front
@@ -12,7 +12,7 @@ loop-op-preserved g c = record {
   text = _;
   passes = Passes-then _ _ _ _ _ _ _ _ c.loop-op.invariant.passes c.in_ok-write-2.ensures.whole;
   left =
-      lines_step operation_line _ _ _ _ _ _ c.loop-op-test.true c.op-item.is
+      line_step _ _ _ _ _ _ c.loop-op-test.true c.op-item.is
       (c.as_slice-in-loop-op.ensures.value ∙ c.operation_line.ensures.text) c.loop-op.invariant.left;
   faults = omega (arith, c.loop-op.invariant.faults, c.in_ok-write-2.ensures.counts.never_falls);
 }

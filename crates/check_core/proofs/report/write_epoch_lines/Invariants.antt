@@ -1,4 +1,4 @@
-use Rattle.std.proofs.Common.{◌≡◌, ◌≤◌, ℕ, List, ◌++◌, drop}
+use Rattle.std.proofs.Common.{◌≡◌, ◌≤◌, ℕ, List, ◌++◌, map, drop}
 use Rattle.std.specs.List.{flat_map}
 use Rattle.report_text.specs.Page.{Passes}
 use Rattle.report_text.specs.Lines.{operation_line}
@@ -10,6 +10,6 @@ abbrev pub invariant-loop-op : goal.invariant-loop-op
 invariant-loop-op g l = record {
   text : List ℕ;
   passes : Passes (g.O.Sink.held l.fn.out) l.fn.page text (g.O.Sink.held l.out) l.page;
-  left : text ++ flat_map operation_line (drop l.op-index l.operations) ≡ epoch_text l.epoch l.operations;
+  left : text ++ flat_map operation_line (map (λ op. op.now) (drop l.op-index l.operations)) ≡ epoch_text l.epoch (map (λ op. op.now) l.operations);
   faults : g.O.Sink.faults l.fn.out ≤ g.O.Sink.faults l.out;
 }

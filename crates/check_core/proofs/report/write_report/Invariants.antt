@@ -1,4 +1,4 @@
-use Rattle.std.proofs.Common.{◌≡◌, ◌≤◌, ℕ, List, [], ◌++◌, length, drop}
+use Rattle.std.proofs.Common.{◌≡◌, ◌≤◌, ℕ, List, [], ◌++◌, map, length, drop}
 use Rattle.report_text.specs.Page.{Passes}
 use Rattle.check_core.specs.Report.{certified_text}
 use Rattle.check_core.proofs.report.write_report.Given as goal
@@ -9,6 +9,6 @@ invariant-loop-part g l = record {
   text : List ℕ;
   within : l.done ≤ length l.operations;
   passes : Passes (g.O.Sink.held l.fn.out) [] text (g.O.Sink.held l.out) l.page;
-  left : text ++ certified_text (drop l.part-index l.certified) (drop l.done l.operations) ≡ certified_text l.certified l.operations;
+  left : text ++ certified_text (drop l.part-index l.certified) (map (λ op. op.now) (drop l.done l.operations)) ≡ certified_text l.certified (map (λ op. op.now) l.operations);
   faults : g.O.Sink.faults l.fn.out ≤ g.O.Sink.faults l.out;
 }
