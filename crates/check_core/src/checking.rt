@@ -1,6 +1,5 @@
 //! A check of a bundle: what is certified, and how its report ends.
-ghost use Rattle.std.specs.Prelude.{◌≡◌, ◌+◌, ◌≤◌, ◌^◌, ℕ, List, length, map, vec_len, IfSome, ◌≢◌, ◌⊎◌};
-ghost use Rattle.record_hash.specs.Digests.{IsDigest};
+ghost use Rattle.std.specs.Prelude.{◌≡◌, ◌+◌, ◌≤◌, ◌^◌, ℕ, length, map, vec_len, IfSome, ◌≢◌, ◌⊎◌};
 ghost use Rattle.lamport_clocks.specs.Header.{IsHeader};
 ghost use Rattle.fv_outside.specs.Faults.{Rose};
 ghost use Rattle.fv_outside.specs.Written.{Grows, GrowsByFront};
@@ -15,6 +14,7 @@ ghost use Rattle.check_core.specs.Judged.{CanBeJudged, verdict_of_runs};
 
 use crate::intake::{Intake, Stop};
 use crate::judging::judge;
+use crate::laws::digests_have_32_bytes;
 use crate::reading::read_bundle;
 use crate::report::{
     certified_parts, exit_of, first_refused, last_epoch, operations_up_to, write_report,
@@ -68,13 +68,6 @@ pub fn check<R: Threads + Sync, D: Digests + Sync, S: Source, O: Sink>(
         Err(Stop::ReadFault) => Status::ReadFault,
         Err(Stop::InputLimit) => Status::InputLimit { taken: limit },
     }
-}
-
-// What is known of any digests. It does nothing.
-fn digests_have_32_bytes<D: Digests>(d: &D)
-    ensures digests { (text : List ℕ) → IsDigest (D.text_digest d.now text) }
-{
-    let _ = d;
 }
 
 // Checks what was read, and writes the report.

@@ -24,6 +24,6 @@ mod tests;
 pub use checking::check;
 pub use concluding::{Conclusion, conclude};
 pub use intake::{Intake, Stop};
-pub use laws::certified_answers_are_sound;
+pub use laws::{certified_answers_are_sound, digests_have_32_bytes};
 pub use reading::read_bundle;
 pub use report_text::Status;

@@ -11,10 +11,8 @@ ghost use Rattle.check_core.specs.Verdict.{Reports, certified_at};
 ghost use Rattle.check_core.specs.Headline.{exhibit_at};
 ghost use Rattle.fastver_top.specs.Auditing.{audit_status, audit_of, auditing_by, auditing, ExhibitCollides};
 ghost use Rattle.fastver_top.specs.Answers.{IsAudited};
-ghost use Rattle.record_hash.specs.Digests.{IsDigest};
-ghost use Rattle.std.specs.Prelude.{List};
 
-use check_core::{Conclusion, Intake, Stop, conclude, read_bundle};
+use check_core::{Conclusion, Intake, Stop, conclude, digests_have_32_bytes, read_bundle};
 use collision_exhibit::audit;
 use fv_outside::{Failed, Memory, Sink, Source};
 use record_hash::Digests;
@@ -60,13 +58,6 @@ pub fn audit_text<D: Digests + Sync, S: Source, O: Sink>(
         Err(Stop::ReadFault) => Status::ReadFault,
         Err(Stop::InputLimit) => Status::InputLimit { taken: limit },
     }
-}
-
-// What is known of any digests. It does nothing.
-fn digests_have_32_bytes<D: Digests>(d: &D)
-    ensures digests { (text : List ℕ) → IsDigest (D.text_digest d.now text) }
-{
-    let _ = d;
 }
 
 // Audits what was read, and writes what that shows.
