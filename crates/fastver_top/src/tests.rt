@@ -53,7 +53,8 @@ fn run<R: Threads + Wait + Sync>(
     Ok((out, status))
 }
 
-// A bundle has this report and status, whether it is read and written by bytes or as a whole.
+// A bundle has this report and status, whether it is read and written by bytes or as a whole. Where the status
+// isn't 0, each report here is one line, and an audit shows nothing and the same line.
 fn assert_report<R: Threads + Wait + Sync + Abort>(
     rt: &R,
     alloc: Global,
@@ -68,24 +69,12 @@ fn assert_report<R: Threads + Wait + Sync + Abort>(
         assert_eq!(rt; out.bytes(), report.as_bytes(), "{name}");
         assert_eq!(rt; status.number(), number, "{name}");
     }
-    Ok(())
-}
-
-// A bundle whose log is refused before an epoch ends has this one line as its report, and an audit of it shows
-// nothing and the same line.
-fn assert_refused<R: Threads + Wait + Sync + Abort>(
-    rt: &R,
-    alloc: Global,
-    name: &str,
-    bundle: &str,
-    line: &str,
-) -> Result<(), Fail> {
-    assert_report(rt, alloc, name, bundle, line, 8)?;
-    let bytes = unhex(alloc, bundle)?;
-    let shown = format!(in alloc; "clean 0\n{line}")?;
-    let (out, status) = run(rt, alloc, "audit", &bytes, 1000)?;
-    assert_eq!(rt; out.bytes(), shown.as_bytes(), "{name}");
-    assert_eq!(rt; status.number(), 8, "{name}");
+    if number != 0 {
+        let shown = format!(in alloc; "clean 0\n{report}")?;
+        let (out, status) = run(rt, alloc, "audit", &bytes, 1000)?;
+        assert_eq!(rt; out.bytes(), shown.as_bytes(), "{name}");
+        assert_eq!(rt; status.number(), number, "{name}");
+    }
     Ok(())
 }
 
@@ -304,7 +293,7 @@ fn adds_and_evicts_in_the_tree_are_refused<R: Threads + Wait + Sync + Abort>(
         ),
     ];
     for (name, bundle, line) in table {
-        assert_refused(rt, alloc, name, bundle, line)?;
+        assert_report(rt, alloc, name, bundle, line, 8)?;
     }
     Ok(())
 }
@@ -361,7 +350,7 @@ fn stamps_and_values_are_refused<R: Threads + Wait + Sync + Abort>(
         ),
     ];
     for (name, bundle, line) in table {
-        assert_refused(rt, alloc, name, bundle, line)?;
+        assert_report(rt, alloc, name, bundle, line, 8)?;
     }
     Ok(())
 }
