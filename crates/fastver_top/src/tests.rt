@@ -409,11 +409,12 @@ fn bundles_are_cut_at_each_length(rt: HostRuntime) -> Result<(), Fail> {
 
 #[test]
 fn words_that_ask_for_nothing_are_refused(rt: HostRuntime) -> Result<(), Fail> {
-    let table: [&[&str]; 9] = [
+    let table: [&[&str]; 13] = [
         &[],
         &["fastver"],
         &["fastver", "check"],
         &["fastver", "audit"],
+        &["fastver", "check", "--key"],
         &[
             "fastver",
             "check",
@@ -426,7 +427,20 @@ fn words_that_ask_for_nothing_are_refused(rt: HostRuntime) -> Result<(), Fail> {
             "--key",
             "000000000000000000000000000000",
         ],
+        &[
+            "fastver",
+            "check",
+            "--key",
+            "0000000000000000000000000000000",
+        ],
+        &[
+            "fastver",
+            "check",
+            "--key",
+            "0000000000000000000000000000000g",
+        ],
         &["fastver", "check", "--key", KEY, "more"],
+        &["fastver", "check", "--keys", KEY],
         &["fastver", "run", "--key", KEY],
         &["fastver", "help"],
     ];
