@@ -1,6 +1,5 @@
 -- What reading a source comes to, what is certified, and that a run comes to what its history says.
 pub mod TookLemmas
-pub mod ReferenceLemmas
 pub mod ReportLemmas
 pub mod LogLemmas
 pub mod MeaningLemmas

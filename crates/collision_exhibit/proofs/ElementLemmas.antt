@@ -1,15 +1,13 @@
 -- Lists are permutations where they have each element as often, so elements may be compared in the order of their
 -- evicts, epoch by epoch.
-use Rattle.std.proofs.Common.{◌≡◌, ℕ, zero, suc, ◌+◌, ◌<◌, ◌≤◌, ◌==◌, ◌&&◌, nat_le, nat_lt, Bool, true, false, List, [], ◌∷◌, Option, Some, None, refl, sym, ◌∙◌, ap, ◌⊎◌, inl, inr, filter, map, cond, sum_by, IsPermutation, if◌then◌else◌, arith}
+use Rattle.std.proofs.Common.{◌≡◌, ℕ, zero, suc, ◌+◌, ◌<◌, ◌≤◌, ◌==◌, ◌&&◌, nat_le, nat_lt, Bool, true, false, List, [], ◌∷◌, Option, Some, None, refl, sym, ◌∙◌, ap, ◌⊎◌, inl, inr, filter, sum_by, IsPermutation, if◌then◌else◌, arith}
 use Rattle.std.specs.List.{AllByRecursion}
 use Rattle.std.proofs.lemmas.Bool.{true≢false, cond-true, cond-false, eq-eqb, ne_eqb, eqb-true, cases_eq}
 use Rattle.std.proofs.lemmas.Bool.Decides.{nat_tests}
 use Rattle.std.proofs.lemmas.List.Sorted.{sum_by-IsPermutation}
 use Rattle.std.proofs.lemmas.List.Sums.{sum_by-cons}
 use Rattle.record_text.specs.declared.element.Element.{Element}
-use Rattle.stamp_order.specs.declared.moment.Moment.{Moment}
-use Rattle.stamp_order.specs.InOrder.{put_in_order}
-use Rattle.stamp_order.specs.Merged.{comes_before, merged}
+use Rattle.stamp_order.specs.Merged.{merged}
 use Rattle.stamp_order.proofs.MergedLemmas.{merged-permutation, merged-filter}
 use Rattle.soundness.specs.Certified.{of_epoch}
 use Rattle.soundness.specs.Permutation.{same_element, count_of, without_one, permuted_behind, is_permutation}
@@ -133,22 +131,6 @@ uneven_is_failing acts first (suc count) =
     ap (λ (o : Option ℕ). if is_even (came_among acts) (went_among acts) first then o else Some first) (uneven_is_failing acts (suc first) count)
 
 -- ---- lists
-
--- what stands for each member goes to its place
-put-map : {X Y : Type 0} (lt : Y → Y → Bool) (f : X → Y) (x : X) (xs : List X)
-    → map f (put_in_order (λ a b. lt (f a) (f b)) x xs) ≡ put_in_order lt (f x) (map f xs)
-put-map lt f x [] = refl
-put-map lt f x (y ∷ ys) = go (lt (f y) (f x)) (put-map lt f x ys)
-  where
-    go : (b : Bool) → map f (put_in_order (λ a b. lt (f a) (f b)) x ys) ≡ put_in_order lt (f x) (map f ys)
-        → map f (cond b (y ∷ put_in_order (λ a b. lt (f a) (f b)) x ys) (x ∷ y ∷ ys)) ≡ cond b (f y ∷ put_in_order lt (f x) (map f ys)) (f x ∷ f y ∷ map f ys)
-    go true further = ap (λ zs. f y ∷ zs) further
-    go false further = refl
-
-pub merged-map : {X Y : Type 0} (at : Y → Moment) (f : X → Y) (xs : List X) → map f (merged (λ x. at (f x)) xs) ≡ merged at (map f xs)
-merged-map at f [] = refl
-merged-map at f (x ∷ xs) =
-    put-map (comes_before at) f x (merged (λ x. at (f x)) xs) ∙ ap (put_in_order (comes_before at) (f x)) (merged-map at f xs)
 
 module _ {X : Type 0} where
   -- a filter of what a weaker filter kept

@@ -3,3 +3,4 @@ pub mod OneOrderLemmas
 pub mod JoinLemmas
 pub mod MomentLemmas
 pub mod MergedLemmas
+pub mod MapLemmas

@@ -5,7 +5,7 @@ use Rattle.record_text.specs.declared.operation.Operation.{Operation}
 use Rattle.stamp_order.specs.declared.moment.Moment.{Moment}
 use Rattle.stamp_order.specs.Operations.{moment_of}
 use Rattle.stamp_order.proofs.MergedLemmas.{merged-from_stable}
-use Rattle.check_core.proofs.ReferenceLemmas.{merged-map}
+use Rattle.stamp_order.proofs.MapLemmas.{merged-map}
 use Rattle.check_core.proofs.report.in_order.Goals as goal
 
 -- the moment of the operation behind a reference

@@ -1,4 +1,4 @@
--- What references point to goes to the places of the references where these are merged.
+-- What stands for each member goes to its place where the members are merged, as what references point to does.
 use Rattle.std.proofs.Common.{◌≡◌, Bool, true, false, cond, List, [], ◌∷◌, map, refl, ◌∙◌, ap}
 use Rattle.stamp_order.specs.declared.moment.Moment.{Moment}
 use Rattle.stamp_order.specs.InOrder.{put_in_order}
