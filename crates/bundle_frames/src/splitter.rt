@@ -4,7 +4,7 @@ ghost use Rattle.std.specs.Vec.{vec_capacity};
 use crate::fields::{HEAD_BYTES, HEADER_BYTES};
 use crate::found::{Fed, Found};
 use crate::parts::{MOST_BYTES, read_on};
-use fv_outside::Memory;
+use want_of_memory::Memory;
 use lamport_clocks::Header;
 use std::alloc::Global;
 use std::marker::Model;

@@ -2,7 +2,8 @@ ghost use Rattle.std.specs.Prelude.{◌≡◌, ◌<◌, ◌^◌, length, IfOk};
 ghost use Rattle.std.specs.List.{flat_map};
 
 use crate::{Fed, Found, Splitter, WholeBundle, read_pieces, write_frame, write_header};
-use fv_outside::{Failed, Memory, MemorySink};
+use fv_outside::{Failed, MemorySink};
+use want_of_memory::Memory;
 use lamport_clocks::Header;
 use std::alloc::Global;
 use std::test::Fail;

@@ -7,7 +7,7 @@ ghost use Rattle.bundle_frames.specs.WholeBundle.{bundle_in, frames_in};
 
 use crate::found::Found;
 use crate::splitter::Splitter;
-use fv_outside::Memory;
+use want_of_memory::Memory;
 use lamport_clocks::Header;
 use std::alloc::Global;
 

@@ -1,5 +1,6 @@
 -- Operations come epoch by epoch, so those at the front, epoch after epoch, are those of each epoch.
 use Rattle.std.proofs.Common.{◌≡◌, ◌≢◌, ℕ, zero, suc, ◌+◌, ◌<◌, ◌≤◌, ◌==◌, nat_le, Bool, true, false, cond, if◌then◌else◌, List, [], ◌∷◌, ◌++◌, map, take, drop, refl, sym, ◌∙◌, ap, subst, arith}
+use Rattle.merkle_records.specs.Scheme.{Scheme}
 use Rattle.std.specs.List.{flat_map}
 use Rattle.std.proofs.lemmas.Bool.{ne_eqb, eqb-true, eqb-false}
 use Rattle.std.proofs.lemmas.Bool.Decides.{nat_tests}
@@ -7,7 +8,7 @@ use Rattle.std.proofs.lemmas.List.Elements.{filter-append}
 use Rattle.lamport_clocks.specs.Reading.{Reading}
 use Rattle.record_text.specs.declared.operation.Operation.{Operation}
 use Rattle.stamp_order.specs.Merged.{up_to}
-use Rattle.verifier_commands.specs.Change.{Change, joins, leaves, comes, goes, defers, reads, writes, turns}
+use Rattle.verifier_commands.specs.Change.{Change, did_add_m, did_evict_m, did_add_b, did_evict_b, did_evict_bm, did_get, did_put, did_next_epoch}
 use Rattle.soundness.specs.History.{Event}
 use Rattle.soundness.specs.Certified.{event_moment, order_of, order_within, operations_by, operations_in}
 use Rattle.soundness.proofs.HistoryLemmas.{IsTicking, ticks-epoch}
@@ -86,20 +87,20 @@ rest_of epoch later (op ∷ ops) below =
     go false other further = refl
 
 -- The lines of epochs that take from the front are those of the operations of each.
-pub epochs-text : (lanes : List ℕ → List ℕ) (number : ℕ) (events : List Event)
+pub epochs-text : (scheme : Scheme) (number : ℕ) (events : List Event)
     (count epoch : ℕ) (ops all : List Operation)
     → IsByEpoch epoch ops
     → ((later : ℕ) → epoch ≤ later → later < epoch + count → operations_of later all ≡ operations_of later ops)
-    → certified_text (map (part_of lanes number events) (epochs_from epoch count)) ops
+    → certified_text (map (part_of scheme number events) (epochs_from epoch count)) ops
     ≡ flat_map (epoch_lines all) (epochs_from epoch count)
-epochs-text lanes number events zero epoch ops all by same = refl
-epochs-text lanes number events (suc count) epoch ops all by same =
+epochs-text scheme number events zero epoch ops all by same = refl
+epochs-text scheme number events (suc count) epoch ops all by same =
     let rest = drop (front_count epoch ops) ops in
-    let parts = map (part_of lanes number events) (epochs_from (suc epoch) count) in
+    let parts = map (part_of scheme number events) (epochs_from (suc epoch) count) in
     ap (λ (own : List Operation). epoch_text epoch own ++ certified_text parts rest)
     (front_of epoch ops by ∙ sym (same epoch (omega arith) (omega arith)))
     ∙ ap (λ (text : List ℕ). epoch_lines all epoch ++ text)
-    (epochs-text lanes number events count (suc epoch) rest all (rest_later epoch ops by)
+    (epochs-text scheme number events count (suc epoch) rest all (rest_later epoch ops by)
     (λ later above below. same later (omega arith) (omega arith) ∙ sym (rest_of epoch later ops (omega arith))))
 
 -- ---- the operations of events
@@ -107,15 +108,15 @@ epochs-text lanes number events (suc count) epoch ops all by same =
 -- an operation is of its event's epoch
 by_change : (event : Event) (change : Change) (epoch : ℕ) (ops : List Operation) → epoch ≤ event.at.epoch
     → IsByEpoch event.at.epoch ops → IsByEpoch epoch (operations_by event change ++ ops)
-by_change event (joins parent after child) epoch ops above by = by_epoch-lower epoch event.at.epoch ops above by
-by_change event (leaves parent after child) epoch ops above by = by_epoch-lower epoch event.at.epoch ops above by
-by_change event (comes child element) epoch ops above by = by_epoch-lower epoch event.at.epoch ops above by
-by_change event (goes child element) epoch ops above by = by_epoch-lower epoch event.at.epoch ops above by
-by_change event (defers parent after child element) epoch ops above by =
+by_change event (did_add_m parent after child) epoch ops above by = by_epoch-lower epoch event.at.epoch ops above by
+by_change event (did_evict_m parent after child) epoch ops above by = by_epoch-lower epoch event.at.epoch ops above by
+by_change event (did_add_b child element) epoch ops above by = by_epoch-lower epoch event.at.epoch ops above by
+by_change event (did_evict_b child element) epoch ops above by = by_epoch-lower epoch event.at.epoch ops above by
+by_change event (did_evict_bm parent after child element) epoch ops above by =
     by_epoch-lower epoch event.at.epoch ops above by
-by_change event (reads entry) epoch ops above by = (above, by)
-by_change event (writes before after) epoch ops above by = (above, by)
-by_change event (turns sealed) epoch ops above by = by_epoch-lower epoch event.at.epoch ops above by
+by_change event (did_get entry) epoch ops above by = (above, by)
+by_change event (did_put before after) epoch ops above by = (above, by)
+by_change event (did_next_epoch sealed) epoch ops above by = by_epoch-lower epoch event.at.epoch ops above by
 
 -- The operations of events come epoch by epoch.
 pub events-by_epoch : (number index : ℕ) (clock : Reading) (events : List Event) → IsTicking number index clock events
@@ -131,16 +132,16 @@ events-by_epoch number index clock (event ∷ events) ticks =
 -- an event of another epoch has no operation of this one
 none_by : (event : Event) (change : Change) (epoch : ℕ) → event.at.epoch ≢ epoch
     → operations_of epoch (operations_by event change) ≡ []
-none_by event (joins parent after child) epoch other = refl
-none_by event (leaves parent after child) epoch other = refl
-none_by event (comes child element) epoch other = refl
-none_by event (goes child element) epoch other = refl
-none_by event (defers parent after child element) epoch other = refl
-none_by event (reads entry) epoch other =
-    ap (λ (b : Bool). cond b (operations_by event (reads entry)) []) (ne_eqb _ _ other)
-none_by event (writes before after) epoch other =
-    ap (λ (b : Bool). cond b (operations_by event (writes before after)) []) (ne_eqb _ _ other)
-none_by event (turns sealed) epoch other = refl
+none_by event (did_add_m parent after child) epoch other = refl
+none_by event (did_evict_m parent after child) epoch other = refl
+none_by event (did_add_b child element) epoch other = refl
+none_by event (did_evict_b child element) epoch other = refl
+none_by event (did_evict_bm parent after child element) epoch other = refl
+none_by event (did_get entry) epoch other =
+    ap (λ (b : Bool). cond b (operations_by event (did_get entry)) []) (ne_eqb _ _ other)
+none_by event (did_put before after) epoch other =
+    ap (λ (b : Bool). cond b (operations_by event (did_put before after)) []) (ne_eqb _ _ other)
+none_by event (did_next_epoch sealed) epoch other = refl
 
 -- the operations of an epoch, of an event and those behind it
 operations_of-cons : (epoch : ℕ) (event : Event) (events : List Event)

@@ -1,12 +1,12 @@
 -- The verdict on the parts of an epoch that all runs hand in is what the histories say of the epoch.
 use Rattle.std.proofs.Common.{◌≡◌, ◌⊎◌, ℕ, suc, ◌+◌, ◌<◌, ◌≤◌, ◌==◌, nat_lt, Bool, true, false, cond, ◌&&◌, ◌||◌, if◌then◌else◌, List, [], ◌∷◌, ◌++◌, length, map, fold, Option, Some, None, MatchOption, inl, inr, refl, sym, ◌∙◌, ap, subst, append-nil, append_assoc, arith}
+use Rattle.merkle_records.specs.Scheme.{Scheme}
 use Rattle.std.specs.List.{AllByRecursion}
 use Rattle.std.specs.Str.{bytes_eq}
 use Rattle.std.proofs.lemmas.Bool.{cases_lt, cases_eq, eq-eqb, and_from, true≢false}
 use Rattle.std.proofs.lemmas.Bool.Decides.{nat_tests}
 use Rattle.lamport_clocks.specs.declared.header.Header.{Header}
 use Rattle.record_text.specs.declared.element.Element.{Element}
-use Rattle.record_text.specs.Format.{short_keys}
 use Rattle.record_text.specs.Same.{same_bytes}
 use Rattle.log_codec.specs.Log.{Log, read_log}
 use Rattle.multiset_sum.specs.declared.part.Part.{Part}
@@ -67,18 +67,18 @@ has_later epoch verifier (part ∷ parts) all =
     (other_part epoch verifier part (λ same. absurd (omega (arith, all.0, same))))
     ∙ has_later epoch verifier parts all.1
 
-module _ (lanes : List ℕ → List ℕ) (first index : ℕ) where
+module _ (scheme : Scheme) (first index : ℕ) where
   -- the parts by the histories
   abbrev told : ℕ → List (List Event) → List Part
-  told number histories = parts_told lanes first index number histories
+  told number histories = parts_told scheme first index number histories
 
   -- the part of a history that has sealed the epoch
   told_own : (number : ℕ) (events : List Event) → index < sealed_count events
-      → part_told lanes first index number events (sealed_count events)
-      ≡ part_of lanes number events (first + index) ∷ []
+      → part_told scheme first index number events (sealed_count events)
+      ≡ part_of scheme number events (first + index) ∷ []
   told_own number events below =
       let test : nat_lt index (sealed_count events) ≡ true = grind (arith, nat_tests) in
-      ap (λ (b : Bool). cond b (part_of lanes number events (first + index) ∷ []) []) test
+      ap (λ (b : Bool). cond b (part_of scheme number events (first + index) ∷ []) []) test
 
   -- where all have sealed the epoch, none is missing
   has_told : (number : ℕ) (histories : List (List Event)) → AllSeal index histories → (verifier : ℕ)
@@ -112,7 +112,7 @@ module _ (lanes : List ℕ → List ℕ) (first index : ℕ) where
   has_before number histories verifier below =
       has_later (first + index) verifier (told number histories)
       (every-weaker (IsAmong (first + index) number (length histories)) (λ part. verifier < part.verifier)
-      (λ part is. omega (arith, is.1, below)) (told number histories) (told-among lanes first index number histories))
+      (λ part is. omega (arith, is.1, below)) (told number histories) (told-among scheme first index number histories))
 
   -- where none is missing, all have sealed the epoch
   seal_told : (number : ℕ) (histories : List (List Event))
@@ -131,7 +131,7 @@ module _ (lanes : List ℕ → List ℕ) (first index : ℕ) where
       others = told (suc number) histories
 
       part : Part
-      part = part_of lanes number events (first + index)
+      part = part_of scheme number events (first + index)
 
       own : (b : Bool) → nat_lt index (sealed_count events) ≡ b
           → has_part (cond b (part ∷ []) [] ++ others) (first + index) number ≡ true
@@ -159,49 +159,49 @@ module _ (lanes : List ℕ → List ℕ) (first index : ℕ) where
       ∙ ap (λ (ps : List Part). part ∷ ps) (own_epoch epoch number count parts all.1)
 
   module _ (side : Part → Tally) (elements : Event → List Element)
-      (tells : (number : ℕ) (events : List Event) → side (part_of lanes number events (first + index))
-      ≡ sum_over lanes (among lanes elements (first + index) events)) where
+      (tells : (number : ℕ) (events : List Event) → side (part_of scheme number events (first + index))
+      ≡ sum_over scheme (among scheme elements (first + index) events)) where
     -- the joined sums of parts, behind some elements
     total_from : (number : ℕ) (histories : List (List Event)) (before : List Element) → AllSeal index histories
-        → fold (λ (sum : Tally) (part : Part). joined sum (side part)) (sum_over lanes before) (told number histories)
-        ≡ sum_over lanes (before ++ among lanes elements (first + index) (all_events histories))
-    total_from number [] before all = ap (sum_over lanes) (sym (append-nil before))
+        → fold (λ (sum : Tally) (part : Part). joined sum (side part)) (sum_over scheme before) (told number histories)
+        ≡ sum_over scheme (before ++ among scheme elements (first + index) (all_events histories))
+    total_from number [] before all = ap (sum_over scheme) (sym (append-nil before))
     total_from number (events ∷ histories) before all =
-        let own = among lanes elements (first + index) events in
+        let own = among scheme elements (first + index) events in
         let rest = all_events histories in
         let others = told (suc number) histories in
         let join : Tally → Part → Tally = λ (sum : Tally) (part : Part). joined sum (side part) in
-        ap (λ (parts : List Part). fold join (sum_over lanes before) (parts ++ others))
+        ap (λ (parts : List Part). fold join (sum_over scheme before) (parts ++ others))
         (told_own number events all.0)
         ∙ ap (λ (sum : Tally). fold join sum others)
-        (ap (joined (sum_over lanes before)) (tells number events) ∙ sum_over-append lanes before own)
+        (ap (joined (sum_over scheme before)) (tells number events) ∙ sum_over-append scheme before own)
         ∙ total_from (suc number) histories (before ++ own) all.1
-        ∙ ap (sum_over lanes)
-        (append_assoc before own (among lanes elements (first + index) rest)
-        ∙ ap (λ (es : List Element). before ++ es) (sym (among-append lanes elements (first + index) events rest)))
+        ∙ ap (sum_over scheme)
+        (append_assoc before own (among scheme elements (first + index) rest)
+        ∙ ap (λ (es : List Element). before ++ es) (sym (among-append scheme elements (first + index) events rest)))
 
     -- The joined sums of the parts of an epoch that all have sealed are the sum over the merged order.
     total-order : (histories : List (List Event)) → AllSeal index histories
         → total side (of_epoch (first + index) (told 0 histories))
-        ≡ sum_over lanes (among lanes elements (first + index) (order_of histories))
+        ≡ sum_over scheme (among scheme elements (first + index) (order_of histories))
     total-order histories all =
         ap (λ (parts : List Part). total side parts)
-        (own_epoch (first + index) 0 (length histories) (told 0 histories) (told-among lanes first index 0 histories))
+        (own_epoch (first + index) 0 (length histories) (told 0 histories) (told-among scheme first index 0 histories))
         ∙ total_from 0 histories [] all
-        ∙ sym (sum-order lanes elements (first + index) histories)
+        ∙ sym (sum-order scheme elements (first + index) histories)
 
   -- ---- the verdict
 
   -- the verdict where all have sealed the epoch
-  abbrev pub judged : List (List Event) → Verdict
+  abbrev pub judged : List (List Event) → Answer
   judged histories =
-      if is_balanced lanes (order_of histories) (first + index)
+      if is_balanced scheme (order_of histories) (first + index)
       then Balanced
-      else Unbalanced (sum_over lanes (added_in (first + index) (order_of histories)))
-      (sum_over lanes (evicted_in (first + index) (order_of histories)))
+      else Unbalanced (sum_over scheme (added_in (first + index) (order_of histories)))
+      (sum_over scheme (evicted_in (first + index) (order_of histories)))
 
   -- What a verdict tells: all have sealed the epoch and so it is, or one is missing.
-  abbrev pub Tells : List (List Event) → Verdict → Type 0
+  abbrev pub Tells : List (List Event) → Answer → Type 0
   Tells histories verdict =
       ((index < sealed_by_all histories) × (verdict ≡ judged histories))
       ⊎ ((sealed_by_all histories ≤ index) × ((missing : ℕ) × (verdict ≡ Missing missing)))
@@ -214,14 +214,14 @@ module _ (lanes : List ℕ → List ℕ) (first index : ℕ) where
 
   -- the verdict on two sums that are those of the merged order
   judged_by : (histories : List (List Event)) (added evicted : Tally)
-      → added ≡ sum_over lanes (added_in (first + index) (order_of histories))
-      → evicted ≡ sum_over lanes (evicted_in (first + index) (order_of histories))
-      → verdict_by None added evicted ≡ judged histories
+      → added ≡ sum_over scheme (added_in (first + index) (order_of histories))
+      → evicted ≡ sum_over scheme (evicted_in (first + index) (order_of histories))
+      → answer_by None added evicted ≡ judged histories
   judged_by histories added evicted a e =
-      let in_order = sum_over lanes (added_in (first + index) (order_of histories)) in
-      let out_order = sum_over lanes (evicted_in (first + index) (order_of histories)) in
-      ap (λ (sum : Tally). verdict_by None sum evicted) a
-      ∙ ap (λ (sum : Tally). verdict_by None in_order sum) e
+      let in_order = sum_over scheme (added_in (first + index) (order_of histories)) in
+      let out_order = sum_over scheme (evicted_in (first + index) (order_of histories)) in
+      ap (λ (sum : Tally). answer_by None sum evicted) a
+      ∙ ap (λ (sum : Tally). answer_by None in_order sum) e
       ∙ ap (λ (b : Bool). if b && in_order.count == out_order.count then Balanced else Unbalanced in_order out_order)
       (same_lanes in_order.lanes out_order.lanes)
 
@@ -253,7 +253,7 @@ module _ (lanes : List ℕ → List ℕ) (first index : ℕ) where
           (λ missing. (missing < length histories)
           × (has_part (told 0 histories) (first + index) missing ≡ false)
           × ((lower : ℕ) → lower < missing → has_part (told 0 histories) (first + index) lower ≡ true))
-          → Tells histories (verdict_by lowest added evicted)
+          → Tells histories (answer_by lowest added evicted)
       go None has =
           let all = seal_told 0 histories (λ verifier from below. has verifier (omega (arith, below))) in
           inl (
@@ -294,57 +294,57 @@ never_missing : (b : Bool) (added evicted : Tally) (missing : ℕ)
 never_missing true added evicted missing is = absurd (cc)
 never_missing false added evicted missing is = absurd (cc)
 
-module _ (digest lanes : List ℕ → List ℕ) (header : Header) (logs : List (List ℕ)) where
+module _ (scheme : Scheme) (header : Header) (logs : List (List ℕ)) where
   -- the logs that were read
   abbrev read : List Log
-  read = map (read_log short_keys) logs
+  read = map (read_log scheme.format) logs
 
   abbrev histories : List (List Event)
-  histories = histories_in digest lanes header read
+  histories = histories_in scheme header read
 
   -- all events in the merged order
   abbrev order : List Event
   order = order_of histories
 
   -- the verdict on an epoch by the parts of the runs
-  abbrev pub epoch_verdict : ℕ → Verdict
+  abbrev pub epoch_verdict : ℕ → Answer
   epoch_verdict index =
-      verdict_of header.verifiers (header.first + index) (parts_at index (courses_of digest lanes header logs))
+      verdict_of header.verifiers (header.first + index) (parts_at index (courses_of scheme header logs))
 
   module _ (whole : length logs ≡ header.verifiers) (some : 1 ≤ header.verifiers) (index : ℕ) where
     -- The verdict is what the histories say.
-    pub verdict-courses : Tells lanes header.first index histories (epoch_verdict index)
+    pub verdict-courses : Tells scheme header.first index histories (epoch_verdict index)
     verdict-courses =
-        let all = told_from digest lanes header 0 logs in
-        let count = told-length digest lanes header 0 logs in
-        subst (λ (n : ℕ). Tells lanes header.first index all
-        (verdict_of n (header.first + index) (parts_at index (courses_of digest lanes header logs)))) (count ∙ whole)
-        (subst (λ (parts : List Part). Tells lanes header.first index all
+        let all = told_from scheme header 0 logs in
+        let count = told-length scheme header 0 logs in
+        subst (λ (n : ℕ). Tells scheme header.first index all
+        (verdict_of n (header.first + index) (parts_at index (courses_of scheme header logs)))) (count ∙ whole)
+        (subst (λ (parts : List Part). Tells scheme header.first index all
         (verdict_of (length all) (header.first + index) parts))
-        (sym (parts-told digest lanes header index 0 logs))
-        (verdict_told lanes header.first index all (omega (arith, count, whole, some))))
+        (sym (parts-told scheme header index 0 logs))
+        (verdict_told scheme header.first index all (omega (arith, count, whole, some))))
 
     -- Where it is balanced, all have sealed the epoch, and its sums are one.
     pub verdict-balanced : epoch_verdict index ≡ Balanced
-        → (index < sealed_by_all histories) × (is_balanced lanes order (header.first + index) ≡ true)
+        → (index < sealed_by_all histories) × (is_balanced scheme order (header.first + index) ≡ true)
     verdict-balanced is = go verdict-courses
       where
-        go : Tells lanes header.first index histories (epoch_verdict index)
-            → (index < sealed_by_all histories) × (is_balanced lanes order (header.first + index) ≡ true)
+        go : Tells scheme header.first index histories (epoch_verdict index)
+            → (index < sealed_by_all histories) × (is_balanced scheme order (header.first + index) ≡ true)
         go (inl sealed) = (sealed.0, balanced_choice _ _ _ (sym sealed.1 ∙ is))
         go (inr missing) = absurd (missing_or_balanced missing.1.0 (sym missing.1.1 ∙ is))
 
     -- Where it is unbalanced, all have sealed the epoch, and its sums differ and are these.
     pub verdict-unbalanced : (added evicted : Tally) → epoch_verdict index ≡ Unbalanced added evicted
-        → (index < sealed_by_all histories) × (is_balanced lanes order (header.first + index) ≡ false)
-        × (added ≡ sum_over lanes (added_in (header.first + index) order))
-        × (evicted ≡ sum_over lanes (evicted_in (header.first + index) order))
+        → (index < sealed_by_all histories) × (is_balanced scheme order (header.first + index) ≡ false)
+        × (added ≡ sum_over scheme (added_in (header.first + index) order))
+        × (evicted ≡ sum_over scheme (evicted_in (header.first + index) order))
     verdict-unbalanced added evicted is = go verdict-courses
       where
-        go : Tells lanes header.first index histories (epoch_verdict index)
-            → (index < sealed_by_all histories) × (is_balanced lanes order (header.first + index) ≡ false)
-            × (added ≡ sum_over lanes (added_in (header.first + index) order))
-            × (evicted ≡ sum_over lanes (evicted_in (header.first + index) order))
+        go : Tells scheme header.first index histories (epoch_verdict index)
+            → (index < sealed_by_all histories) × (is_balanced scheme order (header.first + index) ≡ false)
+            × (added ≡ sum_over scheme (added_in (header.first + index) order))
+            × (evicted ≡ sum_over scheme (evicted_in (header.first + index) order))
         go (inl sealed) =
             let choice = unbalanced_choice _ _ _ added evicted (sym sealed.1 ∙ is) in
             (sealed.0, choice.0, choice.1, choice.2)
@@ -354,6 +354,6 @@ module _ (digest lanes : List ℕ → List ℕ) (header : Header) (logs : List (
     pub verdict-missing : (verifier : ℕ) → epoch_verdict index ≡ Missing verifier → sealed_by_all histories ≤ index
     verdict-missing verifier is = go verdict-courses
       where
-        go : Tells lanes header.first index histories (epoch_verdict index) → sealed_by_all histories ≤ index
+        go : Tells scheme header.first index histories (epoch_verdict index) → sealed_by_all histories ≤ index
         go (inl sealed) = absurd (never_missing _ _ _ verifier (sym sealed.1 ∙ is))
         go (inr missing) = missing.0

@@ -3,19 +3,20 @@ use Rattle.std.proofs.Common.{◌≡◌, ℕ, ◌==◌, Bool, true, false, List,
 use Rattle.std.specs.List.{AllByRecursion}
 use Rattle.std.proofs.lemmas.List.Elements.{filter-append}
 use Rattle.log_codec.specs.declared.command.Command.{Command}
-use Rattle.record_hash.specs.Hmac.{key_block}
-use Rattle.record_hash.specs.ShaDigests.{sha_text_digest, sha_element_lanes}
+use Rattle.record_hash.specs.Functions.{DigestFunctions}
+use Rattle.record_hash.specs.ShaDigests.{sha_under}
 use Rattle.record_hash.specs.Shapes.{IsDigest-sha256}
 use Rattle.lamport_clocks.specs.declared.header.Header.{Header}
 use Rattle.record_text.specs.Format.{short_keys}
 use Rattle.log_codec.specs.Log.{Log, read_log}
 use Rattle.merkle_records.specs.Merkle.{GivesDigests}
+use Rattle.merkle_records.specs.Scheme.{Scheme, scheme_of}
 use Rattle.record_text.specs.declared.operation.Operation.{Operation}
 use Rattle.stamp_order.specs.Merged.{of_verifier}
 use Rattle.stamp_order.specs.Operations.{moment_of}
-use Rattle.verifier_commands.specs.Change.{Change, joins, leaves, comes, goes, defers, reads, writes, turns}
+use Rattle.verifier_commands.specs.Change.{Change, did_add_m, did_evict_m, did_add_b, did_evict_b, did_evict_bm, did_get, did_put, did_next_epoch}
 use Rattle.soundness.specs.History.{Event, histories_of}
-use Rattle.soundness.specs.Certified.{event_moment, operation_at, operations_by, operations_in, order_of, order_up_to, order_within, sealed_by_all, certified_count}
+use Rattle.soundness.specs.Certified.{event_moment, operation_at, operations_by, operations_in, order_of, order_up_to, order_within, sealed_by_all, certified_count, certified_operations}
 use Rattle.soundness.specs.Sound.{IsSerialOrCollides}
 use Rattle.soundness.proofs.WholeLemmas.{order_part}
 use Rattle.soundness.specs.Typed.{IsTyped}
@@ -23,44 +24,44 @@ use Rattle.soundness.proofs.CertifiedLemmas.{counted_balanced}
 use Rattle.soundness.proofs.SoundLemmas.{sound}
 use Rattle.soundness.proofs.TypedLemmas.{read_typed}
 use Rattle.check_core.specs.Intake.{logged_of}
-use Rattle.check_core.specs.BundleReport.{histories_in}
-use Rattle.check_core.specs.Headline.{operations_at, exhibit_at, own_operations, KeepsLogsAt, IsSound, IsShaSound}
+use Rattle.check_core.specs.BundleReport.{histories_at}
+use Rattle.check_core.specs.Headline.{certified_exhibit, own_operations, KeepsEachLog, IsSoundAt, IsSound, IsShaSound}
 
 typed : (logs : List (List ℕ)) → AllByRecursion (AllByRecursion (IsTyped short_keys)) (map (λ (log : Log). log.commands) (map (read_log short_keys) logs))
 typed [] = tt
 typed (log ∷ logs) = (read_typed log, typed logs)
 
-serial_at : (digest lanes : List ℕ → List ℕ) (found : Option Header) (logs : List (List ℕ)) → GivesDigests digest
-    → IsSerialOrCollides digest lanes (exhibit_at digest lanes found logs) (operations_at digest lanes found logs)
-serial_at digest lanes None logs digests = inl (refl, tt)
-serial_at digest lanes (Some header) logs digests =
-    sound digest lanes header (map (λ (log : Log). log.commands) (map (read_log short_keys) logs)) (certified_count lanes header.first histories) digests (typed logs)
-    (counted_balanced lanes (order_of histories) header.first (sealed_by_all histories))
-  where
-    histories : List (List Event)
-    histories = histories_in digest lanes header (map (read_log short_keys) logs)
+serial_in : (functions : DigestFunctions) (header : Header) (logs : List (List ℕ)) → GivesDigests functions.digest
+    → let scheme = scheme_of functions header in
+    let histories = histories_at scheme header logs in
+    IsSerialOrCollides scheme (certified_exhibit scheme header.first histories) (certified_operations scheme header.first histories)
+serial_in functions header logs digests =
+    let scheme = scheme_of functions header in
+    let histories = histories_at scheme header logs in
+    sound functions header (map (λ (log : Log). log.commands) (map (read_log short_keys) logs)) (certified_count scheme header.first histories) digests (typed logs)
+    (counted_balanced scheme (order_of histories) header.first (sealed_by_all histories))
 
 -- ---- each verifier's order
 
 -- the operations of an event are its verifier's
 own-by : (verifier : ℕ) (event : Event) (change : Change) (b : Bool) → (event.verifier == verifier) ≡ b
     → of_verifier moment_of verifier (operations_by event change) ≡ (if b then operations_by event change else [])
-own-by verifier event (joins parent after child) true is = refl
-own-by verifier event (joins parent after child) false is = refl
-own-by verifier event (leaves parent after child) true is = refl
-own-by verifier event (leaves parent after child) false is = refl
-own-by verifier event (comes child element) true is = refl
-own-by verifier event (comes child element) false is = refl
-own-by verifier event (goes child element) true is = refl
-own-by verifier event (goes child element) false is = refl
-own-by verifier event (defers parent after child element) true is = refl
-own-by verifier event (defers parent after child element) false is = refl
-own-by verifier event (reads entry) true is = ap (λ (b : Bool). if b then operation_at event false entry ∷ [] else []) is
-own-by verifier event (reads entry) false is = ap (λ (b : Bool). if b then operation_at event false entry ∷ [] else []) is
-own-by verifier event (writes before after) true is = ap (λ (b : Bool). if b then operation_at event true after ∷ [] else []) is
-own-by verifier event (writes before after) false is = ap (λ (b : Bool). if b then operation_at event true after ∷ [] else []) is
-own-by verifier event (turns sealed) true is = refl
-own-by verifier event (turns sealed) false is = refl
+own-by verifier event (did_add_m parent after child) true is = refl
+own-by verifier event (did_add_m parent after child) false is = refl
+own-by verifier event (did_evict_m parent after child) true is = refl
+own-by verifier event (did_evict_m parent after child) false is = refl
+own-by verifier event (did_add_b child element) true is = refl
+own-by verifier event (did_add_b child element) false is = refl
+own-by verifier event (did_evict_b child element) true is = refl
+own-by verifier event (did_evict_b child element) false is = refl
+own-by verifier event (did_evict_bm parent after child element) true is = refl
+own-by verifier event (did_evict_bm parent after child element) false is = refl
+own-by verifier event (did_get entry) true is = ap (λ (b : Bool). if b then operation_at event false entry ∷ [] else []) is
+own-by verifier event (did_get entry) false is = ap (λ (b : Bool). if b then operation_at event false entry ∷ [] else []) is
+own-by verifier event (did_put before after) true is = ap (λ (b : Bool). if b then operation_at event true after ∷ [] else []) is
+own-by verifier event (did_put before after) false is = ap (λ (b : Bool). if b then operation_at event true after ∷ [] else []) is
+own-by verifier event (did_next_epoch sealed) true is = refl
+own-by verifier event (did_next_epoch sealed) false is = refl
 
 -- the operations of a verifier among events are those of its events
 own-operations : (verifier : ℕ) (events : List Event) → of_verifier moment_of verifier (operations_in events) ≡ operations_in (of_verifier event_moment verifier events)
@@ -79,33 +80,33 @@ own-operations verifier (event ∷ events) =
     go false is further =
         ap (λ (own : List Operation). own ++ of_verifier moment_of verifier (operations_in events)) (own-by verifier event event.change false is) ∙ further
 
-keeps_logs : (digest lanes : List ℕ → List ℕ) (header : Header) (logs : List (List ℕ)) → KeepsLogsAt digest lanes (Some header) logs
-keeps_logs digest lanes header logs = λ verifier. go verifier (certified_count lanes header.first histories)
+keeps_logs : (scheme : Scheme) (header : Header) (logs : List (List ℕ)) → KeepsEachLog scheme header.first (histories_at scheme header logs)
+keeps_logs scheme header logs = λ verifier. go verifier (certified_count scheme header.first histories)
   where
     commands : List (List Command)
-    commands = map (λ (log : Log). log.commands) (map (read_log short_keys) logs)
+    commands = map (λ (log : Log). log.commands) (map (read_log scheme.format) logs)
 
     histories : List (List Event)
-    histories = histories_of digest lanes header commands
+    histories = histories_of scheme header commands
 
     go : (verifier count : ℕ) → of_verifier moment_of verifier (operations_in (order_within header.first count histories)) ≡ own_operations header.first count (get_or histories verifier [])
     go verifier zero = refl
     go verifier (suc count) =
         own-operations verifier (order_up_to (header.first + count) histories)
-        ∙ ap operations_in (order_part digest lanes header commands (header.first + count) verifier)
+        ∙ ap operations_in (order_part scheme header commands (header.first + count) verifier)
 
-keeps_at : (digest lanes : List ℕ → List ℕ) (found : Option Header) (logs : List (List ℕ)) → KeepsLogsAt digest lanes found logs
-keeps_at digest lanes None logs = tt
-keeps_at digest lanes (Some header) logs = keeps_logs digest lanes header logs
-
-pub headline : (digest lanes : List ℕ → List ℕ) (bytes : List ℕ) → GivesDigests digest → IsSound digest lanes bytes
-headline digest lanes bytes digests = record {
-  order = keeps_at digest lanes (logged_of bytes).header (logged_of bytes).logs;
-  serial = serial_at digest lanes (logged_of bytes).header (logged_of bytes).logs digests;
+sound_at : (functions : DigestFunctions) (found : Option Header) (logs : List (List ℕ)) → GivesDigests functions.digest → IsSoundAt functions found logs
+sound_at functions None logs digests = tt
+sound_at functions (Some header) logs digests = record {
+  order = keeps_logs (scheme_of functions header) header logs;
+  serial = serial_in functions header logs digests;
 }
 
+pub headline : (functions : DigestFunctions) (bytes : List ℕ) → GivesDigests functions.digest → IsSound functions bytes
+headline functions bytes digests = sound_at functions (logged_of bytes).header (logged_of bytes).logs digests
+
 pub sha_headline : (key bytes : List ℕ) → IsShaSound key bytes
-sha_headline key bytes = headline sha_text_digest (sha_element_lanes (key_block key)) bytes (λ text. (IsDigest-sha256 text).size)
+sha_headline key bytes = headline (sha_under key) bytes (λ text. (IsDigest-sha256 text).size)
 
 -- what holds of any bytes holds of those that a source has, if it tells them
 pub of_left : (P : List ℕ → Type 0) (left : Option (List ℕ)) → ((bytes : List ℕ) → P bytes) → IfSome left P

@@ -1,11 +1,12 @@
 -- The trace of a verifier over commands is told by the events of the commands: its operations, how many commands were
 -- accepted, and why the next was refused.
 use Rattle.std.proofs.Common.{◌≡◌, ℕ, suc, ◌+◌, List, [], ◌∷◌, ◌++◌, length, Some, None, Ok, Err, refl, sym, ◌∙◌, ap, add-one, add-zero, arith}
+use Rattle.merkle_records.specs.Scheme.{Scheme}
 use Rattle.lamport_clocks.specs.declared.stamp.Stamp.{Stamp}
 use Rattle.record_text.specs.declared.operation.Operation.{Operation}
 use Rattle.log_codec.specs.declared.command.Command.{Command}
 use Rattle.verifier_commands.specs.declared.state.State.{State}
-use Rattle.verifier_commands.specs.Change.{Change, joins, leaves, comes, goes, defers, reads, writes, turns}
+use Rattle.verifier_commands.specs.Change.{Change, did_add_m, did_evict_m, did_add_b, did_evict_b, did_evict_bm, did_get, did_put, did_next_epoch}
 use Rattle.verifier_commands.specs.Outcome.{outcome_of, told}
 use Rattle.verifier_commands.specs.Transition.{Step, transition}
 use Rattle.verifier_commands.specs.Machine.{Machine, effect_of, machine_after, concluded, rules_for}
@@ -23,24 +24,24 @@ next_event machine at change =
 -- the operation that an effect is, is that of its change
 operation_told : (machine : Machine) (at : Stamp) (change : Change)
     → operation_in (effect_of machine at (outcome_of change)) ≡ operations_by (next_event machine at change) change
-operation_told machine at (joins parent after child) = refl
-operation_told machine at (leaves parent after child) = refl
-operation_told machine at (comes child element) = refl
-operation_told machine at (goes child element) = refl
-operation_told machine at (defers parent after child element) = refl
-operation_told machine at (reads entry) = refl
-operation_told machine at (writes before after) = refl
-operation_told machine at (turns None) = refl
-operation_told machine at (turns (Some sealed)) = refl
+operation_told machine at (did_add_m parent after child) = refl
+operation_told machine at (did_evict_m parent after child) = refl
+operation_told machine at (did_add_b child element) = refl
+operation_told machine at (did_evict_b child element) = refl
+operation_told machine at (did_evict_bm parent after child element) = refl
+operation_told machine at (did_get entry) = refl
+operation_told machine at (did_put before after) = refl
+operation_told machine at (did_next_epoch None) = refl
+operation_told machine at (did_next_epoch (Some sealed)) = refl
 
-module _ (digest lanes : List ℕ → List ℕ) where
+module _ (scheme : Scheme) where
   -- the machine after a change that left this state
   abbrev pub changed : Machine → Change × State → Machine
-  changed machine done = machine_after (rules_for digest lanes machine) machine (outcome_of done.0) done.1
+  changed machine done = machine_after (rules_for scheme machine) machine (outcome_of done.0) done.1
 
   -- the machinery of a machine
   abbrev pub machinery_of : Machine → Machinery State Command
-  machinery_of machine = machinery_under (rules_for digest lanes machine)
+  machinery_of machine = machinery_under (rules_for scheme machine)
 
   -- the events of a machine's commands, from where it stands
   abbrev pub machine_events : Machine → List Command → List Event
@@ -56,8 +57,8 @@ module _ (digest lanes : List ℕ → List ℕ) where
   -- the trace of a step, and of the commands behind it
   abbrev pub step_trace : Machine → List Command → Step → Trace
   step_trace machine commands step =
-      trace_behind machine (concluded (rules_for digest lanes machine) machine (told step))
-      (λ after. trace digest lanes after commands)
+      trace_behind machine (concluded (rules_for scheme machine) machine (told step))
+      (λ after. trace scheme after commands)
 
   -- what was done by an accepted command, and then by the machine after it
   pub events-accepted : (machine : Machine) (commands : List Command) (done : Change × State)
@@ -72,10 +73,10 @@ module _ (digest lanes : List ℕ → List ℕ) where
 
   operations_behind : (machine : Machine) (commands : List Command) (step : Step)
       → ((after : Machine)
-      → operations_of (trace digest lanes after commands).effects ≡ operations_in (machine_events after commands))
+      → operations_of (trace scheme after commands).effects ≡ operations_in (machine_events after commands))
       → operations_of (step_trace machine commands step).effects ≡ operations_in (step_events machine commands step)
   operations_behind machine commands (Ok done) further =
-      ap (λ (ops : List Operation). ops ++ operations_of (trace digest lanes (changed machine done) commands).effects)
+      ap (λ (ops : List Operation). ops ++ operations_of (trace scheme (changed machine done) commands).effects)
       (operation_told machine done.1.clock.at done.0)
       ∙ ap (λ (ops : List Operation). operations_by (next_event machine done.1.clock.at done.0) done.0 ++ ops)
       (further (changed machine done))
@@ -84,18 +85,18 @@ module _ (digest lanes : List ℕ → List ℕ) where
 
   -- The operations of a trace are those of the events.
   pub trace-operations : (machine : Machine) (commands : List Command)
-      → operations_of (trace digest lanes machine commands).effects ≡ operations_in (machine_events machine commands)
+      → operations_of (trace scheme machine commands).effects ≡ operations_in (machine_events machine commands)
   unfolding trace events_from
   trace-operations machine [] = refl
   trace-operations machine (command ∷ commands) =
-      operations_behind machine commands (transition (rules_for digest lanes machine) machine.state command)
+      operations_behind machine commands (transition (rules_for scheme machine) machine.state command)
       (λ after. trace-operations after commands)
 
   -- ---- how many were accepted, and why the next was not
 
   accepted_behind : (machine : Machine) (commands : List Command) (step : Step)
       → ((after : Machine)
-      → (trace digest lanes after commands).machine.accepted ≡ after.accepted + length (machine_events after commands))
+      → (trace scheme after commands).machine.accepted ≡ after.accepted + length (machine_events after commands))
       → (step_trace machine commands step).machine.accepted
       ≡ machine.accepted + length (step_events machine commands step)
   accepted_behind machine commands (Ok done) further =
@@ -107,17 +108,17 @@ module _ (digest lanes : List ℕ → List ℕ) where
 
   -- As many commands were accepted as there are events.
   pub trace-accepted : (machine : Machine) (commands : List Command)
-      → (trace digest lanes machine commands).machine.accepted
+      → (trace scheme machine commands).machine.accepted
       ≡ machine.accepted + length (machine_events machine commands)
   unfolding trace events_from
   trace-accepted machine [] = sym (add-zero machine.accepted)
   trace-accepted machine (command ∷ commands) =
-      accepted_behind machine commands (transition (rules_for digest lanes machine) machine.state command)
+      accepted_behind machine commands (transition (rules_for scheme machine) machine.state command)
       (λ after. trace-accepted after commands)
 
   refused_behind : (machine : Machine) (commands : List Command) (step : Step)
       → ((after : Machine)
-      → (trace digest lanes after commands).refused ≡ refusal_from (machinery_of after) after.state commands)
+      → (trace scheme after commands).refused ≡ refusal_from (machinery_of after) after.state commands)
       → (step_trace machine commands step).refused
       ≡ refusal_behind step (λ after. refusal_from (machinery_of machine) after commands)
   refused_behind machine commands (Ok done) further = further (changed machine done)
@@ -125,9 +126,9 @@ module _ (digest lanes : List ℕ → List ℕ) where
 
   -- The refusal that ends a trace is the one that ends the events.
   pub trace-refused : (machine : Machine) (commands : List Command)
-      → (trace digest lanes machine commands).refused ≡ refusal_from (machinery_of machine) machine.state commands
+      → (trace scheme machine commands).refused ≡ refusal_from (machinery_of machine) machine.state commands
   unfolding trace refusal_from
   trace-refused machine [] = refl
   trace-refused machine (command ∷ commands) =
-      refused_behind machine commands (transition (rules_for digest lanes machine) machine.state command)
+      refused_behind machine commands (transition (rules_for scheme machine) machine.state command)
       (λ after. trace-refused after commands)

@@ -17,5 +17,5 @@ pub mod EpochVerdictLemmas
 pub mod CertifiedCountLemmas
 pub mod ManyLemmas
 pub mod RunningLemmas
-pub mod VerdictLemmas
+pub mod AnswerLemmas
 pub mod HeadlineLemmas

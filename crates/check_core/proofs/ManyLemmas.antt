@@ -1,14 +1,14 @@
 -- What the runs of all verifiers come to is the verdict by their logs, and their parts can be judged.
 use Rattle.std.proofs.Common.{◌≡◌, ℕ, zero, suc, ◌+◌, ◌-◌, ◌<◌, ◌≤◌, List, [], ◌∷◌, ◌++◌, length, map, take, drop, slice_get, Option, Some, None, refl, sym, ◌∙◌, ap, subst, add-zero, arith}
+use Rattle.merkle_records.specs.Scheme.{Scheme}
 use Rattle.std.specs.Option.{option_map, option_or}
 use Rattle.lamport_clocks.specs.declared.header.Header.{Header}
 use Rattle.lamport_clocks.specs.Header.{IsHeader}
 use Rattle.record_text.specs.declared.operation.Operation.{Operation}
 use Rattle.record_text.specs.declared.refusal.Refusal.{Refusal}
-use Rattle.record_text.specs.Format.{short_keys}
 use Rattle.log_codec.specs.Log.{Log, read_log}
 use Rattle.multiset_sum.specs.declared.part.Part.{Part}
-use Rattle.epoch_gather.specs.declared.outcome.Verdict.{Verdict as Ruling}
+use Rattle.epoch_gather.specs.declared.outcome.Verdict.{Verdict}
 use Rattle.epoch_gather.specs.declared.outcome.Verdict.TheVariants.{Balanced, Unbalanced, Missing}
 use Rattle.epoch_gather.specs.Verdict.{verdict_of}
 use Rattle.verifier_run.specs.Course.{Course}
@@ -18,11 +18,11 @@ use Rattle.report_text.specs.Status.{last_line}
 use Rattle.soundness.specs.History.{Event, log_events}
 use Rattle.soundness.specs.Certified.{order_of, sealed_count, sealed_by_all, balanced_from, certified_count}
 use Rattle.check_core.specs.declared.judging.Judged.{Judged}
-use Rattle.check_core.specs.Verdict.{Verdict, verdict_on}
+use Rattle.check_core.specs.Answer.{Answer, answer_on}
 use Rattle.check_core.specs.Report.{front_count, epoch_text, certified_text}
 use Rattle.check_core.specs.BundleReport.{epochs_from, refused_status, done_or_bad, status_or, exit_of, report_of_logs, histories_in}
 use Rattle.check_core.specs.RunReport.{courses_from, courses_of, parts_at, operations_among, operations_within, first_refused, epochs_text}
-use Rattle.check_core.specs.Judged.{judged_by, judged_from, judged, CanBeJudged, first_parts, last_epoch, operations_by, refused_log_by, refused_log, ends_by, verdict_judged, verdict_of_runs}
+use Rattle.check_core.specs.Judged.{judged_by, judged_from, judged, CanBeJudged, first_parts, last_epoch, operations_by, refused_log_by, refused_log, ends_by, answer_judged, answer_of_runs}
 use Rattle.check_core.proofs.PartLemmas.{part_of, log-parts}
 use Rattle.check_core.proofs.EpochPartLemmas.{parts-numbers, parts-once, parts-counts}
 use Rattle.check_core.proofs.EpochVerdictLemmas.{epoch_verdict}
@@ -32,17 +32,17 @@ use Rattle.check_core.proofs.CertifiedCountLemmas.{counted_from, counted-start, 
 
 -- ---- the parts of epochs one after another
 
-module _ (lanes : List ℕ → List ℕ) (number : ℕ) (events : List Event) where
+module _ (scheme : Scheme) (number : ℕ) (events : List Event) where
   -- the parts of so many epochs from this one on
   abbrev parts_in : ℕ → ℕ → List Part
-  parts_in epoch count = map (part_of lanes number events) (epochs_from epoch count)
+  parts_in epoch count = map (part_of scheme number events) (epochs_from epoch count)
 
   -- those of the first of them
   take-parts : (count many epoch : ℕ) → count ≤ many → take count (parts_in epoch many) ≡ parts_in epoch count
   take-parts zero many epoch within = refl
   take-parts (suc count) zero epoch within = absurd (omega (arith, within))
   take-parts (suc count) (suc many) epoch within =
-      ap (λ (parts : List Part). part_of lanes number events epoch ∷ parts)
+      ap (λ (parts : List Part). part_of scheme number events epoch ∷ parts)
       (take-parts count many (suc epoch) (omega (arith, within)))
 
   -- there are so many
@@ -52,15 +52,15 @@ module _ (lanes : List ℕ → List ℕ) (number : ℕ) (events : List Event) wh
 
   -- the part at a place
   part_there : (place count epoch : ℕ) → place < count
-      → slice_get (parts_in epoch count) place ≡ Some (part_of lanes number events (epoch + place))
+      → slice_get (parts_in epoch count) place ≡ Some (part_of scheme number events (epoch + place))
   part_there place zero epoch below = absurd (omega (arith, below))
   part_there zero (suc count) epoch below =
       let same : epoch ≡ epoch + 0 = omega arith in
-      ap (λ (e : ℕ). Some (part_of lanes number events e)) same
+      ap (λ (e : ℕ). Some (part_of scheme number events e)) same
   part_there (suc place) (suc count) epoch below =
       let same : suc epoch + place ≡ epoch + suc place = omega arith in
       part_there place count (suc epoch) (omega (arith, below))
-      ∙ ap (λ (e : ℕ). Some (part_of lanes number events e)) same
+      ∙ ap (λ (e : ℕ). Some (part_of scheme number events e)) same
 
   -- the epoch of the last
   last-part : (count epoch : ℕ) → last_epoch (parts_in epoch (suc count)) ≡ Some (epoch + count)
@@ -108,25 +108,25 @@ ends-even count number (course ∷ courses) bad = go course.refused (ends-even c
 -- ---- the courses
 
 -- there is a course of each log
-pub courses-length : (digest lanes : List ℕ → List ℕ) (header : Header) (number : ℕ) (logs : List (List ℕ))
-    → length (courses_from digest lanes header number logs) ≡ length logs
-courses-length digest lanes header number [] = refl
-courses-length digest lanes header number (log ∷ logs) =
-    ap suc (courses-length digest lanes header (suc number) logs)
+pub courses-length : (scheme : Scheme) (header : Header) (number : ℕ) (logs : List (List ℕ))
+    → length (courses_from scheme header number logs) ≡ length logs
+courses-length scheme header number [] = refl
+courses-length scheme header number (log ∷ logs) =
+    ap suc (courses-length scheme header (suc number) logs)
 
 -- The parts of the runs can be judged.
-pub can_be_judged : (digest lanes : List ℕ → List ℕ) (header : Header) (logs : List (List ℕ)) → IsHeader header
+pub can_be_judged : (scheme : Scheme) (header : Header) (logs : List (List ℕ)) → IsHeader header
     → length logs ≡ header.verifiers
-    → (index : ℕ) → CanBeJudged (length (courses_of digest lanes header logs))
-    (parts_at index (courses_of digest lanes header logs))
-can_be_judged digest lanes header logs good whole index =
-    let courses = courses_of digest lanes header logs in
+    → (index : ℕ) → CanBeJudged (length (courses_of scheme header logs))
+    (parts_at index (courses_of scheme header logs))
+can_be_judged scheme header logs good whole index =
+    let courses = courses_of scheme header logs in
     subst (λ (verifiers : ℕ). CanBeJudged verifiers (parts_at index courses))
-    (sym (courses-length digest lanes header 0 logs ∙ whole))
+    (sym (courses-length scheme header 0 logs ∙ whole))
     (record {
-      numbers = parts-numbers digest lanes header index logs whole;
-      once = parts-once digest lanes header index logs;
-      counts = parts-counts digest lanes header index logs good;
+      numbers = parts-numbers scheme header index logs whole;
+      once = parts-once scheme header index logs;
+      counts = parts-counts scheme header index logs good;
     })
 
 -- all histories have sealed no more epochs than the first
@@ -143,24 +143,24 @@ judged-first verifiers (course ∷ courses) = refl
 
 -- ---- epoch after epoch
 
-module _ (digest lanes : List ℕ → List ℕ) (header : Header) (logs : List (List ℕ)) where
+module _ (scheme : Scheme) (header : Header) (logs : List (List ℕ)) where
   -- the logs that were read
   abbrev read : List Log
-  read = map (read_log short_keys) logs
+  read = map (read_log scheme.format) logs
 
   abbrev histories : List (List Event)
-  histories = histories_in digest lanes header read
+  histories = histories_in scheme header read
 
   abbrev courses : List Course
-  courses = courses_of digest lanes header logs
+  courses = courses_of scheme header logs
 
   -- how many epochs are certified
   abbrev certified : ℕ
-  certified = certified_count lanes header.first histories
+  certified = certified_count scheme header.first histories
 
   -- how the report ends
   abbrev exit : Option ℕ → Status
-  exit bad = exit_of digest lanes header read histories bad
+  exit bad = exit_of scheme header read histories bad
 
   -- What was judged of so many epochs, behind those that are known to be balanced, is what the histories say.
   abbrev IsJudged : Option ℕ → ℕ → ℕ → Judged → Type 0
@@ -170,53 +170,53 @@ module _ (digest lanes : List ℕ → List ℕ) (header : Header) (logs : List (
       × (more.count ≤ many)
 
   -- behind all that are sealed nothing is counted
-  counted-past : (done : ℕ) → sealed_by_all histories ≤ done → counted_from digest lanes header logs done ≡ done
+  counted-past : (done : ℕ) → sealed_by_all histories ≤ done → counted_from scheme header logs done ≡ done
   counted-past done past =
       let none : sealed_by_all histories - done ≡ 0 = omega (arith, past) in
-      ap (λ (n : ℕ). done + balanced_from lanes (order_of histories) (header.first + done) n) none ∙ add-zero done
+      ap (λ (n : ℕ). done + balanced_from scheme (order_of histories) (header.first + done) n) none ∙ add-zero done
 
   module _ (whole : length logs ≡ header.verifiers) (some : 1 ≤ header.verifiers) (bad : Option ℕ) where
     -- an epoch by its verdict, and those behind it
     judged-epoch : (done many epoch : ℕ) → epoch ≡ header.first + done
-        → counted_from digest lanes header logs done ≡ certified
-        → (ruling : Ruling) → epoch_verdict digest lanes header logs done ≡ ruling → (more : Judged)
-        → (counted_from digest lanes header logs (suc done) ≡ certified → IsJudged bad (suc done) many more)
+        → counted_from scheme header logs done ≡ certified
+        → (ruling : Verdict) → epoch_verdict scheme header logs done ≡ ruling → (more : Judged)
+        → (counted_from scheme header logs (suc done) ≡ certified → IsJudged bad (suc done) many more)
         → IsJudged bad done (suc many) (judged_by epoch ruling more)
     judged-epoch done many epoch at count Balanced is more further =
         let next : suc done ≡ done + 1 = omega arith in
-        let behind = further (ap (counted_from digest lanes header logs) next
-        ∙ counted-balanced digest lanes header logs whole some done is ∙ count) in
+        let behind = further (ap (counted_from scheme header logs) next
+        ∙ counted-balanced scheme header logs whole some done is ∙ count) in
         let same : suc done + more.count ≡ done + suc more.count = omega arith in (
           sym same ∙ behind.0,
           ap (λ (n : ℕ). ends_by n more.unbalanced (refused_log 0 courses) bad) (sym same) ∙ behind.1,
           omega (arith, behind.2),
         )
     judged-epoch done many epoch at count (Unbalanced added evicted) is more further = (
-      add-zero done ∙ sym (counted-unbalanced digest lanes header logs whole some done added evicted is) ∙ count,
+      add-zero done ∙ sym (counted-unbalanced scheme header logs whole some done added evicted is) ∙ count,
       ap (λ (e : ℕ). statuses.Unbalanced e added evicted) at
-          ∙ ends-unbalanced digest lanes header logs whole some done bad added evicted count is,
+          ∙ ends-unbalanced scheme header logs whole some done bad added evicted count is,
       omega arith,
     )
     judged-epoch done many epoch at count (Missing verifier) is more further = (
-      add-zero done ∙ sym (counted-missing digest lanes header logs whole some done verifier is) ∙ count,
+      add-zero done ∙ sym (counted-missing scheme header logs whole some done verifier is) ∙ count,
       ends-even (done + 0) 0 courses bad
           ∙ ap (λ (n : ℕ). status_or (first_refused 0 courses) (done_or_bad n bad)) (add-zero done)
-          ∙ ends-missing digest lanes header logs whole some done bad verifier count is,
+          ∙ ends-missing scheme header logs whole some done bad verifier count is,
       omega arith,
     )
 
     -- So many epochs, where all that are sealed by all are among them and those before.
     judged-epochs : (number : ℕ) (events : List Event) (many done epoch : ℕ) → epoch ≡ header.first + done
         → sealed_by_all histories ≤ done + many
-        → counted_from digest lanes header logs done ≡ certified
+        → counted_from scheme header logs done ≡ certified
         → IsJudged bad done many
-        (judged_from header.verifiers done (parts_in lanes number events epoch many) courses)
+        (judged_from header.verifiers done (parts_in scheme number events epoch many) courses)
     judged-epochs number events zero done epoch at past count =
         let own : done ≡ certified = sym (counted-past done (omega (arith, past))) ∙ count in
         let same : done + 0 ≡ certified = add-zero done ∙ own in (
           same,
           ends-even (done + 0) 0 courses bad
-              ∙ exit-whole digest lanes header logs bad (done + 0) same (omega (arith, past)),
+              ∙ exit-whole scheme header logs bad (done + 0) same (omega (arith, past)),
           omega arith,
         )
     judged-epochs number events (suc many) done epoch at past count =
@@ -224,25 +224,25 @@ module _ (digest lanes : List ℕ → List ℕ) (header : Header) (logs : List (
         judged-epoch done many epoch at count
         (verdict_of header.verifiers epoch (parts_at done courses))
         (ap (λ (e : ℕ). verdict_of header.verifiers e (parts_at done courses)) (sym at))
-        (judged_from header.verifiers (suc done) (parts_in lanes number events (suc epoch) many) courses)
+        (judged_from header.verifiers (suc done) (parts_in scheme number events (suc epoch) many) courses)
         (λ counted. judged-epochs number events many (suc done) (suc epoch) next (omega (arith, past)) counted)
 
     -- ---- the verdict
 
     -- a verdict by its text and status
-    abbrev verdict_told : List ℕ → Status → Verdict
+    abbrev verdict_told : List ℕ → Status → Answer
     verdict_told text status = record { text = text; status = status }
 
     -- What was judged, where the first course has the parts of so many epochs.
     verdict-judged : (number : ℕ) (events : List Event) (many : ℕ) (found : Judged)
-        → first_parts courses ≡ parts_in lanes number events header.first many
+        → first_parts courses ≡ parts_in scheme number events header.first many
         → IsJudged bad 0 many found
-        → verdict_judged found courses bad ≡ verdict_on digest lanes header read bad
+        → answer_judged found courses bad ≡ answer_on scheme header read bad
     verdict-judged number events many found first is =
         let count = found.count in
         let ends = ends_by count found.unbalanced (refused_log 0 courses) bad in
-        let parts : take count (first_parts courses) ≡ parts_in lanes number events header.first count =
-        ap (take count) first ∙ take-parts lanes number events count many header.first is.2 in
+        let parts : take count (first_parts courses) ≡ parts_in scheme number events header.first count =
+        ap (take count) first ∙ take-parts scheme number events count many header.first is.2 in
         let own = operations_within header.first count (operations_among courses) in
         let same : count ≡ 0 + count = omega arith in
         let counted = same ∙ is.0 in
@@ -251,67 +251,67 @@ module _ (digest lanes : List ℕ → List ℕ) (header : Header) (logs : List (
         ap (λ (ps : List Part). verdict_told
         (certified_text ps (operations_by (last_epoch ps) courses) ++ last_line ends) ends) parts
         ∙ ap (λ (ops : List Operation). verdict_told
-        (certified_text (parts_in lanes number events header.first count) ops ++ last_line ends) ends)
-        (operations-parts lanes number events count header.first courses)
+        (certified_text (parts_in scheme number events header.first count) ops ++ last_line ends) ends)
+        (operations-parts scheme number events count header.first courses)
         ∙ ap (λ (text : List ℕ). verdict_told (text ++ last_line ends) ends)
-        (text-epochs lanes number events count header.first own)
+        (text-epochs scheme number events count header.first own)
         ∙ ap (λ (text : List ℕ). verdict_told text ends)
-        (report_by_courses digest lanes header logs bad count own ends counted refl ended)
-        ∙ ap (verdict_told (report_of_logs digest lanes header read histories bad)) ended
+        (report_by_courses scheme header logs bad count own ends counted refl ended)
+        ∙ ap (verdict_told (report_of_logs scheme header read histories bad)) ended
 
 -- ---- of all verifiers
 
-module _ (digest lanes : List ℕ → List ℕ) (header : Header) (log : List ℕ) (logs : List (List ℕ)) (good : IsHeader header) (whole : length (log ∷ logs) ≡ header.verifiers) where
+module _ (scheme : Scheme) (header : Header) (log : List ℕ) (logs : List (List ℕ)) (good : IsHeader header) (whole : length (log ∷ logs) ≡ header.verifiers) where
   -- what the logs come to
   abbrev all_courses : List Course
-  all_courses = courses_of digest lanes header (log ∷ logs)
+  all_courses = courses_of scheme header (log ∷ logs)
 
   -- the history of the first log
   abbrev first_events : List Event
-  first_events = log_events digest lanes header 0 (read_log short_keys log).commands
+  first_events = log_events scheme header 0 (read_log scheme.format log).commands
 
   -- its parts
   abbrev its_parts : List Part
-  its_parts = parts_in lanes 0 first_events header.first (sealed_count first_events)
+  its_parts = parts_in scheme 0 first_events header.first (sealed_count first_events)
 
   -- what is judged, by its parts
   abbrev found : Judged
   found = judged_from header.verifiers 0 its_parts all_courses
 
   its-parts : first_parts all_courses ≡ its_parts
-  its-parts = log-parts digest lanes header 0 (read_log short_keys log).commands
+  its-parts = log-parts scheme header 0 (read_log scheme.format log).commands
 
   judged-found : judged (length all_courses) all_courses ≡ found
   judged-found =
-      ap (λ (verifiers : ℕ). judged verifiers all_courses) (courses-length digest lanes header 0 (log ∷ logs) ∙ whole)
+      ap (λ (verifiers : ℕ). judged verifiers all_courses) (courses-length scheme header 0 (log ∷ logs) ∙ whole)
       ∙ judged-first header.verifiers all_courses
       ∙ ap (λ (parts : List Part). judged_from header.verifiers 0 parts all_courses) its-parts
 
-  found-judged : (bad : Option ℕ) → IsJudged digest lanes header (log ∷ logs) bad 0 (sealed_count first_events) found
+  found-judged : (bad : Option ℕ) → IsJudged scheme header (log ∷ logs) bad 0 (sealed_count first_events) found
   found-judged bad =
-      judged-epochs digest lanes header (log ∷ logs) whole good.some_verifiers bad 0 first_events (sealed_count first_events) 0 header.first
+      judged-epochs scheme header (log ∷ logs) whole good.some_verifiers bad 0 first_events (sealed_count first_events) 0 header.first
       (sym (add-zero header.first))
-      (omega (arith, sealed_first first_events (told_from digest lanes header 1 logs)))
-      (counted-start digest lanes header (log ∷ logs))
+      (omega (arith, sealed_first first_events (told_from scheme header 1 logs)))
+      (counted-start scheme header (log ∷ logs))
 
 -- What the runs of all verifiers come to is the verdict by their logs.
-pub verdict-many : (digest lanes : List ℕ → List ℕ) (header : Header) (logs : List (List ℕ)) (bad : Option ℕ)
+pub verdict-many : (scheme : Scheme) (header : Header) (logs : List (List ℕ)) (bad : Option ℕ)
     → IsHeader header → length logs ≡ header.verifiers
-    → verdict_of_runs (courses_of digest lanes header logs) bad
-    ≡ verdict_on digest lanes header (map (read_log short_keys) logs) bad
-verdict-many digest lanes header [] bad good whole = absurd (omega (arith, whole, good.some_verifiers))
-verdict-many digest lanes header (log ∷ logs) bad good whole =
-    ap (λ (j : Judged). verdict_judged j (courses_of digest lanes header (log ∷ logs)) bad) (judged-found digest lanes header log logs good whole)
-    ∙ verdict-judged digest lanes header (log ∷ logs) whole good.some_verifiers bad 0
-    (first_events digest lanes header log logs good whole) (sealed_count (first_events digest lanes header log logs good whole)) (found digest lanes header log logs good whole)
-    (its-parts digest lanes header log logs good whole) (found-judged digest lanes header log logs good whole bad)
+    → answer_of_runs (courses_of scheme header logs) bad
+    ≡ answer_on scheme header (map (read_log scheme.format) logs) bad
+verdict-many scheme header [] bad good whole = absurd (omega (arith, whole, good.some_verifiers))
+verdict-many scheme header (log ∷ logs) bad good whole =
+    ap (λ (j : Judged). answer_judged j (courses_of scheme header (log ∷ logs)) bad) (judged-found scheme header log logs good whole)
+    ∙ verdict-judged scheme header (log ∷ logs) whole good.some_verifiers bad 0
+    (first_events scheme header log logs good whole) (sealed_count (first_events scheme header log logs good whole)) (found scheme header log logs good whole)
+    (its-parts scheme header log logs good whole) (found-judged scheme header log logs good whole bad)
 
 -- As many epochs are certified as are judged to be balanced.
-pub count-many : (digest lanes : List ℕ → List ℕ) (header : Header) (logs : List (List ℕ)) → IsHeader header → length logs ≡ header.verifiers
-    → (judged (length (courses_of digest lanes header logs)) (courses_of digest lanes header logs)).count
-    ≡ certified_count lanes header.first (histories_in digest lanes header (map (read_log short_keys) logs))
-count-many digest lanes header [] good whole = absurd (omega (arith, whole, good.some_verifiers))
-count-many digest lanes header (log ∷ logs) good whole =
-    let counted : 0 + (found digest lanes header log logs good whole).count ≡ (found digest lanes header log logs good whole).count = omega arith in
-    ap (λ (j : Judged). j.count) (judged-found digest lanes header log logs good whole)
-    ∙ sym counted ∙ (found-judged digest lanes header log logs good whole None).0
+pub count-many : (scheme : Scheme) (header : Header) (logs : List (List ℕ)) → IsHeader header → length logs ≡ header.verifiers
+    → (judged (length (courses_of scheme header logs)) (courses_of scheme header logs)).count
+    ≡ certified_count scheme header.first (histories_in scheme header (map (read_log scheme.format) logs))
+count-many scheme header [] good whole = absurd (omega (arith, whole, good.some_verifiers))
+count-many scheme header (log ∷ logs) good whole =
+    let counted : 0 + (found scheme header log logs good whole).count ≡ (found scheme header log logs good whole).count = omega arith in
+    ap (λ (j : Judged). j.count) (judged-found scheme header log logs good whole)
+    ∙ sym counted ∙ (found-judged scheme header log logs good whole None).0

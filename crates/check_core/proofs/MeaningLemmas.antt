@@ -4,8 +4,7 @@ use Rattle.std.proofs.lemmas.Bool.{eq-eqb, ne_eqb}
 use Rattle.std.specs.Io.KnownBytes.{Consumes, IsAtEnd}
 use Rattle.lamport_clocks.specs.declared.header.Header.{Header}
 use Rattle.std.proofs.lemmas.List.{length-map}
-use Rattle.bundle_frames.specs.Bundle.{Bundle, IsFrame, log_of}
-use Rattle.bundle_frames.specs.Bundle.{Frame as FrameOf}
+use Rattle.bundle_frames.specs.Bundle.{Bundle, IsFrame, log_of, Frame as FrameOf}
 use Rattle.bundle_frames.specs.declared.found.Found.{Found}
 use Rattle.bundle_frames.specs.declared.found.Found.TheVariants.{Frame, Bad}
 use Rattle.bundle_frames.specs.Finds.{found_then, progress_after}

@@ -1,11 +1,11 @@
 -- The sum of the elements of events is the same in any order of these events.
 use Rattle.std.proofs.Common.{◌≡◌, ℕ, ◌==◌, Bool, true, false, cond, List, [], ◌∷◌, ◌++◌, map, refl, sym, ◌∙◌, ap}
+use Rattle.merkle_records.specs.Scheme.{lanes_of, Scheme}
 use Rattle.std.specs.List.{flat_map}
 use Rattle.std.proofs.lemmas.Grind.{flat_map-append}
 use Rattle.std.proofs.lemmas.List.{map-append}
 use Rattle.std.proofs.lemmas.List.Elements.{filter-append}
 use Rattle.record_text.specs.declared.element.Element.{Element}
-use Rattle.record_text.specs.Format.{short_keys}
 use Rattle.record_text.specs.Texts.{element_text}
 use Rattle.multiset_sum.specs.Tally.{Tally}
 use Rattle.multiset_sum.specs.Sum.{joined, sum_of}
@@ -16,13 +16,13 @@ use Rattle.soundness.specs.History.{Event}
 use Rattle.soundness.specs.Certified.{event_moment, all_events, order_of, of_epoch, sum_over}
 
 -- the sums of two lists of elements are joined
-pub sum_over-append : (lanes : List ℕ → List ℕ) (some others : List Element)
-    → joined (sum_over lanes some) (sum_over lanes others) ≡ sum_over lanes (some ++ others)
-sum_over-append lanes some others =
-    let hash : Element → List ℕ = λ (e : Element). lanes (element_text short_keys e) in
+pub sum_over-append : (scheme : Scheme) (some others : List Element)
+    → joined (sum_over scheme some) (sum_over scheme others) ≡ sum_over scheme (some ++ others)
+sum_over-append scheme some others =
+    let hash : Element → List ℕ = λ (e : Element). lanes_of scheme e in
     joined-sum_of (map hash some) (map hash others) ∙ ap sum_of (sym (map-append hash some others))
 
-module _ (lanes : List ℕ → List ℕ) (elements : Event → List Element) (epoch : ℕ) where
+module _ (scheme : Scheme) (elements : Event → List Element) (epoch : ℕ) where
   -- the elements of the epoch among events
   abbrev pub among : List Event → List Element
   among events = of_epoch epoch (flat_map elements events)
@@ -35,18 +35,18 @@ module _ (lanes : List ℕ → List ℕ) (elements : Event → List Element) (ep
 
   -- the sum of them
   abbrev sum_among : List Event → Tally
-  sum_among events = sum_over lanes (among events)
+  sum_among events = sum_over scheme (among events)
 
   -- the sum of those of one event
   abbrev sum_by : Event → Tally
-  sum_by event = sum_over lanes (of_epoch epoch (elements event))
+  sum_by event = sum_over scheme (of_epoch epoch (elements event))
 
   sum-cons : (event : Event) (events : List Event)
       → sum_among (event ∷ events) ≡ joined (sum_by event) (sum_among events)
   sum-cons event events =
-      ap (sum_over lanes)
+      ap (sum_over scheme)
       (filter-append (λ (e : Element). e.stamp.epoch == epoch) (elements event) (flat_map elements events))
-      ∙ sym (sum_over-append lanes (of_epoch epoch (elements event)) (among events))
+      ∙ sym (sum_over-append scheme (of_epoch epoch (elements event)) (among events))
 
   -- one sum in front of two
   joined-swap : (s t u : Tally) → joined s (joined t u) ≡ joined t (joined s u)

@@ -1,5 +1,6 @@
 -- The refusal and the operations of all verifiers' runs are those of their histories.
 use Rattle.std.proofs.Common.{◌≡◌, ℕ, zero, suc, ◌+◌, nat_le, Bool, true, false, cond, List, [], ◌∷◌, ◌++◌, length, map, Option, refl, sym, ◌∙◌, ap, zero-add}
+use Rattle.merkle_records.specs.Scheme.{Scheme}
 use Rattle.std.specs.List.{AllByRecursion}
 use Rattle.std.specs.Option.{option_map, option_or}
 use Rattle.std.proofs.lemmas.Grind.{flat_map-append}
@@ -7,13 +8,12 @@ use Rattle.std.proofs.lemmas.List.Elements.{filter-append}
 use Rattle.lamport_clocks.specs.declared.header.Header.{Header}
 use Rattle.record_text.specs.declared.operation.Operation.{Operation}
 use Rattle.record_text.specs.declared.refusal.Refusal.{Refusal}
-use Rattle.record_text.specs.Format.{short_keys}
 use Rattle.log_codec.specs.Log.{Log, read_log}
 use Rattle.report_text.specs.declared.status.Status.{Status}
 use Rattle.stamp_order.specs.Merged.{merged, up_to}
 use Rattle.stamp_order.specs.Operations.{moment_of, merged_up_to}
 use Rattle.stamp_order.proofs.MergedLemmas.{merged-filter, merged-flat_map}
-use Rattle.verifier_commands.specs.Change.{Change, joins, leaves, comes, goes, defers, reads, writes, turns}
+use Rattle.verifier_commands.specs.Change.{Change, did_add_m, did_evict_m, did_add_b, did_evict_b, did_evict_bm, did_get, did_put, did_next_epoch}
 use Rattle.verifier_commands.specs.Machine.{opening_machine}
 use Rattle.verifier_run.specs.Trace.{Trace, trace}
 use Rattle.verifier_run.specs.LogCourse.{refusal_by, log_course}
@@ -28,38 +28,38 @@ use Rattle.check_core.proofs.HistoryRunLemmas.{trace-operations, trace-accepted,
 -- an operation has the moment of its event
 block_moment : (event : Event) (change : Change)
     → AllByRecursion (λ operation. moment_of operation ≡ event_moment event) (operations_by event change)
-block_moment event (joins parent after child) = tt
-block_moment event (leaves parent after child) = tt
-block_moment event (comes child element) = tt
-block_moment event (goes child element) = tt
-block_moment event (defers parent after child element) = tt
-block_moment event (reads entry) = (refl, tt)
-block_moment event (writes before after) = (refl, tt)
-block_moment event (turns sealed) = tt
+block_moment event (did_add_m parent after child) = tt
+block_moment event (did_evict_m parent after child) = tt
+block_moment event (did_add_b child element) = tt
+block_moment event (did_evict_b child element) = tt
+block_moment event (did_evict_bm parent after child element) = tt
+block_moment event (did_get entry) = (refl, tt)
+block_moment event (did_put before after) = (refl, tt)
+block_moment event (did_next_epoch sealed) = tt
 
 -- the operations of an event that is up to an epoch, are
 block_within : (last : ℕ) (event : Event) (b : Bool) → nat_le event.at.epoch last ≡ b → (change : Change)
     → up_to moment_of last (operations_by event change) ≡ cond b (operations_by event change) []
-block_within last event true is (joins parent after child) = refl
-block_within last event true is (leaves parent after child) = refl
-block_within last event true is (comes child element) = refl
-block_within last event true is (goes child element) = refl
-block_within last event true is (defers parent after child element) = refl
-block_within last event true is (reads entry) =
-    ap (λ (b : Bool). cond b (operations_by event (reads entry)) []) is
-block_within last event true is (writes before after) =
-    ap (λ (b : Bool). cond b (operations_by event (writes before after)) []) is
-block_within last event true is (turns sealed) = refl
-block_within last event false is (joins parent after child) = refl
-block_within last event false is (leaves parent after child) = refl
-block_within last event false is (comes child element) = refl
-block_within last event false is (goes child element) = refl
-block_within last event false is (defers parent after child element) = refl
-block_within last event false is (reads entry) =
-    ap (λ (b : Bool). cond b (operations_by event (reads entry)) []) is
-block_within last event false is (writes before after) =
-    ap (λ (b : Bool). cond b (operations_by event (writes before after)) []) is
-block_within last event false is (turns sealed) = refl
+block_within last event true is (did_add_m parent after child) = refl
+block_within last event true is (did_evict_m parent after child) = refl
+block_within last event true is (did_add_b child element) = refl
+block_within last event true is (did_evict_b child element) = refl
+block_within last event true is (did_evict_bm parent after child element) = refl
+block_within last event true is (did_get entry) =
+    ap (λ (b : Bool). cond b (operations_by event (did_get entry)) []) is
+block_within last event true is (did_put before after) =
+    ap (λ (b : Bool). cond b (operations_by event (did_put before after)) []) is
+block_within last event true is (did_next_epoch sealed) = refl
+block_within last event false is (did_add_m parent after child) = refl
+block_within last event false is (did_evict_m parent after child) = refl
+block_within last event false is (did_add_b child element) = refl
+block_within last event false is (did_evict_b child element) = refl
+block_within last event false is (did_evict_bm parent after child element) = refl
+block_within last event false is (did_get entry) =
+    ap (λ (b : Bool). cond b (operations_by event (did_get entry)) []) is
+block_within last event false is (did_put before after) =
+    ap (λ (b : Bool). cond b (operations_by event (did_put before after)) []) is
+block_within last event false is (did_next_epoch sealed) = refl
 
 -- the operations of the events up to an epoch are the operations up to it
 operations-up_to : (last : ℕ) (events : List Event)
@@ -98,39 +98,39 @@ operations-merged last histories =
     ∙ ap (λ (kept : List Event). operations_in kept)
     (sym (merged-filter event_moment (λ (event : Event). nat_le event.at.epoch last) events))
 
-module _ (digest lanes : List ℕ → List ℕ) (header : Header) where
+module _ (scheme : Scheme) (header : Header) where
   -- the histories of logs of bytes, the first of which is of the verifier of this number
   abbrev pub told_from : ℕ → List (List ℕ) → List (List Event)
   told_from number logs =
-      histories_from digest lanes header number (map (λ (log : Log). log.commands) (map (read_log short_keys) logs))
+      histories_from scheme header number (map (λ (log : Log). log.commands) (map (read_log scheme.format) logs))
 
   -- the operations of all courses are those of all events
   pub operations-among : (number : ℕ) (logs : List (List ℕ))
-      → operations_among (courses_from digest lanes header number logs)
+      → operations_among (courses_from scheme header number logs)
       ≡ operations_in (all_events (told_from number logs))
   operations-among number [] = refl
   operations-among number (log ∷ logs) =
-      let commands = (read_log short_keys log).commands in
-      ap (λ (ops : List Operation). ops ++ operations_among (courses_from digest lanes header (suc number) logs))
-      (trace-operations digest lanes (opening_machine number header) commands)
-      ∙ ap (λ (ops : List Operation). operations_in (log_events digest lanes header number commands) ++ ops)
+      let commands = (read_log scheme.format log).commands in
+      ap (λ (ops : List Operation). ops ++ operations_among (courses_from scheme header (suc number) logs))
+      (trace-operations scheme (opening_machine number header) commands)
+      ∙ ap (λ (ops : List Operation). operations_in (log_events scheme header number commands) ++ ops)
       (operations-among (suc number) logs)
       ∙ sym (flat_map-append (λ (event : Event). operations_by event event.change)
-      (log_events digest lanes header number commands) (all_events (told_from (suc number) logs)))
+      (log_events scheme header number commands) (all_events (told_from (suc number) logs)))
 
   -- The merged operations of all courses up to an epoch are those of the merged order of all histories.
   pub operations-courses_up_to : (logs : List (List ℕ)) (last : ℕ)
-      → merged_up_to last (operations_among (courses_of digest lanes header logs))
-      ≡ operations_in (order_up_to last (histories_in digest lanes header (map (read_log short_keys) logs)))
+      → merged_up_to last (operations_among (courses_of scheme header logs))
+      ≡ operations_in (order_up_to last (histories_in scheme header (map (read_log scheme.format) logs)))
   operations-courses_up_to logs last =
       ap (λ (ops : List Operation). merged_up_to last ops) (operations-among 0 logs)
       ∙ operations-merged last (told_from 0 logs)
 
   -- So it is with those of so many epochs.
   pub operations-courses : (logs : List (List ℕ)) (count : ℕ)
-      → operations_within header.first count (operations_among (courses_of digest lanes header logs))
+      → operations_within header.first count (operations_among (courses_of scheme header logs))
       ≡ operations_in (order_within header.first count
-      (histories_in digest lanes header (map (read_log short_keys) logs)))
+      (histories_in scheme header (map (read_log scheme.format) logs)))
   operations-courses logs zero = refl
   operations-courses logs (suc count) = operations-courses_up_to logs (header.first + count)
 
@@ -138,29 +138,29 @@ module _ (digest lanes : List ℕ → List ℕ) (header : Header) where
 
   -- the refusal of a course is the one of its log
   course-refused : (number : ℕ) (log : List ℕ)
-      → (log_course digest lanes (opening_machine number header) log).refused
-      ≡ refused_in digest lanes header number (read_log short_keys log)
+      → (log_course scheme (opening_machine number header) log).refused
+      ≡ refused_in scheme header number (read_log scheme.format log)
   course-refused number log =
       let machine = opening_machine number header in
-      let read = read_log short_keys log in
-      let events = log_events digest lanes header number read.commands in
-      let ran : Trace = trace digest lanes machine read.commands in
+      let read = read_log scheme.format log in
+      let events = log_events scheme header number read.commands in
+      let ran : Trace = trace scheme machine read.commands in
       ap (λ (count : ℕ). option_map (λ (why : Refusal). (count, why)) (refusal_by ran.refused read.end))
-      (trace-accepted digest lanes machine read.commands ∙ zero-add (length events))
+      (trace-accepted scheme machine read.commands ∙ zero-add (length events))
       ∙ ap (λ (last : Option Refusal). option_map (λ (why : Refusal). (length events, why)) (refusal_by last read.end))
-      (trace-refused digest lanes machine read.commands)
+      (trace-refused scheme machine read.commands)
 
   -- The first course that is refused is the first log that is.
   pub refused-courses : (number : ℕ) (logs : List (List ℕ))
-      → first_refused number (courses_from digest lanes header number logs)
-      ≡ refused_among digest lanes header number (map (read_log short_keys) logs)
+      → first_refused number (courses_from scheme header number logs)
+      ≡ refused_among scheme header number (map (read_log scheme.format) logs)
   refused-courses number [] = refl
   refused-courses number (log ∷ logs) =
       ap (λ (refused : Option (ℕ × Refusal)).
       option_or (option_map (refused_status number) refused)
-      (first_refused (suc number) (courses_from digest lanes header (suc number) logs)))
+      (first_refused (suc number) (courses_from scheme header (suc number) logs)))
       (course-refused number log)
       ∙ ap (λ (status : Option Status).
-      option_or (option_map (refused_status number) (refused_in digest lanes header number (read_log short_keys log)))
+      option_or (option_map (refused_status number) (refused_in scheme header number (read_log scheme.format log)))
       status)
       (refused-courses (suc number) logs)

@@ -1,11 +1,11 @@
 -- The report that the runs of all verifiers tell is the report by their histories.
 use Rattle.std.proofs.Common.{◌≡◌, ℕ, zero, suc, ◌+◌, ◌<◌, ◌≤◌, nat_lt, nat_le, Bool, true, false, if◌then◌else◌, List, [], ◌∷◌, ◌++◌, map, take, drop, Option, refl, sym, ◌∙◌, ap, subst, arith}
+use Rattle.merkle_records.specs.Scheme.{Scheme}
 use Rattle.std.specs.List.{flat_map, AllByRecursion}
 use Rattle.std.proofs.lemmas.Bool.Decides.{nat_tests}
 use Rattle.std.proofs.lemmas.Grind.{flat_map-append}
 use Rattle.lamport_clocks.specs.declared.header.Header.{Header}
 use Rattle.record_text.specs.declared.operation.Operation.{Operation}
-use Rattle.record_text.specs.Format.{short_keys}
 use Rattle.log_codec.specs.Log.{Log, read_log}
 use Rattle.report_text.specs.declared.status.Status.{Status}
 use Rattle.report_text.specs.Status.{last_line}
@@ -13,7 +13,7 @@ use Rattle.stamp_order.specs.Merged.{comes_before, IsMerged, up_to}
 use Rattle.stamp_order.specs.Operations.{moment_of}
 use Rattle.stamp_order.proofs.InOrderLemmas.{every-weaker, every-filter, every-append, every-in_order}
 use Rattle.stamp_order.proofs.MergedLemmas.{merged-sorts}
-use Rattle.verifier_commands.specs.Change.{Change, joins, leaves, comes, goes, defers, reads, writes, turns}
+use Rattle.verifier_commands.specs.Change.{Change, did_add_m, did_evict_m, did_add_b, did_evict_b, did_evict_bm, did_get, did_put, did_next_epoch}
 use Rattle.soundness.specs.History.{Event, log_events}
 use Rattle.soundness.specs.Certified.{all_events, order_of, order_within, operations_by, operations_in, sealed_by_all, certified_count, certified_operations}
 use Rattle.soundness.proofs.HistoryLemmas.{IsOfLog, log-epochs}
@@ -54,14 +54,14 @@ within-by_epoch first (suc count) ops from =
 -- an operation is of its event's epoch
 from_change : (first : ℕ) (event : Event) → first ≤ event.at.epoch → (change : Change)
     → AreFrom first (operations_by event change)
-from_change first event from (joins parent after child) = tt
-from_change first event from (leaves parent after child) = tt
-from_change first event from (comes child element) = tt
-from_change first event from (goes child element) = tt
-from_change first event from (defers parent after child element) = tt
-from_change first event from (reads entry) = (from, tt)
-from_change first event from (writes before after) = (from, tt)
-from_change first event from (turns sealed) = tt
+from_change first event from (did_add_m parent after child) = tt
+from_change first event from (did_evict_m parent after child) = tt
+from_change first event from (did_add_b child element) = tt
+from_change first event from (did_evict_b child element) = tt
+from_change first event from (did_evict_bm parent after child element) = tt
+from_change first event from (did_get entry) = (from, tt)
+from_change first event from (did_put before after) = (from, tt)
+from_change first event from (did_next_epoch sealed) = tt
 
 from_events : (first number : ℕ) (header : Header) (events : List Event) → first ≤ header.first
     → AllByRecursion (IsOfLog number header) events → AreFrom first (operations_in events)
@@ -74,12 +74,12 @@ from_events first number header (event ∷ events) below all =
 -- ---- the lines
 
 -- the lines of epochs are those of parts of these epochs
-text-parts : (lanes : List ℕ → List ℕ) (count epoch : ℕ) (ops : List Operation)
-    → epochs_text epoch count ops ≡ certified_text (map (part_of lanes 0 []) (epochs_from epoch count)) ops
-text-parts lanes zero epoch ops = refl
-text-parts lanes (suc count) epoch ops =
+text-parts : (scheme : Scheme) (count epoch : ℕ) (ops : List Operation)
+    → epochs_text epoch count ops ≡ certified_text (map (part_of scheme 0 []) (epochs_from epoch count)) ops
+text-parts scheme zero epoch ops = refl
+text-parts scheme (suc count) epoch ops =
     ap (λ (text : List ℕ). epoch_text epoch (take (front_count epoch ops) ops) ++ text)
-    (text-parts lanes count (suc epoch) (drop (front_count epoch ops) ops))
+    (text-parts scheme count (suc epoch) (drop (front_count epoch ops) ops))
 
 -- The lines of epochs whose operations stand at the front, epoch after epoch, are those of the operations of each.
 pub epochs_text-lines : (count epoch : ℕ) (ops : List Operation) → IsByEpoch epoch ops
@@ -88,38 +88,38 @@ epochs_text-lines count epoch ops by =
     text-parts (λ text. text) count epoch ops
     ∙ epochs-text (λ text. text) 0 [] count epoch ops ops by (λ later above below. refl)
 
-module _ (digest lanes : List ℕ → List ℕ) (header : Header) where
+module _ (scheme : Scheme) (header : Header) where
   -- the operations of all histories are of the header's first epoch or of later ones
   from_told : (number : ℕ) (logs : List (List ℕ))
-      → AreFrom header.first (operations_in (all_events (told_from digest lanes header number logs)))
+      → AreFrom header.first (operations_in (all_events (told_from scheme header number logs)))
   from_told number [] = tt
   from_told number (log ∷ logs) =
-      let commands = (read_log short_keys log).commands in
-      let events = log_events digest lanes header number commands in
-      let others = all_events (told_from digest lanes header (suc number) logs) in
+      let commands = (read_log scheme.format log).commands in
+      let events = log_events scheme header number commands in
+      let others = all_events (told_from scheme header (suc number) logs) in
       subst (AreFrom header.first)
       (sym (flat_map-append (λ (event : Event). operations_by event event.change) events others))
       (every-append (λ op. header.first ≤ op.stamp.epoch) (operations_in events) (operations_in others)
-      (from_events header.first number header events (omega arith) (log-epochs digest lanes header number commands))
+      (from_events header.first number header events (omega arith) (log-epochs scheme header number commands))
       (from_told (suc number) logs))
 
   -- so are those of all courses
   from_courses : (number : ℕ) (logs : List (List ℕ))
-      → AreFrom header.first (operations_among (courses_from digest lanes header number logs))
+      → AreFrom header.first (operations_among (courses_from scheme header number logs))
   from_courses number logs =
-      subst (AreFrom header.first) (sym (operations-among digest lanes header number logs)) (from_told number logs)
+      subst (AreFrom header.first) (sym (operations-among scheme header number logs)) (from_told number logs)
 
-module _ (digest lanes : List ℕ → List ℕ) (header : Header) (logs : List (List ℕ)) where
+module _ (scheme : Scheme) (header : Header) (logs : List (List ℕ)) where
   -- the logs that were read
   abbrev read : List Log
-  read = map (read_log short_keys) logs
+  read = map (read_log scheme.format) logs
 
   abbrev histories : List (List Event)
-  histories = histories_in digest lanes header read
+  histories = histories_in scheme header read
 
   -- the operations of the runs in so many epochs
   abbrev ran_within : ℕ → List Operation
-  ran_within count = operations_within header.first count (operations_among (courses_of digest lanes header logs))
+  ran_within count = operations_within header.first count (operations_among (courses_of scheme header logs))
 
   -- The lines of so many epochs are those of the operations of the merged order within them.
   pub text-courses : (count : ℕ)
@@ -128,10 +128,10 @@ module _ (digest lanes : List ℕ → List ℕ) (header : Header) (logs : List (
       (epochs_from header.first count)
   text-courses count =
       epochs_text-lines count header.first (ran_within count)
-      (within-by_epoch header.first count (operations_among (courses_of digest lanes header logs))
-      (from_courses digest lanes header 0 logs))
+      (within-by_epoch header.first count (operations_among (courses_of scheme header logs))
+      (from_courses scheme header 0 logs))
       ∙ ap (λ (ops : List Operation). flat_map (epoch_lines ops) (epochs_from header.first count))
-      (operations-courses digest lanes header logs count)
+      (operations-courses scheme header logs count)
 
   -- ---- how it ends
 
@@ -139,67 +139,67 @@ module _ (digest lanes : List ℕ → List ℕ) (header : Header) (logs : List (
   abbrev exit_by_courses : Option ℕ → ℕ → Status
   exit_by_courses bad count =
       if nat_lt count (sealed_by_all histories)
-      then unbalanced_status lanes (order_of histories) (header.first + count)
-      else status_or (first_refused 0 (courses_of digest lanes header logs)) (done_or_bad count bad)
+      then unbalanced_status scheme (order_of histories) (header.first + count)
+      else status_or (first_refused 0 (courses_of scheme header logs)) (done_or_bad count bad)
 
   exit-courses : (bad : Option ℕ)
-      → exit_of digest lanes header read histories bad
-      ≡ exit_by_courses bad (certified_count lanes header.first histories)
+      → exit_of scheme header read histories bad
+      ≡ exit_by_courses bad (certified_count scheme header.first histories)
   exit-courses bad =
-      let count = certified_count lanes header.first histories in
+      let count = certified_count scheme header.first histories in
       ap (λ (refused : Option Status).
       if nat_lt count (sealed_by_all histories)
-      then unbalanced_status lanes (order_of histories) (header.first + count)
+      then unbalanced_status scheme (order_of histories) (header.first + count)
       else status_or refused (done_or_bad count bad))
-      (sym (refused-courses digest lanes header 0 logs))
+      (sym (refused-courses scheme header 0 logs))
 
   -- Where an epoch that all have sealed is not certified, that is told.
-  pub exit-unbalanced : (bad : Option ℕ) (count : ℕ) → count ≡ certified_count lanes header.first histories
+  pub exit-unbalanced : (bad : Option ℕ) (count : ℕ) → count ≡ certified_count scheme header.first histories
       → count < sealed_by_all histories
-      → unbalanced_status lanes (order_of histories) (header.first + count)
-      ≡ exit_of digest lanes header read histories bad
+      → unbalanced_status scheme (order_of histories) (header.first + count)
+      ≡ exit_of scheme header read histories bad
   exit-unbalanced bad count is below =
       let test : nat_lt count (sealed_by_all histories) ≡ true = grind (arith, nat_tests) in
       sym (exit-courses bad ∙ ap (exit_by_courses bad) (sym is)
       ∙ ap (λ (b : Bool).
       if b
-      then unbalanced_status lanes (order_of histories) (header.first + count)
-      else status_or (first_refused 0 (courses_of digest lanes header logs)) (done_or_bad count bad)) test)
+      then unbalanced_status scheme (order_of histories) (header.first + count)
+      else status_or (first_refused 0 (courses_of scheme header logs)) (done_or_bad count bad)) test)
 
   -- Where all of them are certified, the first refusal is told, or what is bad, or that all is read.
-  pub exit-whole : (bad : Option ℕ) (count : ℕ) → count ≡ certified_count lanes header.first histories
+  pub exit-whole : (bad : Option ℕ) (count : ℕ) → count ≡ certified_count scheme header.first histories
       → sealed_by_all histories ≤ count
-      → status_or (first_refused 0 (courses_of digest lanes header logs)) (done_or_bad count bad)
-      ≡ exit_of digest lanes header read histories bad
+      → status_or (first_refused 0 (courses_of scheme header logs)) (done_or_bad count bad)
+      ≡ exit_of scheme header read histories bad
   exit-whole bad count is past =
       let test : nat_lt count (sealed_by_all histories) ≡ false = grind (arith, nat_tests) in
       sym (exit-courses bad ∙ ap (exit_by_courses bad) (sym is)
       ∙ ap (λ (b : Bool).
       if b
-      then unbalanced_status lanes (order_of histories) (header.first + count)
-      else status_or (first_refused 0 (courses_of digest lanes header logs)) (done_or_bad count bad)) test)
+      then unbalanced_status scheme (order_of histories) (header.first + count)
+      else status_or (first_refused 0 (courses_of scheme header logs)) (done_or_bad count bad)) test)
 
   -- ---- the report
 
   -- The operations of the runs in the certified epochs are the certified operations.
-  pub certified-courses : (count : ℕ) → count ≡ certified_count lanes header.first histories
-      → ran_within count ≡ certified_operations lanes header.first histories
+  pub certified-courses : (count : ℕ) → count ≡ certified_count scheme header.first histories
+      → ran_within count ≡ certified_operations scheme header.first histories
   certified-courses count is =
-      operations-courses digest lanes header logs count
+      operations-courses scheme header logs count
       ∙ ap (λ (n : ℕ). operations_in (order_within header.first n histories)) is
 
   -- The lines of the certified epochs, and then the last line, are the report.
   pub report_by_courses : (bad : Option ℕ) (count : ℕ) (ops : List Operation) (status : Status)
-      → count ≡ certified_count lanes header.first histories
+      → count ≡ certified_count scheme header.first histories
       → ops ≡ ran_within count
-      → status ≡ exit_of digest lanes header read histories bad
+      → status ≡ exit_of scheme header read histories bad
       → epochs_text header.first count ops ++ last_line status
-      ≡ report_of_logs digest lanes header read histories bad
+      ≡ report_of_logs scheme header read histories bad
   report_by_courses bad count ops status is own ends =
       ap (λ (os : List Operation). epochs_text header.first count os ++ last_line status) own
       ∙ ap (λ (text : List ℕ). text ++ last_line status) (text-courses count)
       ∙ ap (λ (n : ℕ).
       flat_map (epoch_lines (operations_in (order_within header.first n histories))) (epochs_from header.first n)
       ++ last_line status) is
-      ∙ ap (λ (last : Status). flat_map (epoch_lines (certified_operations lanes header.first histories))
-      (epochs_from header.first (certified_count lanes header.first histories)) ++ last_line last) ends
+      ∙ ap (λ (last : Status). flat_map (epoch_lines (certified_operations scheme header.first histories))
+      (epochs_from header.first (certified_count scheme header.first histories)) ++ last_line last) ends

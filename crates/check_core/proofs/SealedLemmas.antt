@@ -1,5 +1,6 @@
 -- The epochs that a history seals are those from the header's first on, and what is sealed has no elements any more.
 use Rattle.std.proofs.Common.{◌≡◌, ◌⊎◌, ℕ, suc, ◌+◌, ◌<◌, ◌≤◌, ◌==◌, Bool, false, List, [], ◌∷◌, ◌++◌, length, Option, Some, None, Ok, inl, inr, refl, sym, ◌∙◌, ap, subst, append-nil, arith}
+use Rattle.merkle_records.specs.Scheme.{Scheme}
 use Rattle.std.specs.List.{flat_map}
 use Rattle.std.specs.Prelude.{nat_lt, cond}
 use Rattle.std.proofs.lemmas.Bool.{cond-false, ne_eqb}
@@ -9,12 +10,12 @@ use Rattle.std.proofs.lemmas.List.Elements.{filter-append}
 use Rattle.lamport_clocks.specs.declared.stamp.Stamp.{Stamp}
 use Rattle.lamport_clocks.specs.declared.header.Header.{Header}
 use Rattle.lamport_clocks.specs.Reading.{Reading}
-use Rattle.lamport_clocks.specs.Clock.{received, sent, turned, sealed_by_turning}
-use Rattle.lamport_clocks.proofs.ClockLaws.{received-ok, received-epoch, open_epochs, sent-ok, sent-at, turned-ok, sealed_epoch}
+use Rattle.lamport_clocks.specs.Clock.{received, sent, advanced, sealed_by_advancing}
+use Rattle.lamport_clocks.proofs.ClockLaws.{received-ok, received-epoch, open_epochs, sent-ok, sent-at, advanced-ok, sealed_epoch}
 use Rattle.record_text.specs.declared.element.Element.{Element}
 use Rattle.log_codec.specs.declared.command.Command.{Command}
 use Rattle.verifier_commands.specs.State.{opening}
-use Rattle.verifier_commands.specs.Change.{Change, joins, leaves, comes, goes, defers, reads, writes, turns}
+use Rattle.verifier_commands.specs.Change.{Change, did_add_m, did_evict_m, did_add_b, did_evict_b, did_evict_bm, did_get, did_put, did_next_epoch}
 use Rattle.soundness.specs.History.{Event, log_events}
 use Rattle.soundness.specs.Certified.{added_by, evicted_by, of_epoch, added_in, evicted_in, epochs_in, sealed_by, sealed_count}
 use Rattle.soundness.proofs.HistoryLemmas.{Ticks, IsTicking, ticks-epoch, ticks-first, log-ticks}
@@ -39,20 +40,20 @@ seals_same old new epoch first same (inl past) = inl (refl, inl (omega arith, om
 seals_same old new epoch first same (inr at) = inl (refl, inr (omega arith, omega arith))
 
 -- the clock turns
-seals_turned : (old new : Reading) (epoch : ℕ) (sealed : Option ℕ) → turned old ≡ Ok (sealed, new) → IsNext old epoch
+seals_turned : (old new : Reading) (epoch : ℕ) (sealed : Option ℕ) → advanced old ≡ Ok (sealed, new) → IsNext old epoch
     → Seals new epoch (epochs_in sealed)
 seals_turned old new epoch sealed is (inl past) =
-    let turn = turned-ok old new sealed is in
+    let turn = advanced-ok old new sealed is in
     let first = ap (λ (r : Reading). r.first) turn.2 in
     let at = ap (λ (r : Reading). r.at.epoch) turn.2 in
-    let own : sealed_by_turning old ≡ Some epoch = (sealed_epoch old epoch).1 (omega (arith, past.0, past.1), past.1) in
+    let own : sealed_by_advancing old ≡ Some epoch = (sealed_epoch old epoch).1 (omega (arith, past.0, past.1), past.1) in
     inr (ap epochs_in (turn.1 ∙ own), inl (omega (arith, first, at, past.0), omega (arith, at, past.1)))
 seals_turned old new epoch sealed is (inr own) =
-    let turn = turned-ok old new sealed is in
+    let turn = advanced-ok old new sealed is in
     let first = ap (λ (r : Reading). r.first) turn.2 in
     let at = ap (λ (r : Reading). r.at.epoch) turn.2 in
     let not_past : nat_lt old.first old.at.epoch ≡ false = grind (arith, nat_tests, own.0) in
-    let none : sealed_by_turning old ≡ None = cond-false (nat_lt old.first old.at.epoch) _ _ not_past in
+    let none : sealed_by_advancing old ≡ None = cond-false (nat_lt old.first old.at.epoch) _ _ not_past in
     inl (ap epochs_in (turn.1 ∙ none), inl (omega (arith, first, at, own.0), omega (arith, at, own.0, own.1)))
 
 -- what was sent is of the clock's epoch
@@ -62,28 +63,28 @@ sent_epoch old new stamp is = ap (λ (s : Stamp). s.epoch) (sent-at old new stam
 -- so it is with any change
 seals_change : (old new : Reading) (epoch : ℕ) (change : Change) → Ticks old new change → IsNext old epoch
     → Seals new epoch (sealed_by change)
-seals_change old new epoch (joins parent after child) is next =
-    seals_same old new epoch (ticks-first old new (joins parent after child) is)
+seals_change old new epoch (did_add_m parent after child) is next =
+    seals_same old new epoch (ticks-first old new (did_add_m parent after child) is)
     (ap (λ (r : Reading). r.at.epoch) is) next
-seals_change old new epoch (leaves parent after child) is next =
-    seals_same old new epoch (ticks-first old new (leaves parent after child) is)
+seals_change old new epoch (did_evict_m parent after child) is next =
+    seals_same old new epoch (ticks-first old new (did_evict_m parent after child) is)
     (ap (λ (r : Reading). r.at.epoch) is) next
-seals_change old new epoch (comes child element) is next =
-    seals_same old new epoch (ticks-first old new (comes child element) is)
+seals_change old new epoch (did_add_b child element) is next =
+    seals_same old new epoch (ticks-first old new (did_add_b child element) is)
     (received-epoch old new element.stamp is) next
-seals_change old new epoch (goes child element) is next =
-    seals_same old new epoch (ticks-first old new (goes child element) is)
+seals_change old new epoch (did_evict_b child element) is next =
+    seals_same old new epoch (ticks-first old new (did_evict_b child element) is)
     (sent_epoch old new element.stamp is) next
-seals_change old new epoch (defers parent after child element) is next =
-    seals_same old new epoch (ticks-first old new (defers parent after child element) is)
+seals_change old new epoch (did_evict_bm parent after child element) is next =
+    seals_same old new epoch (ticks-first old new (did_evict_bm parent after child element) is)
     (sent_epoch old new element.stamp is) next
-seals_change old new epoch (reads entry) is next =
-    seals_same old new epoch (ticks-first old new (reads entry) is)
+seals_change old new epoch (did_get entry) is next =
+    seals_same old new epoch (ticks-first old new (did_get entry) is)
     (ap (λ (r : Reading). r.at.epoch) is) next
-seals_change old new epoch (writes before after) is next =
-    seals_same old new epoch (ticks-first old new (writes before after) is)
+seals_change old new epoch (did_put before after) is next =
+    seals_same old new epoch (ticks-first old new (did_put before after) is)
     (ap (λ (r : Reading). r.at.epoch) is) next
-seals_change old new epoch (turns sealed) is next = seals_turned old new epoch sealed is next
+seals_change old new epoch (did_next_epoch sealed) is next = seals_turned old new epoch sealed is next
 
 -- the epochs that events seal
 abbrev pub sealed_in : List Event → List ℕ
@@ -110,12 +111,12 @@ sealed-from number index clock (event ∷ events) epoch ticks next =
         subst IsSealed (sym own.0) (ap (λ (es : List ℕ). epoch ∷ es) (further (suc epoch) own.1))
 
 -- A log seals the epochs from the header's first on.
-pub log-sealed : (digest lanes : List ℕ → List ℕ) (header : Header) (number : ℕ) (commands : List Command)
-    → sealed_in (log_events digest lanes header number commands)
-    ≡ epochs_from header.first (sealed_count (log_events digest lanes header number commands))
-log-sealed digest lanes header number commands =
+pub log-sealed : (scheme : Scheme) (header : Header) (number : ℕ) (commands : List Command)
+    → sealed_in (log_events scheme header number commands)
+    ≡ epochs_from header.first (sealed_count (log_events scheme header number commands))
+log-sealed scheme header number commands =
     sealed-from number 0 (opening number header).clock _ header.first
-    (log-ticks digest lanes header number commands) (inr (refl, refl))
+    (log-ticks scheme header number commands) (inr (refl, refl))
 
 -- ---- no elements of an epoch that is closed
 
@@ -137,24 +138,24 @@ module _ (clock new : Reading) (epoch : ℕ) (closed : epoch + 1 < clock.at.epoc
   sent_above element is = omega (arith, (sent-ok clock new element.stamp is).0)
 
   none_added : (change : Change) → Ticks clock new change → of_epoch epoch (added_by change) ≡ []
-  none_added (joins parent after child) is = refl
-  none_added (leaves parent after child) is = refl
-  none_added (comes child element) is = not_of element (received_above element is)
-  none_added (goes child element) is = refl
-  none_added (defers parent after child element) is = refl
-  none_added (reads entry) is = refl
-  none_added (writes before after) is = refl
-  none_added (turns sealed) is = refl
+  none_added (did_add_m parent after child) is = refl
+  none_added (did_evict_m parent after child) is = refl
+  none_added (did_add_b child element) is = not_of element (received_above element is)
+  none_added (did_evict_b child element) is = refl
+  none_added (did_evict_bm parent after child element) is = refl
+  none_added (did_get entry) is = refl
+  none_added (did_put before after) is = refl
+  none_added (did_next_epoch sealed) is = refl
 
   none_evicted : (change : Change) → Ticks clock new change → of_epoch epoch (evicted_by change) ≡ []
-  none_evicted (joins parent after child) is = refl
-  none_evicted (leaves parent after child) is = refl
-  none_evicted (comes child element) is = refl
-  none_evicted (goes child element) is = not_of element (sent_above element is)
-  none_evicted (defers parent after child element) is = not_of element (sent_above element is)
-  none_evicted (reads entry) is = refl
-  none_evicted (writes before after) is = refl
-  none_evicted (turns sealed) is = refl
+  none_evicted (did_add_m parent after child) is = refl
+  none_evicted (did_evict_m parent after child) is = refl
+  none_evicted (did_add_b child element) is = refl
+  none_evicted (did_evict_b child element) is = not_of element (sent_above element is)
+  none_evicted (did_evict_bm parent after child element) is = not_of element (sent_above element is)
+  none_evicted (did_get entry) is = refl
+  none_evicted (did_put before after) is = refl
+  none_evicted (did_next_epoch sealed) is = refl
 
 -- of two lists without elements of an epoch
 none_of_both : (epoch : ℕ) (some others : List Element) → of_epoch epoch some ≡ [] → of_epoch epoch others ≡ []

@@ -1,5 +1,6 @@
 -- The parts that a verifier hands in under a good header are small: each element that it counts raises its clock.
 use Rattle.std.proofs.Common.{◌≡◌, ℕ, zero, suc, ◌<◌, ◌^◌, ◌==◌, List, [], ◌∷◌, slice_get, Option, Some, None, Ok, Err, inl, inr, refl, sym, ap, subst, arith}
+use Rattle.merkle_records.specs.Scheme.{Scheme}
 use Rattle.std.specs.List.{AllByRecursion}
 use Rattle.std.specs.Option.{option_to_list}
 use Rattle.std.proofs.lemmas.Bool.{cond_both}
@@ -8,18 +9,17 @@ use Rattle.lamport_clocks.specs.declared.stamp.Stamp.{Stamp}
 use Rattle.lamport_clocks.specs.Header.{IsHeader}
 use Rattle.lamport_clocks.specs.Stamp.{IsLater}
 use Rattle.lamport_clocks.specs.Reading.{Reading}
-use Rattle.lamport_clocks.specs.Clock.{received, sent, turned}
-use Rattle.lamport_clocks.proofs.ClockLaws.{received-ok, received-later, received-epoch, received-bounds, sent-ok, sent-bounds, turned-ok, turned-bounds}
+use Rattle.lamport_clocks.specs.Clock.{received, sent, advanced}
+use Rattle.lamport_clocks.proofs.ClockLaws.{received-ok, received-later, received-epoch, received-bounds, sent-ok, sent-bounds, advanced-ok, advanced-bounds}
 use Rattle.record_text.specs.declared.element.Element.{Element}
-use Rattle.record_text.specs.Format.{short_keys}
 use Rattle.log_codec.specs.declared.command.Command.{Command}
 use Rattle.log_codec.specs.Log.{read_log}
 use Rattle.multiset_sum.specs.declared.part.Part.{Part}
 use Rattle.stamp_order.proofs.InOrderLemmas.{every-append}
 use Rattle.verifier_commands.specs.declared.sums.Sums.{Sums}
-use Rattle.verifier_commands.specs.Change.{Change, joins, leaves, comes, goes, defers, reads, writes, turns}
+use Rattle.verifier_commands.specs.Change.{Change, did_add_m, did_evict_m, did_add_b, did_evict_b, did_evict_bm, did_get, did_put, did_next_epoch}
 use Rattle.verifier_commands.specs.Outcome.{outcome_of}
-use Rattle.verifier_commands.specs.Sums.{lanes_of, add_to, evict_to, turn_sums, sums_after}
+use Rattle.verifier_commands.specs.Sums.{lanes_of, add_to, evict_to, advanced_sums, sums_after}
 use Rattle.verifier_commands.specs.Transition.{Rules, Step, transition}
 use Rattle.verifier_commands.specs.Machine.{Machine, AreBounded, CountsAdd, opening_machine, effect_of, rules_for}
 use Rattle.verifier_commands.proofs.BoundLemmas.{bounded_add, bounded_evict, bounded_turn}
@@ -78,36 +78,36 @@ module _ (rules : Rules) (old new : Reading) (sums : Sums) (bounded : AreBounded
       (end, omega (arith, gave.1, counter))
       (omega (arith, gave.2, end, counter))
 
-  bounded_turned : (sealed : Option ℕ) → turned old ≡ Ok (sealed, new) → AreBounded (turn_sums sums) new
+  bounded_turned : (sealed : Option ℕ) → advanced old ≡ Ok (sealed, new) → AreBounded (advanced_sums sums) new
   bounded_turned sealed is =
-      let turn = turned-ok old new sealed is in
-      bounded_turn sums (turn_sums sums) old new bounded refl
-      ((turned-bounds old new sealed is).end, ap (λ (r : Reading). r.at.counter) turn.2)
+      let turn = advanced-ok old new sealed is in
+      bounded_turn sums (advanced_sums sums) old new bounded refl
+      ((advanced-bounds old new sealed is).end, ap (λ (r : Reading). r.at.counter) turn.2)
 
   -- The sums stay bounded after a change.
   bounded-after : (change : Change) → Ticks old new change
       → AreBounded (sums_after rules old.at.epoch sums (outcome_of change)) new
-  bounded-after (joins parent after child) is = bounded_same is
-  bounded-after (leaves parent after child) is = bounded_same is
-  bounded-after (comes child element) is = bounded_received old.at.epoch element is
-  bounded-after (goes child element) is = bounded_sent element is
-  bounded-after (defers parent after child element) is = bounded_sent element is
-  bounded-after (reads entry) is = bounded_same is
-  bounded-after (writes before after) is = bounded_same is
-  bounded-after (turns sealed) is = bounded_turned sealed is
+  bounded-after (did_add_m parent after child) is = bounded_same is
+  bounded-after (did_evict_m parent after child) is = bounded_same is
+  bounded-after (did_add_b child element) is = bounded_received old.at.epoch element is
+  bounded-after (did_evict_b child element) is = bounded_sent element is
+  bounded-after (did_evict_bm parent after child element) is = bounded_sent element is
+  bounded-after (did_get entry) is = bounded_same is
+  bounded-after (did_put before after) is = bounded_same is
+  bounded-after (did_next_epoch sealed) is = bounded_turned sealed is
 
 -- what a machine with bounded sums hands in is small
 small_told : (machine : Machine) (at : Stamp) → AreBounded machine.sums machine.state.clock → (change : Change)
     → AllByRecursion IsSmall (part_in (effect_of machine at (outcome_of change)))
-small_told machine at bounded (joins parent after child) = tt
-small_told machine at bounded (leaves parent after child) = tt
-small_told machine at bounded (comes child element) = tt
-small_told machine at bounded (goes child element) = tt
-small_told machine at bounded (defers parent after child element) = tt
-small_told machine at bounded (reads entry) = tt
-small_told machine at bounded (writes before after) = tt
-small_told machine at bounded (turns None) = tt
-small_told machine at bounded (turns (Some epoch)) =
+small_told machine at bounded (did_add_m parent after child) = tt
+small_told machine at bounded (did_evict_m parent after child) = tt
+small_told machine at bounded (did_add_b child element) = tt
+small_told machine at bounded (did_evict_b child element) = tt
+small_told machine at bounded (did_evict_bm parent after child element) = tt
+small_told machine at bounded (did_get entry) = tt
+small_told machine at bounded (did_put before after) = tt
+small_told machine at bounded (did_next_epoch None) = tt
+small_told machine at bounded (did_next_epoch (Some epoch)) =
     let end = bounded.end in
     let counter = bounded.counter in
     let added = bounded.added_before in
@@ -116,29 +116,29 @@ small_told machine at bounded (turns (Some epoch)) =
 
 -- ---- a trace
 
-module _ (digest lanes : List ℕ → List ℕ) where
+module _ (scheme : Scheme) where
   small_behind : (machine : Machine) (command : Command) (commands : List Command) (step : Step)
-      → transition (rules_for digest lanes machine) machine.state command ≡ step
+      → transition (rules_for scheme machine) machine.state command ≡ step
       → AreBounded machine.sums machine.state.clock
       → ((after : Machine) → AreBounded after.sums after.state.clock
-      → AllByRecursion IsSmall (parts_of (trace digest lanes after commands).effects))
-      → AllByRecursion IsSmall (parts_of (step_trace digest lanes machine commands step).effects)
+      → AllByRecursion IsSmall (parts_of (trace scheme after commands).effects))
+      → AllByRecursion IsSmall (parts_of (step_trace scheme machine commands step).effects)
   small_behind machine command commands (Ok done) is bounded further =
-      let after = changed digest lanes machine done in
+      let after = changed scheme machine done in
       every-append IsSmall (part_in (effect_of machine done.1.clock.at (outcome_of done.0)))
-      (parts_of (trace digest lanes after commands).effects)
+      (parts_of (trace scheme after commands).effects)
       (small_told machine done.1.clock.at bounded done.0)
-      (further after (bounded-after (rules_for digest lanes machine) machine.state.clock done.1.clock machine.sums
-      bounded done.0 (ticks_step (rules_for digest lanes machine) machine.state command done is)))
+      (further after (bounded-after (rules_for scheme machine) machine.state.clock done.1.clock machine.sums
+      bounded done.0 (ticks_step (rules_for scheme machine) machine.state command done is)))
   small_behind machine command commands (Err refusal) is bounded further = tt
 
   -- The parts of a trace are small, from any machine whose sums are bounded.
   trace-small : (machine : Machine) (commands : List Command) → AreBounded machine.sums machine.state.clock
-      → AllByRecursion IsSmall (parts_of (trace digest lanes machine commands).effects)
+      → AllByRecursion IsSmall (parts_of (trace scheme machine commands).effects)
   unfolding trace
   trace-small machine [] bounded = tt
   trace-small machine (command ∷ commands) bounded =
-      small_behind machine command commands (transition (rules_for digest lanes machine) machine.state command) refl
+      small_behind machine command commands (transition (rules_for scheme machine) machine.state command) refl
       bounded (λ after fits. trace-small after commands fits)
 
   -- ---- the parts of an epoch
@@ -152,16 +152,16 @@ module _ (digest lanes : List ℕ → List ℕ) where
 
   -- The parts of an epoch that runs under a good header hand in are small.
   pub parts-small : (header : Header) → IsHeader header → (index number : ℕ) (logs : List (List ℕ))
-      → AllByRecursion IsSmall (parts_at index (courses_from digest lanes header number logs))
+      → AllByRecursion IsSmall (parts_at index (courses_from scheme header number logs))
   parts-small header good index number [] = tt
   parts-small header good index number (log ∷ logs) =
       let machine = opening_machine number header in
-      let parts = parts_of (trace digest lanes machine (read_log short_keys log).commands).effects in
+      let parts = parts_of (trace scheme machine (read_log scheme.format log).commands).effects in
       let end = good.end in
       every-append IsSmall (option_to_list (slice_get parts index))
-      (parts_at index (courses_from digest lanes header (suc number) logs))
+      (parts_at index (courses_from scheme header (suc number) logs))
       (every-at IsSmall parts index
-      (trace-small machine (read_log short_keys log).commands
+      (trace-small machine (read_log scheme.format log).commands
       (record {
         end = end;
         counter = omega arith;

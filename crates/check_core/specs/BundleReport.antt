@@ -1,12 +1,11 @@
 -- The report of a bundle and how it ends, by the histories of its logs.
 use Rattle.std.specs.Prelude.{ℕ, zero, suc, ◌+◌, ◌==◌, nat_lt, List, [], ◌∷◌, ◌++◌, length, map, filter, Option, Some, None, if◌then◌else◌}
+use Rattle.merkle_records.specs.Scheme.{Scheme}
 use Rattle.std.specs.List.{flat_map}
 use Rattle.std.specs.Option.{option_map, option_or}
 use Rattle.lamport_clocks.specs.declared.header.Header.{Header}
 use Rattle.record_text.specs.declared.operation.Operation.{Operation}
 use Rattle.record_text.specs.declared.refusal.Refusal.{Refusal}
-use Rattle.record_text.specs.Format.{short_keys}
-use Rattle.bundle_frames.specs.Bundle.{Frame, log_of}
 use Rattle.log_codec.specs.Log.{Log, read_log}
 use Rattle.verifier_run.specs.LogCourse.{refusal_by}
 use Rattle.report_text.specs.declared.status.Status.{Status}
@@ -15,11 +14,6 @@ use Rattle.report_text.specs.Lines.{epoch_line, operation_line}
 use Rattle.report_text.specs.Status.{last_line}
 use Rattle.soundness.specs.History.{Event, log_events, log_refusal, histories_of}
 use Rattle.soundness.specs.Certified.{order_of, added_in, evicted_in, sum_over, sealed_by_all, certified_count, certified_operations}
-
--- the logs of so many verifiers, from the one of this number on
-abbrev pub logs_from : ℕ → ℕ → List Frame → List Log
-logs_from zero number frames = []
-logs_from (suc count) number frames = read_log short_keys (log_of number frames) ∷ logs_from count (suc number) frames
 
 -- ---- the lines
 
@@ -40,21 +34,21 @@ epoch_lines operations epoch =
 -- ---- how it ends
 
 -- the command that is refused in a log and why, if one is: its number is how many were accepted
-abbrev pub refused_in : (List ℕ → List ℕ) → (List ℕ → List ℕ) → Header → ℕ → Log → Option (ℕ × Refusal)
-refused_in digest lanes header number log =
-    option_map (λ refusal. (length (log_events digest lanes header number log.commands), refusal))
-    (refusal_by (log_refusal digest lanes header number log.commands) log.end)
+abbrev pub refused_in : Scheme → Header → ℕ → Log → Option (ℕ × Refusal)
+refused_in scheme header number log =
+    option_map (λ refusal. (length (log_events scheme header number log.commands), refusal))
+    (refusal_by (log_refusal scheme header number log.commands) log.end)
 
 -- the status of a refused log
 abbrev pub refused_status : ℕ → ℕ × Refusal → Status
 refused_status number refused = Refused number refused.0 refused.1
 
 -- the status of the first of the logs that is refused, if one is
-abbrev pub refused_among : (List ℕ → List ℕ) → (List ℕ → List ℕ) → Header → ℕ → List Log → Option Status
-refused_among digest lanes header number [] = None
-refused_among digest lanes header number (log ∷ logs) =
-    option_or (option_map (refused_status number) (refused_in digest lanes header number log))
-    (refused_among digest lanes header (suc number) logs)
+abbrev pub refused_among : Scheme → Header → ℕ → List Log → Option Status
+refused_among scheme header number [] = None
+refused_among scheme header number (log ∷ logs) =
+    option_or (option_map (refused_status number) (refused_in scheme header number log))
+    (refused_among scheme header (suc number) logs)
 
 -- where no log is refused: a bad frame, or so many epochs are certified and all is read
 abbrev pub done_or_bad : ℕ → Option ℕ → Status
@@ -67,26 +61,30 @@ status_or None status = status
 status_or (Some status) other = status
 
 -- the sums of an epoch that is not balanced
-abbrev pub unbalanced_status : (List ℕ → List ℕ) → List Event → ℕ → Status
-unbalanced_status lanes events epoch =
-    Unbalanced epoch (sum_over lanes (added_in epoch events)) (sum_over lanes (evicted_in epoch events))
+abbrev pub unbalanced_status : Scheme → List Event → ℕ → Status
+unbalanced_status scheme events epoch =
+    Unbalanced epoch (sum_over scheme (added_in epoch events)) (sum_over scheme (evicted_in epoch events))
 
 -- How a report ends: the first epoch that all have sealed and that is not balanced goes before a refused log, and
 -- that before a bad frame.
-abbrev pub exit_of : (List ℕ → List ℕ) → (List ℕ → List ℕ) → Header → List Log → List (List Event) → Option ℕ → Status
-exit_of digest lanes header logs histories bad =
-    let certified = certified_count lanes header.first histories in
+abbrev pub exit_of : Scheme → Header → List Log → List (List Event) → Option ℕ → Status
+exit_of scheme header logs histories bad =
+    let certified = certified_count scheme header.first histories in
     if nat_lt certified (sealed_by_all histories)
-    then unbalanced_status lanes (order_of histories) (header.first + certified)
-    else status_or (refused_among digest lanes header 0 logs) (done_or_bad certified bad)
+    then unbalanced_status scheme (order_of histories) (header.first + certified)
+    else status_or (refused_among scheme header 0 logs) (done_or_bad certified bad)
 
 -- The report: the lines of each certified epoch, and the last line.
-abbrev pub report_of_logs : (List ℕ → List ℕ) → (List ℕ → List ℕ) → Header → List Log → List (List Event) → Option ℕ → List ℕ
-report_of_logs digest lanes header logs histories bad =
-    flat_map (epoch_lines (certified_operations lanes header.first histories))
-    (epochs_from header.first (certified_count lanes header.first histories))
-    ++ last_line (exit_of digest lanes header logs histories bad)
+abbrev pub report_of_logs : Scheme → Header → List Log → List (List Event) → Option ℕ → List ℕ
+report_of_logs scheme header logs histories bad =
+    flat_map (epoch_lines (certified_operations scheme header.first histories))
+    (epochs_from header.first (certified_count scheme header.first histories))
+    ++ last_line (exit_of scheme header logs histories bad)
 
 -- the histories of logs that were read
-abbrev pub histories_in : (List ℕ → List ℕ) → (List ℕ → List ℕ) → Header → List Log → List (List Event)
-histories_in digest lanes header logs = histories_of digest lanes header (map (λ log. log.commands) logs)
+abbrev pub histories_in : Scheme → Header → List Log → List (List Event)
+histories_in scheme header logs = histories_of scheme header (map (λ log. log.commands) logs)
+
+-- the histories of logs of which these are the bytes
+abbrev pub histories_at : Scheme → Header → List (List ℕ) → List (List Event)
+histories_at scheme header logs = histories_in scheme header (map (read_log scheme.format) logs)

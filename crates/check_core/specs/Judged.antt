@@ -3,9 +3,9 @@ use Rattle.std.specs.Prelude.{ℕ, suc, ◌-◌, ◌<◌, slice_get, ◌^◌, Li
 use Rattle.std.specs.List.{IsDistinct}
 use Rattle.std.specs.Option.{option_map}
 use Rattle.multiset_sum.specs.declared.part.Part.{Part}
-use Rattle.epoch_gather.specs.declared.outcome.Verdict.{Verdict as Ruling}
+use Rattle.epoch_gather.specs.declared.outcome.Verdict.{Verdict}
 use Rattle.epoch_gather.specs.declared.outcome.Verdict.TheVariants as verdicts
-use Rattle.epoch_gather.specs.Parts.{is_same_place}
+use Rattle.epoch_gather.specs.Parts.{is_same_part}
 use Rattle.epoch_gather.specs.Verdict.{verdict_of}
 use Rattle.record_text.specs.declared.operation.Operation.{Operation}
 use Rattle.record_text.specs.declared.refusal.Refusal.{Refusal}
@@ -16,8 +16,8 @@ use Rattle.report_text.specs.declared.status.Status.TheVariants.{Done, BadBundle
 use Rattle.check_core.specs.declared.judging.Judged.{Judged}
 use Rattle.check_core.specs.declared.judging.Uneven.{Uneven}
 use Rattle.check_core.specs.declared.report.RefusedLog.{RefusedLog}
-use Rattle.check_core.specs.Verdict.{Verdict}
-use Rattle.check_core.specs.Report.{verdict_with}
+use Rattle.check_core.specs.Answer.{Answer}
+use Rattle.check_core.specs.Report.{answer_with}
 use Rattle.check_core.specs.RunReport.{parts_at, operations_among}
 
 -- no epoch more
@@ -25,7 +25,7 @@ abbrev pub none_judged : Judged
 none_judged = record { count = 0; unbalanced = None }
 
 -- an epoch with this verdict, and what comes behind it where it is balanced
-abbrev pub judged_by : ℕ → Ruling → Judged → Judged
+abbrev pub judged_by : ℕ → Verdict → Judged → Judged
 judged_by epoch verdicts.Balanced more = record { count = suc more.count; unbalanced = more.unbalanced }
 judged_by epoch (verdicts.Unbalanced added evicted) more =
     record { count = 0; unbalanced = Some (record { epoch = epoch; added = added; evicted = evicted }) }
@@ -45,7 +45,7 @@ judged verifiers (course ∷ courses) = judged_from verifiers 0 course.parts (co
 -- parts of one epoch of which a verdict can be given: at most one of each verifier, with counts that can be added up
 pub record CanBeJudged (verifiers : ℕ) (parts : List Part) : Type 0 where
   pub numbers : All (λ part. part.verifier < verifiers) parts
-  pub once : IsDistinct is_same_place parts
+  pub once : IsDistinct is_same_part parts
   pub counts : All (λ part. (part.added.count < 2 ^ 25) × (part.evicted.count < 2 ^ 25)) parts
 
 -- ---- the report
@@ -82,12 +82,12 @@ ends_by count None None (Some offset) = BadBundle offset
 ends_by count None None None = Done count
 
 -- of what was judged
-abbrev pub verdict_judged : Judged → List Course → Option ℕ → Verdict
-verdict_judged judged courses bad =
-    verdict_with (take judged.count (first_parts courses))
+abbrev pub answer_judged : Judged → List Course → Option ℕ → Answer
+answer_judged judged courses bad =
+    answer_with (take judged.count (first_parts courses))
     (operations_by (last_epoch (take judged.count (first_parts courses))) courses)
     (ends_by judged.count judged.unbalanced (refused_log 0 courses) bad)
 
 -- of what all logs came to, in a bundle in which so much is bad
-abbrev pub verdict_of_runs : List Course → Option ℕ → Verdict
-verdict_of_runs courses bad = verdict_judged (judged (length courses) courses) courses bad
+abbrev pub answer_of_runs : List Course → Option ℕ → Answer
+answer_of_runs courses bad = answer_judged (judged (length courses) courses) courses bad

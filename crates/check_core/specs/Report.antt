@@ -6,7 +6,7 @@ use Rattle.record_text.specs.declared.operation.Operation.{Operation}
 use Rattle.report_text.specs.declared.status.Status.{Status}
 use Rattle.report_text.specs.Lines.{epoch_line, operation_line}
 use Rattle.report_text.specs.Status.{last_line}
-use Rattle.check_core.specs.Verdict.{Verdict}
+use Rattle.check_core.specs.Answer.{Answer}
 
 -- how many operations at the front are of an epoch
 abbrev pub front_count : ℕ → List Operation → ℕ
@@ -28,5 +28,5 @@ abbrev pub report_of : List Part → List Operation → Status → List ℕ
 report_of parts ops status = certified_text parts ops ++ last_line status
 
 -- a report that ends so
-abbrev pub verdict_with : List Part → List Operation → Status → Verdict
-verdict_with parts operations status = record { text = report_of parts operations status; status = status }
+abbrev pub answer_with : List Part → List Operation → Status → Answer
+answer_with parts operations status = record { text = report_of parts operations status; status = status }

@@ -1,5 +1,6 @@
 -- The report of a bundle as the runs of its logs tell it: the courses of all verifiers, the lowest number first.
 use Rattle.std.specs.Prelude.{ℕ, zero, suc, ◌+◌, List, [], ◌∷◌, ◌++◌, take, drop, slice_get, Option, None}
+use Rattle.merkle_records.specs.Scheme.{Scheme}
 use Rattle.std.specs.List.{flat_map}
 use Rattle.std.specs.Option.{option_map, option_or, option_to_list}
 use Rattle.lamport_clocks.specs.declared.header.Header.{Header}
@@ -14,14 +15,14 @@ use Rattle.check_core.specs.BundleReport.{refused_status}
 use Rattle.check_core.specs.Report.{front_count, epoch_text}
 
 -- what the logs of verifiers come to, the first of which has this number
-abbrev pub courses_from : (List ℕ → List ℕ) → (List ℕ → List ℕ) → Header → ℕ → List (List ℕ) → List Course
-courses_from digest lanes header number [] = []
-courses_from digest lanes header number (log ∷ logs) =
-    log_course digest lanes (opening_machine number header) log ∷ courses_from digest lanes header (suc number) logs
+abbrev pub courses_from : Scheme → Header → ℕ → List (List ℕ) → List Course
+courses_from scheme header number [] = []
+courses_from scheme header number (log ∷ logs) =
+    log_course scheme (opening_machine number header) log ∷ courses_from scheme header (suc number) logs
 
 -- what the logs of all verifiers of a bundle come to
-abbrev pub courses_of : (List ℕ → List ℕ) → (List ℕ → List ℕ) → Header → List (List ℕ) → List Course
-courses_of digest lanes header logs = courses_from digest lanes header 0 logs
+abbrev pub courses_of : Scheme → Header → List (List ℕ) → List Course
+courses_of scheme header logs = courses_from scheme header 0 logs
 
 -- the parts of one sealed epoch, by its number from the first epoch on, of each course that has sealed it
 abbrev pub parts_at : ℕ → List Course → List Part

@@ -1,16 +1,17 @@
 //! A check of a bundle: what is certified, and how its report ends.
 ghost use Rattle.std.specs.Prelude.{◌≡◌, ◌+◌, ◌≤◌, ◌^◌, ℕ, length, map, vec_len, IfSome, ◌≢◌, ◌⊎◌};
+ghost use Rattle.merkle_records.specs.Scheme.{scheme_of};
 ghost use Rattle.lamport_clocks.specs.Header.{IsHeader};
 ghost use Rattle.fv_outside.specs.Faults.{Rose};
 ghost use Rattle.fv_outside.specs.Written.{Grows, GrowsByFront};
 ghost use Rattle.check_core.specs.Intake.{logs_in, logged};
-ghost use Rattle.check_core.specs.Taken.{TookAtMost, TookJust};
+ghost use Rattle.check_core.specs.Consumed.{TookAtMost, TookJust};
 ghost use Rattle.check_core.specs.Outcomes.{IsEnd, IsOutcome};
 ghost use Rattle.check_core.specs.Headline.{IsSound};
-ghost use Rattle.check_core.specs.Verdict.{Reports, verdict, verdict_by};
-ghost use Rattle.check_core.specs.Report.{verdict_with};
+ghost use Rattle.check_core.specs.Answer.{Reports, check_answer, answer_by};
+ghost use Rattle.check_core.specs.Report.{answer_with};
 ghost use Rattle.check_core.specs.RunReport.{courses_of, parts_at};
-ghost use Rattle.check_core.specs.Judged.{CanBeJudged, verdict_of_runs};
+ghost use Rattle.check_core.specs.Judged.{CanBeJudged, answer_of_runs};
 
 use crate::intake::{Intake, Stop};
 use crate::judging::judge;
@@ -44,17 +45,17 @@ pub fn check<R: Threads + Sync, D: Digests + Sync, S: Source, O: Sink>(
     ensures accepted { result ≢ Status.Usage }
 
     // Where it ends with a report, that is the report of the source's bytes, and the status is the report's.
-    ensures status { IsEnd result → IfSome (S.left source.old) (λ bytes. result ≡ (verdict (D.text_digest d.now) (D.element_lanes d.now) bytes).status) }
+    ensures status { IsEnd result → IfSome (S.left source.old) (λ bytes. result ≡ (check_answer (D.functions d.now) bytes).status) }
     ensures report { IsEnd result → IfSome (S.left source.old) (λ bytes.
-        Grows (O.held out.old) (O.held out.new) (verdict (D.text_digest d.now) (D.element_lanes d.now) bytes).text) }
+        Grows (O.held out.old) (O.held out.new) (check_answer (D.functions d.now) bytes).text) }
 
     // Where the sink failed it took a front of the report, and where the check ended before there was one, nothing.
     ensures front { result ≡ Status.WriteFault → IfSome (S.left source.old) (λ bytes.
-        GrowsByFront (O.held out.old) (O.held out.new) (verdict (D.text_digest d.now) (D.element_lanes d.now) bytes).text) }
+        GrowsByFront (O.held out.old) (O.held out.new) (check_answer (D.functions d.now) bytes).text) }
     ensures unwritten { (IsEnd result → ⊥) → result ≢ Status.WriteFault → out.new ≡ out.old }
 
     // The answers of that report are serial, or the exhibit of the bytes collides.
-    ensures headline { IfSome (S.left source.old) (λ bytes. IsSound (D.text_digest d.now) (D.element_lanes d.now) bytes) }
+    ensures headline { IfSome (S.left source.old) (λ bytes. IsSound (D.functions d.now) bytes) }
 
     ensures limit { (taken : ℕ) → result ≡ Status.InputLimit taken → (taken ≡ limit) × TookJust (limit + 1) (S.left source.old) (S.left source.new) }
     ensures within { result ≢ Status.InputLimit limit → TookAtMost limit (S.left source.old) (S.left source.new) }
@@ -83,7 +84,7 @@ fn report<R: Threads + Sync, D: Digests + Sync, O: Sink>(
     ensures no_read { result ≢ Status.ReadFault }
     ensures no_limit { (taken : ℕ) → result ≢ Status.InputLimit taken }
     ensures report { Reports result (O.held out.old) (O.held out.new)
-        (verdict_by (D.text_digest d.now) (D.element_lanes d.now) (logged intake.now)) }
+        (answer_by (D.functions d.now) (logged intake.now)) }
     ensures unwritten { (IsEnd result → ⊥) → result ≢ Status.WriteFault → out.new ≡ out.old }
     ensures write_fault { result ≡ Status.WriteFault → Rose (O.faults out.old) (O.faults out.new) }
 {
@@ -109,7 +110,7 @@ fn certify<R: Threads + Sync, D: Digests + Sync, O: Sink>(
     ensures no_read { result ≢ Status.ReadFault }
     ensures no_limit { (taken : ℕ) → result ≢ Status.InputLimit taken }
     ensures report { Reports result (O.held out.old) (O.held out.new)
-        (verdict_of_runs (courses_of (D.text_digest d.now) (D.element_lanes d.now) header.now (logs_in intake.now)) intake.now.bad) }
+        (answer_of_runs (courses_of (scheme_of (D.functions d.now) header.now) header.now (logs_in intake.now)) intake.now.bad) }
     ensures unwritten { (IsEnd result → ⊥) → result ≢ Status.WriteFault → out.new ≡ out.old }
     ensures write_fault { result ≡ Status.WriteFault → Rose (O.faults out.old) (O.faults out.new) }
 {
@@ -127,7 +128,7 @@ fn report_runs<O: Sink>(alloc: Global, runs: &[Run], bad: Option<u64>, out: &mut
     ensures words { result ≢ Status.Usage }
     ensures no_read { result ≢ Status.ReadFault }
     ensures no_limit { (taken : ℕ) → result ≢ Status.InputLimit taken }
-    ensures report { Reports result (O.held out.old) (O.held out.new) (verdict_of_runs (map (λ run. run.course) runs.now) bad) }
+    ensures report { Reports result (O.held out.old) (O.held out.new) (answer_of_runs (map (λ run. run.course) runs.now) bad) }
     ensures unwritten { (IsEnd result → ⊥) → result ≢ Status.WriteFault → out.new ≡ out.old }
     ensures write_fault { result ≡ Status.WriteFault → Rose (O.faults out.old) (O.faults out.new) }
 {
@@ -153,7 +154,7 @@ fn written<O: Sink>(
 ) -> Status
     requires end { IsEnd status }
     ensures ends { result ≡ status ⊎ result ≡ Status.WriteFault }
-    ensures report { Reports result (O.held out.old) (O.held out.new) (verdict_with certified.now (map (λ op. op.now) operations.now) status) }
+    ensures report { Reports result (O.held out.old) (O.held out.new) (answer_with certified.now (map (λ op. op.now) operations.now) status) }
     ensures write_fault { result ≡ Status.WriteFault → Rose (O.faults out.old) (O.faults out.new) }
 {
     match write_report(certified, operations, &status, out) {

@@ -1,16 +1,17 @@
 //! What a check comes to, with nothing written.
 ghost use Rattle.std.specs.Prelude.{◌≡◌, ◌≤◌, ℕ, IfOk, length, map, vec_len};
+ghost use Rattle.merkle_records.specs.Scheme.{scheme_of};
 ghost use Rattle.lamport_clocks.specs.Header.{IsHeader};
 ghost use Rattle.check_core.specs.Intake.{logs_in, logged};
 ghost use Rattle.check_core.specs.Outcomes.{IsEnd, IsOutcome};
-ghost use Rattle.check_core.specs.Verdict.{certified_at, verdict_by};
+ghost use Rattle.check_core.specs.Answer.{certified_at, answer_by};
 ghost use Rattle.check_core.specs.RunReport.{courses_of, parts_at};
-ghost use Rattle.check_core.specs.Judged.{CanBeJudged, judged, verdict_of_runs};
+ghost use Rattle.check_core.specs.Judged.{CanBeJudged, judged, answer_of_runs};
 
 use crate::intake::Intake;
 use crate::judging::judge;
 use crate::report::{exit_of, first_refused};
-use fv_outside::Memory;
+use want_of_memory::Memory;
 use lamport_clocks::Header;
 use record_hash::Digests;
 use report_text::Status;
@@ -27,8 +28,8 @@ pub struct Conclusion {
 /// What a check of a bundle that was read comes to. It takes no threads: the logs are run one after another.
 pub fn conclude<D: Digests>(alloc: Global, d: &D, intake: &Intake) -> Result<Conclusion, Memory>
     ensures certified { IfOk result (λ found. found.certified
-        ≡ certified_at (D.text_digest d.now) (D.element_lanes d.now) intake.now.header (logs_in intake.now)) }
-    ensures status { IfOk result (λ found. found.status ≡ (verdict_by (D.text_digest d.now) (D.element_lanes d.now) (logged intake.now)).status) }
+        ≡ certified_at (D.functions d.now) intake.now.header (logs_in intake.now)) }
+    ensures status { IfOk result (λ found. found.status ≡ (answer_by (D.functions d.now) (logged intake.now)).status) }
     ensures outcome { IfOk result (λ found. IsOutcome found.status) }
     ensures end { IfOk result (λ found. IsEnd found.status) }
 {
@@ -51,10 +52,10 @@ fn conclude_logs<D: Digests>(
     requires header { IsHeader header.now }
     requires count { vec_len intake.now.logs ≡ header.now.verifiers }
     ensures certified { IfOk result (λ found.
-        let courses = courses_of (D.text_digest d.now) (D.element_lanes d.now) header.now (logs_in intake.now) in
+        let courses = courses_of (scheme_of (D.functions d.now) header.now) header.now (logs_in intake.now) in
         found.certified ≡ (judged (length courses) courses).count) }
     ensures status { IfOk result (λ found. found.status
-        ≡ (verdict_of_runs (courses_of (D.text_digest d.now) (D.element_lanes d.now) header.now (logs_in intake.now)) intake.now.bad).status) }
+        ≡ (answer_of_runs (courses_of (scheme_of (D.functions d.now) header.now) header.now (logs_in intake.now)) intake.now.bad).status) }
     ensures outcome { IfOk result (λ found. IsOutcome found.status) }
     ensures end { IfOk result (λ found. IsEnd found.status) }
 {
@@ -69,7 +70,7 @@ fn conclude_runs(alloc: Global, runs: &[Run], bad: Option<u64>) -> Result<Conclu
     requires few { length runs.now ≤ 64 }
     requires parts { (index : ℕ) → CanBeJudged (length runs.now) (parts_at index (map (λ run. run.course) runs.now)) }
     ensures certified { IfOk result (λ found. found.certified ≡ (judged (length runs.now) (map (λ run. run.course) runs.now)).count) }
-    ensures status { IfOk result (λ found. found.status ≡ (verdict_of_runs (map (λ run. run.course) runs.now) bad).status) }
+    ensures status { IfOk result (λ found. found.status ≡ (answer_of_runs (map (λ run. run.course) runs.now) bad).status) }
     ensures outcome { IfOk result (λ found. IsOutcome found.status) }
     ensures end { IfOk result (λ found. IsEnd found.status) }
 {
@@ -94,7 +95,7 @@ fn run_in_turn<D: Digests>(
     requires header { IsHeader header.now }
     requires count { length logs.now ≡ header.now.verifiers }
     ensures courses { IfOk result (λ runs. map (λ run. run.course) runs.items
-        ≡ courses_of (D.text_digest d.now) (D.element_lanes d.now) header.now (map (λ log. log.items) logs.now)) }
+        ≡ courses_of (scheme_of (D.functions d.now) header.now) header.now (map (λ log. log.items) logs.now)) }
 {
     let mut runs = Vec::new(alloc);
     for (number, log) in logs.iter().enumerate() {

@@ -4,7 +4,7 @@ ghost use Rattle.std.specs.Option.{ForSome};
 ghost use Rattle.lamport_clocks.specs.Header.{IsHeader};
 ghost use Rattle.check_core.specs.Logs.{log_count};
 
-use fv_outside::Memory;
+use want_of_memory::Memory;
 use lamport_clocks::Header;
 use std::alloc::AllocError;
 
@@ -43,7 +43,6 @@ impl From<Memory> for Stop {
 }
 
 impl From<AllocError> for Stop {
-    ghost use Rattle.check_core.specs.declared.intake.Stop.TheVariants.{Memory as OutOfMemory};
 
     ghost from_gives = { λ _ stop. stop ≡ OutOfMemory };
 

@@ -5,7 +5,7 @@ ghost use Rattle.check_core.specs.RunReport.{parts_at};
 ghost use Rattle.check_core.specs.Judged.{judged, judged_from, first_parts, CanBeJudged};
 
 use epoch_gather::{Verdict, verdict};
-use fv_outside::Memory;
+use want_of_memory::Memory;
 use multiset_sum::{Part, Sum};
 use std::alloc::{AllocError, Global};
 use verifier_run::Run;

@@ -6,11 +6,12 @@ ghost use Rattle.bundle_frames.specs.Progress.{position, rest_of};
 ghost use Rattle.lamport_clocks.specs.Header.{IsHeader};
 ghost use Rattle.check_core.specs.Logs.{empty_logs, appended};
 ghost use Rattle.check_core.specs.Intake.{behind_at, logs_in, logged, logged_of, Means};
-ghost use Rattle.check_core.specs.Taken.{TookAtMost, TookJust, ReadsOn};
+ghost use Rattle.check_core.specs.Consumed.{TookAtMost, TookJust, ReadsOn};
 
 use crate::intake::{Intake, Stop};
 use bundle_frames::{Found, Splitter};
-use fv_outside::{Failed, Memory, Source};
+use fv_outside::{Failed, Source};
+use want_of_memory::Memory;
 use lamport_clocks::Header;
 use std::alloc::{AllocError, Global};
 

@@ -11,7 +11,8 @@ ghost use Rattle.check_core.specs.Judged.{first_parts, last_epoch, operations_by
 ghost use Rattle.check_core.specs.Outcomes.{IsEnd, IsOutcome};
 
 use crate::judging::Judged;
-use fv_outside::{Failed, Memory, Sink};
+use fv_outside::{Failed, Sink};
+use want_of_memory::Memory;
 use multiset_sum::Part;
 use record_text::{Operation, Refusal};
 use report_text::{Page, Status, epoch_line, last_line, operation_line};

@@ -1,11 +1,12 @@
 //! The logs of all verifiers, each run by itself, side by side.
 ghost use Rattle.std.specs.Prelude.{◌≡◌, ◌<◌, ℕ, IfOk, Ok, length, map, slice_index_or, vec_len};
+ghost use Rattle.merkle_records.specs.Scheme.{scheme_of};
 ghost use Rattle.lamport_clocks.specs.Header.{IsHeader};
 ghost use Rattle.verifier_commands.specs.Machine.{opening_machine};
 ghost use Rattle.verifier_run.specs.LogCourse.{log_course};
 ghost use Rattle.check_core.specs.RunReport.{courses_of};
 
-use fv_outside::Memory;
+use want_of_memory::Memory;
 use lamport_clocks::Header;
 use record_hash::Digests;
 use std::alloc::{AllocError, Global};
@@ -23,7 +24,7 @@ pub fn run_logs<R: Threads + Sync, D: Digests + Sync>(
     requires header { IsHeader header.now }
     requires count { length logs.now ≡ header.now.verifiers }
     ensures courses { IfOk result (λ runs. map (λ run. run.course) runs.items
-        ≡ courses_of (D.text_digest d.now) (D.element_lanes d.now) header.now (map (λ log. log.items) logs.now)) }
+        ≡ courses_of (scheme_of (D.functions d.now) header.now) header.now (map (λ log. log.items) logs.now)) }
 {
     let outcomes = run_each(rt, alloc, d, header, logs)?;
     all_done(alloc, outcomes)
@@ -42,7 +43,7 @@ fn run_each<R: Threads + Sync, D: Digests + Sync>(
     ensures len { IfOk result (λ outcomes. vec_len outcomes ≡ length logs.now) }
     ensures each { IfOk result (λ outcomes. (index : ℕ) (outcome : _) (log : _) → index < length logs.now
         → IfOk (slice_index_or outcomes.items index outcome) (λ run. run.course
-        ≡ log_course (D.text_digest d.now) (D.element_lanes d.now) (opening_machine index header.now) (slice_index_or logs.now index log).items)) }
+        ≡ log_course (scheme_of (D.functions d.now) header.now) (opening_machine index header.now) (slice_index_or logs.now index log).items)) }
 {
     map_indices(
         rt,
@@ -50,7 +51,7 @@ fn run_each<R: Threads + Sync, D: Digests + Sync>(
         logs.len(),
         &|index: usize| -> Result<Run, Memory>
             requires { IsHeader header.now × (index < length logs.now) × (index < header.now.verifiers) }
-            ensures { IfOk result (λ run. (log : _) → run.course ≡ log_course (D.text_digest d.entry.now) (D.element_lanes d.entry.now)
+            ensures { IfOk result (λ run. (log : _) → run.course ≡ log_course (scheme_of (D.functions d.entry.now) header.entry.now)
                 (opening_machine index header.entry.now) (slice_index_or logs.entry.now index log).items) }
         { run_log(alloc, d, index as u16, header, &logs[index]) },
     )

@@ -9,12 +9,12 @@ use Rattle.record_text.specs.Format.{short_keys}
 use Rattle.stamp_order.specs.Merged.{up_to}
 use Rattle.verifier_cache.specs.declared.entry.Entry.{Entry}
 use Rattle.verifier_commands.specs.Changes.{above}
-use Rattle.verifier_commands.specs.Change.{Change, joins, leaves, comes, goes, defers, reads, writes, turns}
+use Rattle.verifier_commands.specs.Change.{Change, did_add_m, did_evict_m, did_add_b, did_evict_b, did_evict_bm, did_get, did_put, did_next_epoch}
 use Rattle.soundness.specs.History.{Event}
 use Rattle.soundness.specs.Certified.{event_moment, order_of, of_epoch, added_by, evicted_by, added_in, evicted_in, order_within}
-use Rattle.soundness.specs.Exhibit.{Taken, Strings, is_known, none_taken, differing, clash_at, taken_after, first_clash}
+use Rattle.soundness.specs.Clash.{LastEvicted, Strings, is_known, none_evicted, differing, clash_at, last_evicted_after, first_clash}
 use Rattle.soundness.specs.Permutation.{is_permutation}
-use Rattle.soundness.specs.Collision.{first_uneven, exhibit_by, exhibit_of}
+use Rattle.soundness.specs.Exhibit.{first_uneven, exhibit_by, exhibit_of}
 use Rattle.record_text.specs.declared.exhibit.Exhibit.TheVariants as exhibits
 use Rattle.collision_exhibit.specs.declared.act.Act.{Act}
 use Rattle.collision_exhibit.specs.declared.act.Deed.{Deed}
@@ -36,26 +36,26 @@ went_known event deed true none = ap (λ (elements : List Element). elements ++ 
 went_known event deed false none = refl
 
 came_at : (event : Event) (change : Change) → came_among (map (act_at event) (deeds_by change)) ≡ added_by change
-came_at event (joins parent after child) =
+came_at event (did_add_m parent after child) =
     came_known event (Joined child.path child.value) (is_known (above parent child.path) child.path) refl
-came_at event (leaves parent after child) = refl
-came_at event (comes child element) = refl
-came_at event (goes child element) = refl
-came_at event (defers parent after child element) = refl
-came_at event (reads entry) = refl
-came_at event (writes before after) = refl
-came_at event (turns sealed) = refl
+came_at event (did_evict_m parent after child) = refl
+came_at event (did_add_b child element) = refl
+came_at event (did_evict_b child element) = refl
+came_at event (did_evict_bm parent after child element) = refl
+came_at event (did_get entry) = refl
+came_at event (did_put before after) = refl
+came_at event (did_next_epoch sealed) = refl
 
 went_at : (event : Event) (change : Change) → went_among (map (act_at event) (deeds_by change)) ≡ evicted_by change
-went_at event (joins parent after child) =
+went_at event (did_add_m parent after child) =
     went_known event (Joined child.path child.value) (is_known (above parent child.path) child.path) refl
-went_at event (leaves parent after child) = refl
-went_at event (comes child element) = refl
-went_at event (goes child element) = refl
-went_at event (defers parent after child element) = refl
-went_at event (reads entry) = refl
-went_at event (writes before after) = refl
-went_at event (turns sealed) = refl
+went_at event (did_evict_m parent after child) = refl
+went_at event (did_add_b child element) = refl
+went_at event (did_evict_b child element) = refl
+went_at event (did_evict_bm parent after child element) = refl
+went_at event (did_get entry) = refl
+went_at event (did_put before after) = refl
+went_at event (did_next_epoch sealed) = refl
 
 -- the elements that acts add are those that their events add
 pub came_in : (events : List Event) → came_among (acts_in events) ≡ flat_map (λ event. added_by event.change) events
@@ -94,32 +94,32 @@ uneven_in events epoch (suc count) =
 -- ---- clashes
 
 -- a join clashes where its pointer led to the child, with what was taken out
-clash_known : (event : Event) (child : Entry) (taken : Taken) (acts : List Act) (later : Option Strings) (known : Bool)
-    → clash_among taken acts ≡ later
-    → clash_among taken (map (act_at event) (if known then Joined child.path child.value ∷ [] else []) ++ acts)
+clash_known : (event : Event) (child : Entry) (taken : LastEvicted) (acts : List Act) (later : Option Strings) (known : Bool)
+    → clash_among short_keys taken acts ≡ later
+    → clash_among short_keys taken (map (act_at event) (if known then Joined child.path child.value ∷ [] else []) ++ acts)
     ≡ option_or (clash_at short_keys taken known child) later
 clash_known event child taken acts later true behind =
     ap (option_or (differing short_keys (taken child.path) child.value)) behind
 clash_known event child taken acts later false behind = behind
 
 -- the acts of an event and those behind it clash where the event and what is behind it do
-clash_at_event : (event : Event) (change : Change) (taken : Taken) (acts : List Act) (changes : List Change)
-    → ((now : Taken) → clash_among now acts ≡ first_clash short_keys now changes)
-    → clash_among taken (map (act_at event) (deeds_by change) ++ acts) ≡ first_clash short_keys taken (change ∷ changes)
-clash_at_event event (joins parent after child) taken acts changes behind =
+clash_at_event : (event : Event) (change : Change) (taken : LastEvicted) (acts : List Act) (changes : List Change)
+    → ((now : LastEvicted) → clash_among short_keys now acts ≡ first_clash short_keys now changes)
+    → clash_among short_keys taken (map (act_at event) (deeds_by change) ++ acts) ≡ first_clash short_keys taken (change ∷ changes)
+clash_at_event event (did_add_m parent after child) taken acts changes behind =
     clash_known event child taken acts (first_clash short_keys taken changes)
     (is_known (above parent child.path) child.path) (behind taken)
-clash_at_event event (leaves parent after child) taken acts changes behind = behind (taken_after taken (leaves parent after child))
-clash_at_event event (comes child element) taken acts changes behind = behind taken
-clash_at_event event (goes child element) taken acts changes behind = behind taken
-clash_at_event event (defers parent after child element) taken acts changes behind = behind taken
-clash_at_event event (reads entry) taken acts changes behind = behind taken
-clash_at_event event (writes before after) taken acts changes behind = behind taken
-clash_at_event event (turns sealed) taken acts changes behind = behind taken
+clash_at_event event (did_evict_m parent after child) taken acts changes behind = behind (last_evicted_after taken (did_evict_m parent after child))
+clash_at_event event (did_add_b child element) taken acts changes behind = behind taken
+clash_at_event event (did_evict_b child element) taken acts changes behind = behind taken
+clash_at_event event (did_evict_bm parent after child element) taken acts changes behind = behind taken
+clash_at_event event (did_get entry) taken acts changes behind = behind taken
+clash_at_event event (did_put before after) taken acts changes behind = behind taken
+clash_at_event event (did_next_epoch sealed) taken acts changes behind = behind taken
 
 -- The first clash.
-pub clash_in : (events : List Event) (taken : Taken)
-    → clash_among taken (acts_in events) ≡ first_clash short_keys taken (map (λ event. event.change) events)
+pub clash_in : (events : List Event) (taken : LastEvicted)
+    → clash_among short_keys taken (acts_in events) ≡ first_clash short_keys taken (map (λ event. event.change) events)
 clash_in [] taken = refl
 clash_in (event ∷ events) taken =
     clash_at_event event event.change taken (acts_in events) (map (λ (event : Event). event.change) events) (clash_in events)
@@ -175,15 +175,15 @@ shown_in events None None = refl
 
 -- The exhibit of the acts is the exhibit of the histories.
 pub exhibit_acts : (histories : List (List Event)) (first count : ℕ)
-    → exhibit_among first count (acts_in (order_of histories)) ≡ exhibit_of first count histories
+    → exhibit_among short_keys first count (acts_in (order_of histories)) ≡ exhibit_of short_keys first count histories
 exhibit_acts histories first count =
-    ap (λ (uneven : Option ℕ). shown_by acts uneven (clash_among none_taken (acts_within first count acts)))
+    ap (λ (uneven : Option ℕ). shown_by acts uneven (clash_among short_keys none_evicted (acts_within first count acts)))
     (uneven_in events first count)
-    ∙ ap (λ (kept : List Act). shown_by acts (first_uneven events first count) (clash_among none_taken kept))
+    ∙ ap (λ (kept : List Act). shown_by acts (first_uneven events first count) (clash_among short_keys none_evicted kept))
     (within_acts first count histories)
-    ∙ ap (shown_by acts (first_uneven events first count)) (clash_in (order_within first count histories) none_taken)
+    ∙ ap (shown_by acts (first_uneven events first count)) (clash_in (order_within first count histories) none_evicted)
     ∙ shown_in events (first_uneven events first count)
-    (first_clash short_keys none_taken (map (λ (event : Event). event.change) (order_within first count histories)))
+    (first_clash short_keys none_evicted (map (λ (event : Event). event.change) (order_within first count histories)))
   where
     events : List Event
     events = order_of histories

@@ -5,9 +5,9 @@ use Rattle.std.proofs.lemmas.Bool.{true≢false}
 use Rattle.std.proofs.lemmas.Result.{IfOk-at_ok}
 use Rattle.tree_keys.specs.Path.{side}
 use Rattle.tree_keys.proofs.PathLemmas.{same_path-apart}
-use Rattle.lamport_clocks.specs.Clock.{received, sent, turned}
-use Rattle.lamport_clocks.specs.InOrder.{need}
-use Rattle.lamport_clocks.proofs.InOrder.{test-ok}
+use Rattle.lamport_clocks.specs.Clock.{received, sent, advanced}
+use Rattle.step_words.specs.Steps.{need}
+use Rattle.step_words.proofs.StepLaws.{test-ok}
 use Rattle.record_text.specs.declared.value.Node.{Node}
 use Rattle.record_text.specs.declared.value.Pointer.{Pointer}
 use Rattle.record_text.specs.declared.value.Value.{Value}
@@ -22,10 +22,10 @@ use Rattle.verifier_cache.specs.Entry.{has_kid}
 use Rattle.verifier_cache.specs.Cache.{entry_of}
 use Rattle.verifier_commands.specs.declared.changes.Family.{Family}
 use Rattle.verifier_commands.specs.declared.state.State.{State}
-use Rattle.verifier_commands.specs.Change.{Change, joins}
+use Rattle.verifier_commands.specs.Change.{Change, did_add_m}
 use Rattle.verifier_commands.specs.Changes.{node_of, above, above_on, leads_to, add_under, evict_under, defer_under, is_by_stamp}
 use Rattle.verifier_commands.specs.Transition.{Rules, is_root, is_data, is_full, transition}
-use Rattle.soundness.specs.Exhibit.{is_known}
+use Rattle.soundness.specs.Clash.{is_known}
 use Rattle.soundness.proofs.FamilyLemmas.{IsAdd, on_empty, on_same, on_split, IsAdded, added_how}
 use Rattle.soundness.proofs.InvertLemmas.{need-ok, and_then-ok, timed-ok}
 use Rattle.soundness.proofs.SideLemmas.{above_apart}
@@ -97,10 +97,10 @@ told_of make found entry is = sym (ap (λ (o : Option Entry). option_to_list (op
 
 -- a family that is an add of a path under its holder is told
 family_told : (rules : Rules) (path : List Bool) (value : Value) (found : Option Entry) (holder : Entry) (family : Family) → found ≡ Some holder
-    → add_under rules.format rules.digest holder path value ≡ Ok family
-    → deeds_by (joins holder family.parent family.child) ≡ option_to_list (joined_under found path value)
+    → add_under rules.scheme.format rules.scheme.digest holder path value ≡ Ok family
+    → deeds_by (did_add_m holder family.parent family.child) ≡ option_to_list (joined_under found path value)
 family_told rules path value found holder family there is =
-    let added = as_added rules.format rules.digest holder path value family is in
+    let added = as_added rules.scheme.format rules.scheme.digest holder path value family is in
     ap (λ (k : List Bool). if is_known (above holder k) k then Joined family.child.path family.child.value ∷ [] else []) added.at_path
     ∙ joined_told path value family.child (is_known (above holder path) path) added.kept added.at_path
     ∙ sym (ap (λ (o : Option Entry). option_to_list (joined_under o path value)) there)
@@ -114,14 +114,14 @@ deed_told rules state (AddM path value parent) done is =
     let room = test-ok (is_full state) _ _ done fresh.1 in
     let told = deed_of rules.number state.cache.entries (AddM path value parent) in
     with_needed (DidAsTold told done) (entry_of parent state.cache.entries) _ _ done room.1 (λ holder there next.
-    let family = and_then-ok (add_under rules.format rules.digest holder path value) _ done next in
+    let family = and_then-ok (add_under rules.scheme.format rules.scheme.digest holder path value) _ done next in
     IfOk-at_ok (DidAsTold told) family.2 (family_told rules path value (entry_of parent state.cache.entries) holder family.0 there family.1))
 deed_told rules state (EvictM path parent) done is =
     let inner = test-ok (is_root path) _ _ done is in
     let told = deed_of rules.number state.cache.entries (EvictM path parent) in
     with_needed (DidAsTold told done) (entry_of path state.cache.entries) _ _ done inner.1 (λ child there next.
     with_needed (DidAsTold told done) (entry_of parent state.cache.entries) _ _ done next (λ holder here last.
-    let after = and_then-ok (evict_under rules.format rules.digest holder child) _ done last in
+    let after = and_then-ok (evict_under rules.scheme.format rules.scheme.digest holder child) _ done last in
     IfOk-at_ok (DidAsTold told) after.2 (told_of left_by (entry_of path state.cache.entries) child there)))
 deed_told rules state (AddB path value stamp verifier) done is =
     let inner = test-ok (is_root path) _ _ done is in
@@ -148,13 +148,13 @@ deed_told rules state (EvictBM path parent stamp) done is =
     IfOk-at_ok (DidAsTold told) clock.2 (told_of (went_with rules.number stamp) (entry_of path state.cache.entries) child there)))
 deed_told rules state (Get path value) done is =
     with_needed (DidAsTold None done) (entry_of path state.cache.entries) _ _ done is (λ entry there next.
-    let data_path = test-ok (not (is_data rules.format path)) _ _ done next in
+    let data_path = test-ok (not (is_data rules.scheme.format path)) _ _ done next in
     let same = test-ok (not (same_value entry.value value)) _ _ done data_path.1 in
     IfOk-at_ok (DidAsTold None) same.1 refl)
 deed_told rules state (Put path value) done is =
     with_needed (DidAsTold None done) (entry_of path state.cache.entries) _ _ done is (λ entry there next.
-    let data_path = test-ok (not (is_data rules.format path)) _ _ done next in
+    let data_path = test-ok (not (is_data rules.scheme.format path)) _ _ done next in
     IfOk-at_ok (DidAsTold None) data_path.1 refl)
 deed_told rules state NextEpoch done is =
-    let turn = timed-ok (turned state.clock) _ done is in
+    let turn = timed-ok (advanced state.clock) _ done is in
     IfOk-at_ok (DidAsTold None) turn.2 refl

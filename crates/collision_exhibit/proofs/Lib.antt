@@ -7,4 +7,4 @@ pub mod LaneLemmas
 pub mod ElementLemmas
 pub mod PartingLemmas
 pub mod OwnStampLemmas
-pub mod TakenLemmas
+pub mod LastEvictedLemmas

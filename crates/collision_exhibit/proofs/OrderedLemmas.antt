@@ -1,11 +1,11 @@
 -- The acts of all logs: one log after another, and in the order of their moments.
 use Rattle.std.proofs.Common.{◌≡◌, ℕ, suc, ◌+◌, ◌<◌, List, [], ◌∷◌, ◌++◌, ◌≤◌, length, drop, map, get_or, refl, sym, ◌∙◌, ap, add-one, append-nil, append_assoc}
+use Rattle.merkle_records.specs.Scheme.{Scheme}
 use Rattle.std.specs.List.{AllByRecursion}
 use Rattle.std.proofs.Math.Seq.{drop-cons}
 use Rattle.std.proofs.lemmas.List.{drop_all}
 use Rattle.std.proofs.lemmas.Grind.{flat_map-append}
 use Rattle.lamport_clocks.specs.declared.header.Header.{Header}
-use Rattle.record_text.specs.Format.{short_keys}
 use Rattle.log_codec.specs.Log.{read_log}
 use Rattle.stamp_order.specs.Merged.{merged}
 use Rattle.stamp_order.proofs.MergedLemmas.{merged-flat_map}
@@ -16,28 +16,28 @@ use Rattle.collision_exhibit.specs.declared.act.Act.{Act}
 use Rattle.collision_exhibit.specs.declared.act.Deed.{Deed}
 use Rattle.collision_exhibit.specs.Act.{deeds_by, act_at, acts_by, acts_in, act_moment}
 
-module _ (digest lanes : List ℕ → List ℕ) (header : Header) where
+module _ (scheme : Scheme) (header : Header) where
   -- the acts of logs, the first of which is of the verifier of this number
   abbrev pub acts_behind : ℕ → List (List ℕ) → List Act
-  acts_behind number logs = acts_in (all_events (histories_from digest lanes header number (commands_of logs)))
+  acts_behind number logs = acts_in (all_events (histories_from scheme header number (commands_of scheme.format logs)))
 
   -- the acts of one log and of those behind it
   one_log : (number : ℕ) (log : List ℕ) (logs : List (List ℕ))
       → acts_behind number (log ∷ logs)
-      ≡ acts_in (log_events digest lanes header number (read_log short_keys log).commands) ++ acts_behind (suc number) logs
+      ≡ acts_in (log_events scheme header number (read_log scheme.format log).commands) ++ acts_behind (suc number) logs
   one_log number log logs =
-      flat_map-append acts_by (log_events digest lanes header number (read_log short_keys log).commands)
-      (all_events (histories_from digest lanes header (suc number) (commands_of logs)))
+      flat_map-append acts_by (log_events scheme header number (read_log scheme.format log).commands)
+      (all_events (histories_from scheme header (suc number) (commands_of scheme.format logs)))
 
   -- a log more
   pub more_in_turn : (whole acts next : List Act) (logs : List (List ℕ)) (index : ℕ) (log : List ℕ)
       → acts ++ acts_behind index (drop index logs) ≡ whole → index < length logs → get_or logs index [] ≡ log
-      → next ≡ acts ++ acts_in (log_events digest lanes header index (read_log short_keys log).commands)
+      → next ≡ acts ++ acts_in (log_events scheme header index (read_log scheme.format log).commands)
       → next ++ acts_behind (index + 1) (drop (index + 1) logs) ≡ whole
   more_in_turn whole acts next logs index log so_far within log_is next_is =
       ap (λ (number : ℕ). next ++ acts_behind number (drop number logs)) (add-one index)
       ∙ ap (λ (told : List Act). told ++ acts_behind (suc index) (drop (suc index) logs)) next_is
-      ∙ append_assoc acts (acts_in (log_events digest lanes header index (read_log short_keys log).commands)) (acts_behind (suc index) (drop (suc index) logs))
+      ∙ append_assoc acts (acts_in (log_events scheme header index (read_log scheme.format log).commands)) (acts_behind (suc index) (drop (suc index) logs))
       ∙ ap (λ (told : List Act). acts ++ told) (sym (one_log index log (drop (suc index) logs)))
       ∙ ap (λ (rest : List (List ℕ)). acts ++ acts_behind index rest)
       (ap (λ (l : List ℕ). l ∷ drop (suc index) logs) (sym log_is) ∙ sym (drop-cons logs index [] within))

@@ -1,6 +1,7 @@
 -- No verifier evicts two elements with one stamp: the stamps of each log's evicts rise, and the logs are of different
 -- verifiers.
 use Rattle.std.proofs.Common.{◌≡◌, ℕ, suc, ◌<◌, ◌≤◌, ◌==◌, ◌&&◌, Bool, true, false, List, [], ◌∷◌, ◌++◌, append_assoc, sym, ◌∙◌, subst, flat_map, IsPermutation, arith}
+use Rattle.merkle_records.specs.Scheme.{Scheme}
 use Rattle.std.specs.List.{AllByRecursion, IsDistinct}
 use Rattle.std.specs.Ordering.{is_lt}
 use Rattle.std.proofs.lemmas.Bool.{false≢true, cond_both, and_parts, eqb-true}
@@ -65,20 +66,20 @@ verifiers_apart x y number own later =
     let is = eqb-true x.verifier y.verifier (and_parts (same_stamp x.stamp y.stamp) (x.verifier == y.verifier) same).1 in
     absurd (omega (arith, own, later, is)))
 
-module _ (digest : List ℕ → List ℕ) (lanes : List ℕ → List ℕ) (header : Header) where
+module _ (scheme : Scheme) (header : Header) where
   -- the elements that a log evicts
   abbrev log_evicts : ℕ → List Command → List Element
-  log_evicts number log = evicted_among (log_events digest lanes header number log)
+  log_evicts number log = evicted_among (log_events scheme header number log)
 
   -- the elements that the logs evict, one log after another
   abbrev all_evicts : ℕ → List (List Command) → List Element
-  all_evicts number logs = evicted_among (all_events (histories_from digest lanes header number logs))
+  all_evicts number logs = evicted_among (all_events (histories_from scheme header number logs))
 
   split_evicts : (number : ℕ) (log : List Command) (logs : List (List Command))
       → all_evicts number (log ∷ logs) ≡ log_evicts number log ++ all_evicts (suc number) logs
   split_evicts number log logs =
-      flat_map-append (λ (event : Event). evicted_by event.change) (log_events digest lanes header number log)
-      (all_events (histories_from digest lanes header (suc number) logs))
+      flat_map-append (λ (event : Event). evicted_by event.change) (log_events scheme header number log)
+      (all_events (histories_from scheme header (suc number) logs))
 
   -- the logs from one number on evict elements of verifiers from it on
   verifiers_from : (number : ℕ) (logs : List (List Command))
@@ -88,7 +89,7 @@ module _ (digest : List ℕ → List ℕ) (lanes : List ℕ → List ℕ) (heade
       subst (AllByRecursion (λ (element : Element). number ≤ element.verifier)) (sym (split_evicts number log logs))
       (every-append (λ element. number ≤ element.verifier) (log_evicts number log) (all_evicts (suc number) logs)
       (every-weaker (λ element. element.verifier ≡ number) (λ element. number ≤ element.verifier) (λ element own. omega (arith, own))
-      (log_evicts number log) (log_own digest lanes header number log))
+      (log_evicts number log) (log_own scheme header number log))
       (every-weaker (λ element. suc number ≤ element.verifier) (λ element. number ≤ element.verifier) (λ element later. omega (arith, later))
       (all_evicts (suc number) logs) (verifiers_from (suc number) logs)))
 
@@ -99,13 +100,13 @@ module _ (digest : List ℕ → List ℕ) (lanes : List ℕ → List ℕ) (heade
   all_apart number (log ∷ logs) =
       subst HaveOwnStamps (sym (split_evicts number log logs))
       (distinct-append same_evict (log_evicts number log) (all_evicts (suc number) logs)
-      (rising_apart (log_evicts number log) (log_rising digest lanes header number log))
+      (rising_apart (log_evicts number log) (log_rising scheme header number log))
       (all_apart (suc number) logs)
       (every-weaker (λ x. x.verifier ≡ number)
       (λ x. AllByRecursion (λ y. same_evict x y ≡ false) (all_evicts (suc number) logs))
       (λ x own. every-weaker (λ y. suc number ≤ y.verifier) (λ y. same_evict x y ≡ false) (λ y later. verifiers_apart x y number own later)
       (all_evicts (suc number) logs) (verifiers_from (suc number) logs))
-      (log_evicts number log) (log_own digest lanes header number log)))
+      (log_evicts number log) (log_own scheme header number log)))
 
 -- ---- the merged order
 
@@ -136,11 +137,11 @@ module _ {X Y : Type 0} (lt : X → X → Bool) (block : X → List Y) where
       (put-blocks x (in_order lt xs))
 
 -- Of all logs' acts in their order, no verifier evicted two elements with one stamp.
-pub distinct_evicts : (digest : List ℕ → List ℕ) (lanes : List ℕ → List ℕ) (header : Header) (logs : List (List Command))
-    → HaveOwnStamps (went_among (acts_in (order_of (histories_of digest lanes header logs))))
-distinct_evicts digest lanes header logs =
-    let histories = histories_of digest lanes header logs in
+pub distinct_evicts : (scheme : Scheme) (header : Header) (logs : List (List Command))
+    → HaveOwnStamps (went_among (acts_in (order_of (histories_of scheme header logs))))
+distinct_evicts scheme header logs =
+    let histories = histories_of scheme header logs in
     subst HaveOwnStamps (sym (went_in (order_of histories)))
     (IsDistinct-IsPermutation same_evict same_evict-flips (evicted_among (all_events histories)) (evicted_among (order_of histories))
     (ordered-blocks (comes_before event_moment) (λ event. evicted_by event.change) (all_events histories))
-    (all_apart digest lanes header 0 logs))
+    (all_apart scheme header 0 logs))

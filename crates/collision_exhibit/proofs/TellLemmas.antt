@@ -1,12 +1,13 @@
 -- The acts of a verifier's commands, one command after another.
 use Rattle.std.proofs.Common.{◌≡◌, ℕ, suc, ◌+◌, ◌-◌, ◌<◌, ◌≤◌, Bool, true, false, List, [], ◌∷◌, ◌++◌, length, drop, map, Option, Result, Ok, Err, refl, sym, ◌∙◌, ap, append-nil, append_assoc, add-one, length-drop, arith}
+use Rattle.merkle_records.specs.Scheme.{Scheme}
 use Rattle.std.specs.Option.{option_to_list}
 use Rattle.std.proofs.lemmas.List.{drop-drop}
 use Rattle.lamport_clocks.specs.declared.stamp.Stamp.{Stamp}
 use Rattle.record_text.specs.declared.refusal.Refusal.{Refusal}
 use Rattle.record_text.specs.declared.reader.TextFault.{TextFault}
 use Rattle.record_text.specs.declared.reader.TextFault.TheVariants as faults
-use Rattle.record_text.specs.Format.{short_keys}
+use Rattle.record_text.specs.Format.{Format}
 use Rattle.stamp_order.specs.declared.moment.Moment.{Moment}
 use Rattle.log_codec.specs.declared.command.Command.{Command}
 use Rattle.log_codec.specs.declared.reading.Decoded.{Decoded}
@@ -53,28 +54,28 @@ abbrev machine_of : Machine → Result (Effect × Machine) Refusal → Machine
 machine_of other (Ok answer) = answer.1
 machine_of other (Err refusal) = other
 
-module _ (digest lanes : List ℕ → List ℕ) where
+module _ (scheme : Scheme) where
   -- the machine after a change that left this state
   abbrev changed : Machine → Change × State → Machine
-  changed machine done = machine_after (rules_for digest lanes machine) machine (outcome_of done.0) done.1
+  changed machine done = machine_after (rules_for scheme machine) machine (outcome_of done.0) done.1
 
   -- what a step comes to
   abbrev outcome : Machine → Step → Result (Effect × Machine) Refusal
-  outcome machine step = concluded (rules_for digest lanes machine) machine (told step)
+  outcome machine step = concluded (rules_for scheme machine) machine (told step)
 
   -- the acts of a step, and of the commands behind it
   abbrev step_acts : Machine → List Command → Step → List Act
   step_acts machine commands step =
-      acts_in (events_behind (machinery_under (rules_for digest lanes machine)) machine.number machine.accepted step
-      (λ after. events_from (machinery_under (rules_for digest lanes machine)) machine.number (suc machine.accepted) after commands))
+      acts_in (events_behind (machinery_under (rules_for scheme machine)) machine.number machine.accepted step
+      (λ after. events_from (machinery_under (rules_for scheme machine)) machine.number (suc machine.accepted) after commands))
 
   -- the moment of the machine's next command
   abbrev next_moment : Machine → Machine → Moment
   next_moment machine after = record { at = after.state.clock.at; verifier = machine.number; index = machine.accepted }
 
   from_step : (machine : Machine) (command : Command) (commands : List Command)
-      → acts_from digest lanes machine (command ∷ commands)
-      ≡ step_acts machine commands (transition (rules_for digest lanes machine) machine.state command)
+      → acts_from scheme machine (command ∷ commands)
+      ≡ step_acts machine commands (transition (rules_for scheme machine) machine.state command)
   unfolding events_from
   from_step machine command commands = refl
 
@@ -82,21 +83,21 @@ module _ (digest lanes : List ℕ → List ℕ) where
   accepted_acts : (machine : Machine) (commands : List Command) (done : Change × State)
       → step_acts machine commands (Ok done)
       ≡ map (act_then (next_moment machine (changed machine done))) (deeds_by done.0)
-      ++ acts_from digest lanes (changed machine done) commands
+      ++ acts_from scheme (changed machine done) commands
   accepted_acts machine commands done =
       ap (λ (index : ℕ). map (act_then (next_moment machine (changed machine done))) (deeds_by done.0)
-      ++ acts_in (events_from (machinery_under (rules_for digest lanes machine)) machine.number index done.1 commands))
+      ++ acts_in (events_from (machinery_under (rules_for scheme machine)) machine.number index done.1 commands))
       (sym (add-one machine.accepted))
 
   told_behind : (machine after : Machine) (effect : Effect) (deed : Option Deed) (commands : List Command) (step : Step)
       → ((done : Change × State) → step ≡ Ok done → deeds_by done.0 ≡ option_to_list deed)
       → outcome machine step ≡ Ok (effect, after)
-      → map (act_then (next_moment machine after)) (option_to_list deed) ++ acts_from digest lanes after commands
+      → map (act_then (next_moment machine after)) (option_to_list deed) ++ acts_from scheme after commands
       ≡ step_acts machine commands step
   told_behind machine after effect deed commands (Ok done) did is =
       let same : changed machine done ≡ after = ap (machine_of after) is in
-      ap (λ (m : Machine). map (act_then (next_moment machine m)) (option_to_list deed) ++ acts_from digest lanes m commands) (sym same)
-      ∙ ap (λ (deeds : List Deed). map (act_then (next_moment machine (changed machine done))) deeds ++ acts_from digest lanes (changed machine done) commands)
+      ap (λ (m : Machine). map (act_then (next_moment machine m)) (option_to_list deed) ++ acts_from scheme m commands) (sym same)
+      ∙ ap (λ (deeds : List Deed). map (act_then (next_moment machine (changed machine done))) deeds ++ acts_from scheme (changed machine done) commands)
       (sym (did done refl))
       ∙ sym (accepted_acts machine commands done)
   told_behind machine after effect deed commands (Err refusal) did is = absurd (cc)
@@ -108,75 +109,75 @@ module _ (digest lanes : List ℕ → List ℕ) where
 
   -- the same commands of a machine that is seen as another
   seen_as : (seen machine : Machine) (before : List Act) (commands : List Command) → machine ≡ seen
-      → before ++ acts_from digest lanes machine commands ≡ before ++ acts_from digest lanes seen commands
-  seen_as seen machine before commands same = ap (λ (m : Machine). before ++ acts_from digest lanes m commands) same
+      → before ++ acts_from scheme machine commands ≡ before ++ acts_from scheme seen commands
+  seen_as seen machine before commands same = ap (λ (m : Machine). before ++ acts_from scheme m commands) same
 
   -- Once a command was accepted, its act is told, and then those behind it.
   pub told_further : (seen machine after : Machine) (effect : Effect) (command : Command) (moment : Moment) (deed : Option Deed) (before now : List Act) (commands : List Command)
-      → machine ≡ seen → stepped digest lanes machine command ≡ Ok (effect, after)
+      → machine ≡ seen → stepped scheme machine command ≡ Ok (effect, after)
       → moment ≡ next_moment machine after
       → deed ≡ deed_of machine.number machine.state.cache.entries command
       → now ≡ before ++ map (act_then moment) (option_to_list deed)
-      → now ++ acts_from digest lanes after commands ≡ before ++ acts_from digest lanes seen (command ∷ commands)
+      → now ++ acts_from scheme after commands ≡ before ++ acts_from scheme seen (command ∷ commands)
   told_further seen machine after effect command moment deed before now commands same is moment_is deed_is now_is =
-      ap (λ (acts : List Act). acts ++ acts_from digest lanes after commands)
+      ap (λ (acts : List Act). acts ++ acts_from scheme after commands)
       (now_is ∙ ap (λ (m : Moment). before ++ map (act_then m) (option_to_list deed)) moment_is)
-      ∙ append_assoc before (map (act_then (next_moment machine after)) (option_to_list deed)) (acts_from digest lanes after commands)
+      ∙ append_assoc before (map (act_then (next_moment machine after)) (option_to_list deed)) (acts_from scheme after commands)
       ∙ ap (λ (acts : List Act). before ++ acts)
-      (told_behind machine after effect deed commands (transition (rules_for digest lanes machine) machine.state command)
-      (λ done accepted. deed_told (rules_for digest lanes machine) machine.state command done accepted ∙ sym (ap option_to_list deed_is)) is
+      (told_behind machine after effect deed commands (transition (rules_for scheme machine) machine.state command)
+      (λ done accepted. deed_told (rules_for scheme machine) machine.state command done accepted ∙ sym (ap option_to_list deed_is)) is
       ∙ sym (from_step machine command commands))
       ∙ seen_as seen machine before (command ∷ commands) same
 
   -- Once a command was refused, there is no more to be told.
   pub told_all : (seen machine : Machine) (refusal : Refusal) (command : Command) (before : List Act) (commands : List Command)
-      → machine ≡ seen → stepped digest lanes machine command ≡ Err refusal
-      → before ++ [] ≡ before ++ acts_from digest lanes seen (command ∷ commands)
+      → machine ≡ seen → stepped scheme machine command ≡ Err refusal
+      → before ++ [] ≡ before ++ acts_from scheme seen (command ∷ commands)
   told_all seen machine refusal command before commands same is =
       ap (λ (acts : List Act). before ++ acts)
       (sym (from_step machine command commands
-      ∙ refused_behind machine refusal commands (transition (rules_for digest lanes machine) machine.state command) is))
+      ∙ refused_behind machine refusal commands (transition (rules_for scheme machine) machine.state command) is))
       ∙ seen_as seen machine before (command ∷ commands) same
 
 -- ---- the bytes of a log
 
 -- bytes that begin with no command are a log of none
-read_none : (bytes : List ℕ) (fault : TextFault) → command_at short_keys bytes ≡ Err fault → (read_log short_keys bytes).commands ≡ []
-read_none [] fault is = ap (λ (log : Log). log.commands) (read_log-empty short_keys)
-read_none (byte ∷ bytes) fault is = ap (λ (log : Log). log.commands) (read_log-fault short_keys (byte ∷ bytes) fault (omega arith) is)
+read_none : (format : Format) (bytes : List ℕ) (fault : TextFault) → command_at format bytes ≡ Err fault → (read_log format bytes).commands ≡ []
+read_none format [] fault is = ap (λ (log : Log). log.commands) (read_log-empty format)
+read_none format (byte ∷ bytes) fault is = ap (λ (log : Log). log.commands) (read_log-fault format (byte ∷ bytes) fault (omega arith) is)
 
 -- what bytes begin with that are decoded so, where that is no command
-no_command : (bytes : List ℕ) (decoded : Decoded) → Decodes short_keys bytes decoded → ((command : Command) (len : ℕ) → decoded ≡ Read command len → ⊥)
-    → (read_log short_keys bytes).commands ≡ []
-no_command bytes (Read command len) is none = absurd (none command len refl)
-no_command bytes Malformed is none = read_none bytes faults.Malformed is
-no_command bytes Truncated is none = read_none bytes faults.Truncated is
+no_command : (format : Format) (bytes : List ℕ) (decoded : Decoded) → Decodes format bytes decoded → ((command : Command) (len : ℕ) → decoded ≡ Read command len → ⊥)
+    → (read_log format bytes).commands ≡ []
+no_command format bytes (Read command len) is none = absurd (none command len refl)
+no_command format bytes Malformed is none = read_none format bytes faults.Malformed is
+no_command format bytes Truncated is none = read_none format bytes faults.Truncated is
 
 -- Of so many bytes of a log all is told: with what the rest tells, that is what the whole log tells.
-pub record HasTold (digest lanes : List ℕ → List ℕ) (start : Machine) (before : List Act) (log : List ℕ) (taken : ℕ) (now : Machine) (acts : List Act) : Type 0 where
+pub record HasTold (scheme : Scheme) (start : Machine) (before : List Act) (log : List ℕ) (taken : ℕ) (now : Machine) (acts : List Act) : Type 0 where
   pub within : taken ≤ length log
   pub accepted : now.accepted ≤ start.accepted + taken
-  pub told : acts ++ acts_read digest lanes now (drop taken log) ≡ before ++ acts_read digest lanes start log
+  pub told : acts ++ acts_read scheme now (drop taken log) ≡ before ++ acts_read scheme start log
 
-module _ (digest lanes : List ℕ → List ℕ) (start : Machine) (before : List Act) (log : List ℕ) where
-  pub none_told : HasTold digest lanes start before log 0 start before
+module _ (scheme : Scheme) (start : Machine) (before : List Act) (log : List ℕ) where
+  pub none_told : HasTold scheme start before log 0 start before
   none_told = record { within = omega arith; accepted = omega arith; told = refl }
 
   -- the rest begins with a command, and then comes what is behind it
-  command_next : (taken len : ℕ) (now : Machine) (acts : List Act) (rest : List ℕ) (command : Command) → HasTold digest lanes start before log taken now acts
-      → rest ≡ drop taken log → command_at short_keys rest ≡ Ok (command, drop len rest)
-      → acts ++ acts_from digest lanes now (command ∷ (read_log short_keys (drop len rest)).commands) ≡ before ++ acts_read digest lanes start log
+  command_next : (taken len : ℕ) (now : Machine) (acts : List Act) (rest : List ℕ) (command : Command) → HasTold scheme start before log taken now acts
+      → rest ≡ drop taken log → command_at scheme.format rest ≡ Ok (command, drop len rest)
+      → acts ++ acts_from scheme now (command ∷ (read_log scheme.format (drop len rest)).commands) ≡ before ++ acts_read scheme start log
   command_next taken len now acts rest command so_far rest_is is =
-      ap (λ (found : Log). acts ++ acts_from digest lanes now found.commands) (sym (read_log-step short_keys rest command (drop len rest) is))
-      ∙ ap (λ (bytes : List ℕ). acts ++ acts_read digest lanes now bytes) rest_is
+      ap (λ (found : Log). acts ++ acts_from scheme now found.commands) (sym (read_log-step scheme.format rest command (drop len rest) is))
+      ∙ ap (λ (bytes : List ℕ). acts ++ acts_read scheme now bytes) rest_is
       ∙ so_far.told
 
   -- a command more was accepted
   pub more_told : (taken len : ℕ) (now after : Machine) (acts next : List Act) (rest : List ℕ) (command : Command) (accepted : Bool)
-      → HasTold digest lanes start before log taken now acts
-      → rest ≡ drop taken log → command_at short_keys rest ≡ Ok (command, drop len rest) → 0 < len → len ≤ length rest → after.accepted ≤ now.accepted + 1
-      → ((commands : List Command) → next ++ acts_if accepted digest lanes after commands ≡ acts ++ acts_from digest lanes now (command ∷ commands))
-      → accepted ≡ true → HasTold digest lanes start before log (taken + len) after next
+      → HasTold scheme start before log taken now acts
+      → rest ≡ drop taken log → command_at scheme.format rest ≡ Ok (command, drop len rest) → 0 < len → len ≤ length rest → after.accepted ≤ now.accepted + 1
+      → ((commands : List Command) → next ++ acts_if accepted scheme after commands ≡ acts ++ acts_from scheme now (command ∷ commands))
+      → accepted ≡ true → HasTold scheme start before log (taken + len) after next
   more_told taken len now after acts next rest command accepted so_far rest_is is some fits count tells was =
       let left : length rest ≡ length log - taken = ap length rest_is ∙ length-drop taken log in
       let within : taken ≤ length log = so_far.within in
@@ -184,36 +185,36 @@ module _ (digest lanes : List ℕ → List ℕ) (start : Machine) (before : List
       record {
         within = omega arith;
         accepted = omega arith;
-        told = ap (λ (bytes : List ℕ). next ++ acts_read digest lanes after bytes) (sym (drop-drop len taken log) ∙ ap (drop len) (sym rest_is))
-            ∙ ap (λ (b : Bool). next ++ acts_if b digest lanes after (read_log short_keys (drop len rest)).commands) (sym was)
-            ∙ tells (read_log short_keys (drop len rest)).commands
+        told = ap (λ (bytes : List ℕ). next ++ acts_read scheme after bytes) (sym (drop-drop len taken log) ∙ ap (drop len) (sym rest_is))
+            ∙ ap (λ (b : Bool). next ++ acts_if b scheme after (read_log scheme.format (drop len rest)).commands) (sym was)
+            ∙ tells (read_log scheme.format (drop len rest)).commands
             ∙ command_next taken len now acts rest command so_far rest_is is;
       }
 
   -- a command was refused
   pub refused_there : (taken len : ℕ) (now after : Machine) (acts next : List Act) (rest : List ℕ) (command : Command) (accepted : Bool)
-      → HasTold digest lanes start before log taken now acts
-      → rest ≡ drop taken log → command_at short_keys rest ≡ Ok (command, drop len rest)
-      → ((commands : List Command) → next ++ acts_if accepted digest lanes after commands ≡ acts ++ acts_from digest lanes now (command ∷ commands))
-      → accepted ≡ false → next ≡ before ++ acts_read digest lanes start log
+      → HasTold scheme start before log taken now acts
+      → rest ≡ drop taken log → command_at scheme.format rest ≡ Ok (command, drop len rest)
+      → ((commands : List Command) → next ++ acts_if accepted scheme after commands ≡ acts ++ acts_from scheme now (command ∷ commands))
+      → accepted ≡ false → next ≡ before ++ acts_read scheme start log
   refused_there taken len now after acts next rest command accepted so_far rest_is is tells was =
       sym (append-nil next)
-      ∙ ap (λ (b : Bool). next ++ acts_if b digest lanes after (read_log short_keys (drop len rest)).commands) (sym was)
-      ∙ tells (read_log short_keys (drop len rest)).commands
+      ∙ ap (λ (b : Bool). next ++ acts_if b scheme after (read_log scheme.format (drop len rest)).commands) (sym was)
+      ∙ tells (read_log scheme.format (drop len rest)).commands
       ∙ command_next taken len now acts rest command so_far rest_is is
 
   -- no commands tell nothing
-  nothing_next : (now : Machine) (acts : List Act) → acts ++ [] ≡ acts ++ acts_from digest lanes now []
+  nothing_next : (now : Machine) (acts : List Act) → acts ++ [] ≡ acts ++ acts_from scheme now []
   unfolding events_from
   nothing_next now acts = refl
 
   -- there is no command more
-  pub ended_there : (taken : ℕ) (now : Machine) (acts : List Act) (rest : List ℕ) (decoded : Decoded) → HasTold digest lanes start before log taken now acts
-      → rest ≡ drop taken log → Decodes short_keys rest decoded → ((command : Command) (len : ℕ) → decoded ≡ Read command len → ⊥)
-      → acts ≡ before ++ acts_read digest lanes start log
+  pub ended_there : (taken : ℕ) (now : Machine) (acts : List Act) (rest : List ℕ) (decoded : Decoded) → HasTold scheme start before log taken now acts
+      → rest ≡ drop taken log → Decodes scheme.format rest decoded → ((command : Command) (len : ℕ) → decoded ≡ Read command len → ⊥)
+      → acts ≡ before ++ acts_read scheme start log
   ended_there taken now acts rest decoded so_far rest_is is none =
       sym (append-nil acts)
       ∙ nothing_next now acts
-      ∙ ap (λ (commands : List Command). acts ++ acts_from digest lanes now commands)
-      (sym (no_command rest decoded is none) ∙ ap (λ (bytes : List ℕ). (read_log short_keys bytes).commands) rest_is)
+      ∙ ap (λ (commands : List Command). acts ++ acts_from scheme now commands)
+      (sym (no_command scheme.format rest decoded is none) ∙ ap (λ (bytes : List ℕ). (read_log scheme.format bytes).commands) rest_is)
       ∙ so_far.told

@@ -3,24 +3,24 @@ use Rattle.std.specs.Prelude.{List, [], ◌∷◌, map, if◌then◌else◌}
 use Rattle.std.specs.List.{flat_map}
 use Rattle.stamp_order.specs.declared.moment.Moment.{Moment}
 use Rattle.verifier_commands.specs.Changes.{above}
-use Rattle.verifier_commands.specs.Change.{Change, joins, leaves, comes, goes, defers, reads, writes, turns}
+use Rattle.verifier_commands.specs.Change.{Change, did_add_m, did_evict_m, did_add_b, did_evict_b, did_evict_bm, did_get, did_put, did_next_epoch}
 use Rattle.soundness.specs.History.{Event}
 use Rattle.soundness.specs.Certified.{event_moment}
-use Rattle.soundness.specs.Exhibit.{is_known}
+use Rattle.soundness.specs.Clash.{is_known}
 use Rattle.collision_exhibit.specs.declared.act.Act.{Act}
 use Rattle.collision_exhibit.specs.declared.act.Deed.{Deed}
 use Rattle.collision_exhibit.specs.declared.act.Deed.TheVariants.{Joined, Left, Came, Went}
 
 -- what of a change an exhibit can be made of; a child joins by its digest where its parent's pointer already led to it
 abbrev pub deeds_by : Change → List Deed
-deeds_by (joins parent after child) = if is_known (above parent child.path) child.path then Joined child.path child.value ∷ [] else []
-deeds_by (leaves parent after child) = Left child.path child.value ∷ []
-deeds_by (comes child element) = Came element ∷ []
-deeds_by (goes child element) = Went element ∷ []
-deeds_by (defers parent after child element) = Went element ∷ []
-deeds_by (reads entry) = []
-deeds_by (writes before after) = []
-deeds_by (turns sealed) = []
+deeds_by (did_add_m parent after child) = if is_known (above parent child.path) child.path then Joined child.path child.value ∷ [] else []
+deeds_by (did_evict_m parent after child) = Left child.path child.value ∷ []
+deeds_by (did_add_b child element) = Came element ∷ []
+deeds_by (did_evict_b child element) = Went element ∷ []
+deeds_by (did_evict_bm parent after child element) = Went element ∷ []
+deeds_by (did_get entry) = []
+deeds_by (did_put before after) = []
+deeds_by (did_next_epoch sealed) = []
 
 -- a deed at an event
 abbrev pub act_at : Event → Deed → Act

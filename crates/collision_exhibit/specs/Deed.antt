@@ -9,7 +9,7 @@ use Rattle.verifier_cache.specs.declared.entry.Entry.{Entry}
 use Rattle.verifier_cache.specs.Cache.{entry_of}
 use Rattle.verifier_commands.specs.Changes.{above}
 use Rattle.verifier_commands.specs.Transition.{evicted_as}
-use Rattle.soundness.specs.Exhibit.{is_known}
+use Rattle.soundness.specs.Clash.{is_known}
 use Rattle.collision_exhibit.specs.declared.act.Deed.{Deed}
 use Rattle.collision_exhibit.specs.declared.act.Deed.TheVariants.{Joined, Left, Came, Went}
 

@@ -5,6 +5,6 @@ pub mod Telling
 pub mod Lanes
 pub mod Shown
 pub mod Elements
-pub mod Taken
+pub mod LastEvicted
 pub mod Within
 pub use Rattle.soundness.specs

@@ -5,10 +5,10 @@ use Rattle.std.specs.Option.{option_or}
 use Rattle.record_text.specs.declared.element.Element.{Element}
 use Rattle.record_text.specs.declared.exhibit.Exhibit.{Exhibit}
 use Rattle.record_text.specs.declared.exhibit.Exhibit.TheVariants as exhibits
-use Rattle.record_text.specs.Format.{short_keys}
+use Rattle.record_text.specs.Format.{Format}
 use Rattle.stamp_order.specs.Merged.{up_to}
 use Rattle.soundness.specs.Certified.{of_epoch}
-use Rattle.soundness.specs.Exhibit.{Taken, Strings, none_taken, with_taken, differing}
+use Rattle.soundness.specs.Clash.{LastEvicted, Strings, none_evicted, with_last_evicted, differing}
 use Rattle.soundness.specs.Permutation.{is_permutation}
 use Rattle.collision_exhibit.specs.declared.act.Act.{Act}
 use Rattle.collision_exhibit.specs.declared.act.Deed.{Deed}
@@ -48,23 +48,23 @@ uneven_among acts epoch (suc count) =
 -- ---- records that came back by their digests
 
 -- what was taken out, once this was done
-abbrev pub taken_by : Taken → Deed → Taken
-taken_by taken (Joined path value) = taken
-taken_by taken (Left path value) = with_taken taken path value
-taken_by taken (Came element) = taken
-taken_by taken (Went element) = taken
+abbrev pub last_evicted_by : LastEvicted → Deed → LastEvicted
+last_evicted_by taken (Joined path value) = taken
+last_evicted_by taken (Left path value) = with_last_evicted taken path value
+last_evicted_by taken (Came element) = taken
+last_evicted_by taken (Went element) = taken
 
 -- what went out and what came back for it, if their texts differ
-abbrev pub clash_by : Taken → Deed → Option Strings
-clash_by taken (Joined path value) = differing short_keys (taken path) value
-clash_by taken (Left path value) = None
-clash_by taken (Came element) = None
-clash_by taken (Went element) = None
+abbrev pub clash_by : Format → LastEvicted → Deed → Option Strings
+clash_by format taken (Joined path value) = differing format (taken path) value
+clash_by format taken (Left path value) = None
+clash_by format taken (Came element) = None
+clash_by format taken (Went element) = None
 
 -- the first clash among acts
-abbrev pub clash_among : Taken → List Act → Option Strings
-clash_among taken [] = None
-clash_among taken (act ∷ acts) = option_or (clash_by taken act.deed) (clash_among (taken_by taken act.deed) acts)
+abbrev pub clash_among : Format → LastEvicted → List Act → Option Strings
+clash_among format taken [] = None
+clash_among format taken (act ∷ acts) = option_or (clash_by format taken act.deed) (clash_among format (last_evicted_by taken act.deed) acts)
 
 -- the acts of so many epochs from this one on
 abbrev pub acts_within : ℕ → ℕ → List Act → List Act
@@ -80,5 +80,5 @@ shown_by acts None (Some shown) = exhibits.Strings shown.0 shown.1
 shown_by acts None None = exhibits.Clean
 
 -- The exhibit of so many epochs from the first on, by acts that stand in order.
-abbrev pub exhibit_among : ℕ → ℕ → List Act → Exhibit
-exhibit_among first count acts = shown_by acts (uneven_among acts first count) (clash_among none_taken (acts_within first count acts))
+abbrev pub exhibit_among : Format → ℕ → ℕ → List Act → Exhibit
+exhibit_among format first count acts = shown_by acts (uneven_among acts first count) (clash_among format none_evicted (acts_within first count acts))

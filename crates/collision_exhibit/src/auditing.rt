@@ -1,8 +1,10 @@
 //! What an audit of logs shows.
 ghost use Rattle.std.specs.Prelude.{◌≡◌, IfOk, None, length, map};
-ghost use Rattle.soundness.specs.Exhibit.{none_taken};
+ghost use Rattle.record_text.specs.Format.{format_of, short_keys};
+ghost use Rattle.merkle_records.specs.Scheme.{scheme_of};
+ghost use Rattle.soundness.specs.Clash.{none_evicted};
 ghost use Rattle.lamport_clocks.specs.Header.{IsHeader};
-ghost use Rattle.soundness.specs.Collision.{exhibit_of};
+ghost use Rattle.soundness.specs.Exhibit.{exhibit_of};
 ghost use Rattle.soundness.specs.Sound.{histories_read};
 ghost use Rattle.collision_exhibit.specs.Elements.{HaveOwnStamps};
 ghost use Rattle.collision_exhibit.specs.Shown.{acts_within, clash_among, went_among, shown_by, exhibit_among};
@@ -11,7 +13,7 @@ use crate::act::Act;
 use crate::clash::first_clash;
 use crate::elements::{added_of, evicted_of, first_uneven};
 use crate::history::acts_of;
-use fv_outside::Memory;
+use want_of_memory::Memory;
 use lamport_clocks::Header;
 use record_hash::Digests;
 use record_text::Exhibit;
@@ -31,8 +33,8 @@ pub fn audit<D: Digests>(
 ) -> Result<Exhibit, Memory>
     requires header { IsHeader header.now }
     requires count { length logs.now ≡ header.now.verifiers }
-    ensures exhibit { IfOk result (λ exhibit. exhibit ≡ exhibit_of header.now.first epochs
-        (histories_read (D.text_digest d.now) (D.element_lanes d.now) header.now (map (λ log. log.items) logs.now))) }
+    ensures exhibit { IfOk result (λ exhibit. exhibit ≡ exhibit_of (format_of header.now) header.now.first epochs
+        (histories_read (scheme_of (D.functions d.now) header.now) header.now (map (λ log. log.items) logs.now))) }
 {
     let acts = acts_of(alloc, d, header, logs)?;
     shown(alloc, &acts, header.first, epochs)
@@ -41,7 +43,7 @@ pub fn audit<D: Digests>(
 // What acts in order show over so many epochs from the first on.
 fn shown(alloc: Global, acts: &[Act], first: u32, epochs: u64) -> Result<Exhibit, Memory>
     requires own_stamps { HaveOwnStamps (went_among acts.now) }
-    ensures exhibit { IfOk result (λ exhibit. exhibit ≡ exhibit_among first epochs acts.now) }
+    ensures exhibit { IfOk result (λ exhibit. exhibit ≡ exhibit_among short_keys first epochs acts.now) }
 {
     match first_uneven(alloc, acts, first, epochs)? {
         Some(epoch) => {
@@ -55,7 +57,7 @@ fn shown(alloc: Global, acts: &[Act], first: u32, epochs: u64) -> Result<Exhibit
 
 // The first clash among acts in order of so many epochs from the first on, if there is one.
 fn strings(alloc: Global, acts: &[Act], first: u32, epochs: u64) -> Result<Exhibit, Memory>
-    ensures exhibit { IfOk result (λ exhibit. exhibit ≡ shown_by acts.now None (clash_among none_taken (acts_within first epochs acts.now))) }
+    ensures exhibit { IfOk result (λ exhibit. exhibit ≡ shown_by acts.now None (clash_among short_keys none_evicted (acts_within first epochs acts.now))) }
 {
     match first_clash(alloc, acts, first, epochs)? {
         Some(clash) => Ok(Exhibit::Strings(clash.evicted, clash.added)),

@@ -2,14 +2,14 @@
 ghost use Rattle.std.specs.Prelude.{◌≡◌, IfOk, OnOk, OnErr, Some};
 ghost use Rattle.std.specs.Option.{option_map};
 ghost use Rattle.record_text.specs.Format.{short_keys};
-ghost use Rattle.soundness.specs.Exhibit.{none_taken, differing};
-ghost use Rattle.collision_exhibit.specs.Shown.{acts_within, clash_among, clash_by, taken_by};
-ghost use Rattle.collision_exhibit.specs.Taken.{taken_at};
+ghost use Rattle.soundness.specs.Clash.{none_evicted, differing};
+ghost use Rattle.collision_exhibit.specs.Shown.{acts_within, clash_among, clash_by, last_evicted_by};
+ghost use Rattle.collision_exhibit.specs.LastEvicted.{last_evicted_at};
 ghost use Rattle.collision_exhibit.specs.Within.{is_within};
 
 use crate::act::{Act, Deed};
-use crate::taken::TakenValues;
-use fv_outside::Memory;
+use crate::last_evicted::LastEvictedValues;
+use want_of_memory::Memory;
 use record_text::{Value, ValueText};
 use std::alloc::Global;
 
@@ -28,9 +28,9 @@ pub(crate) fn first_clash(
     first: u32,
     epochs: u64,
 ) -> Result<Option<Clash>, Memory>
-    ensures clash { IfOk result (λ found. option_map (λ c. (c.evicted, c.added)) found ≡ clash_among none_taken (acts_within first epochs acts.now)) }
+    ensures clash { IfOk result (λ found. option_map (λ c. (c.evicted, c.added)) found ≡ clash_among short_keys none_evicted (acts_within first epochs acts.now)) }
 {
-    let mut taken = TakenValues::new(alloc);
+    let mut taken = LastEvictedValues::new(alloc);
     for act in acts {
         if is_within(act, first, epochs) {
             match clash_by(&taken, &act.deed) {
@@ -51,8 +51,8 @@ fn is_within(act: &Act, first: u32, epochs: u64) -> bool
 }
 
 // What went out and what came back for it by this deed, if their texts differ.
-fn clash_by(taken: &TakenValues, deed: &Deed) -> Option<Clash>
-    ensures value { option_map (λ c. (c.evicted, c.added)) result ≡ clash_by (taken_at taken.now) deed.now }
+fn clash_by(taken: &LastEvictedValues, deed: &Deed) -> Option<Clash>
+    ensures value { option_map (λ c. (c.evicted, c.added)) result ≡ clash_by short_keys (last_evicted_at taken.now) deed.now }
 {
     match deed {
         Deed::Joined(path, added) => match taken.get(path) {
@@ -77,8 +77,8 @@ fn differing(evicted: &Value, added: &Value) -> Option<Clash>
 }
 
 // Keeps what a deed took out.
-fn take<'a>(taken: &mut TakenValues<'a>, deed: &'a Deed) -> Result<(), Memory>
-    ensures ok { OnOk result (taken_at taken.new ≡ taken_by (taken_at taken.old) deed.now) }
+fn take<'a>(taken: &mut LastEvictedValues<'a>, deed: &'a Deed) -> Result<(), Memory>
+    ensures ok { OnOk result (last_evicted_at taken.new ≡ last_evicted_by (last_evicted_at taken.old) deed.now) }
     ensures err { OnErr result (taken.new ≡ taken.old) }
 {
     match deed {

@@ -3,7 +3,7 @@ ghost use Rattle.std.specs.Prelude.{◌≡◌};
 ghost use Rattle.std.specs.Option.{option_map};
 ghost use Rattle.verifier_cache.specs.Cache.{entry_of};
 ghost use Rattle.verifier_commands.specs.Changes.{above};
-ghost use Rattle.soundness.specs.Exhibit.{is_known};
+ghost use Rattle.soundness.specs.Clash.{is_known};
 ghost use Rattle.collision_exhibit.specs.Deed.{deed_of, joined_under, left_by, went_with};
 
 use crate::act::Deed;

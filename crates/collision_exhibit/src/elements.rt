@@ -11,7 +11,7 @@ ghost use Rattle.collision_exhibit.specs.Shown.{came_among, went_among, uneven_a
 ghost use Rattle.collision_exhibit.specs.Elements.{HaveOwnStamps, evict_moment, is_within, within, parting};
 
 use crate::act::{Act, Deed};
-use fv_outside::Memory;
+use want_of_memory::Memory;
 use record_text::{Element, Elements};
 use stamp_order::Moment;
 use std::alloc::Global;

@@ -3,7 +3,7 @@ ghost use Rattle.std.specs.Prelude.{◌≡◌};
 
 use crate::act::{Act, Deed};
 use crate::elements::{added_of, evicted_of, first_uneven};
-use fv_outside::Memory;
+use want_of_memory::Memory;
 use lamport_clocks::Stamp;
 use record_text::{Blob, Element, Value};
 use stamp_order::Moment;

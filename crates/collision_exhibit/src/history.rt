@@ -2,7 +2,8 @@
 ghost use Rattle.std.specs.Prelude.{◌≡◌, ◌+◌, ◌<◌, ◌≤◌, ◌^◌, ◌++◌, ◌∷◌, List, length, map, drop, IfOk, OnOk};
 ghost use Rattle.std.specs.Option.{option_to_list};
 ghost use Rattle.lamport_clocks.specs.Header.{IsHeader};
-ghost use Rattle.record_text.specs.Format.{short_keys};
+ghost use Rattle.record_text.specs.Format.{format_of};
+ghost use Rattle.merkle_records.specs.Scheme.{scheme_of};
 ghost use Rattle.log_codec.specs.declared.command.Command.{Command};
 ghost use Rattle.log_codec.specs.Command.{IsCommand};
 ghost use Rattle.log_codec.specs.Log.{read_log};
@@ -16,7 +17,7 @@ ghost use Rattle.collision_exhibit.specs.Telling.{act_then, acts_from, acts_if, 
 use crate::act::{Act, Deed};
 use crate::deed::deed_of;
 use crate::text_digests::TextDigests;
-use fv_outside::Memory;
+use want_of_memory::Memory;
 use lamport_clocks::Header;
 use log_codec::{Command, Decoded, read};
 use record_hash::Digests;
@@ -66,14 +67,14 @@ impl Teller {
         command: Command,
         acts: &mut Vec<Act>,
     ) -> Result<bool, Memory>
-        requires kind { IsCommand short_keys command }
+        requires kind { IsCommand (format_of self.old.header) command }
         requires room { self.old.accepted < 2 ^ 63 }
 
         // What is told now, and then of the commands behind this one, is what was told and what is told from
         // this one on.
         ensures told { IfOk result (λ accepted. (commands : List Command)
-            → acts.new.items ++ acts_if accepted (D.text_digest d.now) (D.element_lanes d.now) self.new commands
-            ≡ acts.old.items ++ acts_from (D.text_digest d.now) (D.element_lanes d.now) self.old (command ∷ commands)) }
+            → acts.new.items ++ acts_if accepted (scheme_of (D.functions d.now) self.old.header) self.new commands
+            ≡ acts.old.items ++ acts_from (scheme_of (D.functions d.now) self.old.header) self.old (command ∷ commands)) }
         ensures count { self.new.accepted ≤ self.old.accepted + 1 }
     {
         let deed = deed_of(self.number, self.verifier.entries(), &command);
@@ -112,7 +113,7 @@ fn tell<D: Digests>(
 ) -> Result<(), Memory>
     requires room { teller.old.accepted + length log.now < 2 ^ 63 }
     ensures told { OnOk result (acts.new.items ≡ acts.old.items
-        ++ acts_read (D.text_digest d.now) (D.element_lanes d.now) teller.old log.now) }
+        ++ acts_read (scheme_of (D.functions d.now) teller.old.header) teller.old log.now) }
 {
     let mut taken = 0;
     while let Decoded::Read(command, len) = read(behind(log, taken)) {
@@ -145,7 +146,7 @@ pub(crate) fn append_acts<D: Digests>(
     requires header { IsHeader header.now }
     requires number { number < header.now.verifiers }
     ensures told { OnOk result (acts.new.items ≡ acts.old.items
-        ++ acts_in (log_events (D.text_digest d.now) (D.element_lanes d.now) header.now number (read_log short_keys log.now).commands)) }
+        ++ acts_in (log_events (scheme_of (D.functions d.now) header.now) header.now number (read_log (format_of header.now) log.now).commands)) }
 {
     let mut teller = Teller::new(alloc, number, header)?;
     tell(&mut teller, d, log, acts)
@@ -162,7 +163,7 @@ fn tell_in_turn<D: Digests>(
     requires header { IsHeader header.now }
     requires count { length logs.now ≡ header.now.verifiers }
     ensures told { OnOk result (acts.new.items ≡ acts.old.items ++ acts_in (all_events
-        (histories_read (D.text_digest d.now) (D.element_lanes d.now) header.now (map (λ log. log.items) logs.now)))) }
+        (histories_read (scheme_of (D.functions d.now) header.now) header.now (map (λ log. log.items) logs.now)))) }
 {
     for (index, log) in logs.iter().enumerate() {
         append_acts(alloc, d, index as u16, header, log, acts)?;
@@ -181,7 +182,7 @@ pub(crate) fn acts_of<D: Digests>(
     requires header { IsHeader header.now }
     requires count { length logs.now ≡ header.now.verifiers }
     ensures acts { IfOk result (λ acts. acts.items ≡ acts_in (order_of
-        (histories_read (D.text_digest d.now) (D.element_lanes d.now) header.now (map (λ log. log.items) logs.now)))) }
+        (histories_read (scheme_of (D.functions d.now) header.now) header.now (map (λ log. log.items) logs.now)))) }
 {
     let mut acts = Vec::new(alloc);
     let texts = TextDigests { inner: d };

@@ -20,7 +20,7 @@ mod elements;
 #[cfg(test)]
 mod elements_tests;
 mod history;
-mod taken;
+mod last_evicted;
 mod text_digests;
 
 pub use auditing::audit;

@@ -9,7 +9,7 @@ use Rattle.std.proofs.lemmas.Map.Steps.{length-le_from_distinct_below}
 use Rattle.multiset_sum.specs.declared.part.Part.{Part}
 use Rattle.multiset_sum.specs.Tally.{Tally}
 use Rattle.multiset_sum.specs.Sum.{zero_sum, joined}
-use Rattle.epoch_gather.specs.Parts.{is_same_place, of_epoch, total}
+use Rattle.epoch_gather.specs.Parts.{is_same_part, of_epoch, total}
 
 -- what differs pairwise still does among the first of them, and among those that a filter keeps
 every-take : {X : Type 0} (P : X → Type 0) (n : ℕ) (xs : List X) → AllByRecursion P xs → AllByRecursion P (take n xs)
@@ -44,17 +44,17 @@ every-passes p (x ∷ xs) = cond_both (p x) (x ∷ filter p xs) (filter p xs) (A
 verifiers_of : List Part → List ℕ
 verifiers_of parts = map (λ part. part.verifier) parts
 
-other_verifier : (epoch : ℕ) (part other : Part) → (part.epoch == epoch) ≡ true → (other.epoch == epoch) ≡ true → is_same_place part other ≡ false → eqb part.verifier other.verifier ≡ false
+other_verifier : (epoch : ℕ) (part other : Part) → (part.epoch == epoch) ≡ true → (other.epoch == epoch) ≡ true → is_same_part part other ≡ false → eqb part.verifier other.verifier ≡ false
 other_verifier epoch part other own its apart = grind (arith, nat_tests)
 
-others_differ : (epoch : ℕ) (part : Part) → (part.epoch == epoch) ≡ true → (parts : List Part) → AllByRecursion (λ other. (other.epoch == epoch) ≡ true) parts → AllByRecursion (λ other. is_same_place part other ≡ false) parts
+others_differ : (epoch : ℕ) (part : Part) → (part.epoch == epoch) ≡ true → (parts : List Part) → AllByRecursion (λ other. (other.epoch == epoch) ≡ true) parts → AllByRecursion (λ other. is_same_part part other ≡ false) parts
     → AllByRecursion (λ verifier. eqb part.verifier verifier ≡ false) (verifiers_of parts)
 unfolding verifiers_of
 others_differ epoch part own [] all apart = tt
 others_differ epoch part own (other ∷ parts) all apart = (other_verifier epoch part other own all.0 apart.0, others_differ epoch part own parts all.1 apart.1)
 
 -- parts of one epoch are of different verifiers
-verifiers_differ : (epoch : ℕ) (parts : List Part) → AllByRecursion (λ part. (part.epoch == epoch) ≡ true) parts → IsDistinct is_same_place parts → IsDistinct eqb (verifiers_of parts)
+verifiers_differ : (epoch : ℕ) (parts : List Part) → AllByRecursion (λ part. (part.epoch == epoch) ≡ true) parts → IsDistinct is_same_part parts → IsDistinct eqb (verifiers_of parts)
 unfolding IsDistinct verifiers_of
 verifiers_differ epoch [] all apart = tt
 verifiers_differ epoch (part ∷ parts) all apart = (others_differ epoch part all.0 parts all.1 apart.0, verifiers_differ epoch parts all.1 apart.1)
@@ -71,10 +71,10 @@ length-verifiers_of [] = refl
 length-verifiers_of (part ∷ parts) = ap suc (length-verifiers_of parts)
 
 -- an epoch has at most as many parts as there are verifiers
-few_parts : (n epoch : ℕ) (parts : List Part) → AllByRecursion (λ part. part.verifier < n) parts → IsDistinct is_same_place parts → length (of_epoch epoch parts) ≤ n
+few_parts : (n epoch : ℕ) (parts : List Part) → AllByRecursion (λ part. part.verifier < n) parts → IsDistinct is_same_part parts → length (of_epoch epoch parts) ≤ n
 few_parts n epoch parts below once =
     let own = every-passes (λ (part : Part). part.epoch == epoch) parts in
-    let apart = IsDistinct-filter is_same_place (λ part. part.epoch == epoch) parts once in
+    let apart = IsDistinct-filter is_same_part (λ part. part.epoch == epoch) parts once in
     let all = every-filter (λ part. part.verifier < n) (λ part. part.epoch == epoch) parts below in
     let bound = length-le_from_distinct_below (verifiers_of (of_epoch epoch parts)) n (verifiers_differ epoch (of_epoch epoch parts) own apart) (λ q any. verifier_below n q (of_epoch epoch parts) all any) in
     subst (λ k. k ≤ n) (length-verifiers_of (of_epoch epoch parts)) bound
@@ -99,14 +99,14 @@ total_more side epoch parts i part within is own =
     ∙ fold_push (λ s p. joined s (side p)) zero_sum (of_epoch epoch (take i parts)) part
 
 -- the next part can be joined
-pub room_for : (side : Part → Tally) (n epoch : ℕ) (parts : List Part) → n ≤ 64 → All (λ part. part.verifier < n) parts → IsDistinct is_same_place parts → All (λ part. (side part).count < 2 ^ 25) parts
+pub room_for : (side : Part → Tally) (n epoch : ℕ) (parts : List Part) → n ≤ 64 → All (λ part. part.verifier < n) parts → IsDistinct is_same_part parts → All (λ part. (side part).count < 2 ^ 25) parts
     → (i : ℕ) (part : Part) → i < length parts → part ≡ get_or parts i part → part.epoch ≡ epoch
     → (total side (of_epoch epoch (take i parts))).count + (side part).count < 2147483648
 room_for side n epoch parts most below once small i part within is own =
     let front = take (i + 1) parts in
     let Below : Part → Type 0 = λ (p : Part). p.verifier < n in
     let Small : Part → Type 0 = λ (p : Part). (side p).count < 2 ^ 25 in
-    let few = few_parts n epoch front (recursion_from_All Below front (All-take Below (i + 1) parts below)) (IsDistinct-take is_same_place (i + 1) parts once) in
+    let few = few_parts n epoch front (recursion_from_All Below front (All-take Below (i + 1) parts below)) (IsDistinct-take is_same_part (i + 1) parts once) in
     let bound = count_from side zero_sum (of_epoch epoch front) (every-filter Small (λ p. p.epoch == epoch) front (recursion_from_All Small front (All-take Small (i + 1) parts small))) in
     let more = ap (λ (s : Tally). s.count) (total_more side epoch parts i part within is own) in
     omega (arith, few, bound, more)

@@ -6,8 +6,8 @@ use Rattle.multiset_sum.specs.Tally.{Tally}
 use Rattle.multiset_sum.specs.Sum.{zero_sum, joined}
 
 -- both are of one verifier and one epoch
-abbrev pub is_same_place : Part → Part → Bool
-is_same_place part other = part.verifier == other.verifier && part.epoch == other.epoch
+abbrev pub is_same_part : Part → Part → Bool
+is_same_part part other = part.verifier == other.verifier && part.epoch == other.epoch
 
 -- the parts of an epoch
 abbrev pub of_epoch : ℕ → List Part → List Part

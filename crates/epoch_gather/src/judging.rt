@@ -1,6 +1,6 @@
 ghost use Rattle.std.specs.Prelude.{◌≡◌, ◌<◌, ◌≤◌, ◌^◌, not, All};
 ghost use Rattle.std.specs.List.{IsDistinct};
-ghost use Rattle.epoch_gather.specs.Parts.{is_same_place, of_epoch, has_part, lowest_missing, total};
+ghost use Rattle.epoch_gather.specs.Parts.{is_same_part, of_epoch, has_part, lowest_missing, total};
 ghost use Rattle.epoch_gather.specs.Verdict.{verdict_of};
 
 use crate::outcome::Verdict;
@@ -12,7 +12,7 @@ use multiset_sum::{Part, Sum};
 pub fn verdict(parts: &[Part], verifiers: u16, epoch: u32) -> Verdict
     requires few { verifiers ≤ 64 }
     requires numbers { All (λ part. part.verifier < verifiers) parts.now }
-    requires once { IsDistinct is_same_place parts.now }
+    requires once { IsDistinct is_same_part parts.now }
     requires counts { All (λ part. (part.added.count < 2 ^ 25) × (part.evicted.count < 2 ^ 25)) parts.now }
     ensures verdict { result ≡ verdict_of verifiers epoch parts.now }
 {
@@ -47,7 +47,7 @@ fn is_there(parts: &[Part], verifier: u16, epoch: u32) -> bool
 fn totals(parts: &[Part], verifiers: u16, epoch: u32) -> (Sum, Sum)
     requires few { verifiers ≤ 64 }
     requires numbers { All (λ part. part.verifier < verifiers) parts.now }
-    requires once { IsDistinct is_same_place parts.now }
+    requires once { IsDistinct is_same_part parts.now }
     requires counts { All (λ part. (part.added.count < 2 ^ 25) × (part.evicted.count < 2 ^ 25)) parts.now }
     ensures added { result.0 ≡ total (λ part. part.added) (of_epoch epoch parts.now) }
     ensures evicted { result.1 ≡ total (λ part. part.evicted) (of_epoch epoch parts.now) }

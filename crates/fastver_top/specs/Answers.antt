@@ -1,15 +1,14 @@
 -- What the program answers to what it was asked.
 use Rattle.std.specs.Prelude.{ℕ, List, ◌⊎◌, ◌≡◌}
-use Rattle.record_hash.specs.Hmac.{key_block}
-use Rattle.record_hash.specs.ShaDigests.{sha_text_digest, sha_element_lanes}
+use Rattle.record_hash.specs.ShaDigests.{sha_under}
 use Rattle.program_words.specs.declared.words.Asked.{Asked}
 use Rattle.program_words.specs.declared.words.Asked.TheVariants.{Check, Audit}
 use Rattle.report_text.specs.declared.status.Status.{Status}
 use Rattle.report_text.specs.declared.status.Status.TheVariants as statuses
 use Rattle.check_core.specs.Outcomes.{IsOutcome}
-use Rattle.check_core.specs.Verdict.{Verdict, sha_verdict}
+use Rattle.check_core.specs.Answer.{Answer, sha_check_answer}
 use Rattle.check_core.specs.Headline.{IsShaSound}
-use Rattle.fastver_top.specs.Auditing.{sha_auditing, ExhibitCollides}
+use Rattle.fastver_top.specs.Auditing.{sha_audit_answer, ExhibitCollides}
 
 -- the key that was given
 abbrev pub asked_key : Asked → List ℕ
@@ -17,9 +16,9 @@ asked_key (Check key) = key
 asked_key (Audit key) = key
 
 -- the text and the status that the program answers, by what was asked and the source's bytes
-abbrev pub answer : Asked → List ℕ → Verdict
-answer (Check key) bytes = sha_verdict key bytes
-answer (Audit key) bytes = sha_auditing key bytes
+abbrev pub answer : Asked → List ℕ → Answer
+answer (Check key) bytes = sha_check_answer key bytes
+answer (Audit key) bytes = sha_audit_answer key bytes
 
 -- a status that an audit can end with
 abbrev pub IsAudited : Status → Type 0
@@ -36,4 +35,4 @@ IsSoundFor asked bytes = IsShaSound (asked_key asked) bytes
 
 -- the exhibit of bytes is a real collision, under the key that was given
 abbrev pub CollidesFor : Asked → List ℕ → Type 0
-CollidesFor asked bytes = ExhibitCollides sha_text_digest (sha_element_lanes (key_block (asked_key asked))) bytes
+CollidesFor asked bytes = ExhibitCollides (sha_under (asked_key asked)) bytes

@@ -5,16 +5,17 @@ ghost use Rattle.fv_outside.specs.Written.{Grows, GrowsByFront};
 ghost use Rattle.report_text.specs.Exhibit.{exhibit_text};
 ghost use Rattle.report_text.specs.Status.{last_line};
 ghost use Rattle.check_core.specs.Intake.{logs_in, logged};
-ghost use Rattle.check_core.specs.Taken.{TookAtMost, TookJust};
+ghost use Rattle.check_core.specs.Consumed.{TookAtMost, TookJust};
 ghost use Rattle.check_core.specs.Outcomes.{IsEnd, IsOutcome};
-ghost use Rattle.check_core.specs.Verdict.{Reports, certified_at};
+ghost use Rattle.check_core.specs.Answer.{Reports, certified_at};
 ghost use Rattle.check_core.specs.Headline.{exhibit_at};
-ghost use Rattle.fastver_top.specs.Auditing.{audit_status, audit_of, auditing_by, auditing, ExhibitCollides};
+ghost use Rattle.fastver_top.specs.Auditing.{audit_status, audit_of, audit_answer_by, audit_answer, ExhibitCollides};
 ghost use Rattle.fastver_top.specs.Answers.{IsAudited};
 
 use check_core::{Conclusion, Intake, Stop, conclude, digests_have_32_bytes, read_bundle};
 use collision_exhibit::audit;
-use fv_outside::{Failed, Memory, Sink, Source};
+use fv_outside::{Failed, Sink, Source};
+use want_of_memory::Memory;
 use record_hash::Digests;
 use record_text::Exhibit;
 use report_text::{Status, write_exhibit, write_last};
@@ -34,17 +35,17 @@ pub fn audit_text<D: Digests + Sync, S: Source, O: Sink>(
     ensures accepted { result ≢ Status.Usage }
 
     // Where it ends, what is written is the audit of the source's bytes, and the status is the audit's.
-    ensures status { IsEnd result → IfSome (S.left source.old) (λ bytes. result ≡ (auditing (D.text_digest d.now) (D.element_lanes d.now) bytes).status) }
+    ensures status { IsEnd result → IfSome (S.left source.old) (λ bytes. result ≡ (audit_answer (D.functions d.now) bytes).status) }
     ensures report { IsEnd result → IfSome (S.left source.old) (λ bytes.
-        Grows (O.held out.old) (O.held out.new) (auditing (D.text_digest d.now) (D.element_lanes d.now) bytes).text) }
+        Grows (O.held out.old) (O.held out.new) (audit_answer (D.functions d.now) bytes).text) }
 
     // Where the sink failed it took a front of that, and where the audit ended before there was any, nothing.
     ensures front { result ≡ Status.WriteFault → IfSome (S.left source.old) (λ bytes.
-        GrowsByFront (O.held out.old) (O.held out.new) (auditing (D.text_digest d.now) (D.element_lanes d.now) bytes).text) }
+        GrowsByFront (O.held out.old) (O.held out.new) (audit_answer (D.functions d.now) bytes).text) }
     ensures unwritten { (IsEnd result → ⊥) → result ≢ Status.WriteFault → out.new ≡ out.old }
 
     // What it exhibits is a real collision.
-    ensures collides { result ≡ Status.Exhibit → IfSome (S.left source.old) (λ bytes. ExhibitCollides (D.text_digest d.now) (D.element_lanes d.now) bytes) }
+    ensures collides { result ≡ Status.Exhibit → IfSome (S.left source.old) (λ bytes. ExhibitCollides (D.functions d.now) bytes) }
 
     ensures limit { (taken : ℕ) → result ≡ Status.InputLimit taken → (taken ≡ limit) × TookJust (limit + 1) (S.left source.old) (S.left source.new) }
     ensures within { result ≢ Status.InputLimit limit → TookAtMost limit (S.left source.old) (S.left source.new) }
@@ -67,9 +68,9 @@ fn audit_intake<D: Digests, O: Sink>(alloc: Global, d: &D, intake: &Intake, out:
     ensures no_read { result ≢ Status.ReadFault }
     ensures no_limit { (taken : ℕ) → result ≢ Status.InputLimit taken }
     ensures report { Reports result (O.held out.old) (O.held out.new)
-        (auditing_by (D.text_digest d.now) (D.element_lanes d.now) (logged intake.now)) }
+        (audit_answer_by (D.functions d.now) (logged intake.now)) }
     ensures shown { result ≡ Status.Exhibit
-        → exhibit_at (D.text_digest d.now) (D.element_lanes d.now) intake.now.header (logs_in intake.now) ≢ Exhibit.Clean }
+        → exhibit_at (D.functions d.now) intake.now.header (logs_in intake.now) ≢ Exhibit.Clean }
     ensures unwritten { (IsEnd result → ⊥) → result ≢ Status.WriteFault → out.new ≡ out.old }
     ensures write_fault { result ≡ Status.WriteFault → Rose (O.faults out.old) (O.faults out.new) }
 {
@@ -91,9 +92,9 @@ fn exhibit_in<D: Digests>(
     intake: &Intake,
     certified: u64,
 ) -> Result<Exhibit, Memory>
-    requires certified { certified ≡ certified_at (D.text_digest d.now) (D.element_lanes d.now) intake.now.header (logs_in intake.now) }
+    requires certified { certified ≡ certified_at (D.functions d.now) intake.now.header (logs_in intake.now) }
     ensures exhibit { IfOk result (λ exhibit. exhibit
-        ≡ exhibit_at (D.text_digest d.now) (D.element_lanes d.now) intake.now.header (logs_in intake.now)) }
+        ≡ exhibit_at (D.functions d.now) intake.now.header (logs_in intake.now)) }
 {
     match intake.header {
         Some(header) => audit(alloc, d, &header, &intake.logs, certified),

@@ -5,7 +5,7 @@ ghost use Rattle.fv_outside.specs.Written.{Grows, GrowsByFront};
 ghost use Rattle.record_hash.specs.Hmac.{key_block};
 ghost use Rattle.program_words.specs.Words.{asked_of};
 ghost use Rattle.program_words.specs.declared.words.Asked.{Asked};
-ghost use Rattle.check_core.specs.Taken.{TookAtMost, TookJust};
+ghost use Rattle.check_core.specs.Consumed.{TookAtMost, TookJust};
 ghost use Rattle.check_core.specs.Outcomes.{IsEnd};
 ghost use Rattle.fastver_top.specs.Answers.{answer, IsAudited, IsAnswer, IsSoundFor, CollidesFor};
 

@@ -1,5 +1,5 @@
 //! The outside of the store: where its input comes from, where its output and its bundle go, and
-//! what a worker waits at. It stands on std alone, and every engine stands on it.
+//! what a worker waits at. It stands on std and on `want_of_memory`, and every engine stands on it.
 //!
 //! Begin with the traits: `Source`, `Sink`, `Vault` (a sink with a name) and `Gate`. Each object
 //! means bytes, where it tells them, and a count of faults, so that a caller who is answered
@@ -23,7 +23,7 @@ mod sources;
 mod std_streams;
 mod sure_sinks;
 
-pub use errors::{Failed, Memory};
+pub use errors::Failed;
 pub use file_vaults::FileVault;
 pub use gates::{FreeGate, Gate};
 pub use memory_sinks::{MemorySink, MemoryVault};
@@ -32,6 +32,7 @@ pub use sinks::{Sink, Vault, write_all};
 pub use sources::Source;
 pub use std_streams::{StdSink, StdSource};
 pub use sure_sinks::{SureSink, SureVault};
+pub use want_of_memory::Memory;
 
 #[cfg(test)]
 mod tests;

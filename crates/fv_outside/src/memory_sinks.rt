@@ -6,10 +6,11 @@ ghost use Rattle.fv_outside.specs.Calls.{is_to_fail, answered, failing};
 ghost use Rattle.fv_outside.specs.SinkState.{new_sink, write_fails, write_answer, after_write, new_vault, name_fails, name_answer, after_name, IsFresh};
 
 use crate::calls::Calls;
-use crate::errors::{Failed, Memory};
+use crate::errors::Failed;
 use crate::sinks::{Sink, Vault};
 use std::alloc::Global;
 use std::marker::Model;
+use want_of_memory::Memory;
 
 /// Appends bytes for which there is room.
 pub(crate) fn append_reserved(held: &mut Vec<u8>, bytes: &[u8])

@@ -5,10 +5,11 @@ ghost use Rattle.fv_outside.specs.Faults.{Counts};
 ghost use Rattle.fv_outside.specs.SourceState.{SureSourceState, given_count, filled, rest_of, new_source, read_answer, read_room, after_read};
 
 use crate::calls::Calls;
-use crate::errors::{Failed, Memory};
+use crate::errors::Failed;
 use crate::sources::Source;
 use std::alloc::Global;
 use std::marker::Model;
+use want_of_memory::Memory;
 
 /// Bytes in memory, read at most `piece` at a time. It never fails.
 #[derive(Drop)]

@@ -4,11 +4,12 @@ ghost use Rattle.fv_outside.specs.Faults.{Counts};
 ghost use Rattle.fv_outside.specs.Written.{WriteGrows, IsNamed};
 ghost use Rattle.fv_outside.specs.SureSinkState.{new_sure_sink, sure_count, held_after, after_sure_write, new_sure_vault, IsUnused};
 
-use crate::errors::{Failed, Memory};
+use crate::errors::Failed;
 use crate::memory_sinks::append_reserved;
 use crate::sinks::{Sink, Vault};
 use std::alloc::Global;
 use std::marker::Model;
+use want_of_memory::Memory;
 
 /// A sink in memory that never fails. What comes past its capacity is taken and dropped, and from
 /// then on it tells no bytes.

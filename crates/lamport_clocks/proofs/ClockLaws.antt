@@ -6,8 +6,8 @@ use Rattle.lamport_clocks.specs.declared.stamp.Stamp.{Stamp}
 use Rattle.lamport_clocks.specs.declared.clock.ClockFault.TheVariants.{BadEpoch, StampNotLater, ClockEnd}
 use Rattle.lamport_clocks.specs.Stamp.{IsLater}
 use Rattle.lamport_clocks.specs.Reading.{Reading, IsReading, SameBounds}
-use Rattle.lamport_clocks.specs.Clock.{last_epoch, received, sent, turned, is_open, greater_counter, sealed_by_turning}
-use Rattle.lamport_clocks.proofs.InOrder.{test-ok}
+use Rattle.lamport_clocks.specs.Clock.{last_epoch, received, sent, advanced, is_open, greater_counter, sealed_by_advancing}
+use Rattle.step_words.proofs.StepLaws.{test-ok}
 
 -- an add that was taken: its epoch is open, the counter doesn't pass its end, and this is the clock after it
 pub received-ok : (clock after : Reading) (t : Stamp) → received clock t ≡ Ok after → (is_open clock t.epoch ≡ true) × (1 + greater_counter clock.at t ≤ clock.end) × (after ≡ record clock { at = record { epoch = clock.at.epoch; counter = 1 + greater_counter clock.at t } })
@@ -27,10 +27,10 @@ sent-ok clock after t h =
     (grind (arith, nat_tests), grind (arith, nat_tests), grind (arith, nat_tests), e)
 
 -- a turn that was taken: it is not from the last epoch, and these are the epoch that it seals and the clock after it
-pub turned-ok : (clock after : Reading) (sealed : Option ℕ) → turned clock ≡ Ok (sealed, after) → ((clock.at.epoch == last_epoch) ≡ false) × (sealed ≡ sealed_by_turning clock) × (after ≡ record clock { at = record { epoch = clock.at.epoch + 1; counter = 0 } })
-turned-ok clock after sealed h =
+pub advanced-ok : (clock after : Reading) (sealed : Option ℕ) → advanced clock ≡ Ok (sealed, after) → ((clock.at.epoch == last_epoch) ≡ false) × (sealed ≡ sealed_by_advancing clock) × (after ≡ record clock { at = record { epoch = clock.at.epoch + 1; counter = 0 } })
+advanced-ok clock after sealed h =
     let on = test-ok (clock.at.epoch == last_epoch) ClockEnd _ (sealed, after) h in
-    let e : ◌≡◌ {A = Option ℕ × Reading} (sealed, after) (sealed_by_turning clock, record clock { at = record { epoch = clock.at.epoch + 1; counter = 0 } }) = cc in
+    let e : ◌≡◌ {A = Option ℕ × Reading} (sealed, after) (sealed_by_advancing clock, record clock { at = record { epoch = clock.at.epoch + 1; counter = 0 } }) = cc in
     (on.0, ap (λ (p : Option ℕ × Reading). p.0) e, ap (λ (p : Option ℕ × Reading). p.1) e)
 
 -- an open epoch is the clock's or, past the first, the one before
@@ -103,23 +103,23 @@ sent-reading clock after t fits h =
     let P : Reading → Type 0 = IsReading in
     subst P (sym r.3) (record { within = r.2; from_first = omega arith })
 
-pub turned-later : (clock after : Reading) (sealed : Option ℕ) → turned clock ≡ Ok (sealed, after) → IsLater after.at clock.at
-turned-later clock after sealed h =
-    let r = turned-ok clock after sealed h in
+pub advanced-later : (clock after : Reading) (sealed : Option ℕ) → advanced clock ≡ Ok (sealed, after) → IsLater after.at clock.at
+advanced-later clock after sealed h =
+    let r = advanced-ok clock after sealed h in
     let e = ap (λ (x : Reading). x.at.epoch) r.2 in
     inl (omega arith)
 
-pub turned-at : (clock after : Reading) (sealed : Option ℕ) → turned clock ≡ Ok (sealed, after) → after.at ≡ record { epoch = clock.at.epoch + 1; counter = 0 }
-turned-at clock after sealed h = ap (λ (x : Reading). x.at) (turned-ok clock after sealed h).2
+pub advanced-at : (clock after : Reading) (sealed : Option ℕ) → advanced clock ≡ Ok (sealed, after) → after.at ≡ record { epoch = clock.at.epoch + 1; counter = 0 }
+advanced-at clock after sealed h = ap (λ (x : Reading). x.at) (advanced-ok clock after sealed h).2
 
-pub turned-bounds : (clock after : Reading) (sealed : Option ℕ) → turned clock ≡ Ok (sealed, after) → SameBounds clock after
-turned-bounds clock after sealed h =
-    let e = (turned-ok clock after sealed h).2 in
+pub advanced-bounds : (clock after : Reading) (sealed : Option ℕ) → advanced clock ≡ Ok (sealed, after) → SameBounds clock after
+advanced-bounds clock after sealed h =
+    let e = (advanced-ok clock after sealed h).2 in
     record { first = ap (λ (x : Reading). x.first) e; end = ap (λ (x : Reading). x.end) e }
 
-pub turned-reading : (clock after : Reading) (sealed : Option ℕ) → IsReading clock → turned clock ≡ Ok (sealed, after) → IsReading after
-turned-reading clock after sealed fits h =
-    let r = turned-ok clock after sealed h in
+pub advanced-reading : (clock after : Reading) (sealed : Option ℕ) → IsReading clock → advanced clock ≡ Ok (sealed, after) → IsReading after
+advanced-reading clock after sealed fits h =
+    let r = advanced-ok clock after sealed h in
     let P : Reading → Type 0 = IsReading in
     subst P (sym r.2) (record { within = omega arith; from_first = omega arith })
 
@@ -132,7 +132,7 @@ taken true n epoch h e = ap Some e
 taken false n epoch h e = absurd (cc)
 
 -- a turn seals the epoch before the one that it leaves, if that is one from the first on
-pub sealed_epoch : (clock : Reading) (epoch : ℕ) → (sealed_by_turning clock ≡ Some epoch) ↔ ((clock.first ≤ epoch) × (epoch + 1 ≡ clock.at.epoch))
+pub sealed_epoch : (clock : Reading) (epoch : ℕ) → (sealed_by_advancing clock ≡ Some epoch) ↔ ((clock.first ≤ epoch) × (epoch + 1 ≡ clock.at.epoch))
 sealed_epoch clock epoch = (
   λ h.
       let p = chosen (nat_lt clock.first clock.at.epoch) (clock.at.epoch - 1) epoch h in
@@ -142,9 +142,9 @@ sealed_epoch clock epoch = (
 )
 
 -- the epoch that a turn seals is one from the first on, and two before the clock's new one
-pub turned-seals : (clock after : Reading) (sealed : Option ℕ) → turned clock ≡ Ok (sealed, after) → (epoch : ℕ) → (sealed ≡ Some epoch) ↔ ((clock.first ≤ epoch) × (epoch + 2 ≡ after.at.epoch))
-turned-seals clock after sealed h epoch =
-    let r = turned-ok clock after sealed h in
+pub advanced-seals : (clock after : Reading) (sealed : Option ℕ) → advanced clock ≡ Ok (sealed, after) → (epoch : ℕ) → (sealed ≡ Some epoch) ↔ ((clock.first ≤ epoch) × (epoch + 2 ≡ after.at.epoch))
+advanced-seals clock after sealed h epoch =
+    let r = advanced-ok clock after sealed h in
     let e = ap (λ (x : Reading). x.at.epoch) r.2 in
     let own = sealed_epoch clock epoch in (
       λ seals. let p = own.0 (sym r.1 ∙ seals) in (p.0, omega arith),
@@ -152,7 +152,7 @@ turned-seals clock after sealed h epoch =
     )
 
 -- no stamp of a sealed epoch is open any more
-pub turned-closed : (clock after : Reading) (sealed : Option ℕ) → turned clock ≡ Ok (sealed, after) → (epoch : ℕ) → sealed ≡ Some epoch → is_open after epoch ≡ false
-turned-closed clock after sealed h epoch seals =
-    let two = (turned-seals clock after sealed h epoch).0 seals in
+pub advanced-closed : (clock after : Reading) (sealed : Option ℕ) → advanced clock ≡ Ok (sealed, after) → (epoch : ℕ) → sealed ≡ Some epoch → is_open after epoch ≡ false
+advanced-closed clock after sealed h epoch seals =
+    let two = (advanced-seals clock after sealed h epoch).0 seals in
     grind (arith, nat_tests)

@@ -3,7 +3,7 @@ use Rattle.std.specs.Prelude.{ℕ, ◌+◌, ◌-◌, max, Bool, not, ◌==◌, �
 use Rattle.lamport_clocks.specs.declared.stamp.Stamp.{Stamp}
 use Rattle.lamport_clocks.specs.declared.clock.ClockFault.{ClockFault}
 use Rattle.lamport_clocks.specs.declared.clock.ClockFault.TheVariants.{BadEpoch, StampNotLater, ClockEnd}
-use Rattle.lamport_clocks.specs.InOrder.{test}
+use Rattle.step_words.specs.Steps.{test}
 use Rattle.lamport_clocks.specs.Reading.{Reading}
 
 -- at the start of the first epoch
@@ -35,15 +35,15 @@ sent clock t =
     (Ok (record clock { at = t }))))
 
 -- the epoch that is sealed when the clock leaves its epoch: the one before, of which no stamp is open from then on
-abbrev pub sealed_by_turning : Reading → Option ℕ
-sealed_by_turning clock = if nat_lt clock.first clock.at.epoch then Some (clock.at.epoch - 1) else None
+abbrev pub sealed_by_advancing : Reading → Option ℕ
+sealed_by_advancing clock = if nat_lt clock.first clock.at.epoch then Some (clock.at.epoch - 1) else None
 
 -- the last epoch that a clock can stand in: 2^32 - 1
 abbrev pub last_epoch : ℕ
 last_epoch = 4294967295
 
 -- Turning to the next epoch: the counter begins at 0 again.
-abbrev pub turned : Reading → Result (Option ℕ × Reading) ClockFault
-turned clock =
+abbrev pub advanced : Reading → Result (Option ℕ × Reading) ClockFault
+advanced clock =
     test (clock.at.epoch == last_epoch) ClockEnd
-    (Ok (sealed_by_turning clock, record clock { at = record { epoch = clock.at.epoch + 1; counter = 0 } }))
+    (Ok (sealed_by_advancing clock, record clock { at = record { epoch = clock.at.epoch + 1; counter = 0 } }))

@@ -1,5 +1,3 @@
-pub mod InOrder
-pub mod Follows
 pub mod Header
 pub mod Stamp
 pub mod Reading

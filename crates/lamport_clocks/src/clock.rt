@@ -1,6 +1,6 @@
 ghost use Rattle.std.specs.Prelude.{◌≡◌, ◌≤◌};
-ghost use Rattle.lamport_clocks.specs.Follows.{Follows, Becomes};
-ghost use Rattle.lamport_clocks.specs.Clock.{opening_reading, is_open, received, sent, turned};
+ghost use Rattle.step_words.specs.Follows.{Follows, Becomes};
+ghost use Rattle.lamport_clocks.specs.Clock.{opening_reading, is_open, received, sent, advanced};
 
 use crate::stamp::Stamp;
 use std::marker::Model;
@@ -106,7 +106,7 @@ impl Clock {
     /// Goes to the start of the next epoch. That seals the epoch before the one that ends here, of
     /// which no stamp is taken any more; the first epoch has none before it.
     pub fn next_epoch(&mut self) -> Result<Option<u32>, ClockFault>
-        ensures follows { Follows result self.old self.new (turned self.old) }
+        ensures follows { Follows result self.old self.new (advanced self.old) }
     {
         let epoch = self.stamp.epoch;
         if epoch == LAST_EPOCH {

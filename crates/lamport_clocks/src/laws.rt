@@ -4,7 +4,7 @@ ghost use Rattle.std.specs.declared.cmp.Ordering.TheVariants.{Less};
 ghost use Rattle.lamport_clocks.specs.declared.stamp.Stamp.{Stamp};
 ghost use Rattle.lamport_clocks.specs.Stamp.{stamp_cmp, IsLater};
 ghost use Rattle.lamport_clocks.specs.Reading.{Reading, IsReading, SameBounds};
-ghost use Rattle.lamport_clocks.specs.Clock.{received, sent, turned, is_open};
+ghost use Rattle.lamport_clocks.specs.Clock.{received, sent, advanced, is_open};
 
 use crate::stamp::Stamp;
 
@@ -20,8 +20,8 @@ pub fn clock_never_falls()
         → received clock t ≡ Ok after → IsLater after.at clock.at }
     ensures sends { (clock after : Reading) (t : Stamp)
         → sent clock t ≡ Ok after → IsLater after.at clock.at }
-    ensures turns { (clock after : Reading) (sealed : Option ℕ)
-        → turned clock ≡ Ok (sealed, after) → IsLater after.at clock.at }
+    ensures advances { (clock after : Reading) (sealed : Option ℕ)
+        → advanced clock ≡ Ok (sealed, after) → IsLater after.at clock.at }
 {}
 
 /// No step changes the first epoch or the end of the counter, or passes them.
@@ -30,15 +30,15 @@ pub fn clock_keeps_its_bounds()
         → received clock t ≡ Ok after → SameBounds clock after }
     ensures sends { (clock after : Reading) (t : Stamp)
         → sent clock t ≡ Ok after → SameBounds clock after }
-    ensures turns { (clock after : Reading) (sealed : Option ℕ)
-        → turned clock ≡ Ok (sealed, after) → SameBounds clock after }
+    ensures advances { (clock after : Reading) (sealed : Option ℕ)
+        → advanced clock ≡ Ok (sealed, after) → SameBounds clock after }
 
     ensures receives_within { (clock after : Reading) (t : Stamp)
         → IsReading clock → received clock t ≡ Ok after → IsReading after }
     ensures sends_within { (clock after : Reading) (t : Stamp)
         → IsReading clock → sent clock t ≡ Ok after → IsReading after }
-    ensures turns_within { (clock after : Reading) (sealed : Option ℕ)
-        → IsReading clock → turned clock ≡ Ok (sealed, after) → IsReading after }
+    ensures advances_within { (clock after : Reading) (sealed : Option ℕ)
+        → IsReading clock → advanced clock ≡ Ok (sealed, after) → IsReading after }
 {}
 
 /// A stamp that was taken in is of an open epoch, and the clock is later than it, in its own epoch still.
@@ -62,12 +62,12 @@ pub fn sending_sets_the_stamp()
 
 /// A turn seals the epoch two before the one that it begins, if that is one from the first on. No stamp
 /// of a sealed epoch is taken any more.
-pub fn turning_seals()
-    ensures sealed { (clock after : Reading) (sealed : Option ℕ) → turned clock ≡ Ok (sealed, after)
+pub fn advancing_seals()
+    ensures sealed { (clock after : Reading) (sealed : Option ℕ) → advanced clock ≡ Ok (sealed, after)
         → (epoch : ℕ)
         → (sealed ≡ Some epoch) ↔ ((clock.first ≤ epoch) × (epoch + 2 ≡ after.at.epoch)) }
-    ensures closed { (clock after : Reading) (sealed : Option ℕ) → turned clock ≡ Ok (sealed, after)
+    ensures closed { (clock after : Reading) (sealed : Option ℕ) → advanced clock ≡ Ok (sealed, after)
         → (epoch : ℕ) → sealed ≡ Some epoch → is_open after epoch ≡ false }
-    ensures start { (clock after : Reading) (sealed : Option ℕ) → turned clock ≡ Ok (sealed, after)
+    ensures start { (clock after : Reading) (sealed : Option ℕ) → advanced clock ≡ Ok (sealed, after)
         → after.at ≡ record { epoch = clock.at.epoch + 1; counter = 0 } }
 {}

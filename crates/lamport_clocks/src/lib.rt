@@ -1,12 +1,10 @@
 //! The clock that each verifier keeps: Lamport's logical clock, in epochs.
 //!
 //! A stamp is an epoch and a counter in it. A verifier stamps what it hands away, and moves its clock
-//! above the stamp of what it takes in. The crate stands on std alone. It also has the words in which
-//! the crates above state a machine's steps: tests in order (`specs/InOrder.antt`), and an answer
-//! together with the state after it (`specs/Follows.antt`).
+//! above the stamp of what it takes in. The crate stands on `step_words`, in which its steps are stated.
 //!
-//! Begin at `clock`, beside `specs/Clock.antt`; `laws.rt` says that the clock never falls and what a turn
-//! seals.
+//! Begin at `clock`, beside `specs/Clock.antt`; `laws.rt` says that the clock never falls and what going to the
+//! next epoch seals.
 #![tactic(auto)]
 
 mod clock;
@@ -20,6 +18,6 @@ pub use clock::{Clock, ClockFault};
 pub use header::Header;
 pub use laws::{
     clock_keeps_its_bounds, clock_never_falls, receiving_passes_the_stamp, sending_sets_the_stamp,
-    stamps_are_ordered, turning_seals,
+    stamps_are_ordered, advancing_seals,
 };
 pub use stamp::Stamp;

@@ -100,7 +100,7 @@ fn turns_seal_the_epoch_before(rt: HostRuntime) {
     for (first, before, want, after) in table {
         let mut clock = clock_at(first, before);
         assert_eq!(rt; clock.next_epoch(), want, "{before:?} turns");
-        assert_eq!(rt; clock.at(), after, "{before:?} turned");
+        assert_eq!(rt; clock.at(), after, "{before:?} advanced");
     }
 }
 

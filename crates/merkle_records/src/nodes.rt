@@ -17,13 +17,13 @@ pub fn add_case(node: &Node, at: &Path, k: &Path) -> AddCase
     ensures case { (on : Bool) → side at.now k.now ≡ Some on
         → result ≡ case_of (node_side node.now on) k.now }
 {
-    match node.side(at.side_below(k)) {
+    match node.side(k.side_below(at)) {
         None => AddCase::Empty,
         Some(pointer) => {
             if pointer.path.is_same(k) {
                 return AddCase::Same;
             }
-            if k.is_below(&pointer.path) {
+            if pointer.path.is_below(k) {
                 return AddCase::Split;
             }
             AddCase::Foreign
@@ -33,14 +33,14 @@ pub fn add_case(node: &Node, at: &Path, k: &Path) -> AddCase
 
 /// The digest of a value: that of its text.
 pub fn digest_of<D: Digests>(d: &D, value: &Value) -> [u8; 32]
-    ensures value { result ≡ D.text_digest d.now (value_text short_keys value.now) }
+    ensures value { result ≡ (D.functions d.now).digest (value_text short_keys value.now) }
 {
     d.text_digest(value_text(value).as_slice())
 }
 
 // A pointer to a path with the digest of its value.
 fn pointer_to<D: Digests>(d: &D, path: &Path, value: &Value) -> Pointer
-    ensures value { result ≡ pointer_to short_keys (D.text_digest d.now) path.now value.now }
+    ensures value { result ≡ pointer_to short_keys (D.functions d.now).digest path.now value.now }
 {
     Pointer {
         path: *path,
@@ -53,9 +53,9 @@ fn pointer_to<D: Digests>(d: &D, path: &Path, value: &Value) -> Pointer
 pub fn after_evict<D: Digests>(d: &D, node: &Node, at: &Path, k: &Path, v: &Value) -> Node
     requires below { IsBelow at.now k.now }
     ensures node { (on : Bool) → side at.now k.now ≡ Some on
-        → result ≡ after_evict short_keys (D.text_digest d.now) node.now on k.now v.now }
+        → result ≡ after_evict short_keys (D.functions d.now).digest node.now on k.now v.now }
 {
-    node.with_side(at.side_below(k), Some(pointer_to(d, k, v)))
+    node.with_side(k.side_below(at), Some(pointer_to(d, k, v)))
 }
 
 /// The node after a path below it was added, and the value with which the path stands in the cache.
@@ -64,9 +64,9 @@ pub fn after_add<D: Digests>(d: &D, node: &Node, at: &Path, k: &Path, v: &Value)
     requires case { (on : Bool) → side at.now k.now ≡ Some on
         → case_of (node_side node.now on) k.now ≢ Foreign }
     ensures added { (on : Bool) → side at.now k.now ≡ Some on
-        → IsAdded result (after_add short_keys (D.text_digest d.now) node.now on k.now v.now) }
+        → IsAdded result (after_add short_keys (D.functions d.now).digest node.now on k.now v.now) }
 {
-    let on = at.side_below(k);
+    let on = k.side_below(at);
     match node.side(on) {
         None => (after_evict(d, node, at, k, v), v.copy()),
         Some(pointer) => {
@@ -94,7 +94,7 @@ pub fn defer(node: &Node, at: &Path, k: &Path) -> Node
     requires below { IsBelow at.now k.now }
     ensures node { (on : Bool) → side at.now k.now ≡ Some on → result ≡ after_defer node.now on }
 {
-    let on = at.side_below(k);
+    let on = k.side_below(at);
     match node.side(on) {
         None => *node,
         Some(pointer) => node.with_side(

@@ -37,14 +37,14 @@ fn blob(byte: u8) -> Option<Value> {
 }
 
 fn case_at(node: &Node, at: &Path, k: &Path) -> Option<AddCase> {
-    if !at.is_below(k) {
+    if !k.is_below(at) {
         return None;
     }
     Some(add_case(node, at, k))
 }
 
 fn added(node: &Node, at: &Path, k: &Path, v: &Value) -> Option<(Node, Value)> {
-    if !at.is_below(k) {
+    if !k.is_below(at) {
         return None;
     }
     match add_case(node, at, k) {
@@ -54,14 +54,14 @@ fn added(node: &Node, at: &Path, k: &Path, v: &Value) -> Option<(Node, Value)> {
 }
 
 fn evicted(node: &Node, at: &Path, k: &Path, v: &Value) -> Option<Node> {
-    if !at.is_below(k) {
+    if !k.is_below(at) {
         return None;
     }
     Some(after_evict(&ToyDigests, node, at, k, v))
 }
 
 fn deferred(node: &Node, at: &Path, k: &Path) -> Option<Node> {
-    if !at.is_below(k) {
+    if !k.is_below(at) {
         return None;
     }
     Some(defer(node, at, k))

@@ -1,3 +1,4 @@
+pub mod Functions
 pub mod Digests
 pub mod Hmac
 pub mod ShaDigests

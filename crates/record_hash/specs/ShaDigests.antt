@@ -2,7 +2,8 @@
 use Rattle.std.specs.Prelude.{ℕ, ◌+◌, List, [], ◌∷◌, slice_index}
 use Rattle.std.specs.Int.{w32, from_be_bytes}
 use Rattle.sha2.specs.Sha256.{sha256}
-use Rattle.record_hash.specs.Hmac.{hmac_of_block}
+use Rattle.record_hash.specs.Hmac.{key_block, hmac_of_block}
+use Rattle.record_hash.specs.Functions.{DigestFunctions}
 
 -- the digest of a text: SHA-256 (FIPS 180-4), under no key
 abbrev pub sha_text_digest : List ℕ → List ℕ
@@ -26,3 +27,11 @@ sha_element_lanes block bytes = words_of (hmac_of_block block (1 ∷ bytes))
 -- the tag of a text: the HMAC of the byte 2 and the text
 abbrev pub sha_tag : List ℕ → List ℕ → List ℕ
 sha_tag block bytes = hmac_of_block block (2 ∷ bytes)
+
+-- the functions under a key that is one block
+abbrev pub sha_functions : List ℕ → DigestFunctions
+sha_functions block = record { digest = sha_text_digest; lanes = sha_element_lanes block; tag = sha_tag block }
+
+-- the functions under a key of any length
+abbrev pub sha_under : List ℕ → DigestFunctions
+sha_under key = sha_functions (key_block key)

@@ -1,6 +1,7 @@
 -- What `ToyDigests` computes: sums of bytes, so that tests find collisions at will.
 use Rattle.std.specs.Prelude.{ℕ, ◌%◌, ◌^◌, List, ◌∷◌, ◌++◌, replicate, sum}
 use Rattle.std.specs.Int.{w32, to_be_bytes}
+use Rattle.record_hash.specs.Functions.{DigestFunctions}
 
 -- the sum of the bytes modulo 2 ^ 32
 abbrev pub toy_sum : List ℕ → ℕ
@@ -13,3 +14,7 @@ toy_digest bytes = replicate 28 0 ++ to_be_bytes w32 (toy_sum bytes)
 -- that sum in lane 0, and the other lanes 0
 abbrev pub toy_lanes : List ℕ → List ℕ
 toy_lanes bytes = toy_sum bytes ∷ replicate 7 0
+
+-- the three functions
+abbrev pub toy_functions : DigestFunctions
+toy_functions = record { digest = toy_digest; lanes = toy_lanes; tag = toy_digest }

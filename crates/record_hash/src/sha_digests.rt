@@ -1,6 +1,6 @@
 ghost use Rattle.std.specs.Prelude.{◌≡◌, ◌+◌, ◌≤◌, ◌∷◌, length};
 ghost use Rattle.record_hash.specs.Hmac.{key_block, hmac_of_block};
-ghost use Rattle.record_hash.specs.ShaDigests.{sha_text_digest, sha_element_lanes, sha_tag, word_at, words_of};
+ghost use Rattle.record_hash.specs.ShaDigests.{sha_functions, word_at, words_of};
 
 use crate::digest_functions::Digests;
 use crate::hmac_sha256::{BLOCK_LEN, finished, inner_state, key_block, outer_state};
@@ -68,11 +68,7 @@ impl ShaDigests {
 }
 
 impl Digests for ShaDigests {
-    ghost text_digest = { λ _ bytes. sha_text_digest bytes };
-
-    ghost element_lanes = { sha_element_lanes };
-
-    ghost tag = { sha_tag };
+    ghost functions = { sha_functions };
 
     fn text_digest(&self, bytes: &[u8]) -> [u8; 32] {
         Sha256::digest(bytes)

@@ -1,5 +1,5 @@
 ghost use Rattle.std.specs.Prelude.{◌≡◌};
-ghost use Rattle.record_hash.specs.ToyDigests.{toy_sum, toy_digest, toy_lanes};
+ghost use Rattle.record_hash.specs.ToyDigests.{toy_sum, toy_digest, toy_functions};
 
 use crate::digest_functions::Digests;
 
@@ -8,11 +8,7 @@ use crate::digest_functions::Digests;
 pub struct ToyDigests;
 
 impl Digests for ToyDigests {
-    ghost text_digest = { λ _ bytes. toy_digest bytes };
-
-    ghost element_lanes = { λ _ bytes. toy_lanes bytes };
-
-    ghost tag = { λ _ bytes. toy_digest bytes };
+    ghost functions = { λ _. toy_functions };
 
     fn text_digest(&self, bytes: &[u8]) -> [u8; 32] {
         digest_of(bytes)

@@ -3,12 +3,13 @@ use Rattle.std.proofs.Common.{◌≡◌, ◌⊎◌, ℕ, zero, suc, ◌+◌, ◌
 use Rattle.std.proofs.lemmas.Bool.{eqb-true, and_parts, cases_eq}
 use Rattle.std.proofs.lemmas.Option.{none-some, same_Some}
 use Rattle.multiset_sum.specs.Tally.{Tally}
+use Rattle.merkle_records.specs.Scheme.{Scheme}
 use Rattle.record_text.specs.Same.{same_bytes}
 use Rattle.record_text.proofs.SameTestLemmas.{same_bytes-true}
 use Rattle.soundness.specs.History.{Event}
 use Rattle.soundness.specs.Certified.{added_in, evicted_in, same_sum, is_balanced, balanced_from}
 use Rattle.soundness.specs.Permutation.{is_permutation}
-use Rattle.soundness.specs.Collision.{first_uneven}
+use Rattle.soundness.specs.Exhibit.{first_uneven}
 use Rattle.soundness.specs.Sound.{AreBalanced}
 
 pub same_sum-true : (a b : Tally) → same_sum a b ≡ true → a ≡ b
@@ -26,17 +27,17 @@ cases_le a b within = go (cases_eq a b)
     go (inr apart) = inr (omega (arith, within, apart))
 
 -- the epochs that are counted as certified are balanced
-pub counted_balanced : (lanes : List ℕ → List ℕ) (events : List Event) (first sealed : ℕ) → AreBalanced lanes events first (balanced_from lanes events first sealed)
-counted_balanced lanes events first zero epoch from below = absurd (omega (arith, from, below))
-counted_balanced lanes events first (suc sealed) epoch from below = go (is_balanced lanes events first) refl (counted_balanced lanes events (suc first) sealed epoch) below
+pub counted_balanced : (scheme : Scheme) (events : List Event) (first sealed : ℕ) → AreBalanced scheme events first (balanced_from scheme events first sealed)
+counted_balanced scheme events first zero epoch from below = absurd (omega (arith, from, below))
+counted_balanced scheme events first (suc sealed) epoch from below = go (is_balanced scheme events first) refl (counted_balanced scheme events (suc first) sealed epoch) below
   where
-    go : (b : Bool) → is_balanced lanes events first ≡ b
-        → (suc first ≤ epoch → epoch < suc first + balanced_from lanes events (suc first) sealed → is_balanced lanes events epoch ≡ true)
-        → epoch < first + (if b then suc (balanced_from lanes events (suc first) sealed) else 0) → is_balanced lanes events epoch ≡ true
+    go : (b : Bool) → is_balanced scheme events first ≡ b
+        → (suc first ≤ epoch → epoch < suc first + balanced_from scheme events (suc first) sealed → is_balanced scheme events epoch ≡ true)
+        → epoch < first + (if b then suc (balanced_from scheme events (suc first) sealed) else 0) → is_balanced scheme events epoch ≡ true
     go true is further below = by (cases_le first epoch from)
       where
-        by : (first ≡ epoch) ⊎ (suc first ≤ epoch) → is_balanced lanes events epoch ≡ true
-        by (inl same) = subst (λ (e : ℕ). is_balanced lanes events e ≡ true) same is
+        by : (first ≡ epoch) ⊎ (suc first ≤ epoch) → is_balanced scheme events epoch ≡ true
+        by (inl same) = subst (λ (e : ℕ). is_balanced scheme events e ≡ true) same is
         by (inr after) = further after (omega (arith, below))
     go false is further below = absurd (omega (arith, from, below))
 

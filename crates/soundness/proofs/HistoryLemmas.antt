@@ -1,6 +1,7 @@
 -- The events of one log: how the clock moves with each, that they stand in the order of their moments, and that each
 -- is of the log's verifier and of an epoch from the header's first on.
 use Rattle.std.proofs.Common.{◌≡◌, ℕ, suc, ◌<◌, ◌≤◌, ◌⊎◌, inl, inr, false, not, nat_le, List, [], ◌∷◌, is_some, Ok, Err, refl, sym, ◌∙◌, ap, subst, append-nil, arith}
+use Rattle.merkle_records.specs.Scheme.{Scheme}
 use Rattle.std.specs.List.{AllByRecursion}
 use Rattle.std.proofs.lemmas.Bool.Decides.{nat_tests}
 use Rattle.std.proofs.lemmas.Result.{IfOk-at_ok}
@@ -8,9 +9,9 @@ use Rattle.lamport_clocks.specs.declared.header.Header.{Header}
 use Rattle.lamport_clocks.specs.declared.stamp.Stamp.{Stamp}
 use Rattle.lamport_clocks.specs.Stamp.{IsLater}
 use Rattle.lamport_clocks.specs.Reading.{Reading}
-use Rattle.lamport_clocks.specs.Clock.{received, sent, turned}
-use Rattle.lamport_clocks.proofs.InOrder.{test-ok}
-use Rattle.lamport_clocks.proofs.ClockLaws.{received-later, received-bounds, sent-later, sent-bounds, turned-later, turned-bounds}
+use Rattle.lamport_clocks.specs.Clock.{received, sent, advanced}
+use Rattle.step_words.proofs.StepLaws.{test-ok}
+use Rattle.lamport_clocks.proofs.ClockLaws.{received-later, received-bounds, sent-later, sent-bounds, advanced-later, advanced-bounds}
 use Rattle.log_codec.specs.declared.command.Command.{Command}
 use Rattle.log_codec.specs.declared.command.Command.TheVariants.{AddM, EvictM, AddB, EvictB, EvictBM, Get, Put, NextEpoch}
 use Rattle.merkle_records.specs.Merkle.{Digest}
@@ -23,7 +24,7 @@ use Rattle.verifier_cache.specs.Entry.{has_kid}
 use Rattle.verifier_cache.specs.Cache.{entry_of}
 use Rattle.verifier_commands.specs.declared.state.State.{State}
 use Rattle.verifier_commands.specs.State.{opening}
-use Rattle.verifier_commands.specs.Change.{Change, joins, leaves, comes, goes, defers, reads, writes, turns}
+use Rattle.verifier_commands.specs.Change.{Change, did_add_m, did_evict_m, did_add_b, did_evict_b, did_evict_bm, did_get, did_put, did_next_epoch}
 use Rattle.verifier_commands.specs.Changes.{add_under, evict_under, defer_under, is_by_stamp}
 use Rattle.record_text.specs.Same.{same_value}
 use Rattle.verifier_commands.specs.Transition.{Rules, Step, is_root, is_data, is_full, transition}
@@ -35,14 +36,14 @@ use Rattle.soundness.proofs.InvertLemmas.{need-ok, and_then-ok, timed-ok}
 
 -- With a change the clock stands, takes in the stamp of what came, goes to the stamp of what went, or turns.
 abbrev pub Ticks : Reading → Reading → Change → Type 0
-Ticks old new (joins parent after child) = new ≡ old
-Ticks old new (leaves parent after child) = new ≡ old
-Ticks old new (comes child element) = received old element.stamp ≡ Ok new
-Ticks old new (goes child element) = sent old element.stamp ≡ Ok new
-Ticks old new (defers parent after child element) = sent old element.stamp ≡ Ok new
-Ticks old new (reads entry) = new ≡ old
-Ticks old new (writes before after) = new ≡ old
-Ticks old new (turns sealed) = turned old ≡ Ok (sealed, new)
+Ticks old new (did_add_m parent after child) = new ≡ old
+Ticks old new (did_evict_m parent after child) = new ≡ old
+Ticks old new (did_add_b child element) = received old element.stamp ≡ Ok new
+Ticks old new (did_evict_b child element) = sent old element.stamp ≡ Ok new
+Ticks old new (did_evict_bm parent after child element) = sent old element.stamp ≡ Ok new
+Ticks old new (did_get entry) = new ≡ old
+Ticks old new (did_put before after) = new ≡ old
+Ticks old new (did_next_epoch sealed) = advanced old ≡ Ok (sealed, new)
 
 -- the clock moved with what was done
 abbrev pub DidTick : State → Change × State → Type 0
@@ -56,13 +57,13 @@ ticks_step rules state (AddM path value parent) done is =
     let fresh = test-ok (is_some (entry_of path state.cache.entries)) _ _ done inner.1 in
     let room = test-ok (is_full state) _ _ done fresh.1 in
     let holder = need-ok (entry_of parent state.cache.entries) _ _ done room.1 in
-    let family = and_then-ok (add_under rules.format rules.digest holder.0 path value) _ done holder.2 in
+    let family = and_then-ok (add_under rules.scheme.format rules.scheme.digest holder.0 path value) _ done holder.2 in
     IfOk-at_ok (DidTick state) family.2 refl
 ticks_step rules state (EvictM path parent) done is =
     let inner = test-ok (is_root path) _ _ done is in
     let child = need-ok (entry_of path state.cache.entries) _ _ done inner.1 in
     let holder = need-ok (entry_of parent state.cache.entries) _ _ done child.2 in
-    let after = and_then-ok (evict_under rules.format rules.digest holder.0 child.0) _ done holder.2 in
+    let after = and_then-ok (evict_under rules.scheme.format rules.scheme.digest holder.0 child.0) _ done holder.2 in
     IfOk-at_ok (DidTick state) after.2 refl
 ticks_step rules state (AddB path value stamp verifier) done is =
     let inner = test-ok (is_root path) _ _ done is in
@@ -87,15 +88,15 @@ ticks_step rules state (EvictBM path parent stamp) done is =
     IfOk-at_ok (DidTick state) clock.2 clock.1
 ticks_step rules state (Get path value) done is =
     let entry = need-ok (entry_of path state.cache.entries) _ _ done is in
-    let data_path = test-ok (not (is_data rules.format path)) _ _ done entry.2 in
+    let data_path = test-ok (not (is_data rules.scheme.format path)) _ _ done entry.2 in
     let same = test-ok (not (same_value entry.0.value value)) _ _ done data_path.1 in
     IfOk-at_ok (DidTick state) same.1 refl
 ticks_step rules state (Put path value) done is =
     let entry = need-ok (entry_of path state.cache.entries) _ _ done is in
-    let data_path = test-ok (not (is_data rules.format path)) _ _ done entry.2 in
+    let data_path = test-ok (not (is_data rules.scheme.format path)) _ _ done entry.2 in
     IfOk-at_ok (DidTick state) data_path.1 refl
 ticks_step rules state NextEpoch done is =
-    let turn = timed-ok (turned state.clock) _ done is in
+    let turn = timed-ok (advanced state.clock) _ done is in
     IfOk-at_ok (DidTick state) turn.2 turn.1
 
 -- the first stamp is not after the other
@@ -117,15 +118,15 @@ up_to-later s t (inr a) = inr (a.0, omega arith)
 
 -- the clock never falls
 pub ticks-up_to : (old new : Reading) (change : Change) → Ticks old new change → IsUpTo old.at new.at
-ticks-up_to old new (joins parent after child) is = up_to-self old.at new.at (ap (λ (r : Reading). r.at) is)
-ticks-up_to old new (leaves parent after child) is = up_to-self old.at new.at (ap (λ (r : Reading). r.at) is)
-ticks-up_to old new (comes child element) is = up_to-later old.at new.at (received-later old new element.stamp is)
-ticks-up_to old new (goes child element) is = up_to-later old.at new.at (sent-later old new element.stamp is)
-ticks-up_to old new (defers parent after child element) is =
+ticks-up_to old new (did_add_m parent after child) is = up_to-self old.at new.at (ap (λ (r : Reading). r.at) is)
+ticks-up_to old new (did_evict_m parent after child) is = up_to-self old.at new.at (ap (λ (r : Reading). r.at) is)
+ticks-up_to old new (did_add_b child element) is = up_to-later old.at new.at (received-later old new element.stamp is)
+ticks-up_to old new (did_evict_b child element) is = up_to-later old.at new.at (sent-later old new element.stamp is)
+ticks-up_to old new (did_evict_bm parent after child element) is =
     up_to-later old.at new.at (sent-later old new element.stamp is)
-ticks-up_to old new (reads entry) is = up_to-self old.at new.at (ap (λ (r : Reading). r.at) is)
-ticks-up_to old new (writes before after) is = up_to-self old.at new.at (ap (λ (r : Reading). r.at) is)
-ticks-up_to old new (turns sealed) is = up_to-later old.at new.at (turned-later old new sealed is)
+ticks-up_to old new (did_get entry) is = up_to-self old.at new.at (ap (λ (r : Reading). r.at) is)
+ticks-up_to old new (did_put before after) is = up_to-self old.at new.at (ap (λ (r : Reading). r.at) is)
+ticks-up_to old new (did_next_epoch sealed) is = up_to-later old.at new.at (advanced-later old new sealed is)
 
 up_to-epoch : (s t : Stamp) → IsUpTo s t → s.epoch ≤ t.epoch
 up_to-epoch s t (inl a) = omega arith
@@ -137,14 +138,14 @@ ticks-epoch old new change is = up_to-epoch old.at new.at (ticks-up_to old new c
 
 -- its first epoch stays
 pub ticks-first : (old new : Reading) (change : Change) → Ticks old new change → new.first ≡ old.first
-ticks-first old new (joins parent after child) is = ap (λ (r : Reading). r.first) is
-ticks-first old new (leaves parent after child) is = ap (λ (r : Reading). r.first) is
-ticks-first old new (comes child element) is = (received-bounds old new element.stamp is).first
-ticks-first old new (goes child element) is = (sent-bounds old new element.stamp is).first
-ticks-first old new (defers parent after child element) is = (sent-bounds old new element.stamp is).first
-ticks-first old new (reads entry) is = ap (λ (r : Reading). r.first) is
-ticks-first old new (writes before after) is = ap (λ (r : Reading). r.first) is
-ticks-first old new (turns sealed) is = (turned-bounds old new sealed is).first
+ticks-first old new (did_add_m parent after child) is = ap (λ (r : Reading). r.first) is
+ticks-first old new (did_evict_m parent after child) is = ap (λ (r : Reading). r.first) is
+ticks-first old new (did_add_b child element) is = (received-bounds old new element.stamp is).first
+ticks-first old new (did_evict_b child element) is = (sent-bounds old new element.stamp is).first
+ticks-first old new (did_evict_bm parent after child element) is = (sent-bounds old new element.stamp is).first
+ticks-first old new (did_get entry) is = ap (λ (r : Reading). r.first) is
+ticks-first old new (did_put before after) is = ap (λ (r : Reading). r.first) is
+ticks-first old new (did_next_epoch sealed) is = (advanced-bounds old new sealed is).first
 
 -- ---- the events of a log
 
@@ -222,34 +223,34 @@ events-merged number index clock (event ∷ events) ticks = (
 -- ---- a whole log
 
 -- how the events of a log tick
-pub log-ticks : (digest : Digest) (lanes : List ℕ → List ℕ) (header : Header) (number : ℕ) (commands : List Command)
-    → IsTicking number 0 (opening number header).clock (log_events digest lanes header number commands)
-log-ticks digest lanes header number commands =
-    events-tick (rules_under digest lanes header number) number 0 (opening number header) commands
+pub log-ticks : (scheme : Scheme) (header : Header) (number : ℕ) (commands : List Command)
+    → IsTicking number 0 (opening number header).clock (log_events scheme header number commands)
+log-ticks scheme header number commands =
+    events-tick (rules_under scheme header number) number 0 (opening number header) commands
 
 -- The events of a log stand in the order of their moments.
-pub log-merged : (digest : Digest) (lanes : List ℕ → List ℕ) (header : Header) (number : ℕ) (commands : List Command)
-    → IsMerged event_moment (log_events digest lanes header number commands)
-log-merged digest lanes header number commands =
-    events-merged number 0 (opening number header).clock _ (log-ticks digest lanes header number commands)
+pub log-merged : (scheme : Scheme) (header : Header) (number : ℕ) (commands : List Command)
+    → IsMerged event_moment (log_events scheme header number commands)
+log-merged scheme header number commands =
+    events-merged number 0 (opening number header).clock _ (log-ticks scheme header number commands)
 
 -- The merged order of one log is the log's own.
-pub order_of-one : (digest : Digest) (lanes : List ℕ → List ℕ) (header : Header) (number : ℕ) (commands : List Command)
-    → order_of (log_events digest lanes header number commands ∷ []) ≡ log_events digest lanes header number commands
-order_of-one digest lanes header number commands =
-    let events = log_events digest lanes header number commands in
+pub order_of-one : (scheme : Scheme) (header : Header) (number : ℕ) (commands : List Command)
+    → order_of (log_events scheme header number commands ∷ []) ≡ log_events scheme header number commands
+order_of-one scheme header number commands =
+    let events = log_events scheme header number commands in
     ap (λ (all : List Event). merged event_moment all) (append-nil events)
-    ∙ merged-fixed event_moment events (log-merged digest lanes header number commands)
+    ∙ merged-fixed event_moment events (log-merged scheme header number commands)
 
 -- of the verifier, and of an epoch from the header's first on
 abbrev pub IsOfLog : ℕ → Header → Event → Type 0
 IsOfLog number header event = (event.verifier ≡ number) × (header.first ≤ event.at.epoch)
 
 -- Each event of a log is so.
-pub log-epochs : (digest : Digest) (lanes : List ℕ → List ℕ) (header : Header) (number : ℕ) (commands : List Command)
-    → AllByRecursion (IsOfLog number header) (log_events digest lanes header number commands)
-log-epochs digest lanes header number commands =
+pub log-epochs : (scheme : Scheme) (header : Header) (number : ℕ) (commands : List Command)
+    → AllByRecursion (IsOfLog number header) (log_events scheme header number commands)
+log-epochs scheme header number commands =
     every-weaker (IsBehind number 0 (opening number header).clock.at) (IsOfLog number header)
     (λ event behind. (behind.0, up_to-epoch (opening number header).clock.at event.at behind.2))
-    (log_events digest lanes header number commands)
-    (every-behind number 0 (opening number header).clock _ (log-ticks digest lanes header number commands))
+    (log_events scheme header number commands)
+    (every-behind number 0 (opening number header).clock _ (log-ticks scheme header number commands))

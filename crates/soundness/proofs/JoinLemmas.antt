@@ -18,8 +18,8 @@ use Rattle.verifier_cache.specs.declared.entry.Hold.TheVariants.{M}
 use Rattle.verifier_cache.specs.Entry.{kid_of, set_kid, new_entry}
 use Rattle.verifier_commands.specs.Changes.{node_of}
 use Rattle.verifier_commands.specs.Outcome.{blob_of}
-use Rattle.soundness.specs.Exhibit.{Taken}
-use Rattle.soundness.specs.Deeds.{Shown, ShowSame, showing_both, DidJoin}
+use Rattle.soundness.specs.Clash.{LastEvicted}
+use Rattle.soundness.specs.Showing.{Shown, ShowSame, showing_both, DidAddM}
 use Rattle.soundness.specs.Spot.{Spot, untouched, cached, merkle, waiting, Spots, is_touched, side_of, pointer_at, home_of, LeadsBy, IsKeptBy, Covers, IsKind, IsTree}
 use Rattle.soundness.specs.World.{cached_in, blob_at, AllShown, with_shown, Stored, IsWorld}
 use Rattle.soundness.proofs.SideLemmas.{above_apart, above_no_prefix}
@@ -82,7 +82,7 @@ kept_value format digest kept (waiting element) is = absurd is
 
 -- ---- what was taken, where a parent and a child that isn't kept by its digest change
 
-pub taken_pair : (taken : Taken) (spots : Spots) (home : ℕ) (after : Entry) (k : List Bool) (spot : Spot) → after.path ≢ k → is_merkle spot ≡ false
+pub taken_pair : (taken : LastEvicted) (spots : Spots) (home : ℕ) (after : Entry) (k : List Bool) (spot : Spot) → after.path ≢ k → is_merkle spot ≡ false
     → ((path : List Bool) (value : Value) → spots path ≡ merkle value → taken path ≡ Some value)
     → (path : List Bool) (value : Value) → with_pair spots home after k spot path ≡ merkle value → taken path ≡ Some value
 taken_pair taken spots home after k spot apart not_merkle was path value is = go (this_or_other k path) (this_or_other after.path path)
@@ -102,7 +102,7 @@ abbrev pub KeepsWaiting : Spots → Spots → Type 0
 KeepsWaiting old new = (path : List Bool) (element : Element) → old path ≡ waiting element → new path ≡ waiting element
 
 -- the world behind a step, where what waited at the old spots waits on
-abbrev pub WorldAfter : Format → Digest → AllShown → Taken → Stored → Spots → Type 0
+abbrev pub WorldAfter : Format → Digest → AllShown → LastEvicted → Stored → Spots → Type 0
 WorldAfter format digest shown taken stored old = (spots : Spots) × IsWorld format digest shown taken stored spots × KeepsWaiting old spots
 
 abbrev pub is_waiting : Spot → Bool
@@ -125,7 +125,7 @@ pair_keeps spots home before after k spot was free path element waits =
     ∙ waits
 
 -- What all joins have in common.
-pub join_world : (format : Format) (digest : Digest) (shown : AllShown) (taken : Taken) (stored : Stored) (spots : Spots) (home : ℕ) (next : Shown) (parent child : Entry)
+pub join_world : (format : Format) (digest : Digest) (shown : AllShown) (taken : LastEvicted) (stored : Stored) (spots : Spots) (home : ℕ) (next : Shown) (parent child : Entry)
     → (on : Bool) (at now : Node) (pointer : Pointer)
     → IsWorld format digest shown taken stored spots
     → spots parent.path ≡ cached home parent → node_of parent.value ≡ Some at → side parent.path child.path ≡ Some on
@@ -175,8 +175,8 @@ pub record Joining (format : Format) (digest : Digest) (shown : AllShown) (spots
   pub shows : ShowSame next (showing_both (shown home) after child.path (Some child))
   pub added : IsAdded format digest parent child.path value (record { parent = after; child = child })
 
-pub joining : (format : Format) (digest : Digest) (shown : AllShown) (taken : Taken) (stored : Stored) (spots : Spots) (home : ℕ) (next : Shown) (parent after child : Entry)
-    → IsWorld format digest shown taken stored spots → DidJoin format digest (shown home) next parent after child
+pub joining : (format : Format) (digest : Digest) (shown : AllShown) (taken : LastEvicted) (stored : Stored) (spots : Spots) (home : ℕ) (next : Shown) (parent after child : Entry)
+    → IsWorld format digest shown taken stored spots → DidAddM format digest (shown home) next parent after child
     → Joining format digest shown spots home next parent after child
 joining format digest shown taken stored spots home next parent after child world did = record {
   value = did.value;
@@ -220,7 +220,7 @@ split_untouched format digest shown spots home next parent after child tree j po
     (tree.cover parent.path child.path j.added.on (ap is_touched j.was) touched j.added.below)))
 
 -- Where the pointer led nowhere.
-pub join_empty : (format : Format) (digest : Digest) (shown : AllShown) (taken : Taken) (stored : Stored) (spots : Spots) (home : ℕ) (next : Shown) (parent after child : Entry)
+pub join_empty : (format : Format) (digest : Digest) (shown : AllShown) (taken : LastEvicted) (stored : Stored) (spots : Spots) (home : ℕ) (next : Shown) (parent after child : Entry)
     → GivesDigests digest → IsWorld format digest shown taken stored spots → (j : Joining format digest shown spots home next parent after child)
     → node_side j.added.at j.added.on ≡ None → j.value ≡ initial_value format child.path
     → after ≡ changed_parent parent (pointing format digest j.added.at j.added.on child.path j.value) j.added.on true
@@ -261,7 +261,7 @@ join_empty format digest shown taken stored spots home next parent after child d
     was_untouched = empty_untouched format digest shown spots home next parent after child world.tree j none
 
 -- Where the pointer led below the child.
-pub join_split : (format : Format) (digest : Digest) (shown : AllShown) (taken : Taken) (stored : Stored) (spots : Spots) (home : ℕ) (next : Shown) (parent after child : Entry)
+pub join_split : (format : Format) (digest : Digest) (shown : AllShown) (taken : LastEvicted) (stored : Stored) (spots : Spots) (home : ℕ) (next : Shown) (parent after child : Entry)
     → GivesDigests digest → IsWorld format digest shown taken stored spots → (j : Joining format digest shown spots home next parent after child)
     → (pointer : Pointer) → node_side j.added.at j.added.on ≡ Some pointer → (which : Bool) → side child.path pointer.path ≡ Some which
     → j.value ≡ initial_value format child.path

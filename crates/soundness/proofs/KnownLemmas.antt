@@ -19,9 +19,10 @@ use Rattle.record_text.specs.Same.{same_bytes}
 use Rattle.record_text.proofs.SameTestLemmas.{same_bytes-self, same_bytes-true}
 use Rattle.verifier_commands.specs.Changes.{node_of, above_on, leads_to}
 use Rattle.verifier_commands.specs.Outcome.{blob_of}
-use Rattle.verifier_commands.specs.Change.{Change, joins}
-use Rattle.soundness.specs.Exhibit.{Taken, Strings, is_known, differing, clash_at, clash_of, IsCollision}
-use Rattle.soundness.specs.Deeds.{Shown, ShowSame, showing_both, DidJoin}
+use Rattle.verifier_commands.specs.Change.{Change, did_add_m}
+use Rattle.soundness.specs.Clash.{LastEvicted, Strings, is_known, differing, clash_at, clash_of}
+use Rattle.soundness.specs.Collision.{IsCollision}
+use Rattle.soundness.specs.Showing.{Shown, ShowSame, showing_both, DidAddM}
 use Rattle.soundness.specs.Spot.{Spot, untouched, cached, merkle, Spots, is_touched, side_of, pointer_at, home_of, LeadsBy, IsKind, IsTree}
 use Rattle.soundness.specs.World.{cached_in, AllShown, with_shown, Stored, IsWorld, blob_at}
 use Rattle.soundness.proofs.SideLemmas.{above_apart}
@@ -64,7 +65,7 @@ known format digest spots home parent path value on at pointer tree was is_node 
         (tree.link parent.path on pointer (parent_pointer spots home parent at on was is_node ∙ there))))
 
 -- Where the pointer leads to the child, which comes back with the value that it left with.
-join_same : (format : Format) (digest : Digest) (shown : AllShown) (taken : Taken) (stored : Stored) (spots : Spots) (home : ℕ) (next : Shown) (parent after child : Entry)
+join_same : (format : Format) (digest : Digest) (shown : AllShown) (taken : LastEvicted) (stored : Stored) (spots : Spots) (home : ℕ) (next : Shown) (parent after child : Entry)
     → IsWorld format digest shown taken stored spots → (j : Joining format digest shown spots home next parent after child)
     → (pointer : Pointer) → node_side j.added.at j.added.on ≡ Some pointer → pointer.path ≡ child.path → pointer.deferred ≡ false
     → spots child.path ≡ merkle j.value
@@ -106,9 +107,9 @@ join_same format digest shown taken stored spots home next parent after child wo
 -- ---- what an add shows
 
 -- a join shows no clash where the pointer did not lead to the child
-clash_where : (format : Format) (taken : Taken) (parent child : Entry) (after : Entry) (on : Bool) (at : Node)
+clash_where : (format : Format) (taken : LastEvicted) (parent child : Entry) (after : Entry) (on : Bool) (at : Node)
     → side parent.path child.path ≡ Some on → node_of parent.value ≡ Some at
-    → clash_of format taken (joins parent after child) ≡ clash_at format taken (leads_to (node_side at on) child.path) child
+    → clash_of format taken (did_add_m parent after child) ≡ clash_at format taken (leads_to (node_side at on) child.path) child
 clash_where format taken parent child after on at below is_node =
     ap (λ (s : Option Bool). clash_at format taken (is_known (above_on s (node_of parent.value)) child.path) child) below
     ∙ ap (λ (o : Option Node). clash_at format taken (is_known (above_on (Some on) o) child.path) child) is_node
@@ -129,11 +130,11 @@ differing_cases format old new = go (same_bytes (value_text format old) (value_t
     )
 
 -- what a join shows where the pointer leads to the child
-known_shows : (format : Format) (digest : Digest) (shown : AllShown) (taken : Taken) (stored : Stored) (spots : Spots) (home : ℕ) (next : Shown) (parent after child : Entry)
+known_shows : (format : Format) (digest : Digest) (shown : AllShown) (taken : LastEvicted) (stored : Stored) (spots : Spots) (home : ℕ) (next : Shown) (parent after child : Entry)
     → IsWorld format digest shown taken stored spots → (j : Joining format digest shown spots home next parent after child)
     → (pointer : Pointer) → node_side j.added.at j.added.on ≡ Some pointer → pointer.path ≡ child.path
     → (k : Known format digest spots child.path j.value) → child ≡ new_entry child.path j.value M
-    → clash_of format taken (joins parent after child) ≡ differing format (Some k.kept) j.value
+    → clash_of format taken (did_add_m parent after child) ≡ differing format (Some k.kept) j.value
 known_shows format digest shown taken stored spots home next parent after child world j pointer there to k child_is =
     clash_where format taken parent child after j.added.on j.added.at j.added.below j.added.is_node
     ∙ ap (λ (b : Bool). clash_at format taken b child) leads
@@ -146,29 +147,29 @@ known_shows format digest shown taken stored spots home next parent after child 
         ∙ ap (λ (i : List Bool). same_path i child.path) to ∙ same_path-self child.path
 
 -- a change shows two strings with one digest
-abbrev pub Clashes : Format → Digest → Taken → Change → Type 0
+abbrev pub Clashes : Format → Digest → LastEvicted → Change → Type 0
 Clashes format digest taken change = (strings : Strings) × (clash_of format taken change ≡ Some strings) × IsCollision digest strings
 
 -- a change shows nothing, and a world stands behind it
-abbrev pub Passes : Format → Digest → AllShown → Taken → Taken → Stored → Spots → Change → Type 0
+abbrev pub Passes : Format → Digest → AllShown → LastEvicted → LastEvicted → Stored → Spots → Change → Type 0
 Passes format digest shown taken now_taken stored old change = (clash_of format taken change ≡ None) × WorldAfter format digest shown now_taken stored old
 
 -- A join shows two strings with one digest, or it shows nothing and keeps the world.
-pub join_step : (format : Format) (digest : Digest) (shown : AllShown) (taken : Taken) (stored : Stored) (spots : Spots) (home : ℕ) (next : Shown) (parent after child : Entry)
-    → HasOneText format → GivesDigests digest → IsWorld format digest shown taken stored spots → DidJoin format digest (shown home) next parent after child
-    → Clashes format digest taken (joins parent after child) ⊎ Passes format digest (with_shown shown home next) taken taken stored spots (joins parent after child)
+pub join_step : (format : Format) (digest : Digest) (shown : AllShown) (taken : LastEvicted) (stored : Stored) (spots : Spots) (home : ℕ) (next : Shown) (parent after child : Entry)
+    → HasOneText format → GivesDigests digest → IsWorld format digest shown taken stored spots → DidAddM format digest (shown home) next parent after child
+    → Clashes format digest taken (did_add_m parent after child) ⊎ Passes format digest (with_shown shown home next) taken taken stored spots (did_add_m parent after child)
 join_step format digest shown taken stored spots home next parent after child one digests world did = go j.added.how
   where
     j : Joining format digest shown spots home next parent after child
     j = joining format digest shown taken stored spots home next parent after child world did
 
-    clash_is : clash_of format taken (joins parent after child) ≡ clash_at format taken (leads_to (node_side j.added.at j.added.on) child.path) child
+    clash_is : clash_of format taken (did_add_m parent after child) ≡ clash_at format taken (leads_to (node_side j.added.at j.added.on) child.path) child
     clash_is = clash_where format taken parent child after j.added.on j.added.at j.added.below j.added.is_node
 
     Outcome : Type 0
-    Outcome = Clashes format digest taken (joins parent after child) ⊎ Passes format digest (with_shown shown home next) taken taken stored spots (joins parent after child)
+    Outcome = Clashes format digest taken (did_add_m parent after child) ⊎ Passes format digest (with_shown shown home next) taken taken stored spots (did_add_m parent after child)
 
-    no_clash : leads_to (node_side j.added.at j.added.on) child.path ≡ false → clash_of format taken (joins parent after child) ≡ None
+    no_clash : leads_to (node_side j.added.at j.added.on) child.path ≡ false → clash_of format taken (did_add_m parent after child) ≡ None
     no_clash apart = clash_is ∙ ap (λ (b : Bool). clash_at format taken b child) apart
 
     -- the pointer leads to the child
@@ -177,7 +178,7 @@ join_step format digest shown taken stored spots home next parent after child on
         → after ≡ changed_parent parent j.added.at j.added.on true → child ≡ new_entry child.path j.value M → Outcome
     back pointer there to flag k after_is child_is = by (differing_cases format k.kept j.value)
       where
-        shows : clash_of format taken (joins parent after child) ≡ differing format (Some k.kept) j.value
+        shows : clash_of format taken (did_add_m parent after child) ≡ differing format (Some k.kept) j.value
         shows = known_shows format digest shown taken stored spots home next parent after child world j pointer there to k child_is
 
         by : ((value_text format k.kept ≡ value_text format j.value) × (differing format (Some k.kept) j.value ≡ None))
@@ -207,9 +208,9 @@ join_step format digest shown taken stored spots home next parent after child on
     )
 
 -- A join that shows nothing finds its path untouched, or kept by its digest with the value that it brings.
-pub join_takes : (format : Format) (digest : Digest) (shown : AllShown) (taken : Taken) (stored : Stored) (spots : Spots) (home : ℕ) (next : Shown) (parent after child : Entry)
-    → HasOneText format → IsWorld format digest shown taken stored spots → DidJoin format digest (shown home) next parent after child
-    → clash_of format taken (joins parent after child) ≡ None
+pub join_takes : (format : Format) (digest : Digest) (shown : AllShown) (taken : LastEvicted) (stored : Stored) (spots : Spots) (home : ℕ) (next : Shown) (parent after child : Entry)
+    → HasOneText format → IsWorld format digest shown taken stored spots → DidAddM format digest (shown home) next parent after child
+    → clash_of format taken (did_add_m parent after child) ≡ None
     → (spots child.path ≡ untouched) ⊎ (spots child.path ≡ merkle child.value)
 join_takes format digest shown taken stored spots home next parent after child one world did free = go j.added.how
   where
@@ -220,7 +221,7 @@ join_takes format digest shown taken stored spots home next parent after child o
     Found = (spots child.path ≡ untouched) ⊎ (spots child.path ≡ merkle child.value)
 
     back : (k : Known format digest spots child.path j.value) → child ≡ new_entry child.path j.value M
-        → clash_of format taken (joins parent after child) ≡ differing format (Some k.kept) j.value → Found
+        → clash_of format taken (did_add_m parent after child) ≡ differing format (Some k.kept) j.value → Found
     back k child_is shows = by (differing_cases format k.kept j.value)
       where
         by : ((value_text format k.kept ≡ value_text format j.value) × (differing format (Some k.kept) j.value ≡ None))

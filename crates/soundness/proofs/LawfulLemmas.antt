@@ -5,8 +5,8 @@ use Rattle.std.proofs.lemmas.Bool.{true≢false, not-false, eqb-true, ne_eqb}
 use Rattle.std.proofs.lemmas.Result.{IfOk-at_ok}
 use Rattle.lamport_clocks.specs.declared.header.Header.{Header}
 use Rattle.lamport_clocks.specs.declared.stamp.Stamp.{Stamp}
-use Rattle.lamport_clocks.specs.Clock.{received, sent, turned}
-use Rattle.lamport_clocks.proofs.InOrder.{test-ok}
+use Rattle.lamport_clocks.specs.Clock.{received, sent, advanced}
+use Rattle.step_words.proofs.StepLaws.{test-ok}
 use Rattle.record_text.specs.declared.value.Value.{Value}
 use Rattle.record_text.specs.Format.{Format, path_bits}
 use Rattle.record_text.specs.Texts.{value_text}
@@ -32,7 +32,7 @@ use Rattle.verifier_commands.specs.Changes.{above, leads_to, is_deferred, has_di
 use Rattle.record_text.specs.Same.{same_value}
 use Rattle.verifier_commands.specs.Transition.{Rules, Step, is_root, is_data, is_full, transition, add_m, evict_m, add_b, evict_b, evict_bm, get, put, next_epoch}
 use Rattle.soundness.specs.History.{Event, events_behind, events_from, machinery_under}
-use Rattle.soundness.specs.Deeds.{Shown, Did, shown_by, showing, ShowSame}
+use Rattle.soundness.specs.Showing.{Shown, HasDone, shown_by, showing, ShowSame}
 use Rattle.soundness.proofs.InvertLemmas.{need-ok, and_then-ok, timed-ok}
 use Rattle.soundness.proofs.ShownLemmas.{found_own, shown-replaced, shown-without, shown-append, distinct-replaced, shown-joined, distinct-joined, shown-left, distinct-left}
 
@@ -99,7 +99,7 @@ defer_under-path parent child after is =
 -- what was done is lawful, and the entries are distinct after it
 abbrev pub IsLawful : Rules → State → Change × State → Type 0
 IsLawful rules state done =
-    Did rules.format rules.digest (shown_by state) (shown_by done.1) done.0 × AreDistinct done.1.cache.entries
+    HasDone rules.scheme.format rules.scheme.digest (shown_by state) (shown_by done.1) done.0 × AreDistinct done.1.cache.entries
 
 -- an entry that came in deferred
 by_stamp : (hold : Hold) → not (is_by_stamp hold) ≡ false → hold ≡ B
@@ -114,16 +114,16 @@ found_at p k xs e path found = ap (λ (q : List Bool). entry_of q xs) path ∙ f
 
 lawful_add_m : (rules : Rules) (state : State) (path : List Bool) (value : Value) (parent : List Bool)
     (done : Change × State)
-    → IsOf rules.format path value → AreDistinct state.cache.entries
-    → add_m rules.format rules.digest state path value parent ≡ Ok done → IsLawful rules state done
+    → IsOf rules.scheme.format path value → AreDistinct state.cache.entries
+    → add_m rules.scheme.format rules.scheme.digest state path value parent ≡ Ok done → IsLawful rules state done
 lawful_add_m rules state path value parent done kind distinct is =
     let xs = state.cache.entries in
     let inner = test-ok (is_root path) _ _ done is in
     let fresh = test-ok (is_some (entry_of path xs)) _ _ done inner.1 in
     let room = test-ok (is_full state) _ _ done fresh.1 in
     let holder = need-ok (entry_of parent xs) _ _ done room.1 in
-    let family = and_then-ok (add_under rules.format rules.digest holder.0 path value) _ done holder.2 in
-    let paths = add_under-paths rules.format rules.digest holder.0 path value family.0 family.1 in
+    let family = and_then-ok (add_under rules.scheme.format rules.scheme.digest holder.0 path value) _ done holder.2 in
+    let paths = add_under-paths rules.scheme.format rules.scheme.digest holder.0 path value family.0 family.1 in
     let child_path : path ≡ family.0.child.path = sym paths.1 in
     let found = found_at family.0.parent.path parent xs holder.0 paths.0 holder.1 in
     let none : IsNone (entry_of family.0.child.path xs) = subst (λ p. IsNone (entry_of p xs)) child_path fresh.0 in
@@ -131,8 +131,8 @@ lawful_add_m rules state path value parent done kind distinct is =
       record {
         value = value;
         had_parent = found_own parent xs holder.0 holder.1;
-        kind = subst (λ (p : List Bool). IsOf rules.format p value) child_path kind;
-        added = ap (λ (p : List Bool). add_under rules.format rules.digest holder.0 p value) paths.1 ∙ family.1;
+        kind = subst (λ (p : List Bool). IsOf rules.scheme.format p value) child_path kind;
+        added = ap (λ (p : List Bool). add_under rules.scheme.format rules.scheme.digest holder.0 p value) paths.1 ∙ family.1;
         shown = λ j. shown-joined j xs family.0.parent holder.0 family.0.child found none;
       },
       distinct-joined xs family.0.parent family.0.child distinct none,
@@ -140,15 +140,15 @@ lawful_add_m rules state path value parent done kind distinct is =
 
 lawful_evict_m : (rules : Rules) (state : State) (path parent : List Bool) (done : Change × State)
     → AreDistinct state.cache.entries
-    → evict_m rules.format rules.digest state path parent ≡ Ok done → IsLawful rules state done
+    → evict_m rules.scheme.format rules.scheme.digest state path parent ≡ Ok done → IsLawful rules state done
 lawful_evict_m rules state path parent done distinct is =
     let xs = state.cache.entries in
     let inner = test-ok (is_root path) _ _ done is in
     let child = need-ok (entry_of path xs) _ _ done inner.1 in
     let holder = need-ok (entry_of parent xs) _ _ done child.2 in
-    let after = and_then-ok (evict_under rules.format rules.digest holder.0 child.0) _ done holder.2 in
+    let after = and_then-ok (evict_under rules.scheme.format rules.scheme.digest holder.0 child.0) _ done holder.2 in
     let child_path : path ≡ child.0.path = sym (entry_of-path path xs child.0 child.1) in
-    let kept = evict_under-path rules.format rules.digest holder.0 child.0 after.0 after.1 in
+    let kept = evict_under-path rules.scheme.format rules.scheme.digest holder.0 child.0 after.0 after.1 in
     let found = found_at after.0.path parent xs holder.0 kept holder.1 in
     IfOk-at_ok (IsLawful rules state) after.2 (
       record {
@@ -162,7 +162,7 @@ lawful_evict_m rules state path parent done distinct is =
 
 lawful_add_b : (rules : Rules) (state : State) (path : List Bool) (value : Value) (stamp : Stamp) (verifier : ℕ)
     (done : Change × State)
-    → IsOf rules.format path value → AreDistinct state.cache.entries
+    → IsOf rules.scheme.format path value → AreDistinct state.cache.entries
     → add_b rules.verifiers state path value stamp verifier ≡ Ok done → IsLawful rules state done
 lawful_add_b rules state path value stamp verifier done kind distinct is =
     let xs = state.cache.entries in
@@ -233,36 +233,36 @@ data_length : (format : Format) (path own : List Bool) → own ≡ path → not 
 data_length format path own same is = ap (λ (p : List Bool). length p) same ∙ eqb-true _ _ (not-false _ is)
 
 lawful_get : (rules : Rules) (state : State) (path : List Bool) (value : Value) (done : Change × State)
-    → AreDistinct state.cache.entries → get rules.format state path value ≡ Ok done → IsLawful rules state done
+    → AreDistinct state.cache.entries → get rules.scheme.format state path value ≡ Ok done → IsLawful rules state done
 lawful_get rules state path value done distinct is =
     let xs = state.cache.entries in
     let entry = need-ok (entry_of path xs) _ _ done is in
-    let data_path = test-ok (not (is_data rules.format path)) _ _ done entry.2 in
+    let data_path = test-ok (not (is_data rules.scheme.format path)) _ _ done entry.2 in
     let same = test-ok (not (same_value entry.0.value value)) _ _ done data_path.1 in
     IfOk-at_ok (IsLawful rules state) same.1 (
       record {
         had = found_own path xs entry.0 entry.1;
-        at_data = data_length rules.format path entry.0.path (entry_of-path path xs entry.0 entry.1) data_path.0;
+        at_data = data_length rules.scheme.format path entry.0.path (entry_of-path path xs entry.0 entry.1) data_path.0;
         shown = λ j. refl;
       },
       distinct,
     )
 
 lawful_put : (rules : Rules) (state : State) (path : List Bool) (value : Value) (done : Change × State)
-    → IsOf rules.format path value → AreDistinct state.cache.entries
-    → put rules.format state path value ≡ Ok done → IsLawful rules state done
+    → IsOf rules.scheme.format path value → AreDistinct state.cache.entries
+    → put rules.scheme.format state path value ≡ Ok done → IsLawful rules state done
 lawful_put rules state path value done kind distinct is =
     let xs = state.cache.entries in
     let entry = need-ok (entry_of path xs) _ _ done is in
-    let data_path = test-ok (not (is_data rules.format path)) _ _ done entry.2 in
+    let data_path = test-ok (not (is_data rules.scheme.format path)) _ _ done entry.2 in
     let own : entry.0.path ≡ path = entry_of-path path xs entry.0 entry.1 in
     let found = found_own path xs entry.0 entry.1 in
     IfOk-at_ok (IsLawful rules state) data_path.1 (
       record {
         value = value;
         had = found;
-        at_data = data_length rules.format path entry.0.path own data_path.0;
-        kind = subst (λ (p : List Bool). IsOf rules.format p value) (sym own) kind;
+        at_data = data_length rules.scheme.format path entry.0.path own data_path.0;
+        kind = subst (λ (p : List Bool). IsOf rules.scheme.format p value) (sym own) kind;
         wrote = refl;
         shown = λ j. shown-replaced j xs (with_value entry.0 value) entry.0 found;
       },
@@ -272,13 +272,13 @@ lawful_put rules state path value done kind distinct is =
 lawful_next_epoch : (rules : Rules) (state : State) (done : Change × State)
     → AreDistinct state.cache.entries → next_epoch state ≡ Ok done → IsLawful rules state done
 lawful_next_epoch rules state done distinct is =
-    let turn = timed-ok (turned state.clock) _ done is in
+    let turn = timed-ok (advanced state.clock) _ done is in
     IfOk-at_ok (IsLawful rules state) turn.2 (λ j. refl, distinct)
 
 -- ---- any command
 
 lawful_step : (rules : Rules) (state : State) (command : Command) (done : Change × State)
-    → IsTyped rules.format command → AreDistinct state.cache.entries
+    → IsTyped rules.scheme.format command → AreDistinct state.cache.entries
     → transition rules state command ≡ Ok done → IsLawful rules state done
 lawful_step rules state (AddM path value parent) done ranges distinct is =
     lawful_add_m rules state path value parent done ranges distinct is
@@ -299,9 +299,9 @@ lawful_step rules state NextEpoch done ranges distinct is =
 
 -- An accepted command did what its change tells, and left the entries distinct.
 pub lawful : (rules : Rules) (state : State) (command : Command) (change : Change) (after : State)
-    → IsTyped rules.format command → AreDistinct state.cache.entries
+    → IsTyped rules.scheme.format command → AreDistinct state.cache.entries
     → transition rules state command ≡ Ok (change, after)
-    → Did rules.format rules.digest (shown_by state) (shown_by after) change × AreDistinct after.cache.entries
+    → HasDone rules.scheme.format rules.scheme.digest (shown_by state) (shown_by after) change × AreDistinct after.cache.entries
 lawful rules state command change after ranges distinct is =
     lawful_step rules state command (change, after) ranges distinct is
 
@@ -311,14 +311,14 @@ lawful rules state command change after ranges distinct is =
 abbrev pub IsChain : Format → Digest → Shown → List Event → Type 0
 IsChain format digest shown [] = Unit {0}
 IsChain format digest shown (event ∷ events) =
-    (next : Shown) × Did format digest shown next event.change × IsChain format digest next events
+    (next : Shown) × HasDone format digest shown next event.change × IsChain format digest next events
 
 -- what a step did, and a chain behind it
 chain_behind : (rules : Rules) (number index : ℕ) (state : State) (command : Command)
     (more : State → List Event) (step : Step)
-    → IsTyped rules.format command → AreDistinct state.cache.entries → transition rules state command ≡ step
-    → ((after : State) → AreDistinct after.cache.entries → IsChain rules.format rules.digest (shown_by after) (more after))
-    → IsChain rules.format rules.digest (shown_by state) (events_behind (machinery_under rules) number index step more)
+    → IsTyped rules.scheme.format command → AreDistinct state.cache.entries → transition rules state command ≡ step
+    → ((after : State) → AreDistinct after.cache.entries → IsChain rules.scheme.format rules.scheme.digest (shown_by after) (more after))
+    → IsChain rules.scheme.format rules.scheme.digest (shown_by state) (events_behind (machinery_under rules) number index step more)
 chain_behind rules number index state command more (Ok done) range distinct is further =
     let law = lawful_step rules state command done range distinct is in
     (shown_by done.1, law.0, further done.1 law.1)
@@ -326,8 +326,8 @@ chain_behind rules number index state command more (Err refusal) range distinct 
 
 -- The events of a log are a chain from the state at which it begins.
 pub log_run : (rules : Rules) (number index : ℕ) (state : State) (commands : List Command)
-    → AllByRecursion (IsTyped rules.format) commands → AreDistinct state.cache.entries
-    → IsChain rules.format rules.digest (shown_by state) (events_from (machinery_under rules) number index state commands)
+    → AllByRecursion (IsTyped rules.scheme.format) commands → AreDistinct state.cache.entries
+    → IsChain rules.scheme.format rules.scheme.digest (shown_by state) (events_from (machinery_under rules) number index state commands)
 unfolding events_from
 log_run rules number index state [] ranges distinct = tt
 log_run rules number index state (command ∷ commands) ranges distinct =

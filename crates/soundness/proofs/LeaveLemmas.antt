@@ -14,8 +14,8 @@ use Rattle.record_text.specs.Value.{IsOf, node_side, with_side}
 use Rattle.merkle_records.specs.Merkle.{Digest, GivesDigests, pointer_to, deferred_pointer}
 use Rattle.merkle_records.proofs.KindLemmas.{IsOf-after_evict, IsOf-after_defer}
 use Rattle.verifier_cache.specs.declared.entry.Entry.{Entry}
-use Rattle.soundness.specs.Exhibit.{Taken, with_taken}
-use Rattle.soundness.specs.Deeds.{Shown, ShowSame, showing_both, DidLeave, DidDefer}
+use Rattle.soundness.specs.Clash.{LastEvicted, with_last_evicted}
+use Rattle.soundness.specs.Showing.{Shown, ShowSame, showing_both, DidEvictM, DidEvictBM}
 use Rattle.soundness.specs.Spot.{Spot, untouched, cached, merkle, waiting, Spots, value_at, is_touched, pointer_in, pointer_at, home_of, LeadsBy, IsKind, IsTree}
 use Rattle.soundness.specs.World.{cached_in, blob_in, blob_at, AllShown, with_shown, Stored, IsWorld}
 use Rattle.soundness.proofs.SideLemmas.{above_apart}
@@ -33,13 +33,13 @@ pub record IsOut (child : Entry) (spot : Spot) : Type 0 where
   pub hidden : (home : ℕ) → cached_in home spot ≡ None
 
 -- the world behind a step that left a record at this spot
-abbrev pub LeftAt : Format → Digest → AllShown → Taken → Stored → Spots → List Bool → Spot → Type 0
+abbrev pub LeftAt : Format → Digest → AllShown → LastEvicted → Stored → Spots → List Bool → Spot → Type 0
 LeftAt format digest shown taken stored old path spot =
     (spots : Spots) × IsWorld format digest shown taken stored spots × KeepsWaiting old spots × (spots path ≡ spot)
 
 -- What an evict and a deferral have in common: the parent's node changes, its kid bit is cleared, and its pointer
 -- leads where the child is now.
-leave_world : (format : Format) (digest : Digest) (shown : AllShown) (taken now_taken : Taken) (stored : Stored) (spots : Spots) (home : ℕ) (next : Shown) (parent child after : Entry)
+leave_world : (format : Format) (digest : Digest) (shown : AllShown) (taken now_taken : LastEvicted) (stored : Stored) (spots : Spots) (home : ℕ) (next : Shown) (parent child after : Entry)
     → (changed : Node → Bool → Pointer → Node) (spot : Spot) (pointer : Pointer)
     → IsWorld format digest shown taken stored spots
     → (left : IsLeft parent child after changed)
@@ -107,9 +107,9 @@ child_kind : (format : Format) (digest : Digest) (spots : Spots) (home : ℕ) (c
 child_kind format digest spots home child tree was = (subst (IsKind format child.path) was (tree.kind child.path)).1
 
 -- what was taken, once an evictM took the child's value
-taken_now : (taken : Taken) (spots : Spots) (home : ℕ) (after : Entry) (k : List Bool) (kept : Value) → after.path ≢ k
+taken_now : (taken : LastEvicted) (spots : Spots) (home : ℕ) (after : Entry) (k : List Bool) (kept : Value) → after.path ≢ k
     → ((path : List Bool) (value : Value) → spots path ≡ merkle value → taken path ≡ Some value)
-    → (path : List Bool) (value : Value) → with_pair spots home after k (merkle kept) path ≡ merkle value → with_taken taken k kept path ≡ Some value
+    → (path : List Bool) (value : Value) → with_pair spots home after k (merkle kept) path ≡ merkle value → with_last_evicted taken k kept path ≡ Some value
 taken_now taken spots home after k kept apart was path value is = go (this_or_other k path) (this_or_other after.path path)
   where
     value_or : Value → Spot → Value
@@ -118,7 +118,7 @@ taken_now taken spots home after k kept apart was path value is = go (this_or_ot
     value_or other (merkle held) = held
     value_or other (waiting element) = other
 
-    go : (k ≡ path) ⊎ (k ≢ path) → (after.path ≡ path) ⊎ (after.path ≢ path) → with_taken taken k kept path ≡ Some value
+    go : (k ≡ path) ⊎ (k ≢ path) → (after.path ≡ path) ⊎ (after.path ≢ path) → with_last_evicted taken k kept path ≡ Some value
     go (inl same) either =
         ap (λ (b : Bool). if b then Some kept else taken path) (sym (ap (same_path k) same) ∙ same_path-self k)
         ∙ ap Some (ap (value_or kept) (sym (with_spot_at (with_spot spots after.path (cached home after)) k (merkle kept))
@@ -130,9 +130,9 @@ taken_now taken spots home after k kept apart was path value is = go (this_or_ot
         ∙ was path value (sym (with_pair_other spots home after k path (merkle kept) away further) ∙ is)
 
 -- A child is evicted into its parent.
-pub leave_step : (format : Format) (digest : Digest) (shown : AllShown) (taken : Taken) (stored : Stored) (spots : Spots) (home : ℕ) (next : Shown) (parent after child : Entry)
-    → GivesDigests digest → IsWorld format digest shown taken stored spots → DidLeave format digest (shown home) next parent after child
-    → WorldAfter format digest (with_shown shown home next) (with_taken taken child.path child.value) stored spots
+pub leave_step : (format : Format) (digest : Digest) (shown : AllShown) (taken : LastEvicted) (stored : Stored) (spots : Spots) (home : ℕ) (next : Shown) (parent after child : Entry)
+    → GivesDigests digest → IsWorld format digest shown taken stored spots → DidEvictM format digest (shown home) next parent after child
+    → WorldAfter format digest (with_shown shown home next) (with_last_evicted taken child.path child.value) stored spots
 leave_step format digest shown taken stored spots home next parent after child digests world did = (out.0, out.1, out.2)
   where
     left : IsLeft parent child after (evicted_into format digest child)
@@ -143,8 +143,8 @@ leave_step format digest shown taken stored spots home next parent after child d
         child_kind format digest spots home child world.tree
         (spot_of_shown home (spots child.path) child (sym (world.shows home child.path) ∙ did.had_child))
 
-    out : LeftAt format digest (with_shown shown home next) (with_taken taken child.path child.value) stored spots child.path (merkle child.value)
-    out = leave_world format digest shown taken (with_taken taken child.path child.value) stored spots home next parent child after (evicted_into format digest child)
+    out : LeftAt format digest (with_shown shown home next) (with_last_evicted taken child.path child.value) stored spots child.path (merkle child.value)
+    out = leave_world format digest shown taken (with_last_evicted taken child.path child.value) stored spots home next parent child after (evicted_into format digest child)
         (merkle child.value) (pointer_to format digest child.path child.value) world left did.had_parent did.had_child did.shown
         (record { value = refl; touched = refl; homeless = λ which. refl; hidden = λ home. refl })
         of_kind
@@ -155,8 +155,8 @@ leave_step format digest shown taken stored spots home next parent after child d
         (above_apart parent.path child.path left.on left.below) world.was_taken)
 
 -- A child is evicted out of its parent with an element.
-pub defer_step : (format : Format) (digest : Digest) (shown : AllShown) (taken : Taken) (stored : Stored) (spots : Spots) (home : ℕ) (next : Shown) (parent after child : Entry) (element : Element)
-    → IsWorld format digest shown taken stored spots → DidDefer (shown home) next parent after child element
+pub defer_step : (format : Format) (digest : Digest) (shown : AllShown) (taken : LastEvicted) (stored : Stored) (spots : Spots) (home : ℕ) (next : Shown) (parent after child : Entry) (element : Element)
+    → IsWorld format digest shown taken stored spots → DidEvictBM (shown home) next parent after child element
     → LeftAt format digest (with_shown shown home next) taken stored spots element.path (waiting element)
 defer_step format digest shown taken stored spots home next parent after child element world did =
     subst (λ (i : List Bool). LeftAt format digest (with_shown shown home next) taken stored spots i (waiting element)) (sym did.path)

@@ -8,10 +8,9 @@ use Rattle.record_text.specs.declared.value.Pointer.{Pointer}
 use Rattle.record_text.specs.declared.value.Value.{Value}
 use Rattle.record_text.specs.declared.value.Value.TheVariants as values
 use Rattle.record_text.specs.Format.{Format}
-use Rattle.record_text.specs.Value.{IsOf, IsPointer}
+use Rattle.record_text.specs.Value.{IsOf, IsPointer, IsSide}
 use Rattle.merkle_records.specs.Merkle.{Digest}
 use Rattle.merkle_records.proofs.KindLemmas.{IsSide-node_side}
-use Rattle.record_text.specs.Value.{IsSide}
 use Rattle.verifier_cache.specs.declared.entry.Entry.{Entry}
 use Rattle.verifier_commands.specs.Changes.{node_of}
 use Rattle.soundness.specs.Spot.{Spot, untouched, cached, merkle, waiting, Spots, is_touched, pointer_at, home_of, LeadsBy, Leads, Covers, IsKind, IsTree, side_of}

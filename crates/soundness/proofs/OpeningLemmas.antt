@@ -11,8 +11,8 @@ use Rattle.record_text.specs.Format.{short_keys, path_bits}
 use Rattle.merkle_records.specs.Merkle.{Digest}
 use Rattle.verifier_commands.specs.State.{root_entry}
 use Rattle.stamp_order.specs.Serial.{none_everywhere}
-use Rattle.soundness.specs.Exhibit.{none_taken}
-use Rattle.soundness.specs.Deeds.{showing}
+use Rattle.soundness.specs.Clash.{none_evicted}
+use Rattle.soundness.specs.Showing.{showing}
 use Rattle.soundness.specs.Spot.{Spot, untouched, cached, merkle, waiting, Spots, is_touched, pointer_at, home_of, Leads, Covers, IsKind, IsTree}
 use Rattle.soundness.specs.World.{opening_shown, cached_in, blob_at, IsWorld}
 use Rattle.soundness.proofs.LawfulLemmas.{opening_shown-root, opening_shown-other}
@@ -42,7 +42,7 @@ opening_tree digest = record { kind = kind; link = link; cover = cover }
     cover path (bit ∷ other) on touched below is = absurd (false≢true below)
     cover (bit ∷ path) [] on touched below is = absurd (none-some on is)
 
-pub opening_world : (digest : Digest) (header : Header) → IsWorld short_keys digest (opening_shown header) none_taken none_everywhere opening_spots
+pub opening_world : (digest : Digest) (header : Header) → IsWorld short_keys digest (opening_shown header) none_evicted none_everywhere opening_spots
 opening_world digest header = record { tree = opening_tree digest; shows = shows; was_taken = was_taken; holds = holds }
   where
     root_shown : (path : List Bool) → showing (λ other. None) [] (Some root_entry) path ≡ cached_in 0 (opening_spots path)
@@ -66,7 +66,7 @@ opening_world digest header = record { tree = opening_tree digest; shows = shows
     is_merkle (merkle value) = true
     is_merkle (waiting element) = false
 
-    was_taken : (path : List Bool) (value : Value) → opening_spots path ≡ merkle value → none_taken path ≡ Some value
+    was_taken : (path : List Bool) (value : Value) → opening_spots path ≡ merkle value → none_evicted path ≡ Some value
     was_taken [] value is = absurd (false≢true (ap is_merkle is))
     was_taken (bit ∷ path) value is = absurd (false≢true (ap is_merkle is))
 

@@ -1,10 +1,10 @@
 -- The merged order of all logs' events: each verifier's part is its history, so the events up to an epoch are a run.
 use Rattle.std.proofs.Common.{◌≡◌, ◌≢◌, ◌⊎◌, ℕ, suc, ◌<◌, nat_le, eqb, Bool, true, false, if◌then◌else◌, List, [], ◌∷◌, ◌++◌, append-nil, refl, sym, ◌∙◌, ap, subst, inl, inr, filter, arith}
+use Rattle.merkle_records.specs.Scheme.{Scheme}
 use Rattle.std.specs.List.{AllByRecursion}
 use Rattle.std.proofs.lemmas.Bool.{cond_both, cond-true, cond-false, eq-eqb, ne_eqb, cases_eq}
 use Rattle.std.proofs.lemmas.List.Elements.{filter-append}
 use Rattle.lamport_clocks.specs.declared.header.Header.{Header}
-use Rattle.record_text.specs.Format.{short_keys}
 use Rattle.log_codec.specs.declared.command.Command.{Command}
 use Rattle.soundness.specs.Typed.{IsTyped}
 use Rattle.merkle_records.specs.Merkle.{Digest}
@@ -14,7 +14,7 @@ use Rattle.stamp_order.proofs.MergedLemmas.{merged-sorts, merged-of_verifier}
 use Rattle.verifier_commands.specs.State.{opening}
 use Rattle.soundness.specs.History.{Event, log_events, histories_from, histories_of}
 use Rattle.soundness.specs.Certified.{event_moment, all_events, order_of, order_up_to}
-use Rattle.soundness.specs.Deeds.{shown_by}
+use Rattle.soundness.specs.Showing.{shown_by}
 use Rattle.soundness.specs.Timed.{IsTimed, AreTimed}
 use Rattle.soundness.specs.World.{opening_shown}
 use Rattle.soundness.proofs.LawfulLemmas.{IsChain}
@@ -66,19 +66,19 @@ module _ {X : Type 0} where
 
 -- What is taken of the logs under a header: each log's events stand in the order of their moments, and are of the
 -- log's verifier.
-pub record AreHistories (digest : Digest) (lanes : List ℕ → List ℕ) (header : Header) : Type 0 where
+pub record AreHistories (scheme : Scheme) (header : Header) : Type 0 where
   pub sorted : (number : ℕ) (commands : List Command)
-      → IsMerged event_moment (log_events digest lanes header number commands)
+      → IsMerged event_moment (log_events scheme header number commands)
   pub whose : (number : ℕ) (commands : List Command)
-      → AllByRecursion (λ event. event.verifier ≡ number) (log_events digest lanes header number commands)
+      → AllByRecursion (λ event. event.verifier ≡ number) (log_events scheme header number commands)
 
 -- the history of verifier v, where the first log is of the verifier of this number; none where no log is v's
 abbrev pub history_of : Digest → (List ℕ → List ℕ) → Header → ℕ → List (List Command) → ℕ → List Event
-history_of digest lanes header number [] v = []
-history_of digest lanes header number (log ∷ logs) v =
+history_of scheme header number [] v = []
+history_of scheme header number (log ∷ logs) v =
     if eqb number v
-    then log_events digest lanes header number log
-    else history_of digest lanes header (suc number) logs v
+    then log_events scheme header number log
+    else history_of scheme header (suc number) logs v
 
 -- where all events are of one verifier, all are its part
 part_own : (number v : ℕ) (events : List Event) → number ≡ v
@@ -98,34 +98,34 @@ part_other number v events apart all =
     (every-weaker (λ event. event.verifier ≡ number) (λ event. eqb event.verifier v ≡ false)
     (λ event own. ne_eqb event.verifier v (λ same. apart (sym own ∙ same))) events all)
 
-module _ (digest : Digest) (lanes : List ℕ → List ℕ) (header : Header) where
+module _ (scheme : Scheme) (header : Header) where
   -- a verifier before the first has no part
-  part_before : AreHistories digest lanes header → (number : ℕ) (logs : List (List Command)) (v : ℕ) → v < number
-      → of_verifier event_moment v (all_events (histories_from digest lanes header number logs)) ≡ []
+  part_before : AreHistories scheme header → (number : ℕ) (logs : List (List Command)) (v : ℕ) → v < number
+      → of_verifier event_moment v (all_events (histories_from scheme header number logs)) ≡ []
   part_before known number [] v below = refl
   part_before known number (log ∷ logs) v below =
-      let events = log_events digest lanes header number log in
-      let others = all_events (histories_from digest lanes header (suc number) logs) in
+      let events = log_events scheme header number log in
+      let others = all_events (histories_from scheme header (suc number) logs) in
       filter-append (λ event. eqb event.verifier v) events others
       ∙ ap (λ zs. zs ++ of_verifier event_moment v others)
       (part_other number v events (λ same. absurd (omega arith)) (known.whose number log))
       ∙ part_before known (suc number) logs v (omega arith)
 
   -- A verifier's part of all events is its history.
-  pub part_of_all : AreHistories digest lanes header → (number : ℕ) (logs : List (List Command)) (v : ℕ)
-      → of_verifier event_moment v (all_events (histories_from digest lanes header number logs))
-      ≡ history_of digest lanes header number logs v
+  pub part_of_all : AreHistories scheme header → (number : ℕ) (logs : List (List Command)) (v : ℕ)
+      → of_verifier event_moment v (all_events (histories_from scheme header number logs))
+      ≡ history_of scheme header number logs v
   part_of_all known number [] v = refl
   part_of_all known number (log ∷ logs) v = go (cases_eq number v) (part_of_all known (suc number) logs v)
     where
       events : List Event
-      events = log_events digest lanes header number log
+      events = log_events scheme header number log
 
       others : List Event
-      others = all_events (histories_from digest lanes header (suc number) logs)
+      others = all_events (histories_from scheme header (suc number) logs)
 
       behind : List Event
-      behind = history_of digest lanes header (suc number) logs v
+      behind = history_of scheme header (suc number) logs v
 
       go : (number ≡ v) ⊎ (number ≡ v → ⊥) → of_verifier event_moment v others ≡ behind
           → of_verifier event_moment v (events ++ others) ≡ (if eqb number v then events else behind)
@@ -143,20 +143,20 @@ module _ (digest : Digest) (lanes : List ℕ → List ℕ) (header : Header) whe
           ∙ sym (ap (λ (b : Bool). if b then events else behind) (ne_eqb number v apart))
 
   -- a verifier's history stands in order
-  history_sorted : AreHistories digest lanes header → (number : ℕ) (logs : List (List Command)) (v : ℕ)
-      → IsMerged event_moment (history_of digest lanes header number logs v)
+  history_sorted : AreHistories scheme header → (number : ℕ) (logs : List (List Command)) (v : ℕ)
+      → IsMerged event_moment (history_of scheme header number logs v)
   history_sorted known number [] v = tt
   history_sorted known number (log ∷ logs) v =
-      cond_both (eqb number v) (log_events digest lanes header number log)
-      (history_of digest lanes header (suc number) logs v) (IsMerged event_moment)
+      cond_both (eqb number v) (log_events scheme header number log)
+      (history_of scheme header (suc number) logs v) (IsMerged event_moment)
       (λ _. known.sorted number log) (λ _. history_sorted known (suc number) logs v)
 
   -- A verifier's part of the merged order, up to an epoch, is its history up to that epoch.
-  pub part_up_to : AreHistories digest lanes header → (logs : List (List Command)) (epoch v : ℕ)
-      → of_verifier event_moment v (order_up_to epoch (histories_of digest lanes header logs))
-      ≡ up_to event_moment epoch (history_of digest lanes header 0 logs v)
+  pub part_up_to : AreHistories scheme header → (logs : List (List Command)) (epoch v : ℕ)
+      → of_verifier event_moment v (order_up_to epoch (histories_of scheme header logs))
+      ≡ up_to event_moment epoch (history_of scheme header 0 logs v)
   part_up_to known logs epoch v =
-      let events = all_events (histories_of digest lanes header logs) in
+      let events = all_events (histories_of scheme header logs) in
       let part = part_of_all known 0 logs v in
       let sorted = subst (IsMerged event_moment) (sym part) (history_sorted known 0 logs v) in
       filter-swap (λ event. eqb event.verifier v) (λ event. nat_le event.at.epoch epoch) (merged event_moment events)
@@ -165,58 +165,58 @@ module _ (digest : Digest) (lanes : List ℕ → List ℕ) (header : Header) whe
   -- ---- the run
 
   -- a verifier's history up to an epoch is a chain from its opening
-  history_chain : AreHistories digest lanes header → (number : ℕ) (logs : List (List Command)) (epoch v : ℕ)
-      → AllByRecursion (AllByRecursion (IsTyped short_keys)) logs
-      → IsChain short_keys digest (shown_by (opening v header))
-      (up_to event_moment epoch (history_of digest lanes header number logs v))
+  history_chain : AreHistories scheme header → (number : ℕ) (logs : List (List Command)) (epoch v : ℕ)
+      → AllByRecursion (AllByRecursion (IsTyped scheme.format)) logs
+      → IsChain scheme.format scheme.digest (shown_by (opening v header))
+      (up_to event_moment epoch (history_of scheme header number logs v))
   history_chain known number [] epoch v ranges = tt
   history_chain known number (log ∷ logs) epoch v ranges =
       go (cases_eq number v) (history_chain known (suc number) logs epoch v ranges.1)
     where
       events : List Event
-      events = log_events digest lanes header number log
+      events = log_events scheme header number log
 
       behind : List Event
-      behind = history_of digest lanes header (suc number) logs v
+      behind = history_of scheme header (suc number) logs v
 
       chain : List Event → Type 0
-      chain zs = IsChain short_keys digest (shown_by (opening v header)) (up_to event_moment epoch zs)
+      chain zs = IsChain scheme.format scheme.digest (shown_by (opening v header)) (up_to event_moment epoch zs)
 
       go : (number ≡ v) ⊎ (number ≡ v → ⊥) → chain behind → chain (if eqb number v then events else behind)
       go (inl same) rest =
           subst (λ (b : Bool). chain (if b then events else behind)) (sym (eq-eqb number v same))
-          (subst (λ (n : ℕ). IsChain short_keys digest (shown_by (opening n header)) (up_to event_moment epoch events))
-          same (log_run_up_to digest lanes header number epoch log ranges.0 (known.sorted number log)))
+          (subst (λ (n : ℕ). IsChain scheme.format scheme.digest (shown_by (opening n header)) (up_to event_moment epoch events))
+          same (log_run_up_to scheme header number epoch log ranges.0 (known.sorted number log)))
       go (inr apart) rest =
           subst (λ (b : Bool). chain (if b then events else behind)) (sym (ne_eqb number v apart)) rest
 
   -- The events of all logs up to an epoch, in the merged order, are a run from the opening.
-  pub order_run : AreHistories digest lanes header → (logs : List (List Command)) (epoch : ℕ)
-      → AllByRecursion (AllByRecursion (IsTyped short_keys)) logs
-      → IsRun short_keys digest (opening_shown header) (order_up_to epoch (histories_of digest lanes header logs))
+  pub order_run : AreHistories scheme header → (logs : List (List Command)) (epoch : ℕ)
+      → AllByRecursion (AllByRecursion (IsTyped scheme.format)) logs
+      → IsRun scheme.format scheme.digest (opening_shown header) (order_up_to epoch (histories_of scheme header logs))
   order_run known logs epoch ranges =
-      let events = order_up_to epoch (histories_of digest lanes header logs) in
-      run_of_parts short_keys digest (opening_shown header) events
-      (λ v. subst (IsChain short_keys digest (shown_by (opening v header))) (sym (part_up_to known logs epoch v))
+      let events = order_up_to epoch (histories_of scheme header logs) in
+      run_of_parts scheme.format scheme.digest (opening_shown header) events
+      (λ v. subst (IsChain scheme.format scheme.digest (shown_by (opening v header))) (sym (part_up_to known logs epoch v))
       (history_chain known 0 logs epoch v ranges))
 
   -- ---- the elements
 
   -- those of all events, one history after another, are timed
   all_timed : (number : ℕ) (logs : List (List Command))
-      → AreTimed header.first (all_events (histories_from digest lanes header number logs))
+      → AreTimed header.first (all_events (histories_from scheme header number logs))
   all_timed number [] = tt
   all_timed number (log ∷ logs) =
-      every-append (λ event. IsTimed header.first event.at event.change) (log_events digest lanes header number log)
-      (all_events (histories_from digest lanes header (suc number) logs))
-      (log_timed digest lanes header number log) (all_timed (suc number) logs)
+      every-append (λ event. IsTimed header.first event.at event.change) (log_events scheme header number log)
+      (all_events (histories_from scheme header (suc number) logs))
+      (log_timed scheme header number log) (all_timed (suc number) logs)
 
   -- The elements of all events in the merged order are timed.
   pub order_timed : (logs : List (List Command))
-      → AreTimed header.first (order_of (histories_of digest lanes header logs))
+      → AreTimed header.first (order_of (histories_of scheme header logs))
   order_timed logs =
       every-in_order (comes_before event_moment) (λ event. IsTimed header.first event.at event.change)
-      (all_events (histories_of digest lanes header logs)) (all_timed 0 logs)
+      (all_events (histories_of scheme header logs)) (all_timed 0 logs)
 
 -- ---- the order of any histories
 

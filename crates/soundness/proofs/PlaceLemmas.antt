@@ -1,6 +1,8 @@
 -- Behind each front of a run that shows no clash, the spots agree with what the front left, and what comes next takes
 -- what is there.
 use Rattle.std.proofs.Common.{◌≡◌, ◌⊎◌, ℕ, Bool, true, false, List, [], ◌∷◌, ◌++◌, Option, Some, None, eqb, if◌then◌else◌, refl, sym, ◌∙◌, ap, subst, inl, inr}
+use Rattle.record_hash.specs.Functions.{DigestFunctions}
+use Rattle.merkle_records.specs.Scheme.{scheme_of}
 use Rattle.std.specs.Option.{unwrap_or, option_or}
 use Rattle.std.proofs.lemmas.Option.{none-some}
 use Rattle.tree_keys.specs.Path.{same_path}
@@ -12,15 +14,15 @@ use Rattle.log_codec.specs.declared.command.Command.{Command}
 use Rattle.merkle_records.specs.Merkle.{Digest, GivesDigests}
 use Rattle.stamp_order.specs.Serial.{none_everywhere, map_after}
 use Rattle.verifier_cache.specs.declared.entry.Entry.{Entry}
-use Rattle.verifier_commands.specs.Change.{Change, joins, leaves, comes, goes, defers, reads, writes, turns}
+use Rattle.verifier_commands.specs.Change.{Change, did_add_m, did_evict_m, did_add_b, did_evict_b, did_evict_bm, did_get, did_put, did_next_epoch}
 use Rattle.soundness.specs.History.{Event, histories_of}
 use Rattle.soundness.specs.Certified.{order_of, order_up_to, operations_by, operations_in}
-use Rattle.soundness.specs.Exhibit.{Taken, Strings, none_taken, taken_after, clash_of, first_clash}
+use Rattle.soundness.specs.Clash.{LastEvicted, Strings, none_evicted, last_evicted_after, clash_of, first_clash}
 use Rattle.soundness.specs.Scheduled.{IsScheduledBy, IsScheduled, ArePermuted}
-use Rattle.soundness.specs.Deeds.{Shown, showing, ShowSame, showing_both, Did}
+use Rattle.soundness.specs.Showing.{Shown, showing, ShowSame, showing_both, HasDone}
 use Rattle.soundness.specs.Spot.{untouched, merkle, waiting, Spots}
 use Rattle.soundness.specs.Sound.{AreTyped}
-use Rattle.soundness.specs.World.{AllShown, with_shown, Stored, IsWorld, IsWaiting, opening_shown, shown_after, shown_behind, changes_in, taken_behind, pending_after, pending_behind, stored_behind, IsBehind, HavePlaces, TakesWhatIsThere, TakesFromPlaces}
+use Rattle.soundness.specs.World.{AllShown, with_shown, Stored, IsWorld, IsWaiting, opening_shown, shown_after, shown_behind, changes_in, last_evicted_behind, pending_after, pending_behind, stored_behind, IsBehind, HaveSpots, TakesWhatIsThere, TakesFromSpots}
 use Rattle.soundness.proofs.KnownLemmas.{HasOneText, Clashes, Passes, join_step, join_takes}
 use Rattle.soundness.proofs.LeaveLemmas.{LeftAt, leave_step, defer_step}
 use Rattle.soundness.proofs.SingleLemmas.{come_step, go_step, same_step, write_step}
@@ -50,21 +52,21 @@ both_same a b parent path child same =
 
 -- what a step leaves in its cache is what its change tells
 did_shown : (format : Format) (digest : Digest) (old told new : Shown) → ShowSame old told → (change : Change)
-    → Did format digest old new change → ShowSame new (shown_after told change)
-did_shown format digest old told new same (joins parent after child) did path =
+    → HasDone format digest old new change → ShowSame new (shown_after told change)
+did_shown format digest old told new same (did_add_m parent after child) did path =
     did.shown path ∙ both_same old told after child.path (Some child) same path
-did_shown format digest old told new same (leaves parent after child) did path =
+did_shown format digest old told new same (did_evict_m parent after child) did path =
     did.shown path ∙ both_same old told after child.path None same path
-did_shown format digest old told new same (comes child element) did path =
+did_shown format digest old told new same (did_add_b child element) did path =
     did.shown path ∙ showing_same old told child.path (Some child) same path
-did_shown format digest old told new same (goes child element) did path =
+did_shown format digest old told new same (did_evict_b child element) did path =
     did.shown path ∙ showing_same old told child.path None same path
-did_shown format digest old told new same (defers parent after child element) did path =
+did_shown format digest old told new same (did_evict_bm parent after child element) did path =
     did.shown path ∙ both_same old told after child.path None same path
-did_shown format digest old told new same (reads entry) did path = did.shown path ∙ same path
-did_shown format digest old told new same (writes before after) did path =
+did_shown format digest old told new same (did_get entry) did path = did.shown path ∙ same path
+did_shown format digest old told new same (did_put before after) did path =
     did.shown path ∙ showing_same old told before.path (Some after) same path
-did_shown format digest old told new same (turns sealed) did path = did path ∙ same path
+did_shown format digest old told new same (did_next_epoch sealed) did path = did path ∙ same path
 
 with_same : (a b : AllShown) (home : ℕ) (new told : Shown) → AllShowSame a b → ShowSame new told
     → AllShowSame (with_shown a home new) (with_shown b home told)
@@ -87,13 +89,13 @@ no_first None later none = (refl, none)
 no_first (Some strings) later none = absurd (none-some strings (sym none))
 
 -- where a front and the event behind it show no clash
-no_clash_front : (format : Format) (taken : Taken) (front : List Event) (event : Event)
+no_clash_front : (format : Format) (taken : LastEvicted) (front : List Event) (event : Event)
     → first_clash format taken (changes_in (front ++ event ∷ [])) ≡ None
     → (first_clash format taken (changes_in front) ≡ None)
-    × (clash_of format (taken_behind taken (changes_in front)) event.change ≡ None)
+    × (clash_of format (last_evicted_behind taken (changes_in front)) event.change ≡ None)
 no_clash_front format taken [] event free = (refl, (no_first (clash_of format taken event.change) None free).0)
 no_clash_front format taken (first ∷ front) event free =
-    let behind = taken_after taken first.change in
+    let behind = last_evicted_after taken first.change in
     let parts =
     no_first (clash_of format taken first.change) (first_clash format behind (changes_in (front ++ event ∷ []))) free in
     let later = no_clash_front format behind front event parts.1 in
@@ -102,30 +104,30 @@ no_clash_front format taken (first ∷ front) event free =
 -- ---- one step
 
 -- a world behind a step in which these wait, of whom this holds
-abbrev Moved : Format → Digest → AllShown → Taken → Stored → List Element → (List Element → Type 0) → Type 0
+abbrev Moved : Format → Digest → AllShown → LastEvicted → Stored → List Element → (List Element → Type 0) → Type 0
 Moved format digest shown taken stored pending behind =
     (spots : Spots) × IsWorld format digest shown taken stored spots × IsWaiting spots pending × behind pending
 
 module _ (format : Format) (digest : Digest) (one : HasOneText format) where
   -- A step that shows no clash keeps the world, and its change tells what was taken and stored, and what waits.
-  moved : GivesDigests digest → (event : Event) (shown : AllShown) (next : Shown) (taken : Taken) (stored : Stored)
+  moved : GivesDigests digest → (event : Event) (shown : AllShown) (next : Shown) (taken : LastEvicted) (stored : Stored)
       (spots : Spots) (pending : List Element) (behind : List Element → Type 0)
       → IsWorld format digest shown taken stored spots → IsWaiting spots pending
-      → (change : Change) → Did format digest (shown event.verifier) next change
+      → (change : Change) → HasDone format digest (shown event.verifier) next change
       → IsScheduledBy pending change behind → clash_of format taken change ≡ None
-      → Moved format digest (with_shown shown event.verifier next) (taken_after taken change)
+      → Moved format digest (with_shown shown event.verifier next) (last_evicted_after taken change)
       (stored_behind stored (operations_by event change)) (pending_after pending change) behind
   moved digests event shown next taken stored spots pending behind world waits = go
     where
       home : ℕ
       home = event.verifier
 
-      After : Taken → Stored → List Element → Type 0
+      After : LastEvicted → Stored → List Element → Type 0
       After taken stored pending = Moved format digest (with_shown shown home next) taken stored pending behind
 
-      joined : (parent after child : Entry) → behind pending → clash_of format taken (joins parent after child) ≡ None
-          → Clashes format digest taken (joins parent after child)
-          ⊎ Passes format digest (with_shown shown home next) taken taken stored spots (joins parent after child)
+      joined : (parent after child : Entry) → behind pending → clash_of format taken (did_add_m parent after child) ≡ None
+          → Clashes format digest taken (did_add_m parent after child)
+          ⊎ Passes format digest (with_shown shown home next) taken taken stored spots (did_add_m parent after child)
           → After taken stored pending
       joined parent after child scheduled free (inl clashes) = absurd (none-some clashes.0 (sym free ∙ clashes.1))
       joined parent after child scheduled free (inr passes) =
@@ -140,70 +142,70 @@ module _ (format : Format) (digest : Digest) (one : HasOneText format) where
           let free = free_at format digest shown taken stored spots home child element world had path in
           (left.0, left.1, wait_more spots left.0 pending element left.2 left.3 free waits, scheduled)
 
-      go : (change : Change) → Did format digest (shown home) next change → IsScheduledBy pending change behind
+      go : (change : Change) → HasDone format digest (shown home) next change → IsScheduledBy pending change behind
           → clash_of format taken change ≡ None
-          → After (taken_after taken change) (stored_behind stored (operations_by event change)) (pending_after pending change)
-      go (joins parent after child) did scheduled free =
+          → After (last_evicted_after taken change) (stored_behind stored (operations_by event change)) (pending_after pending change)
+      go (did_add_m parent after child) did scheduled free =
           joined parent after child scheduled free
           (join_step format digest shown taken stored spots home next parent after child one digests world did)
-      go (leaves parent after child) did scheduled free =
+      go (did_evict_m parent after child) did scheduled free =
           let now = leave_step format digest shown taken stored spots home next parent after child digests world did in
           (now.0, now.1, wait_on spots now.0 pending now.2 waits, scheduled)
-      go (comes child element) did scheduled free =
+      go (did_add_b child element) did scheduled free =
           let there = waits.each element (waits_once_out element pending scheduled.0 scheduled.1) in
           let back = come_step format digest shown taken stored spots home next child element world did there in
           let left = wait_less spots back.0 pending scheduled.0 element scheduled.1 back.2 waits in
           let out = ap (λ (rest : Option (List Element)). unwrap_or rest pending) scheduled.1 in
           subst (After taken stored) (sym out) (back.0, back.1, left, scheduled.2)
-      go (goes child element) did scheduled free =
+      go (did_evict_b child element) did scheduled free =
           went child element did.had_child did.path scheduled
           (go_step format digest shown taken stored spots home next child element world did)
-      go (defers parent after child element) did scheduled free =
+      go (did_evict_bm parent after child element) did scheduled free =
           went child element did.had_child did.path scheduled
           (defer_step format digest shown taken stored spots home next parent after child element world did)
-      go (reads entry) did scheduled free =
+      go (did_get entry) did scheduled free =
           let same = same_step format digest shown taken stored spots home next world did.shown in
           (spots, same, waits, scheduled)
-      go (writes before after) did scheduled free =
+      go (did_put before after) did scheduled free =
           let now = write_step format digest shown taken stored spots home next before after world did in
           (now.0, now.1, wait_on spots now.0 pending now.2 waits, scheduled)
-      go (turns sealed) did scheduled free =
+      go (did_next_epoch sealed) did scheduled free =
           (spots, same_step format digest shown taken stored spots home next world did, waits, scheduled)
 
   -- And it takes what is there.
-  takes_there : (home : ℕ) (shown : AllShown) (next : Shown) (taken : Taken) (stored : Stored) (spots : Spots)
+  takes_there : (home : ℕ) (shown : AllShown) (next : Shown) (taken : LastEvicted) (stored : Stored) (spots : Spots)
       (pending : List Element) (behind : List Element → Type 0)
       → IsWorld format digest shown taken stored spots → IsWaiting spots pending
-      → (change : Change) → Did format digest (shown home) next change → IsScheduledBy pending change behind
+      → (change : Change) → HasDone format digest (shown home) next change → IsScheduledBy pending change behind
       → clash_of format taken change ≡ None
       → TakesWhatIsThere taken spots change
   takes_there home shown next taken stored spots pending behind world waits = go
     where
       joined : (parent after child : Entry) → (spots child.path ≡ untouched) ⊎ (spots child.path ≡ merkle child.value)
-          → TakesWhatIsThere taken spots (joins parent after child)
+          → TakesWhatIsThere taken spots (did_add_m parent after child)
       joined parent after child (inl is) = inl is
       joined parent after child (inr is) = inr (is, world.was_taken child.path child.value is)
 
-      go : (change : Change) → Did format digest (shown home) next change → IsScheduledBy pending change behind
+      go : (change : Change) → HasDone format digest (shown home) next change → IsScheduledBy pending change behind
           → clash_of format taken change ≡ None → TakesWhatIsThere taken spots change
-      go (joins parent after child) did scheduled free =
+      go (did_add_m parent after child) did scheduled free =
           joined parent after child
           (join_takes format digest shown taken stored spots home next parent after child one world did free)
-      go (leaves parent after child) did scheduled free = tt
-      go (comes child element) did scheduled free =
+      go (did_evict_m parent after child) did scheduled free = tt
+      go (did_add_b child element) did scheduled free =
           let there = waits.each element (waits_once_out element pending scheduled.0 scheduled.1) in
           (ap (λ (e : Entry). spots e.path) did.came_as ∙ there, ap (λ (e : Entry). e.value) did.came_as)
-      go (goes child element) did scheduled free = tt
-      go (defers parent after child element) did scheduled free = tt
-      go (reads entry) did scheduled free = tt
-      go (writes before after) did scheduled free = tt
-      go (turns sealed) did scheduled free = tt
+      go (did_evict_b child element) did scheduled free = tt
+      go (did_evict_bm parent after child element) did scheduled free = tt
+      go (did_get entry) did scheduled free = tt
+      go (did_put before after) did scheduled free = tt
+      go (did_next_epoch sealed) did scheduled free = tt
 
 -- ---- a front
 
 -- What stands behind a front: a world whose caches show what is told and in which these wait, and the events that go
 -- on from there.
-record Stand (format : Format) (digest : Digest) (told : AllShown) (taken : Taken) (stored : Stored)
+record Stand (format : Format) (digest : Digest) (told : AllShown) (taken : LastEvicted) (stored : Stored)
     (pending : List Element) (back : List Event) : Type 0 where
   shown : AllShown
   same : AllShowSame shown told
@@ -214,7 +216,7 @@ record Stand (format : Format) (digest : Digest) (told : AllShown) (taken : Take
   scheduled : IsScheduled pending back
 
 -- the world of a stand, by what is told
-world_told : (format : Format) (digest : Digest) (told : AllShown) (taken : Taken) (stored : Stored)
+world_told : (format : Format) (digest : Digest) (told : AllShown) (taken : LastEvicted) (stored : Stored)
     (pending : List Element) (back : List Event) (stand : Stand format digest told taken stored pending back)
     → IsWorld format digest told taken stored stand.spots
 world_told format digest told taken stored pending back stand = record {
@@ -230,10 +232,10 @@ told_behind told event = with_shown told event.verifier (shown_after (told event
 
 module _ (format : Format) (digest : Digest) (one : HasOneText format) (digests : GivesDigests digest) where
   -- One event on.
-  stand_on : (event : Event) (back : List Event) (told : AllShown) (taken : Taken) (stored : Stored)
+  stand_on : (event : Event) (back : List Event) (told : AllShown) (taken : LastEvicted) (stored : Stored)
       (pending : List Element)
       → Stand format digest told taken stored pending (event ∷ back) → clash_of format taken event.change ≡ None
-      → Stand format digest (told_behind told event) (taken_after taken event.change)
+      → Stand format digest (told_behind told event) (last_evicted_after taken event.change)
       (stored_behind stored (operations_by event event.change)) (pending_after pending event.change) back
   stand_on event back told taken stored pending stand free = record {
     shown = with_shown stand.shown event.verifier next;
@@ -250,7 +252,7 @@ module _ (format : Format) (digest : Digest) (one : HasOneText format) (digests 
       next : Shown
       next = stand.run.0
 
-      now : Moved format digest (with_shown stand.shown event.verifier next) (taken_after taken event.change)
+      now : Moved format digest (with_shown stand.shown event.verifier next) (last_evicted_after taken event.change)
           (stored_behind stored (operations_by event event.change)) (pending_after pending event.change)
           (λ after. IsScheduled after back)
       now =
@@ -258,14 +260,14 @@ module _ (format : Format) (digest : Digest) (one : HasOneText format) (digests 
           (λ after. IsScheduled after back) stand.world stand.waits event.change stand.run.1 stand.scheduled free
 
   -- A whole front on, where it shows no clash.
-  stand_behind : (front back : List Event) (told : AllShown) (taken : Taken) (stored : Stored) (pending : List Element)
+  stand_behind : (front back : List Event) (told : AllShown) (taken : LastEvicted) (stored : Stored) (pending : List Element)
       → Stand format digest told taken stored pending (front ++ back) → first_clash format taken (changes_in front) ≡ None
-      → Stand format digest (shown_behind told front) (taken_behind taken (changes_in front))
+      → Stand format digest (shown_behind told front) (last_evicted_behind taken (changes_in front))
       (stored_behind stored (operations_in front)) (pending_behind pending (changes_in front)) back
   stand_behind [] back told taken stored pending stand free = stand
   stand_behind (event ∷ front) back told taken stored pending stand free =
       subst (λ (s : Stored).
-      Stand format digest (shown_behind now front) (taken_behind now_taken (changes_in front)) s
+      Stand format digest (shown_behind now front) (last_evicted_behind now_taken (changes_in front)) s
       (pending_behind now_pending (changes_in front)) back)
       (sym (stored_behind-append stored (operations_by event event.change) (operations_in front)))
       (stand_behind front back now now_taken (stored_behind stored (operations_by event event.change)) now_pending
@@ -274,8 +276,8 @@ module _ (format : Format) (digest : Digest) (one : HasOneText format) (digests 
       now : AllShown
       now = told_behind told event
 
-      now_taken : Taken
-      now_taken = taken_after taken event.change
+      now_taken : LastEvicted
+      now_taken = last_evicted_after taken event.change
 
       now_pending : List Element
       now_pending = pending_after pending event.change
@@ -288,61 +290,61 @@ module _ (format : Format) (digest : Digest) (one : HasOneText format) (digests 
 -- what stands behind a front of the merged order
 abbrev StandBehind : Digest → Header → List Event → List Event → Type 0
 StandBehind digest header front back =
-    Stand short_keys digest (shown_behind (opening_shown header) front) (taken_behind none_taken (changes_in front))
+    Stand short_keys digest (shown_behind (opening_shown header) front) (last_evicted_behind none_evicted (changes_in front))
     (stored_behind none_everywhere (operations_in front)) (pending_behind [] (changes_in front)) back
 
-module _ (digest : Digest) (lanes : List ℕ → List ℕ) (header : Header) (logs : List (List Command)) (last : ℕ) where
+module _ (functions : DigestFunctions) (header : Header) (logs : List (List Command)) (last : ℕ) where
   -- at the opening
-  at_opening : AreTyped logs → ArePermuted header.first last (order_of (histories_of digest lanes header logs))
-      → StandBehind digest header [] (order_up_to last (histories_of digest lanes header logs))
+  at_opening : AreTyped short_keys logs → ArePermuted header.first last (order_of (histories_of (scheme_of functions header) header logs))
+      → StandBehind functions.digest header [] (order_up_to last (histories_of (scheme_of functions header) header logs))
   at_opening typed permuted = record {
     shown = opening_shown header;
     same = λ home path. refl;
     spots = opening_spots;
-    world = opening_world digest header;
+    world = opening_world functions.digest header;
     waits = none_waiting;
-    run = order_run digest lanes header (are_histories digest lanes header) logs last typed;
-    scheduled = order_scheduled digest lanes header logs last permuted;
+    run = order_run (scheme_of functions header) header (are_histories (scheme_of functions header) header) logs last typed;
+    scheduled = order_scheduled (scheme_of functions header) header logs last permuted;
   }
 
   -- behind a front
-  stand_at : (front back : List Event) → GivesDigests digest → AreTyped logs
-      → ArePermuted header.first last (order_of (histories_of digest lanes header logs))
-      → order_up_to last (histories_of digest lanes header logs) ≡ front ++ back
-      → first_clash short_keys none_taken (changes_in front) ≡ None
-      → StandBehind digest header front back
+  stand_at : (front back : List Event) → GivesDigests functions.digest → AreTyped short_keys logs
+      → ArePermuted header.first last (order_of (histories_of (scheme_of functions header) header logs))
+      → order_up_to last (histories_of (scheme_of functions header) header logs) ≡ front ++ back
+      → first_clash short_keys none_evicted (changes_in front) ≡ None
+      → StandBehind functions.digest header front back
   stand_at front back digests typed permuted is free =
-      stand_behind short_keys digest one_text digests front back (opening_shown header) none_taken none_everywhere []
-      (subst (λ (l : List Event). StandBehind digest header [] l) is (at_opening typed permuted)) free
+      stand_behind short_keys functions.digest one_text digests front back (opening_shown header) none_evicted none_everywhere []
+      (subst (λ (l : List Event). StandBehind functions.digest header [] l) is (at_opening typed permuted)) free
 
   -- the spots of a stand agree with what the front left
-  placed : (front back : List Event) (stand : StandBehind digest header front back)
-      → IsBehind digest header front stand.spots
+  placed : (front back : List Event) (stand : StandBehind functions.digest header front back)
+      → IsBehind functions.digest header front stand.spots
   placed front back stand =
-      record { world = world_told short_keys digest _ _ _ _ back stand; waits = stand.waits }
+      record { world = world_told short_keys functions.digest _ _ _ _ back stand; waits = stand.waits }
 
   -- Each path has one place.
-  pub one_place : (front back : List Event) → GivesDigests digest → AreTyped logs
-      → ArePermuted header.first last (order_of (histories_of digest lanes header logs))
-      → order_up_to last (histories_of digest lanes header logs) ≡ front ++ back
-      → first_clash short_keys none_taken (changes_in front) ≡ None
-      → HavePlaces digest header front
-  one_place front back digests typed permuted is free =
+  pub one_spot : (front back : List Event) → GivesDigests functions.digest → AreTyped short_keys logs
+      → ArePermuted header.first last (order_of (histories_of (scheme_of functions header) header logs))
+      → order_up_to last (histories_of (scheme_of functions header) header logs) ≡ front ++ back
+      → first_clash short_keys none_evicted (changes_in front) ≡ None
+      → HaveSpots functions.digest header front
+  one_spot front back digests typed permuted is free =
       let stand = stand_at front back digests typed permuted is free in
       (stand.spots, placed front back stand)
 
   -- The next event takes what is there.
-  pub takes_next : (front : List Event) (event : Event) (back : List Event) → GivesDigests digest → AreTyped logs
-      → ArePermuted header.first last (order_of (histories_of digest lanes header logs))
-      → order_up_to last (histories_of digest lanes header logs) ≡ front ++ event ∷ back
-      → first_clash short_keys none_taken (changes_in (front ++ event ∷ [])) ≡ None
-      → TakesFromPlaces digest header front event.change
+  pub takes_next : (front : List Event) (event : Event) (back : List Event) → GivesDigests functions.digest → AreTyped short_keys logs
+      → ArePermuted header.first last (order_of (histories_of (scheme_of functions header) header logs))
+      → order_up_to last (histories_of (scheme_of functions header) header logs) ≡ front ++ event ∷ back
+      → first_clash short_keys none_evicted (changes_in (front ++ event ∷ [])) ≡ None
+      → TakesFromSpots functions.digest header front event.change
   takes_next front event back digests typed permuted is free =
-      let parts = no_clash_front short_keys none_taken front event free in
+      let parts = no_clash_front short_keys none_evicted front event free in
       let stand = stand_at front (event ∷ back) digests typed permuted is parts.0 in (
         stand.spots,
         placed front (event ∷ back) stand,
-        takes_there short_keys digest one_text event.verifier stand.shown stand.run.0 _ _ stand.spots _
+        takes_there short_keys functions.digest one_text event.verifier stand.shown stand.run.0 _ _ stand.spots _
             (λ after. IsScheduled after back) stand.world stand.waits event.change stand.run.1 stand.scheduled
             parts.1,
       )

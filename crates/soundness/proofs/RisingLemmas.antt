@@ -1,5 +1,6 @@
 -- The elements that a verifier evicts are of its number, and the stamp of each is above those of all before it.
 use Rattle.std.proofs.Common.{◌≡◌, ℕ, suc, not, nat_le, List, [], ◌∷◌, ◌++◌, is_some, Ok, Err, refl, ap, subst, ◌∙◌, inl, inr, arith}
+use Rattle.merkle_records.specs.Scheme.{Scheme}
 use Rattle.std.specs.List.{AllByRecursion}
 use Rattle.std.specs.Ordering.{is_lt}
 use Rattle.std.proofs.lemmas.Result.{IfOk-at_ok}
@@ -7,8 +8,8 @@ use Rattle.lamport_clocks.specs.declared.header.Header.{Header}
 use Rattle.lamport_clocks.specs.declared.stamp.Stamp.{Stamp}
 use Rattle.lamport_clocks.specs.Stamp.{IsLater}
 use Rattle.lamport_clocks.specs.Reading.{Reading}
-use Rattle.lamport_clocks.specs.Clock.{received, sent, turned}
-use Rattle.lamport_clocks.proofs.InOrder.{test-ok}
+use Rattle.lamport_clocks.specs.Clock.{received, sent, advanced}
+use Rattle.step_words.proofs.StepLaws.{test-ok}
 use Rattle.lamport_clocks.proofs.StampLaws.{IsLater-cmp}
 use Rattle.lamport_clocks.proofs.ClockLaws.{sent-above, sent-at}
 use Rattle.record_text.specs.declared.element.Element.{Element}
@@ -20,7 +21,7 @@ use Rattle.verifier_cache.specs.Entry.{has_kid}
 use Rattle.verifier_cache.specs.Cache.{entry_of}
 use Rattle.verifier_commands.specs.declared.state.State.{State}
 use Rattle.verifier_commands.specs.State.{opening}
-use Rattle.verifier_commands.specs.Change.{Change, joins, leaves, comes, goes, defers, reads, writes, turns}
+use Rattle.verifier_commands.specs.Change.{Change, did_add_m, did_evict_m, did_add_b, did_evict_b, did_evict_bm, did_get, did_put, did_next_epoch}
 use Rattle.verifier_commands.specs.Changes.{add_under, evict_under, defer_under, is_by_stamp}
 use Rattle.record_text.specs.Same.{same_value}
 use Rattle.verifier_commands.specs.Transition.{Rules, Step, is_root, is_data, is_full, transition}
@@ -47,13 +48,13 @@ own_step rules state (AddM path value parent) done is =
     let fresh = test-ok (is_some (entry_of path state.cache.entries)) _ _ done inner.1 in
     let room = test-ok (is_full state) _ _ done fresh.1 in
     let holder = need-ok (entry_of parent state.cache.entries) _ _ done room.1 in
-    let family = and_then-ok (add_under rules.format rules.digest holder.0 path value) _ done holder.2 in
+    let family = and_then-ok (add_under rules.scheme.format rules.scheme.digest holder.0 path value) _ done holder.2 in
     IfOk-at_ok (EvictsOwn rules.number) family.2 tt
 own_step rules state (EvictM path parent) done is =
     let inner = test-ok (is_root path) _ _ done is in
     let child = need-ok (entry_of path state.cache.entries) _ _ done inner.1 in
     let holder = need-ok (entry_of parent state.cache.entries) _ _ done child.2 in
-    let after = and_then-ok (evict_under rules.format rules.digest holder.0 child.0) _ done holder.2 in
+    let after = and_then-ok (evict_under rules.scheme.format rules.scheme.digest holder.0 child.0) _ done holder.2 in
     IfOk-at_ok (EvictsOwn rules.number) after.2 tt
 own_step rules state (AddB path value stamp verifier) done is =
     let inner = test-ok (is_root path) _ _ done is in
@@ -78,15 +79,15 @@ own_step rules state (EvictBM path parent stamp) done is =
     IfOk-at_ok (EvictsOwn rules.number) clock.2 (refl, tt)
 own_step rules state (Get path value) done is =
     let entry = need-ok (entry_of path state.cache.entries) _ _ done is in
-    let data_path = test-ok (not (is_data rules.format path)) _ _ done entry.2 in
+    let data_path = test-ok (not (is_data rules.scheme.format path)) _ _ done entry.2 in
     let same = test-ok (not (same_value entry.0.value value)) _ _ done data_path.1 in
     IfOk-at_ok (EvictsOwn rules.number) same.1 tt
 own_step rules state (Put path value) done is =
     let entry = need-ok (entry_of path state.cache.entries) _ _ done is in
-    let data_path = test-ok (not (is_data rules.format path)) _ _ done entry.2 in
+    let data_path = test-ok (not (is_data rules.scheme.format path)) _ _ done entry.2 in
     IfOk-at_ok (EvictsOwn rules.number) data_path.1 tt
 own_step rules state NextEpoch done is =
-    let turn = timed-ok (turned state.clock) _ done is in
+    let turn = timed-ok (advanced state.clock) _ done is in
     IfOk-at_ok (EvictsOwn rules.number) turn.2 tt
 
 -- what a step evicted, and what was evicted behind it
@@ -110,11 +111,11 @@ own_events rules number index state (command ∷ commands) =
     (λ after. own_events rules number (suc index) after commands)
 
 -- The elements that a log evicts are of its verifier.
-pub log_own : (digest : Digest) (lanes : List ℕ → List ℕ) (header : Header) (number : ℕ) (commands : List Command)
+pub log_own : (scheme : Scheme) (header : Header) (number : ℕ) (commands : List Command)
     → AllByRecursion (λ element. element.verifier ≡ number)
-    (evicted_among (log_events digest lanes header number commands))
-log_own digest lanes header number commands =
-    own_events (rules_under digest lanes header number) number 0 (opening number header) commands
+    (evicted_among (log_events scheme header number commands))
+log_own scheme header number commands =
+    own_events (rules_under scheme header number) number 0 (opening number header) commands
 
 -- ---- their stamps
 
@@ -130,14 +131,14 @@ AreAbove at elements = AllByRecursion (λ element. IsLater element.stamp at) ele
 
 -- an element that goes is stamped above the clock before
 above_ticks : (old new : Reading) (change : Change) → Ticks old new change → AreAbove old.at (evicted_by change)
-above_ticks old new (joins parent after child) is = tt
-above_ticks old new (leaves parent after child) is = tt
-above_ticks old new (comes child element) is = tt
-above_ticks old new (goes child element) is = (sent-above old new element.stamp is, tt)
-above_ticks old new (defers parent after child element) is = (sent-above old new element.stamp is, tt)
-above_ticks old new (reads entry) is = tt
-above_ticks old new (writes before after) is = tt
-above_ticks old new (turns sealed) is = tt
+above_ticks old new (did_add_m parent after child) is = tt
+above_ticks old new (did_evict_m parent after child) is = tt
+above_ticks old new (did_add_b child element) is = tt
+above_ticks old new (did_evict_b child element) is = (sent-above old new element.stamp is, tt)
+above_ticks old new (did_evict_bm parent after child element) is = (sent-above old new element.stamp is, tt)
+above_ticks old new (did_get entry) is = tt
+above_ticks old new (did_put before after) is = tt
+above_ticks old new (did_next_epoch sealed) is = tt
 
 above_ticking : (number index : ℕ) (clock : Reading) (events : List Event) → IsTicking number index clock events
     → AreAbove clock.at (evicted_among events)
@@ -162,16 +163,16 @@ rising_front old new element elements is above rising = (
 
 rising_ticks : (old new : Reading) (change : Change) (elements : List Element) → Ticks old new change
     → AreAbove new.at elements → IsRising elements → IsRising (evicted_by change ++ elements)
-rising_ticks old new (joins parent after child) elements is above rising = rising
-rising_ticks old new (leaves parent after child) elements is above rising = rising
-rising_ticks old new (comes child element) elements is above rising = rising
-rising_ticks old new (goes child element) elements is above rising =
+rising_ticks old new (did_add_m parent after child) elements is above rising = rising
+rising_ticks old new (did_evict_m parent after child) elements is above rising = rising
+rising_ticks old new (did_add_b child element) elements is above rising = rising
+rising_ticks old new (did_evict_b child element) elements is above rising =
     rising_front old new element elements is above rising
-rising_ticks old new (defers parent after child element) elements is above rising =
+rising_ticks old new (did_evict_bm parent after child element) elements is above rising =
     rising_front old new element elements is above rising
-rising_ticks old new (reads entry) elements is above rising = rising
-rising_ticks old new (writes before after) elements is above rising = rising
-rising_ticks old new (turns sealed) elements is above rising = rising
+rising_ticks old new (did_get entry) elements is above rising = rising
+rising_ticks old new (did_put before after) elements is above rising = rising
+rising_ticks old new (did_next_epoch sealed) elements is above rising = rising
 
 rising_ticking : (number index : ℕ) (clock : Reading) (events : List Event) → IsTicking number index clock events
     → IsRising (evicted_among events)
@@ -182,8 +183,8 @@ rising_ticking number index clock (event ∷ events) ticks =
     (rising_ticking number (suc index) ticks.0 events ticks.5)
 
 -- The stamps of the elements that a log evicts rise.
-pub log_rising : (digest : Digest) (lanes : List ℕ → List ℕ) (header : Header) (number : ℕ) (commands : List Command)
-    → IsRising (evicted_among (log_events digest lanes header number commands))
-log_rising digest lanes header number commands =
-    rising_ticking number 0 (opening number header).clock (log_events digest lanes header number commands)
-    (log-ticks digest lanes header number commands)
+pub log_rising : (scheme : Scheme) (header : Header) (number : ℕ) (commands : List Command)
+    → IsRising (evicted_among (log_events scheme header number commands))
+log_rising scheme header number commands =
+    rising_ticking number 0 (opening number header).clock (log_events scheme header number commands)
+    (log-ticks scheme header number commands)

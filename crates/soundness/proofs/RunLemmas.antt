@@ -6,7 +6,7 @@ use Rattle.merkle_records.specs.Merkle.{Digest}
 use Rattle.stamp_order.specs.Merged.{of_verifier}
 use Rattle.soundness.specs.History.{Event}
 use Rattle.soundness.specs.Certified.{event_moment}
-use Rattle.soundness.specs.Deeds.{Shown, Did}
+use Rattle.soundness.specs.Showing.{Shown, HasDone}
 use Rattle.soundness.specs.World.{AllShown, with_shown}
 use Rattle.soundness.proofs.LawfulLemmas.{IsChain}
 
@@ -14,7 +14,7 @@ use Rattle.soundness.proofs.LawfulLemmas.{IsChain}
 abbrev pub IsRun : Format → Digest → AllShown → List Event → Type 0
 IsRun format digest shown [] = Unit {0}
 IsRun format digest shown (event ∷ events) =
-    (next : Shown) × Did format digest (shown event.verifier) next event.change × IsRun format digest (with_shown shown event.verifier next) events
+    (next : Shown) × HasDone format digest (shown event.verifier) next event.change × IsRun format digest (with_shown shown event.verifier next) events
 
 -- ---- runs from chains
 

@@ -13,7 +13,7 @@ use Rattle.lamport_clocks.proofs.StampLaws.{in_order}
 use Rattle.record_text.specs.declared.element.Element.{Element}
 use Rattle.stamp_order.specs.InOrder.{IsInOrder}
 use Rattle.stamp_order.specs.Merged.{comes_before, IsMerged}
-use Rattle.verifier_commands.specs.Change.{Change, joins, leaves, comes, goes, defers, reads, writes, turns}
+use Rattle.verifier_commands.specs.Change.{Change, did_add_m, did_evict_m, did_add_b, did_evict_b, did_evict_bm, did_get, did_put, did_next_epoch}
 use Rattle.soundness.specs.History.{Event}
 use Rattle.soundness.specs.Certified.{event_moment, added_by, evicted_by, of_epoch, added_in, evicted_in}
 use Rattle.soundness.specs.Permutation.{same_element, count_of, without_one}
@@ -72,26 +72,26 @@ earlier_before a b is = earlier_then (stamp_cmp a.at b.at) (ordering_then (nat_c
 -- nor in an event that doesn't come before
 none_evicted : (x : Element) (event other : Event) (first : ℕ) → IsEarlier x.stamp event.at → comes_before event_moment other event ≡ false
     → (change : Change) → IsTimed first other.at change → count_of x (evicted_by change) ≡ 0
-none_evicted x event other first earlier not_before (joins parent after child) timed = refl
-none_evicted x event other first earlier not_before (leaves parent after child) timed = refl
-none_evicted x event other first earlier not_before (comes child element) timed = refl
-none_evicted x event other first earlier not_before (goes child element) timed = go (same_element x element) refl
+none_evicted x event other first earlier not_before (did_add_m parent after child) timed = refl
+none_evicted x event other first earlier not_before (did_evict_m parent after child) timed = refl
+none_evicted x event other first earlier not_before (did_add_b child element) timed = refl
+none_evicted x event other first earlier not_before (did_evict_b child element) timed = go (same_element x element) refl
   where
     go : (b : Bool) → same_element x element ≡ b → one_more b 0 ≡ 0
     go false apart = refl
     go true same =
         absurd (true≢false (sym (earlier_before other event
         (subst (λ (s : Stamp). IsEarlier s event.at) (ap (λ (e : Element). e.stamp) (same_element-true x element same) ∙ timed) earlier)) ∙ not_before))
-none_evicted x event other first earlier not_before (defers parent after child element) timed = go (same_element x element) refl
+none_evicted x event other first earlier not_before (did_evict_bm parent after child element) timed = go (same_element x element) refl
   where
     go : (b : Bool) → same_element x element ≡ b → one_more b 0 ≡ 0
     go false apart = refl
     go true same =
         absurd (true≢false (sym (earlier_before other event
         (subst (λ (s : Stamp). IsEarlier s event.at) (ap (λ (e : Element). e.stamp) (same_element-true x element same) ∙ timed) earlier)) ∙ not_before))
-none_evicted x event other first earlier not_before (reads entry) timed = refl
-none_evicted x event other first earlier not_before (writes before after) timed = refl
-none_evicted x event other first earlier not_before (turns sealed) timed = refl
+none_evicted x event other first earlier not_before (did_get entry) timed = refl
+none_evicted x event other first earlier not_before (did_put before after) timed = refl
+none_evicted x event other first earlier not_before (did_next_epoch sealed) timed = refl
 
 none_later : (x : Element) (event : Event) (first : ℕ) (later : List Event) → IsEarlier x.stamp event.at
     → AllByRecursion (λ other. comes_before event_moment other event ≡ false) later
@@ -260,16 +260,16 @@ scheduled_from first last front (event ∷ here) later pending within order time
 
     go : ((after : List Element) → IsBalance after (front ++ event ∷ []) → IsScheduled after here) → (change : Change) → event.change ≡ change → IsTimed first event.at change
         → IsScheduledBy pending change (λ after. IsScheduled after here)
-    go further (joins parent after child) is here_timed = further pending (balance_same pending front event balance (ap added_by is) (ap evicted_by is))
-    go further (leaves parent after child) is here_timed = further pending (balance_same pending front event balance (ap added_by is) (ap evicted_by is))
-    go further (comes child element) is here_timed =
+    go further (did_add_m parent after child) is here_timed = further pending (balance_same pending front event balance (ap added_by is) (ap evicted_by is))
+    go further (did_evict_m parent after child) is here_timed = further pending (balance_same pending front event balance (ap added_by is) (ap evicted_by is))
+    go further (did_add_b child element) is here_timed =
         let there = waits_there first last front event (here ++ later) pending element within.0 order timed even balance here_timed (ap added_by is) (ap evicted_by is) in
         (there.0, there.1, further there.0 (balance_added pending there.0 front event element balance there.1 (ap added_by is) (ap evicted_by is)))
-    go further (goes child element) is here_timed = further (element ∷ pending) (balance_evicted pending front event element balance (ap added_by is) (ap evicted_by is))
-    go further (defers parent after child element) is here_timed = further (element ∷ pending) (balance_evicted pending front event element balance (ap added_by is) (ap evicted_by is))
-    go further (reads entry) is here_timed = further pending (balance_same pending front event balance (ap added_by is) (ap evicted_by is))
-    go further (writes before after) is here_timed = further pending (balance_same pending front event balance (ap added_by is) (ap evicted_by is))
-    go further (turns sealed) is here_timed = further pending (balance_same pending front event balance (ap added_by is) (ap evicted_by is))
+    go further (did_evict_b child element) is here_timed = further (element ∷ pending) (balance_evicted pending front event element balance (ap added_by is) (ap evicted_by is))
+    go further (did_evict_bm parent after child element) is here_timed = further (element ∷ pending) (balance_evicted pending front event element balance (ap added_by is) (ap evicted_by is))
+    go further (did_get entry) is here_timed = further pending (balance_same pending front event balance (ap added_by is) (ap evicted_by is))
+    go further (did_put before after) is here_timed = further pending (balance_same pending front event balance (ap added_by is) (ap evicted_by is))
+    go further (did_next_epoch sealed) is here_timed = further pending (balance_same pending front event balance (ap added_by is) (ap evicted_by is))
 
 -- Events in order, up to an epoch up to which each epoch is even, are scheduled.
 pub scheduled : (first last : ℕ) (here later : List Event)

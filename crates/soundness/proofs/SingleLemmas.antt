@@ -17,8 +17,8 @@ use Rattle.verifier_cache.specs.declared.entry.Hold.TheVariants.{Root, M, B}
 use Rattle.verifier_cache.specs.Entry.{kid_of, with_value}
 use Rattle.verifier_commands.specs.Changes.{node_of}
 use Rattle.verifier_commands.specs.Outcome.{blob_of}
-use Rattle.soundness.specs.Exhibit.{Taken}
-use Rattle.soundness.specs.Deeds.{Shown, showing, ShowSame, DidCome, DidGo, DidRead, DidWrite}
+use Rattle.soundness.specs.Clash.{LastEvicted}
+use Rattle.soundness.specs.Showing.{Shown, showing, ShowSame, DidAddB, DidEvictB, DidGet, DidPut}
 use Rattle.soundness.specs.Spot.{Spot, cached, merkle, waiting, Spots, is_touched, side_of, pointer_at, home_of, LeadsBy, IsKind}
 use Rattle.soundness.specs.World.{cached_in, blob_at, AllShown, with_shown, Stored, IsWorld}
 use Rattle.soundness.proofs.MovedLemmas.{this_or_other, OneMoves, one_moves, leads_same_hold}
@@ -30,7 +30,7 @@ use Rattle.soundness.proofs.LeaveLemmas.{LeftAt}
 -- ---- what one moved record leaves as it was
 
 -- nothing came to be kept by its digest
-taken_one : (taken : Taken) (spots : Spots) (k : List Bool) (spot : Spot) → is_merkle spot ≡ false
+taken_one : (taken : LastEvicted) (spots : Spots) (k : List Bool) (spot : Spot) → is_merkle spot ≡ false
     → ((path : List Bool) (value : Value) → spots path ≡ merkle value → taken path ≡ Some value)
     → (path : List Bool) (value : Value) → with_spot spots k spot path ≡ merkle value → taken path ≡ Some value
 taken_one taken spots k spot not_merkle was path value is = go (this_or_other k path)
@@ -67,13 +67,13 @@ not_both hold is_b is_m = true≢false (ap by_element (sym is_b ∙ is_m))
 -- ---- in and out with an element
 
 -- the world behind a step that took the record of a path back, where what waited elsewhere waits on
-abbrev pub TookBack : Format → Digest → AllShown → Taken → Stored → Spots → List Bool → Type 0
+abbrev pub TookBack : Format → Digest → AllShown → LastEvicted → Stored → Spots → List Bool → Type 0
 TookBack format digest shown taken stored old k =
     (spots : Spots) × IsWorld format digest shown taken stored spots × ((path : List Bool) (element : Element) → k ≢ path → old path ≡ waiting element → spots path ≡ waiting element)
 
 -- A record comes in with the element that it waits with.
-pub come_step : (format : Format) (digest : Digest) (shown : AllShown) (taken : Taken) (stored : Stored) (spots : Spots) (home : ℕ) (next : Shown) (child : Entry) (element : Element)
-    → IsWorld format digest shown taken stored spots → DidCome format (shown home) next child element
+pub come_step : (format : Format) (digest : Digest) (shown : AllShown) (taken : LastEvicted) (stored : Stored) (spots : Spots) (home : ℕ) (next : Shown) (child : Entry) (element : Element)
+    → IsWorld format digest shown taken stored spots → DidAddB format (shown home) next child element
     → spots element.path ≡ waiting element
     → TookBack format digest (with_shown shown home next) taken stored spots element.path
 come_step format digest shown taken stored spots home next child element world did waits = (
@@ -124,8 +124,8 @@ come_step format digest shown taken stored spots home next child element world d
         led false (Some other) kept leads = absurd leads
 
 -- A record goes out with an element.
-pub go_step : (format : Format) (digest : Digest) (shown : AllShown) (taken : Taken) (stored : Stored) (spots : Spots) (home : ℕ) (next : Shown) (child : Entry) (element : Element)
-    → IsWorld format digest shown taken stored spots → DidGo (shown home) next child element
+pub go_step : (format : Format) (digest : Digest) (shown : AllShown) (taken : LastEvicted) (stored : Stored) (spots : Spots) (home : ℕ) (next : Shown) (child : Entry) (element : Element)
+    → IsWorld format digest shown taken stored spots → DidEvictB (shown home) next child element
     → LeftAt format digest (with_shown shown home next) taken stored spots element.path (waiting element)
 go_step format digest shown taken stored spots home next child element world did =
     subst (λ (i : List Bool). LeftAt format digest (with_shown shown home next) taken stored spots i (waiting element)) (sym did.path) (
@@ -163,7 +163,7 @@ go_step format digest shown taken stored spots home next child element world did
 -- ---- read and written
 
 -- Caches that show the same have the same world.
-pub same_step : (format : Format) (digest : Digest) (shown : AllShown) (taken : Taken) (stored : Stored) (spots : Spots) (home : ℕ) (next : Shown)
+pub same_step : (format : Format) (digest : Digest) (shown : AllShown) (taken : LastEvicted) (stored : Stored) (spots : Spots) (home : ℕ) (next : Shown)
     → IsWorld format digest shown taken stored spots → ShowSame next (shown home)
     → IsWorld format digest (with_shown shown home next) taken stored spots
 same_step format digest shown taken stored spots home next world same =
@@ -179,8 +179,8 @@ same_step format digest shown taken stored spots home next world same =
         go (inr apart) = ap (λ (b : Bool). (if b then next else shown other) path) (ne_eqb other home apart) ∙ world.shows other path
 
 -- What is read is the plain map's.
-pub read_value : (format : Format) (digest : Digest) (shown : AllShown) (taken : Taken) (stored : Stored) (spots : Spots) (home : ℕ) (next : Shown) (entry : Entry)
-    → IsWorld format digest shown taken stored spots → DidRead format (shown home) next entry
+pub read_value : (format : Format) (digest : Digest) (shown : AllShown) (taken : LastEvicted) (stored : Stored) (spots : Spots) (home : ℕ) (next : Shown) (entry : Entry)
+    → IsWorld format digest shown taken stored spots → DidGet format (shown home) next entry
     → blob_of entry.value ≡ stored (number_of entry.path)
 read_value format digest shown taken stored spots home next entry world did =
     ap blob_at (sym (spot_of_shown home (spots entry.path) entry (sym (world.shows home entry.path) ∙ did.had))) ∙ world.holds entry.path did.at_data
@@ -196,8 +196,8 @@ one_number p q wide same =
     sym (bits_of-number_of p) ∙ ap (λ (n : ℕ). bits_of n (number_of p)) wide ∙ ap (bits_of (length q)) same ∙ bits_of-number_of q
 
 -- A data value is written, in the cache and in the plain map.
-pub write_step : (format : Format) (digest : Digest) (shown : AllShown) (taken : Taken) (stored : Stored) (spots : Spots) (home : ℕ) (next : Shown) (before after : Entry)
-    → IsWorld format digest shown taken stored spots → DidWrite format (shown home) next before after
+pub write_step : (format : Format) (digest : Digest) (shown : AllShown) (taken : LastEvicted) (stored : Stored) (spots : Spots) (home : ℕ) (next : Shown) (before after : Entry)
+    → IsWorld format digest shown taken stored spots → DidPut format (shown home) next before after
     → WorldAfter format digest (with_shown shown home next) taken (update eqb stored (number_of after.path) (blob_of after.value)) spots
 write_step format digest shown taken stored spots home next before after world did =
     subst (λ (a : Entry). WorldAfter format digest (with_shown shown home next) taken (update eqb stored (number_of a.path) (blob_of a.value)) spots) (sym did.wrote) (

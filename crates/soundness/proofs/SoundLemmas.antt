@@ -8,22 +8,24 @@ use Rattle.record_text.specs.Format.{short_keys}
 use Rattle.record_text.proofs.FieldLemmas.{wide64}
 use Rattle.record_text.proofs.OneTextLemmas.{one_value}
 use Rattle.log_codec.specs.declared.command.Command.{Command}
-use Rattle.merkle_records.specs.Merkle.{Digest, GivesDigests}
+use Rattle.record_hash.specs.Functions.{DigestFunctions}
+use Rattle.merkle_records.specs.Merkle.{GivesDigests}
+use Rattle.merkle_records.specs.Scheme.{Scheme, scheme_of}
 use Rattle.stamp_order.specs.Serial.{none_everywhere}
 use Rattle.stamp_order.specs.Merged.{IsMerged, up_to}
 use Rattle.stamp_order.proofs.InOrderLemmas.{every-weaker}
 use Rattle.soundness.specs.History.{Event, log_events, histories_of}
 use Rattle.soundness.specs.Certified.{operations_in, event_moment, order_of, order_up_to, order_within, added_in, evicted_in, sum_over}
-use Rattle.soundness.specs.Exhibit.{Strings, none_taken, first_clash}
-use Rattle.soundness.specs.Collision.{first_uneven, exhibit_by, exhibit_of, Collides}
+use Rattle.soundness.specs.Clash.{Strings, none_evicted, first_clash}
+use Rattle.soundness.specs.Collision.{Collides}
+use Rattle.soundness.specs.Exhibit.{first_uneven, exhibit_by, exhibit_of}
 use Rattle.soundness.specs.Timed.{IsTimed}
 use Rattle.soundness.specs.Typed.{IsTyped}
 use Rattle.soundness.specs.Sound.{AreBalanced, IsSerialOrCollides}
 use Rattle.soundness.specs.World.{IsWaiting, opening_shown}
 use Rattle.soundness.proofs.KnownLemmas.{HasOneText}
 use Rattle.soundness.proofs.PermutationLemmas.{count_permuted}
-use Rattle.soundness.proofs.SerialLemmas.{run_keeps}
-use Rattle.soundness.proofs.SerialLemmas.{Collides as CollidesAt, IsSound}
+use Rattle.soundness.proofs.SerialLemmas.{run_keeps, Collides as CollidesAt, IsSound}
 use Rattle.soundness.proofs.ScheduleLemmas.{AreEven, scheduled}
 use Rattle.soundness.proofs.HistoryLemmas.{IsOfLog, log-merged, log-epochs}
 use Rattle.soundness.proofs.OrderLemmas.{AreHistories, order_run, order_timed, order_sorted, order_splits}
@@ -36,11 +38,11 @@ one_text path a b is_a is_b same =
     (one_value short_keys wide64 path path a b [] [] refl is_a is_b (ap (λ (text : List ℕ). text ++ []) same)).0
 
 -- the events of logs are in order, and each log's are its verifier's
-pub are_histories : (digest : Digest) (lanes : List ℕ → List ℕ) (header : Header) → AreHistories digest lanes header
-are_histories digest lanes header = record {
-  sorted = log-merged digest lanes header;
+pub are_histories : (scheme : Scheme) (header : Header) → AreHistories scheme header
+are_histories scheme header = record {
+  sorted = log-merged scheme header;
   whose = λ number commands. every-weaker (IsOfLog number header) (λ event. event.verifier ≡ number)
-      (λ event is. is.0) (log_events digest lanes header number commands) (log-epochs digest lanes header number commands);
+      (λ event is. is.0) (log_events scheme header number commands) (log-epochs scheme header number commands);
 }
 
 -- events up to an epoch are of no later one
@@ -57,15 +59,15 @@ all_within epoch (event ∷ events) = go (nat_le event.at.epoch epoch) refl (all
 pub none_waiting : IsWaiting opening_spots []
 none_waiting = record { each = λ x there. absurd (omega (arith, there)); once = λ x. omega arith }
 
-pub sound : (digest : Digest) (lanes : List ℕ → List ℕ) (header : Header) (logs : List (List Command)) (count : ℕ)
-    → GivesDigests digest → AllByRecursion (AllByRecursion (IsTyped short_keys)) logs
-    → AreBalanced lanes (order_of (histories_of digest lanes header logs)) header.first count
-    → IsSerialOrCollides digest lanes (exhibit_of header.first count (histories_of digest lanes header logs))
-    (operations_in (order_within header.first count (histories_of digest lanes header logs)))
-sound digest lanes header logs count digests typed balanced = by (first_uneven order header.first count) refl
+pub sound : (functions : DigestFunctions) (header : Header) (logs : List (List Command)) (count : ℕ)
+    → GivesDigests functions.digest → AllByRecursion (AllByRecursion (IsTyped short_keys)) logs
+    → AreBalanced (scheme_of functions header) (order_of (histories_of (scheme_of functions header) header logs)) header.first count
+    → IsSerialOrCollides (scheme_of functions header) (exhibit_of short_keys header.first count (histories_of (scheme_of functions header) header logs))
+    (operations_in (order_within header.first count (histories_of (scheme_of functions header) header logs)))
+sound functions header logs count digests typed balanced = by (first_uneven order header.first count) refl
   where
     histories : List (List Event)
-    histories = histories_of digest lanes header logs
+    histories = histories_of (scheme_of functions header) header logs
 
     order : List Event
     order = order_of histories
@@ -74,20 +76,20 @@ sound digest lanes header logs count digests typed balanced = by (first_uneven o
     within = order_within header.first count histories
 
     clash : Option Strings
-    clash = first_clash short_keys none_taken (map (λ (event : Event). event.change) within)
+    clash = first_clash short_keys none_evicted (map (λ (event : Event). event.change) within)
 
     -- up to the last of the epochs
     runs : (n : ℕ) → AreEven header.first (header.first + n) order
-        → CollidesAt short_keys digest none_taken (order_up_to (header.first + n) histories) ⊎ IsSound short_keys none_taken none_everywhere (order_up_to (header.first + n) histories)
+        → CollidesAt short_keys functions.digest none_evicted (order_up_to (header.first + n) histories) ⊎ IsSound short_keys none_evicted none_everywhere (order_up_to (header.first + n) histories)
     runs n even =
         let split = order_splits (header.first + n) histories in
-        run_keeps short_keys digest one_text digests (order_up_to (header.first + n) histories) (opening_shown header) none_taken none_everywhere opening_spots []
-        (opening_world digest header) none_waiting
-        (order_run digest lanes header (are_histories digest lanes header) logs (header.first + n) typed)
+        run_keeps short_keys functions.digest one_text digests (order_up_to (header.first + n) histories) (opening_shown header) none_evicted none_everywhere opening_spots []
+        (opening_world functions.digest header) none_waiting
+        (order_run (scheme_of functions header) header (are_histories (scheme_of functions header) header) logs (header.first + n) typed)
         (scheduled header.first (header.first + n) (order_up_to (header.first + n) histories) split.0
         (all_within (header.first + n) order)
         (subst (λ (l : List Event). IsMerged event_moment l) split.1 (order_sorted histories))
-        (subst (λ (l : List Event). AllByRecursion (λ event. IsTimed header.first event.at event.change) l) split.1 (order_timed digest lanes header logs))
+        (subst (λ (l : List Event). AllByRecursion (λ event. IsTimed header.first event.at event.change) l) split.1 (order_timed (scheme_of functions header) header logs))
         (subst (λ (l : List Event). AreEven header.first (header.first + n) l) split.1 even))
 
     all_even : (n : ℕ) → first_uneven order header.first (suc n) ≡ None → AreEven header.first (header.first + n) order
@@ -95,22 +97,22 @@ sound digest lanes header logs count digests typed balanced = by (first_uneven o
         count_permuted (added_in epoch order) (evicted_in epoch order) (even_where_none order header.first (suc n) none epoch from (omega (arith, up))) x
 
     at_count : (k : ℕ) → first_uneven order header.first k ≡ None
-        → CollidesAt short_keys digest none_taken (order_within header.first k histories) ⊎ IsSound short_keys none_taken none_everywhere (order_within header.first k histories)
+        → CollidesAt short_keys functions.digest none_evicted (order_within header.first k histories) ⊎ IsSound short_keys none_evicted none_everywhere (order_within header.first k histories)
     at_count zero none = inr (refl, tt)
     at_count (suc n) none = runs n (all_even n none)
 
     ended : first_uneven order header.first count ≡ None
-        → CollidesAt short_keys digest none_taken within ⊎ IsSound short_keys none_taken none_everywhere within
-        → IsSerialOrCollides digest lanes (exhibit_of header.first count histories) (operations_in within)
+        → CollidesAt short_keys functions.digest none_evicted within ⊎ IsSound short_keys none_evicted none_everywhere within
+        → IsSerialOrCollides (scheme_of functions header) (exhibit_of short_keys header.first count histories) (operations_in within)
     ended none (inl collides) =
-        inr (subst (Collides digest lanes)
+        inr (subst (Collides (scheme_of functions header))
         (sym (ap (λ (o : Option ℕ). exhibit_by order o clash) none ∙ ap (exhibit_by order None) collides.1)) collides.2)
     ended none (inr serial) =
         inl (ap (λ (o : Option ℕ). exhibit_by order o clash) none ∙ ap (exhibit_by order None) serial.0, serial.1)
 
-    by : (o : Option ℕ) → first_uneven order header.first count ≡ o → IsSerialOrCollides digest lanes (exhibit_of header.first count histories) (operations_in within)
+    by : (o : Option ℕ) → first_uneven order header.first count ≡ o → IsSerialOrCollides (scheme_of functions header) (exhibit_of short_keys header.first count histories) (operations_in within)
     by None none = ended none (at_count count none)
     by (Some epoch) is =
         let uneven = uneven_where_some order header.first count epoch is in
-        inr (subst (Collides digest lanes) (sym (ap (λ (o : Option ℕ). exhibit_by order o clash) is))
-        (uneven.2, same_sum-true (sum_over lanes (added_in epoch order)) (sum_over lanes (evicted_in epoch order)) (balanced epoch uneven.0 uneven.1)))
+        inr (subst (Collides (scheme_of functions header)) (sym (ap (λ (o : Option ℕ). exhibit_by order o clash) is))
+        (uneven.2, same_sum-true (sum_over (scheme_of functions header) (added_in epoch order)) (sum_over (scheme_of functions header) (evicted_in epoch order)) (balanced epoch uneven.0 uneven.1)))

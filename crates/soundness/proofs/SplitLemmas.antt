@@ -1,10 +1,10 @@
 -- What stands in the order of its moments begins with what is in the epochs up to any one.
 use Rattle.std.proofs.Common.{◌≡◌, ◌⊎◌, ℕ, ◌<◌, ◌≤◌, nat_le, Bool, true, false, List, [], ◌∷◌, ◌++◌, refl, sym, ◌∙◌, ap, subst, inl, inr, arith}
+use Rattle.merkle_records.specs.Scheme.{Scheme}
 use Rattle.std.specs.List.{AllByRecursion}
 use Rattle.std.proofs.lemmas.Bool.{true≢false, cases_lt, cond-true, cond-false}
 use Rattle.std.proofs.lemmas.Bool.Decides.{nat_tests}
 use Rattle.lamport_clocks.specs.declared.header.Header.{Header}
-use Rattle.record_text.specs.Format.{short_keys}
 use Rattle.log_codec.specs.declared.command.Command.{Command}
 use Rattle.soundness.specs.Typed.{IsTyped}
 use Rattle.merkle_records.specs.Merkle.{Digest}
@@ -16,7 +16,7 @@ use Rattle.stamp_order.proofs.MomentLemmas.{is_before-epoch}
 use Rattle.verifier_commands.specs.State.{opening}
 use Rattle.soundness.specs.History.{log_events, rules_under}
 use Rattle.soundness.specs.Certified.{event_moment}
-use Rattle.soundness.specs.Deeds.{shown_by}
+use Rattle.soundness.specs.Showing.{shown_by}
 use Rattle.soundness.proofs.LawfulLemmas.{IsChain, log_run, opening-distinct}
 use Rattle.soundness.proofs.RunLemmas.{chain_front}
 
@@ -64,17 +64,17 @@ module _ {X : Type 0} (at : X → Moment) where
           (x ∷ xs, ap (λ zs. zs ++ x ∷ xs) (sym (up_to-later epoch (x ∷ xs) all)), all)
 
 -- The events of a log in the epochs up to one are a chain, where the log's events stand in order.
-pub log_run_up_to : (digest : Digest) (lanes : List ℕ → List ℕ) (header : Header) (number epoch : ℕ)
+pub log_run_up_to : (scheme : Scheme) (header : Header) (number epoch : ℕ)
     (commands : List Command)
-    → AllByRecursion (IsTyped short_keys) commands
-    → IsMerged event_moment (log_events digest lanes header number commands)
-    → IsChain short_keys digest (shown_by (opening number header))
-    (up_to event_moment epoch (log_events digest lanes header number commands))
-log_run_up_to digest lanes header number epoch commands ranges sorted =
-    let events = log_events digest lanes header number commands in
+    → AllByRecursion (IsTyped scheme.format) commands
+    → IsMerged event_moment (log_events scheme header number commands)
+    → IsChain scheme.format scheme.digest (shown_by (opening number header))
+    (up_to event_moment epoch (log_events scheme header number commands))
+log_run_up_to scheme header number epoch commands ranges sorted =
+    let events = log_events scheme header number commands in
     let split = split_up_to event_moment epoch events sorted in
-    let whole : IsChain short_keys digest (shown_by (opening number header)) events =
-    log_run (rules_under digest lanes header number) number 0 (opening number header) commands ranges
+    let whole : IsChain scheme.format scheme.digest (shown_by (opening number header)) events =
+    log_run (rules_under scheme header number) number 0 (opening number header) commands ranges
     (opening-distinct number header) in
-    chain_front short_keys digest (shown_by (opening number header)) (up_to event_moment epoch events) split.0
-    (subst (IsChain short_keys digest (shown_by (opening number header))) split.1 whole)
+    chain_front scheme.format scheme.digest (shown_by (opening number header)) (up_to event_moment epoch events) split.0
+    (subst (IsChain scheme.format scheme.digest (shown_by (opening number header))) split.1 whole)

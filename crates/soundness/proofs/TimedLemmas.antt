@@ -1,5 +1,6 @@
 -- What the clock tells of the elements that come and go holds of each event of a log.
 use Rattle.std.proofs.Common.{◌≡◌, ℕ, suc, ◌≤◌, List, [], ◌∷◌, Ok, refl, sym, ◌∙◌, ap, subst, inl, inr, arith}
+use Rattle.merkle_records.specs.Scheme.{Scheme}
 use Rattle.std.specs.Ordering.{is_lt}
 use Rattle.lamport_clocks.specs.declared.header.Header.{Header}
 use Rattle.lamport_clocks.specs.declared.stamp.Stamp.{Stamp}
@@ -11,7 +12,7 @@ use Rattle.record_text.specs.declared.element.Element.{Element}
 use Rattle.log_codec.specs.declared.command.Command.{Command}
 use Rattle.merkle_records.specs.Merkle.{Digest}
 use Rattle.verifier_commands.specs.State.{opening}
-use Rattle.verifier_commands.specs.Change.{Change, joins, leaves, comes, goes, defers, reads, writes, turns}
+use Rattle.verifier_commands.specs.Change.{Change, did_add_m, did_evict_m, did_add_b, did_evict_b, did_evict_bm, did_get, did_put, did_next_epoch}
 use Rattle.soundness.specs.History.{Event, log_events}
 use Rattle.soundness.specs.Timed.{IsOfBefore, IsTimed, AreTimed}
 use Rattle.soundness.proofs.HistoryLemmas.{Ticks, ticks-epoch, ticks-first, IsTicking, log-ticks}
@@ -49,14 +50,14 @@ before_received first clock after element from is =
 -- what was done is timed by the clock after it
 timed_ticks : (first : ℕ) (old new : Reading) (change : Change) → IsFrom first old → Ticks old new change
     → IsTimed first new.at change
-timed_ticks first old new (joins parent after child) from is = tt
-timed_ticks first old new (leaves parent after child) from is = tt
-timed_ticks first old new (comes child element) from is = before_received first old new element from is
-timed_ticks first old new (goes child element) from is = sym (sent-at old new element.stamp is)
-timed_ticks first old new (defers parent after child element) from is = sym (sent-at old new element.stamp is)
-timed_ticks first old new (reads entry) from is = tt
-timed_ticks first old new (writes before after) from is = tt
-timed_ticks first old new (turns sealed) from is = tt
+timed_ticks first old new (did_add_m parent after child) from is = tt
+timed_ticks first old new (did_evict_m parent after child) from is = tt
+timed_ticks first old new (did_add_b child element) from is = before_received first old new element from is
+timed_ticks first old new (did_evict_b child element) from is = sym (sent-at old new element.stamp is)
+timed_ticks first old new (did_evict_bm parent after child element) from is = sym (sent-at old new element.stamp is)
+timed_ticks first old new (did_get entry) from is = tt
+timed_ticks first old new (did_put before after) from is = tt
+timed_ticks first old new (did_next_epoch sealed) from is = tt
 
 -- ---- a log
 
@@ -72,8 +73,8 @@ timed_ticking first number index clock (event ∷ events) from ticks = (
 )
 
 -- The elements of a log's events are timed.
-pub log_timed : (digest : Digest) (lanes : List ℕ → List ℕ) (header : Header) (number : ℕ) (commands : List Command)
-    → AreTimed header.first (log_events digest lanes header number commands)
-log_timed digest lanes header number commands =
-    timed_ticking header.first number 0 (opening number header).clock (log_events digest lanes header number commands)
-    (record { begins = refl; reached = omega arith }) (log-ticks digest lanes header number commands)
+pub log_timed : (scheme : Scheme) (header : Header) (number : ℕ) (commands : List Command)
+    → AreTimed header.first (log_events scheme header number commands)
+log_timed scheme header number commands =
+    timed_ticking header.first number 0 (opening number header).clock (log_events scheme header number commands)
+    (record { begins = refl; reached = omega arith }) (log-ticks scheme header number commands)

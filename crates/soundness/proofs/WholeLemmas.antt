@@ -3,11 +3,14 @@ use Rattle.std.proofs.Common.{◌≡◌, ℕ, zero, suc, ◌+◌, eqb, List, [],
 use Rattle.std.proofs.lemmas.Bool.{cond-true, cond-false, eq-eqb, ne_eqb}
 use Rattle.lamport_clocks.specs.declared.header.Header.{Header}
 use Rattle.log_codec.specs.declared.command.Command.{Command}
-use Rattle.merkle_records.specs.Merkle.{Digest, GivesDigests}
+use Rattle.record_hash.specs.Functions.{DigestFunctions}
+use Rattle.record_text.specs.Format.{short_keys}
+use Rattle.merkle_records.specs.Merkle.{GivesDigests}
+use Rattle.merkle_records.specs.Scheme.{Scheme, scheme_of}
 use Rattle.stamp_order.specs.Merged.{IsMerged, up_to, of_verifier}
 use Rattle.soundness.specs.History.{Event, log_events, histories_from, histories_of}
 use Rattle.soundness.specs.Certified.{certified_operations, event_moment, order_of, order_up_to, added_in, evicted_in, certified_count, sealed_by_all}
-use Rattle.soundness.specs.Collision.{exhibit_of}
+use Rattle.soundness.specs.Exhibit.{exhibit_of}
 use Rattle.soundness.specs.Timed.{AreTimed}
 use Rattle.soundness.specs.Scheduled.{IsScheduled, ArePermuted}
 use Rattle.soundness.specs.Sound.{AreTyped, IsSerialOrCollides, commands_of, histories_read}
@@ -21,60 +24,60 @@ use Rattle.soundness.proofs.TypedLemmas.{read_typed}
 -- ---- logs that are read from bytes
 
 -- their commands are typed
-commands_typed : (logs : List (List ℕ)) → AreTyped (commands_of logs)
+commands_typed : (logs : List (List ℕ)) → AreTyped short_keys (commands_of short_keys logs)
 commands_typed [] = tt
 commands_typed (bytes ∷ logs) = (read_typed bytes, commands_typed logs)
 
 -- The operations of the certified epochs are serial, or the exhibit collides.
-pub certified_sound : (digest : Digest) (lanes : List ℕ → List ℕ) (header : Header) (logs : List (List ℕ))
-    → let histories = histories_read digest lanes header logs in
-    let count = certified_count lanes header.first histories in
-    GivesDigests digest
-    → IsSerialOrCollides digest lanes (exhibit_of header.first count histories)
-    (certified_operations lanes header.first histories)
-certified_sound digest lanes header logs digests =
-    let histories = histories_read digest lanes header logs in
-    sound digest lanes header (commands_of logs) (certified_count lanes header.first histories) digests
-    (commands_typed logs) (counted_balanced lanes (order_of histories) header.first (sealed_by_all histories))
+pub certified_sound : (functions : DigestFunctions) (header : Header) (logs : List (List ℕ))
+    → let histories = histories_read (scheme_of functions header) header logs in
+    let count = certified_count (scheme_of functions header) header.first histories in
+    GivesDigests functions.digest
+    → IsSerialOrCollides (scheme_of functions header) (exhibit_of short_keys header.first count histories)
+    (certified_operations (scheme_of functions header) header.first histories)
+certified_sound functions header logs digests =
+    let histories = histories_read (scheme_of functions header) header logs in
+    sound functions header (commands_of short_keys logs) (certified_count (scheme_of functions header) header.first histories) digests
+    (commands_typed logs) (counted_balanced (scheme_of functions header) (order_of histories) header.first (sealed_by_all histories))
 
 -- ---- the schedule
 
 -- Where each epoch up to the last is even, the events up to it are scheduled.
-pub order_scheduled : (digest : Digest) (lanes : List ℕ → List ℕ) (header : Header) (logs : List (List Command))
+pub order_scheduled : (scheme : Scheme) (header : Header) (logs : List (List Command))
     (last : ℕ)
-    → ArePermuted header.first last (order_of (histories_of digest lanes header logs))
-    → IsScheduled [] (order_up_to last (histories_of digest lanes header logs))
-order_scheduled digest lanes header logs last permuted =
-    let histories = histories_of digest lanes header logs in
+    → ArePermuted header.first last (order_of (histories_of scheme header logs))
+    → IsScheduled [] (order_up_to last (histories_of scheme header logs))
+order_scheduled scheme header logs last permuted =
+    let histories = histories_of scheme header logs in
     let order = order_of histories in
     let split = order_splits last histories in
     let even : AreEven header.first last order = λ epoch from up x.
     count_permuted (added_in epoch order) (evicted_in epoch order) (permuted epoch from up) x in
     scheduled header.first last (order_up_to last histories) split.0 (all_within last order)
     (subst (λ (l : List Event). IsMerged event_moment l) split.1 (order_sorted histories))
-    (subst (λ (l : List Event). AreTimed header.first l) split.1 (order_timed digest lanes header logs))
+    (subst (λ (l : List Event). AreTimed header.first l) split.1 (order_timed scheme header logs))
     (subst (λ (l : List Event). AreEven header.first last l) split.1 even)
 
 -- ---- each log's part
 
 -- a verifier's history is the one at its place
-history_there : (digest : Digest) (lanes : List ℕ → List ℕ) (header : Header) (number : ℕ) (logs : List (List Command))
+history_there : (scheme : Scheme) (header : Header) (number : ℕ) (logs : List (List Command))
     (i v : ℕ) → v ≡ number + i
-    → history_of digest lanes header number logs v ≡ get_or (histories_from digest lanes header number logs) i []
-history_there digest lanes header number [] i v is = refl
-history_there digest lanes header number (log ∷ logs) zero v is =
-    cond-true (eqb number v) (log_events digest lanes header number log)
-    (history_of digest lanes header (suc number) logs v) (eq-eqb number v (omega (arith, is)))
-history_there digest lanes header number (log ∷ logs) (suc i) v is =
-    cond-false (eqb number v) (log_events digest lanes header number log)
-    (history_of digest lanes header (suc number) logs v) (ne_eqb number v (λ same. absurd (omega (arith, same, is))))
-    ∙ history_there digest lanes header (suc number) logs i v (omega (arith, is))
+    → history_of scheme header number logs v ≡ get_or (histories_from scheme header number logs) i []
+history_there scheme header number [] i v is = refl
+history_there scheme header number (log ∷ logs) zero v is =
+    cond-true (eqb number v) (log_events scheme header number log)
+    (history_of scheme header (suc number) logs v) (eq-eqb number v (omega (arith, is)))
+history_there scheme header number (log ∷ logs) (suc i) v is =
+    cond-false (eqb number v) (log_events scheme header number log)
+    (history_of scheme header (suc number) logs v) (ne_eqb number v (λ same. absurd (omega (arith, same, is))))
+    ∙ history_there scheme header (suc number) logs i v (omega (arith, is))
 
 -- A verifier's part of the merged order up to an epoch is its history up to that epoch.
-pub order_part : (digest : Digest) (lanes : List ℕ → List ℕ) (header : Header) (logs : List (List Command))
+pub order_part : (scheme : Scheme) (header : Header) (logs : List (List Command))
     (epoch v : ℕ)
-    → of_verifier event_moment v (order_up_to epoch (histories_of digest lanes header logs))
-    ≡ up_to event_moment epoch (get_or (histories_of digest lanes header logs) v [])
-order_part digest lanes header logs epoch v =
-    part_up_to digest lanes header (are_histories digest lanes header) logs epoch v
-    ∙ ap (up_to event_moment epoch) (history_there digest lanes header 0 logs v v (omega arith))
+    → of_verifier event_moment v (order_up_to epoch (histories_of scheme header logs))
+    ≡ up_to event_moment epoch (get_or (histories_of scheme header logs) v [])
+order_part scheme header logs epoch v =
+    part_up_to scheme header (are_histories scheme header) logs epoch v
+    ∙ ap (up_to event_moment epoch) (history_there scheme header 0 logs v v (omega arith))

@@ -10,8 +10,8 @@ use Rattle.record_text.specs.Format.{Format, path_bits}
 use Rattle.merkle_records.specs.Merkle.{Digest}
 use Rattle.verifier_cache.specs.declared.entry.Entry.{Entry}
 use Rattle.verifier_commands.specs.Outcome.{blob_of}
-use Rattle.soundness.specs.Exhibit.{Taken}
-use Rattle.soundness.specs.Deeds.{Shown, showing, ShowSame, showing_both}
+use Rattle.soundness.specs.Clash.{LastEvicted}
+use Rattle.soundness.specs.Showing.{Shown, showing, ShowSame, showing_both}
 use Rattle.soundness.specs.Spot.{Spot, untouched, cached, merkle, waiting, Spots, IsTree}
 use Rattle.soundness.specs.World.{cached_in, blob_at, AllShown, with_shown, Stored, IsWorld}
 use Rattle.soundness.proofs.MovedLemmas.{this_or_other}
@@ -66,7 +66,7 @@ shown_cases shown home next other path entry here elsewhere = go (cases_eq other
 -- ---- the world, once one record moves
 
 -- The record of a path moves, in or out of this verifier's cache or within it, and its data value stays or is written.
-pub world_one : (format : Format) (digest : Digest) (shown : AllShown) (taken now_taken : Taken) (stored now_stored : Stored) (spots : Spots) (home : ℕ) (next : Shown) (k : List Bool) (spot : Spot)
+pub world_one : (format : Format) (digest : Digest) (shown : AllShown) (taken now_taken : LastEvicted) (stored now_stored : Stored) (spots : Spots) (home : ℕ) (next : Shown) (k : List Bool) (spot : Spot)
     → IsWorld format digest shown taken stored spots
     → IsTree format digest (with_spot spots k spot)
     → ShowSame next (showing (shown home) k (cached_in home spot))
@@ -107,7 +107,7 @@ with_pair_other spots home after k j spot apart further =
     ∙ with_spot_other spots after.path j (cached home after) apart
 
 -- A parent in this verifier's cache and its child change, and keep their data values.
-pub world_pair : (format : Format) (digest : Digest) (shown : AllShown) (taken now_taken : Taken) (stored : Stored) (spots : Spots) (home : ℕ) (next : Shown) (before after : Entry) (k : List Bool) (spot : Spot)
+pub world_pair : (format : Format) (digest : Digest) (shown : AllShown) (taken now_taken : LastEvicted) (stored : Stored) (spots : Spots) (home : ℕ) (next : Shown) (before after : Entry) (k : List Bool) (spot : Spot)
     → IsWorld format digest shown taken stored spots
     → IsTree format digest (with_pair spots home after k spot)
     → spots after.path ≡ cached home before → after.path ≢ k

@@ -4,8 +4,7 @@ use Rattle.std.specs.List.{flat_map}
 use Rattle.tree_keys.specs.Bits.{number_of}
 use Rattle.record_text.specs.declared.element.Element.{Element}
 use Rattle.record_text.specs.declared.operation.Operation.{Operation}
-use Rattle.record_text.specs.Format.{short_keys}
-use Rattle.record_text.specs.Texts.{element_text}
+use Rattle.merkle_records.specs.Scheme.{Scheme, lanes_of}
 use Rattle.multiset_sum.specs.Tally.{Tally}
 use Rattle.multiset_sum.specs.Sum.{sum_of}
 use Rattle.stamp_order.specs.declared.moment.Moment.{Moment}
@@ -13,7 +12,7 @@ use Rattle.stamp_order.specs.Merged.{merged, up_to}
 use Rattle.verifier_cache.specs.declared.entry.Entry.{Entry}
 use Rattle.record_text.specs.Same.{same_bytes}
 use Rattle.verifier_commands.specs.Outcome.{blob_of}
-use Rattle.verifier_commands.specs.Change.{Change, joins, leaves, comes, goes, defers, reads, writes, turns}
+use Rattle.verifier_commands.specs.Change.{Change, did_add_m, did_evict_m, did_add_b, did_evict_b, did_evict_bm, did_get, did_put, did_next_epoch}
 use Rattle.soundness.specs.History.{Event}
 
 -- ---- the merged order
@@ -49,14 +48,14 @@ operation_at event put entry = record {
 
 -- the operation that a change is, if it is one
 abbrev pub operations_by : Event → Change → List Operation
-operations_by event (joins parent after child) = []
-operations_by event (leaves parent after child) = []
-operations_by event (comes child element) = []
-operations_by event (goes child element) = []
-operations_by event (defers parent after child element) = []
-operations_by event (reads entry) = operation_at event false entry ∷ []
-operations_by event (writes before after) = operation_at event true after ∷ []
-operations_by event (turns sealed) = []
+operations_by event (did_add_m parent after child) = []
+operations_by event (did_evict_m parent after child) = []
+operations_by event (did_add_b child element) = []
+operations_by event (did_evict_b child element) = []
+operations_by event (did_evict_bm parent after child element) = []
+operations_by event (did_get entry) = operation_at event false entry ∷ []
+operations_by event (did_put before after) = operation_at event true after ∷ []
+operations_by event (did_next_epoch sealed) = []
 
 -- the operations among events
 abbrev pub operations_in : List Event → List Operation
@@ -65,24 +64,24 @@ operations_in events = flat_map (λ event. operations_by event event.change) eve
 -- ---- elements (Blum et al. 1994)
 
 abbrev pub added_by : Change → List Element
-added_by (joins parent after child) = []
-added_by (leaves parent after child) = []
-added_by (comes child element) = element ∷ []
-added_by (goes child element) = []
-added_by (defers parent after child element) = []
-added_by (reads entry) = []
-added_by (writes before after) = []
-added_by (turns sealed) = []
+added_by (did_add_m parent after child) = []
+added_by (did_evict_m parent after child) = []
+added_by (did_add_b child element) = element ∷ []
+added_by (did_evict_b child element) = []
+added_by (did_evict_bm parent after child element) = []
+added_by (did_get entry) = []
+added_by (did_put before after) = []
+added_by (did_next_epoch sealed) = []
 
 abbrev pub evicted_by : Change → List Element
-evicted_by (joins parent after child) = []
-evicted_by (leaves parent after child) = []
-evicted_by (comes child element) = []
-evicted_by (goes child element) = element ∷ []
-evicted_by (defers parent after child element) = element ∷ []
-evicted_by (reads entry) = []
-evicted_by (writes before after) = []
-evicted_by (turns sealed) = []
+evicted_by (did_add_m parent after child) = []
+evicted_by (did_evict_m parent after child) = []
+evicted_by (did_add_b child element) = []
+evicted_by (did_evict_b child element) = element ∷ []
+evicted_by (did_evict_bm parent after child element) = element ∷ []
+evicted_by (did_get entry) = []
+evicted_by (did_put before after) = []
+evicted_by (did_next_epoch sealed) = []
 
 -- the elements of an epoch
 abbrev pub of_epoch : ℕ → List Element → List Element
@@ -97,8 +96,8 @@ abbrev pub evicted_in : ℕ → List Event → List Element
 evicted_in epoch events = of_epoch epoch (flat_map (λ event. evicted_by event.change) events)
 
 -- the sum of elements: of each lane, and their number
-abbrev pub sum_over : (List ℕ → List ℕ) → List Element → Tally
-sum_over lanes elements = sum_of (map (λ element. lanes (element_text short_keys element)) elements)
+abbrev pub sum_over : Scheme → List Element → Tally
+sum_over scheme elements = sum_of (map (lanes_of scheme) elements)
 
 -- two sums are equal, in each lane and in the count
 abbrev pub same_sum : Tally → Tally → Bool
@@ -112,14 +111,14 @@ epochs_in (Some epoch) = epoch ∷ []
 
 -- the epoch that a change seals, if it seals one
 abbrev pub sealed_by : Change → List ℕ
-sealed_by (joins parent after child) = []
-sealed_by (leaves parent after child) = []
-sealed_by (comes child element) = []
-sealed_by (goes child element) = []
-sealed_by (defers parent after child element) = []
-sealed_by (reads entry) = []
-sealed_by (writes before after) = []
-sealed_by (turns sealed) = epochs_in sealed
+sealed_by (did_add_m parent after child) = []
+sealed_by (did_evict_m parent after child) = []
+sealed_by (did_add_b child element) = []
+sealed_by (did_evict_b child element) = []
+sealed_by (did_evict_bm parent after child element) = []
+sealed_by (did_get entry) = []
+sealed_by (did_put before after) = []
+sealed_by (did_next_epoch sealed) = epochs_in sealed
 
 -- how many epochs a history has sealed: they are those from the first on
 abbrev pub sealed_count : List Event → ℕ
@@ -132,19 +131,19 @@ sealed_by_all (history ∷ []) = sealed_count history
 sealed_by_all (history ∷ other ∷ histories) = min (sealed_count history) (sealed_by_all (other ∷ histories))
 
 -- what was added of an epoch and what was evicted of it have one sum
-abbrev pub is_balanced : (List ℕ → List ℕ) → List Event → ℕ → Bool
-is_balanced lanes events epoch = same_sum (sum_over lanes (added_in epoch events)) (sum_over lanes (evicted_in epoch events))
+abbrev pub is_balanced : Scheme → List Event → ℕ → Bool
+is_balanced scheme events epoch = same_sum (sum_over scheme (added_in epoch events)) (sum_over scheme (evicted_in epoch events))
 
 -- of so many epochs, how many from this one on are balanced, up to the first that is not
-abbrev pub balanced_from : (List ℕ → List ℕ) → List Event → ℕ → ℕ → ℕ
-balanced_from lanes events epoch zero = 0
-balanced_from lanes events epoch (suc count) =
-    if is_balanced lanes events epoch then suc (balanced_from lanes events (suc epoch) count) else 0
+abbrev pub balanced_from : Scheme → List Event → ℕ → ℕ → ℕ
+balanced_from scheme events epoch zero = 0
+balanced_from scheme events epoch (suc count) =
+    if is_balanced scheme events epoch then suc (balanced_from scheme events (suc epoch) count) else 0
 
 -- How many epochs are certified, from the first on: those that all verifiers have sealed, up to the first whose
 -- sums differ.
-abbrev pub certified_count : (List ℕ → List ℕ) → ℕ → List (List Event) → ℕ
-certified_count lanes first histories = balanced_from lanes (order_of histories) first (sealed_by_all histories)
+abbrev pub certified_count : Scheme → ℕ → List (List Event) → ℕ
+certified_count scheme first histories = balanced_from scheme (order_of histories) first (sealed_by_all histories)
 
 -- the events of so many epochs from the first on, in order
 abbrev pub order_within : ℕ → ℕ → List (List Event) → List Event
@@ -152,5 +151,5 @@ order_within first zero histories = []
 order_within first (suc count) histories = order_up_to (first + count) histories
 
 -- The certified operations: all those of the certified epochs, in order.
-abbrev pub certified_operations : (List ℕ → List ℕ) → ℕ → List (List Event) → List Operation
-certified_operations lanes first histories = operations_in (order_within first (certified_count lanes first histories) histories)
+abbrev pub certified_operations : Scheme → ℕ → List (List Event) → List Operation
+certified_operations scheme first histories = operations_in (order_within first (certified_count scheme first histories) histories)

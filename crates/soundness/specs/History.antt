@@ -3,9 +3,8 @@ use Rattle.std.specs.Prelude.{ℕ, suc, List, [], ◌∷◌, Option, Some, None,
 use Rattle.lamport_clocks.specs.declared.header.Header.{Header}
 use Rattle.lamport_clocks.specs.declared.stamp.Stamp.{Stamp}
 use Rattle.record_text.specs.declared.refusal.Refusal.{Refusal}
-use Rattle.record_text.specs.Format.{short_keys}
 use Rattle.log_codec.specs.declared.command.Command.{Command}
-use Rattle.merkle_records.specs.Merkle.{Digest}
+use Rattle.merkle_records.specs.Scheme.{Scheme}
 use Rattle.verifier_commands.specs.declared.state.State.{State}
 use Rattle.verifier_commands.specs.State.{opening}
 use Rattle.verifier_commands.specs.Change.{Change}
@@ -37,18 +36,17 @@ events_from machinery verifier index state (command ∷ commands) =
     (λ after. events_from machinery verifier (suc index) after commands)
 
 -- the rules for a verifier of this number under a header
-abbrev pub rules_under : Digest → (List ℕ → List ℕ) → Header → ℕ → Rules
-rules_under digest lanes header number =
-    record { format = short_keys; digest = digest; lanes = lanes; number = number; verifiers = header.verifiers }
+abbrev pub rules_under : Scheme → Header → ℕ → Rules
+rules_under scheme header number = record { scheme = scheme; number = number; verifiers = header.verifiers }
 
 -- the machinery of a verifier: the command table, and its state's clock
 abbrev pub machinery_under : Rules → Machinery State Command
 machinery_under rules = record { step = transition rules; clock = λ state. state.clock.at }
 
 -- the events of a whole log of the verifier of this number
-abbrev pub log_events : Digest → (List ℕ → List ℕ) → Header → ℕ → List Command → List Event
-log_events digest lanes header number commands =
-    events_from (machinery_under (rules_under digest lanes header number)) number 0 (opening number header) commands
+abbrev pub log_events : Scheme → Header → ℕ → List Command → List Event
+log_events scheme header number commands =
+    events_from (machinery_under (rules_under scheme header number)) number 0 (opening number header) commands
 
 -- why the next command is refused, if it is; a step that is not goes on
 abbrev pub refusal_behind : {S : Type 0} → Result (Change × S) Refusal → (S → Option Refusal) → Option Refusal
@@ -62,16 +60,16 @@ refusal_from machinery state (command ∷ commands) =
     refusal_behind (machinery.step state command) (λ after. refusal_from machinery after commands)
 
 -- the refusal that ends the commands of a whole log of the verifier of this number, if one does
-abbrev pub log_refusal : Digest → (List ℕ → List ℕ) → Header → ℕ → List Command → Option Refusal
-log_refusal digest lanes header number commands =
-    refusal_from (machinery_under (rules_under digest lanes header number)) (opening number header) commands
+abbrev pub log_refusal : Scheme → Header → ℕ → List Command → Option Refusal
+log_refusal scheme header number commands =
+    refusal_from (machinery_under (rules_under scheme header number)) (opening number header) commands
 
 -- the histories of logs, the first of which is of the verifier of this number
-abbrev pub histories_from : Digest → (List ℕ → List ℕ) → Header → ℕ → List (List Command) → List (List Event)
-histories_from digest lanes header number [] = []
-histories_from digest lanes header number (log ∷ logs) =
-    log_events digest lanes header number log ∷ histories_from digest lanes header (suc number) logs
+abbrev pub histories_from : Scheme → Header → ℕ → List (List Command) → List (List Event)
+histories_from scheme header number [] = []
+histories_from scheme header number (log ∷ logs) =
+    log_events scheme header number log ∷ histories_from scheme header (suc number) logs
 
 -- the histories of all logs of a bundle, that of verifier 0 first
-abbrev pub histories_of : Digest → (List ℕ → List ℕ) → Header → List (List Command) → List (List Event)
-histories_of digest lanes header logs = histories_from digest lanes header 0 logs
+abbrev pub histories_of : Scheme → Header → List (List Command) → List (List Event)
+histories_of scheme header logs = histories_from scheme header 0 logs

@@ -1,12 +1,13 @@
 -- The definitions of soundness, in reading order.
 pub mod History
 pub mod Certified
-pub mod Exhibit
+pub mod Clash
 pub mod Spot
 pub mod Typed
-pub mod Deeds
+pub mod Showing
 pub mod Timed
 pub mod Permutation
+pub mod Exhibit
 pub mod Collision
 pub mod Scheduled
 pub mod World

@@ -5,10 +5,10 @@ use Rattle.lamport_clocks.specs.declared.header.Header.{Header}
 use Rattle.record_text.specs.declared.exhibit.Exhibit.{Exhibit}
 use Rattle.record_text.specs.declared.exhibit.Exhibit.TheVariants.{Clean}
 use Rattle.record_text.specs.declared.operation.Operation.{Operation}
-use Rattle.record_text.specs.Format.{short_keys}
+use Rattle.record_text.specs.Format.{Format}
 use Rattle.log_codec.specs.declared.command.Command.{Command}
 use Rattle.log_codec.specs.Log.{read_log}
-use Rattle.merkle_records.specs.Merkle.{Digest}
+use Rattle.merkle_records.specs.Scheme.{Scheme}
 use Rattle.stamp_order.specs.Serial.{IsSerial}
 use Rattle.soundness.specs.History.{Event, histories_of}
 use Rattle.soundness.specs.Certified.{is_balanced}
@@ -16,22 +16,22 @@ use Rattle.soundness.specs.Typed.{IsTyped}
 use Rattle.soundness.specs.Collision.{Collides}
 
 -- the commands of each log are typed
-abbrev pub AreTyped : List (List Command) → Type 0
-AreTyped logs = AllByRecursion (AllByRecursion (IsTyped short_keys)) logs
+abbrev pub AreTyped : Format → List (List Command) → Type 0
+AreTyped format logs = AllByRecursion (AllByRecursion (IsTyped format)) logs
 
 -- each of so many epochs from one on is balanced
-abbrev pub AreBalanced : (List ℕ → List ℕ) → List Event → ℕ → ℕ → Type 0
-AreBalanced lanes events first count =
-    (epoch : ℕ) → first ≤ epoch → epoch < first + count → is_balanced lanes events epoch ≡ true
+abbrev pub AreBalanced : Scheme → List Event → ℕ → ℕ → Type 0
+AreBalanced scheme events first count =
+    (epoch : ℕ) → first ≤ epoch → epoch < first + count → is_balanced scheme events epoch ≡ true
 
 -- there is nothing to exhibit and the operations are serial, or the exhibit collides
-abbrev pub IsSerialOrCollides : Digest → (List ℕ → List ℕ) → Exhibit → List Operation → Type 0
-IsSerialOrCollides digest lanes exhibit operations = ((exhibit ≡ Clean) × IsSerial operations) ⊎ Collides digest lanes exhibit
+abbrev pub IsSerialOrCollides : Scheme → Exhibit → List Operation → Type 0
+IsSerialOrCollides scheme exhibit operations = ((exhibit ≡ Clean) × IsSerial operations) ⊎ Collides scheme exhibit
 
 -- the commands of each log, of which these are the bytes
-abbrev pub commands_of : List (List ℕ) → List (List Command)
-commands_of logs = map (λ bytes. (read_log short_keys bytes).commands) logs
+abbrev pub commands_of : Format → List (List ℕ) → List (List Command)
+commands_of format logs = map (λ bytes. (read_log format bytes).commands) logs
 
 -- the histories of logs of which these are the bytes, that of verifier 0 first
-abbrev pub histories_read : Digest → (List ℕ → List ℕ) → Header → List (List ℕ) → List (List Event)
-histories_read digest lanes header logs = histories_of digest lanes header (commands_of logs)
+abbrev pub histories_read : Scheme → Header → List (List ℕ) → List (List Event)
+histories_read scheme header logs = histories_of scheme header (commands_of scheme.format logs)

@@ -5,7 +5,7 @@ use Rattle.std.specs.Ordering.{is_lt}
 use Rattle.lamport_clocks.specs.declared.stamp.Stamp.{Stamp}
 use Rattle.lamport_clocks.specs.Stamp.{stamp_cmp}
 use Rattle.record_text.specs.declared.element.Element.{Element}
-use Rattle.verifier_commands.specs.Change.{Change, joins, leaves, comes, goes, defers, reads, writes, turns}
+use Rattle.verifier_commands.specs.Change.{Change, did_add_m, did_evict_m, did_add_b, did_evict_b, did_evict_bm, did_get, did_put, did_next_epoch}
 use Rattle.soundness.specs.History.{Event}
 use Rattle.soundness.specs.Certified.{evicted_by}
 
@@ -20,14 +20,14 @@ pub record IsOfBefore (first : ℕ) (at : Stamp) (element : Element) : Type 0 wh
 
 -- An element that comes was stamped before the clock, and one that goes is stamped with it.
 abbrev pub IsTimed : ℕ → Stamp → Change → Type 0
-IsTimed first at (joins parent after child) = Unit {0}
-IsTimed first at (leaves parent after child) = Unit {0}
-IsTimed first at (comes child element) = IsOfBefore first at element
-IsTimed first at (goes child element) = element.stamp ≡ at
-IsTimed first at (defers parent after child element) = element.stamp ≡ at
-IsTimed first at (reads entry) = Unit {0}
-IsTimed first at (writes before after) = Unit {0}
-IsTimed first at (turns sealed) = Unit {0}
+IsTimed first at (did_add_m parent after child) = Unit {0}
+IsTimed first at (did_evict_m parent after child) = Unit {0}
+IsTimed first at (did_add_b child element) = IsOfBefore first at element
+IsTimed first at (did_evict_b child element) = element.stamp ≡ at
+IsTimed first at (did_evict_bm parent after child element) = element.stamp ≡ at
+IsTimed first at (did_get entry) = Unit {0}
+IsTimed first at (did_put before after) = Unit {0}
+IsTimed first at (did_next_epoch sealed) = Unit {0}
 
 -- each of these events is timed
 abbrev pub AreTimed : ℕ → List Event → Type 0

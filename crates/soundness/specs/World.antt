@@ -6,18 +6,18 @@ use Rattle.lamport_clocks.specs.declared.header.Header.{Header}
 use Rattle.record_text.specs.declared.value.Value.{Value}
 use Rattle.record_text.specs.declared.element.Element.{Element}
 use Rattle.record_text.specs.declared.operation.Operation.{Operation}
-use Rattle.record_text.specs.Format.{Format, short_keys, path_bits}
+use Rattle.record_text.specs.Format.{Format, format_of, path_bits}
 use Rattle.merkle_records.specs.Merkle.{Digest}
 use Rattle.stamp_order.specs.Serial.{none_everywhere, map_after}
 use Rattle.verifier_cache.specs.declared.entry.Entry.{Entry}
 use Rattle.verifier_commands.specs.State.{opening}
 use Rattle.verifier_commands.specs.Outcome.{blob_of}
-use Rattle.verifier_commands.specs.Change.{Change, joins, leaves, comes, goes, defers, reads, writes, turns}
+use Rattle.verifier_commands.specs.Change.{Change, did_add_m, did_evict_m, did_add_b, did_evict_b, did_evict_bm, did_get, did_put, did_next_epoch}
 use Rattle.soundness.specs.History.{Event}
 use Rattle.soundness.specs.Certified.{operations_in}
-use Rattle.soundness.specs.Exhibit.{Taken, none_taken, taken_after}
+use Rattle.soundness.specs.Clash.{LastEvicted, none_evicted, last_evicted_after}
 use Rattle.soundness.specs.Permutation.{count_of, without_one}
-use Rattle.soundness.specs.Deeds.{Shown, shown_by, showing, showing_both}
+use Rattle.soundness.specs.Showing.{Shown, shown_by, showing, showing_both}
 use Rattle.soundness.specs.Spot.{Spot, untouched, cached, merkle, waiting, Spots, value_at, IsTree}
 
 -- ---- what a spot shows
@@ -54,7 +54,7 @@ Stored = ℕ → Option (List ℕ)
 
 -- The spots are a tree, the caches show them, a record that is kept by its digest was taken by an evictM, and the
 -- data values are those of the plain map.
-pub record IsWorld (format : Format) (digest : Digest) (shown : AllShown) (taken : Taken) (stored : Stored)
+pub record IsWorld (format : Format) (digest : Digest) (shown : AllShown) (taken : LastEvicted) (stored : Stored)
     (spots : Spots) : Type 0 where
   pub tree : IsTree format digest spots
   pub shows : (home : ℕ) (path : List Bool) → shown home path ≡ cached_in home (spots path)
@@ -74,14 +74,14 @@ opening_shown header = λ number. shown_by (opening number header)
 
 -- what a cache shows, once this was done
 abbrev pub shown_after : Shown → Change → Shown
-shown_after shown (joins parent after child) = showing_both shown after child.path (Some child)
-shown_after shown (leaves parent after child) = showing_both shown after child.path None
-shown_after shown (comes child element) = showing shown child.path (Some child)
-shown_after shown (goes child element) = showing shown child.path None
-shown_after shown (defers parent after child element) = showing_both shown after child.path None
-shown_after shown (reads entry) = shown
-shown_after shown (writes before after) = showing shown before.path (Some after)
-shown_after shown (turns sealed) = shown
+shown_after shown (did_add_m parent after child) = showing_both shown after child.path (Some child)
+shown_after shown (did_evict_m parent after child) = showing_both shown after child.path None
+shown_after shown (did_add_b child element) = showing shown child.path (Some child)
+shown_after shown (did_evict_b child element) = showing shown child.path None
+shown_after shown (did_evict_bm parent after child element) = showing_both shown after child.path None
+shown_after shown (did_get entry) = shown
+shown_after shown (did_put before after) = showing shown before.path (Some after)
+shown_after shown (did_next_epoch sealed) = shown
 
 -- what each verifier's cache shows behind events
 abbrev pub shown_behind : AllShown → List Event → AllShown
@@ -94,20 +94,20 @@ abbrev pub changes_in : List Event → List Change
 changes_in events = map (λ event. event.change) events
 
 -- what was taken, once all this was done
-abbrev pub taken_behind : Taken → List Change → Taken
-taken_behind taken [] = taken
-taken_behind taken (change ∷ changes) = taken_behind (taken_after taken change) changes
+abbrev pub last_evicted_behind : LastEvicted → List Change → LastEvicted
+last_evicted_behind taken [] = taken
+last_evicted_behind taken (change ∷ changes) = last_evicted_behind (last_evicted_after taken change) changes
 
 -- the elements that wait, once this was done
 abbrev pub pending_after : List Element → Change → List Element
-pending_after pending (joins parent after child) = pending
-pending_after pending (leaves parent after child) = pending
-pending_after pending (comes child element) = unwrap_or (without_one element pending) pending
-pending_after pending (goes child element) = element ∷ pending
-pending_after pending (defers parent after child element) = element ∷ pending
-pending_after pending (reads entry) = pending
-pending_after pending (writes before after) = pending
-pending_after pending (turns sealed) = pending
+pending_after pending (did_add_m parent after child) = pending
+pending_after pending (did_evict_m parent after child) = pending
+pending_after pending (did_add_b child element) = unwrap_or (without_one element pending) pending
+pending_after pending (did_evict_b child element) = element ∷ pending
+pending_after pending (did_evict_bm parent after child element) = element ∷ pending
+pending_after pending (did_get entry) = pending
+pending_after pending (did_put before after) = pending
+pending_after pending (did_next_epoch sealed) = pending
 
 -- the elements that wait, once all this was done
 abbrev pub pending_behind : List Element → List Change → List Element
@@ -124,29 +124,29 @@ stored_behind stored (operation ∷ operations) = stored_behind (map_after opera
 -- The spots agree with what the caches show behind these events, what was taken by them, and their plain map; and
 -- what was evicted and not added back waits.
 pub record IsBehind (digest : Digest) (header : Header) (events : List Event) (spots : Spots) : Type 0 where
-  pub world : IsWorld short_keys digest (shown_behind (opening_shown header) events)
-      (taken_behind none_taken (changes_in events)) (stored_behind none_everywhere (operations_in events)) spots
+  pub world : IsWorld (format_of header) digest (shown_behind (opening_shown header) events)
+      (last_evicted_behind none_evicted (changes_in events)) (stored_behind none_everywhere (operations_in events)) spots
   pub waits : IsWaiting spots (pending_behind [] (changes_in events))
 
--- each path has one place behind these events
-abbrev pub HavePlaces : Digest → Header → List Event → Type 0
-HavePlaces digest header events = (spots : Spots) × IsBehind digest header events spots
+-- each path has one spot behind these events
+abbrev pub HaveSpots : Digest → Header → List Event → Type 0
+HaveSpots digest header events = (spots : Spots) × IsBehind digest header events spots
 
 -- a child joins where nothing was, or with the value that its digest keeps and the last evictM took; an element comes
 -- where it waits, and its record comes in with its value
-abbrev pub TakesWhatIsThere : Taken → Spots → Change → Type 0
-TakesWhatIsThere taken spots (joins parent after child) =
+abbrev pub TakesWhatIsThere : LastEvicted → Spots → Change → Type 0
+TakesWhatIsThere taken spots (did_add_m parent after child) =
     (spots child.path ≡ untouched) ⊎ ((spots child.path ≡ merkle child.value) × (taken child.path ≡ Some child.value))
-TakesWhatIsThere taken spots (comes child element) = (spots child.path ≡ waiting element) × (child.value ≡ element.value)
-TakesWhatIsThere taken spots (leaves parent after child) = Unit {0}
-TakesWhatIsThere taken spots (goes child element) = Unit {0}
-TakesWhatIsThere taken spots (defers parent after child element) = Unit {0}
-TakesWhatIsThere taken spots (reads entry) = Unit {0}
-TakesWhatIsThere taken spots (writes before after) = Unit {0}
-TakesWhatIsThere taken spots (turns sealed) = Unit {0}
+TakesWhatIsThere taken spots (did_add_b child element) = (spots child.path ≡ waiting element) × (child.value ≡ element.value)
+TakesWhatIsThere taken spots (did_evict_m parent after child) = Unit {0}
+TakesWhatIsThere taken spots (did_evict_b child element) = Unit {0}
+TakesWhatIsThere taken spots (did_evict_bm parent after child element) = Unit {0}
+TakesWhatIsThere taken spots (did_get entry) = Unit {0}
+TakesWhatIsThere taken spots (did_put before after) = Unit {0}
+TakesWhatIsThere taken spots (did_next_epoch sealed) = Unit {0}
 
--- each path has one place behind these events, and the next change takes what is there
-abbrev pub TakesFromPlaces : Digest → Header → List Event → Change → Type 0
-TakesFromPlaces digest header events change =
+-- each path has one spot behind these events, and the next change takes what is there
+abbrev pub TakesFromSpots : Digest → Header → List Event → Change → Type 0
+TakesFromSpots digest header events change =
     (spots : Spots) × IsBehind digest header events spots
-    × TakesWhatIsThere (taken_behind none_taken (changes_in events)) spots change
+    × TakesWhatIsThere (last_evicted_behind none_evicted (changes_in events)) spots change

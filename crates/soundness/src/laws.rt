@@ -4,92 +4,94 @@ ghost use Rattle.std.specs.Prelude.{◌≡◌, ℕ, List, [], ◌∷◌, ◌++�
 ghost use Rattle.std.specs.List.{AllByRecursion};
 ghost use Rattle.lamport_clocks.specs.declared.header.Header.{Header};
 ghost use Rattle.log_codec.specs.declared.command.Command.{Command};
-ghost use Rattle.merkle_records.specs.Merkle.{Digest, GivesDigests};
+ghost use Rattle.record_hash.specs.Functions.{DigestFunctions};
+ghost use Rattle.merkle_records.specs.Merkle.{GivesDigests};
+ghost use Rattle.merkle_records.specs.Scheme.{scheme_of};
 ghost use Rattle.stamp_order.specs.Merged.{up_to, of_verifier};
-ghost use Rattle.record_text.specs.Format.{short_keys};
+ghost use Rattle.record_text.specs.Format.{format_of};
 ghost use Rattle.soundness.specs.History.{Event, log_events, histories_of};
 ghost use Rattle.soundness.specs.Certified.{event_moment, order_of, order_up_to, order_within, operations_in, certified_count, certified_operations};
 ghost use Rattle.soundness.specs.Timed.{AreTimed, evicted_among, IsRising};
-ghost use Rattle.soundness.specs.Exhibit.{none_taken, first_clash};
-ghost use Rattle.soundness.specs.Collision.{exhibit_of};
+ghost use Rattle.soundness.specs.Clash.{none_evicted, first_clash};
+ghost use Rattle.soundness.specs.Exhibit.{exhibit_of};
 ghost use Rattle.soundness.specs.Scheduled.{IsScheduled, ArePermuted};
 ghost use Rattle.soundness.specs.Sound.{AreTyped, AreBalanced, IsSerialOrCollides, histories_read};
-ghost use Rattle.soundness.specs.World.{changes_in, HavePlaces, TakesFromPlaces};
+ghost use Rattle.soundness.specs.World.{changes_in, HaveSpots, TakesFromSpots};
 
 /// Of epochs that are balanced, from the first on, the gets and puts are serial and there is nothing to
 /// exhibit, or the exhibit collides. Whatever bytes the logs are, so it is of the certified epochs.
 pub fn certified_is_serial_or_collides()
-    ensures sound { (digest : Digest) (lanes : List ℕ → List ℕ) (header : Header)
+    ensures sound { (functions : DigestFunctions) (header : Header)
         (logs : List (List Command)) (count : ℕ)
-        → let histories = histories_of digest lanes header logs in
-        GivesDigests digest → AreTyped logs → AreBalanced lanes (order_of histories) header.first count
-        → IsSerialOrCollides digest lanes (exhibit_of header.first count histories)
+        → let histories = histories_of (scheme_of functions header) header logs in
+        GivesDigests functions.digest → AreTyped (format_of header) logs → AreBalanced (scheme_of functions header) (order_of histories) header.first count
+        → IsSerialOrCollides (scheme_of functions header) (exhibit_of (format_of header) header.first count histories)
         (operations_in (order_within header.first count histories)) }
-    ensures certified { (digest : Digest) (lanes : List ℕ → List ℕ) (header : Header)
+    ensures certified { (functions : DigestFunctions) (header : Header)
         (logs : List (List ℕ))
-        → let histories = histories_read digest lanes header logs in
-        let count = certified_count lanes header.first histories in
-        GivesDigests digest
-        → IsSerialOrCollides digest lanes (exhibit_of header.first count histories)
-        (certified_operations lanes header.first histories) }
+        → let histories = histories_read (scheme_of functions header) header logs in
+        let count = certified_count (scheme_of functions header) header.first histories in
+        GivesDigests functions.digest
+        → IsSerialOrCollides (scheme_of functions header) (exhibit_of (format_of header) header.first count histories)
+        (certified_operations (scheme_of functions header) header.first histories) }
 {}
 
 /// A clock is above the stamps that it took in, and an evicted element is stamped with it. A verifier evicts
 /// elements of its own number alone, and each of them is stamped above those before it.
 pub fn evicted_elements_are_timed()
-    ensures timed { (digest : Digest) (lanes : List ℕ → List ℕ) (header : Header)
+    ensures timed { (functions : DigestFunctions) (header : Header)
         (number : ℕ) (commands : List Command)
-        → AreTimed header.first (log_events digest lanes header number commands) }
-    ensures own { (digest : Digest) (lanes : List ℕ → List ℕ) (header : Header)
+        → AreTimed header.first (log_events (scheme_of functions header) header number commands) }
+    ensures own { (functions : DigestFunctions) (header : Header)
         (number : ℕ) (commands : List Command)
         → AllByRecursion (λ element. element.verifier ≡ number)
-        (evicted_among (log_events digest lanes header number commands)) }
-    ensures rising { (digest : Digest) (lanes : List ℕ → List ℕ) (header : Header)
+        (evicted_among (log_events (scheme_of functions header) header number commands)) }
+    ensures rising { (functions : DigestFunctions) (header : Header)
         (number : ℕ) (commands : List Command)
-        → IsRising (evicted_among (log_events digest lanes header number commands)) }
+        → IsRising (evicted_among (log_events (scheme_of functions header) header number commands)) }
 {}
 
 /// Where of each epoch up to one the added elements are a permutation of the evicted ones, each element that
 /// comes in the merged order up to that epoch was evicted before, and was not yet added back.
 pub fn even_epochs_are_scheduled()
-    ensures scheduled { (digest : Digest) (lanes : List ℕ → List ℕ) (header : Header)
+    ensures scheduled { (functions : DigestFunctions) (header : Header)
         (logs : List (List Command)) (last : ℕ)
-        → ArePermuted header.first last (order_of (histories_of digest lanes header logs))
-        → IsScheduled [] (order_up_to last (histories_of digest lanes header logs)) }
+        → ArePermuted header.first last (order_of (histories_of (scheme_of functions header) header logs))
+        → IsScheduled [] (order_up_to last (histories_of (scheme_of functions header) header logs)) }
 {}
 
 /// A verifier's events in the merged order up to an epoch are its history up to that epoch, in its order.
 pub fn merged_order_keeps_each_log()
-    ensures part { (digest : Digest) (lanes : List ℕ → List ℕ) (header : Header)
+    ensures part { (functions : DigestFunctions) (header : Header)
         (logs : List (List Command)) (epoch verifier : ℕ)
-        → of_verifier event_moment verifier (order_up_to epoch (histories_of digest lanes header logs))
-        ≡ up_to event_moment epoch (get_or (histories_of digest lanes header logs) verifier []) }
+        → of_verifier event_moment verifier (order_up_to epoch (histories_of (scheme_of functions header) header logs))
+        ≡ up_to event_moment epoch (get_or (histories_of (scheme_of functions header) header logs) verifier []) }
 {}
 
-/// Each path has one place: untouched, in the cache of one verifier, kept by its parent's digest, or waiting
-/// with its element. Each pointer leads to the place of its child, and covers all that is touched on its side.
+/// Each path has one spot: untouched, in the cache of one verifier, kept by its parent's digest, or waiting
+/// with its element. Each pointer leads to the spot of its child, and covers all that is touched on its side.
 /// It is so behind each front of the merged order that shows no clash: the caches are what its changes left,
 /// what is kept by its digest is what the path's last evictM took, what was evicted and not added back waits,
 /// and the data values are those of the plain map.
-pub fn records_have_one_place()
-    ensures places { (digest : Digest) (lanes : List ℕ → List ℕ) (header : Header)
+pub fn records_have_one_spot()
+    ensures spots { (functions : DigestFunctions) (header : Header)
         (logs : List (List Command)) (last : ℕ) (front back : List Event)
-        → GivesDigests digest → AreTyped logs
-        → ArePermuted header.first last (order_of (histories_of digest lanes header logs))
-        → order_up_to last (histories_of digest lanes header logs) ≡ front ++ back
-        → first_clash short_keys none_taken (changes_in front) ≡ None
-        → HavePlaces digest header front }
+        → GivesDigests functions.digest → AreTyped (format_of header) logs
+        → ArePermuted header.first last (order_of (histories_of (scheme_of functions header) header logs))
+        → order_up_to last (histories_of (scheme_of functions header) header logs) ≡ front ++ back
+        → first_clash (format_of header) none_evicted (changes_in front) ≡ None
+        → HaveSpots functions.digest header front }
 {}
 
-/// What an add brings in is what is at its place. An addM that shows no clash finds its path untouched, or kept
+/// What an add brings in is what is at its spot. An addM that shows no clash finds its path untouched, or kept
 /// by its digest with the value that it brings, which the last evictM took. An addB finds the element that it
 /// brings waiting, and its record has the element's value.
 pub fn adds_take_what_is_there()
-    ensures takes { (digest : Digest) (lanes : List ℕ → List ℕ) (header : Header)
+    ensures takes { (functions : DigestFunctions) (header : Header)
         (logs : List (List Command)) (last : ℕ) (front : List Event) (event : Event) (back : List Event)
-        → GivesDigests digest → AreTyped logs
-        → ArePermuted header.first last (order_of (histories_of digest lanes header logs))
-        → order_up_to last (histories_of digest lanes header logs) ≡ front ++ event ∷ back
-        → first_clash short_keys none_taken (changes_in (front ++ event ∷ [])) ≡ None
-        → TakesFromPlaces digest header front event.change }
+        → GivesDigests functions.digest → AreTyped (format_of header) logs
+        → ArePermuted header.first last (order_of (histories_of (scheme_of functions header) header logs))
+        → order_up_to last (histories_of (scheme_of functions header) header logs) ≡ front ++ event ∷ back
+        → first_clash (format_of header) none_evicted (changes_in (front ++ event ∷ [])) ≡ None
+        → TakesFromSpots functions.digest header front event.change }
 {}

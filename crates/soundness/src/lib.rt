@@ -8,7 +8,7 @@
 //! here: the laws hold for whatever functions these are, and what an attack would have to find is the exhibit.
 //!
 //! What makes it so is told by two laws more: behind each front of that order that shows no clash, each path
-//! has one place, and each add takes what is there.
+//! has one spot, and each add takes what is there.
 //!
 //! The crate stands on `verifier_commands`, whose transition says what a command does, on `log_codec`,
 //! `multiset_sum` and `stamp_order`; it has no code to run. Begin with `laws.rt`, whose first law is the
@@ -19,5 +19,5 @@ mod laws;
 
 pub use laws::{
     adds_take_what_is_there, certified_is_serial_or_collides, even_epochs_are_scheduled,
-    evicted_elements_are_timed, merged_order_keeps_each_log, records_have_one_place,
+    evicted_elements_are_timed, merged_order_keeps_each_log, records_have_one_spot,
 };

@@ -3,7 +3,7 @@ ghost use Rattle.stamp_order.specs.Merged.{up_to};
 ghost use Rattle.stamp_order.specs.Operations.{moment_of, merged_up_to};
 
 use crate::moment::Moment;
-use fv_outside::Memory;
+use want_of_memory::Memory;
 use record_text::Operation;
 use std::alloc::Global;
 

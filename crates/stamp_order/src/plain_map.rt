@@ -3,7 +3,7 @@ ghost use Rattle.std.specs.Map.{update};
 ghost use Rattle.stamp_order.specs.Serial.{none_everywhere};
 ghost use Rattle.stamp_order.specs.PlainMap.{value_at};
 
-use fv_outside::Memory;
+use want_of_memory::Memory;
 use record_text::Blob;
 use std::alloc::Global;
 use std::collections::BTreeMap;

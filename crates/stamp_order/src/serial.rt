@@ -2,7 +2,7 @@ ghost use Rattle.std.specs.Prelude.{◌↔◌, IsTrue, IfOk};
 ghost use Rattle.stamp_order.specs.Serial.{IsSerial};
 
 use crate::plain_map::PlainMap;
-use fv_outside::Memory;
+use want_of_memory::Memory;
 use record_text::Operation;
 use std::alloc::Global;
 

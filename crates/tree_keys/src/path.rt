@@ -120,19 +120,19 @@ impl Path {
         Some(other.bit(self.len))
     }
 
-    /// Whether the other path lies properly below this one: this is a proper prefix of it.
+    /// Whether this path lies properly below the other: the other is a proper prefix of it.
     pub fn is_below(&self, other: &Path) -> bool
-        ensures prefix { IsTrue result ↔ IsBelow self.now other.now }
+        ensures prefix { IsTrue result ↔ IsBelow other.now self.now }
     {
-        self.side(other).is_some()
+        other.side(self).is_some()
     }
 
-    /// The side on which a path below this one lies.
+    /// The side of the other path on which this one lies below it.
     pub fn side_below(&self, other: &Path) -> bool
-        requires below { IsBelow self.now other.now }
-        ensures value { side self.now other.now ≡ Some result }
+        requires below { IsBelow other.now self.now }
+        ensures value { side other.now self.now ≡ Some result }
     {
-        self.side(other).unwrap()
+        other.side(self).unwrap()
     }
 
     /// Whether this path begins with the other, or is the other.

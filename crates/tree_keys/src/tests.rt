@@ -67,7 +67,7 @@ fn paths_lie_by_their_bits(rt: HostRuntime) {
         let second = path_of(lower.as_bytes()).expect(&rt, "short");
         let shared = path_of(common.as_bytes()).expect(&rt, "short");
         assert_eq!(rt; first.side(&second), side, "{upper} {lower}");
-        assert_eq!(rt; first.is_below(&second), side.is_some(), "{upper} {lower}");
+        assert_eq!(rt; second.is_below(&first), side.is_some(), "{upper} {lower}");
         assert_eq!(rt; first.common(&second), shared, "{upper} {lower}");
         assert_eq!(rt;
             first.is_same(&second),

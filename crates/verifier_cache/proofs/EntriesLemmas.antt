@@ -11,7 +11,7 @@ use Rattle.verifier_cache.specs.declared.entry.Entry.{Entry}
 use Rattle.record_text.specs.declared.value.Value.TheVariants as values
 use Rattle.verifier_cache.specs.declared.entry.Hold.TheVariants.{Root}
 use Rattle.verifier_cache.specs.Entry.{new_entry}
-use Rattle.verifier_cache.specs.Cache.{IsHeld, entry_of, without, changed, replaced, KeepsPath, AreDistinct, IsPlaceOf}
+use Rattle.verifier_cache.specs.Cache.{IsHeld, entry_of, without, changed, replaced, KeepsPath, AreDistinct, IsIndexOf}
 
 -- an entry that is found is one of the path
 pub entry_of-path : (k : List Bool) (xs : List Entry) (e : Entry) → entry_of k xs ≡ Some e → e.path ≡ k
@@ -51,7 +51,7 @@ entry_of-drop k xs i next d within after apart none =
     entry_of-drop_at k xs i d within apart (subst (λ (n : ℕ). entry_of k (drop n xs) ≡ None) (sym after) none)
 
 -- the place where an entry with the path was read
-pub place_read : (k : List Bool) (xs : List Entry) (i : ℕ) (e : Entry) → i < length xs → e ≡ get_or xs i e → same_path k (get_or xs i e).path ≡ true → IsPlaceOf k xs i
+pub place_read : (k : List Bool) (xs : List Entry) (i : ℕ) (e : Entry) → i < length xs → e ≡ get_or xs i e → same_path k (get_or xs i e).path ≡ true → IsIndexOf k xs i
 place_read k xs i e within read same =
     let path : k ≡ e.path = same_path-true k (get_or xs i e).path same ∙ ap (λ (x : Entry). x.path) (sym read) in
     record { within = within; path_there = at_read xs (λ (x : Entry). x.path ≡ k) i e within read (sym path) }
@@ -59,7 +59,7 @@ place_read k xs i e within read same =
 here_same : (k : List Bool) (x : Entry) → x.path ≡ k → same_path k x.path ≡ true
 here_same k x is = subst (λ (p : List Bool). same_path k p ≡ true) (sym is) (same_path-self k)
 
-later_place : (k : List Bool) (x : Entry) (xs : List Entry) (i : ℕ) → IsPlaceOf k (x ∷ xs) (suc i) → IsPlaceOf k xs i
+later_place : (k : List Bool) (x : Entry) (xs : List Entry) (i : ℕ) → IsIndexOf k (x ∷ xs) (suc i) → IsIndexOf k xs i
 later_place k x xs i place = record { within = omega (arith, place.within); path_there = place.path_there }
 
 -- a path that is found further on isn't that of an entry before
@@ -69,7 +69,7 @@ apart_from k x xs e none found =
     (λ same. false≢true (sym (subst (λ (o : Option Entry). IsNone o) (ap (λ (p : List Bool). entry_of p xs) (sym same) ∙ found) none)))
 
 -- What is found at the place of a path, where no path stands in two entries.
-pub entry_of-place : (k : List Bool) (xs : List Entry) (i : ℕ) (d : Entry) → AreDistinct xs → IsPlaceOf k xs i → entry_of k xs ≡ Some (get_or xs i d)
+pub entry_of-place : (k : List Bool) (xs : List Entry) (i : ℕ) (d : Entry) → AreDistinct xs → IsIndexOf k xs i → entry_of k xs ≡ Some (get_or xs i d)
 entry_of-place k [] i d distinct place = absurd (omega (arith, place.within))
 entry_of-place k (x ∷ xs) zero d distinct place = ap (λ (b : Bool). if b then Some x else entry_of k xs) (here_same k x (place.path_there d))
 entry_of-place k (x ∷ xs) (suc i) d distinct place =
@@ -77,11 +77,11 @@ entry_of-place k (x ∷ xs) (suc i) d distinct place =
     ap (λ (b : Bool). if b then Some x else entry_of k xs) (apart_from k x xs (get_or xs i d) distinct.0 further) ∙ further
 
 -- an entry before the place of a path isn't one of the path
-before : (k : List Bool) (x : Entry) (xs : List Entry) (i : ℕ) → AreDistinct (x ∷ xs) → IsPlaceOf k (x ∷ xs) (suc i) → same_path k x.path ≡ false
+before : (k : List Bool) (x : Entry) (xs : List Entry) (i : ℕ) → AreDistinct (x ∷ xs) → IsIndexOf k (x ∷ xs) (suc i) → same_path k x.path ≡ false
 before k x xs i distinct place = apart_from k x xs (get_or xs i x) distinct.0 (entry_of-place k xs i x distinct.1 (later_place k x xs i place))
 
 -- what is left where the entry at a path's place is taken out
-pub without-place : (k : List Bool) (xs : List Entry) (i : ℕ) → AreDistinct xs → IsPlaceOf k xs i → remove xs i ≡ without k xs
+pub without-place : (k : List Bool) (xs : List Entry) (i : ℕ) → AreDistinct xs → IsIndexOf k xs i → remove xs i ≡ without k xs
 without-place k [] i distinct place = absurd (omega (arith, place.within))
 without-place k (x ∷ xs) zero distinct place = sym (ap (λ (b : Bool). if b then xs else x ∷ without k xs) (here_same k x (place.path_there x)))
 without-place k (x ∷ xs) (suc i) distinct place =
@@ -89,7 +89,7 @@ without-place k (x ∷ xs) (suc i) distinct place =
     ∙ sym (ap (λ (b : Bool). if b then xs else x ∷ without k xs) (before k x xs i distinct place))
 
 -- what it is where the entry at a path's place is changed
-pub changed-place : (k : List Bool) (f : Entry → Entry) (xs : List Entry) (i : ℕ) (d : Entry) → AreDistinct xs → IsPlaceOf k xs i → set xs i (f (get_or xs i d)) ≡ changed k f xs
+pub changed-place : (k : List Bool) (f : Entry → Entry) (xs : List Entry) (i : ℕ) (d : Entry) → AreDistinct xs → IsIndexOf k xs i → set xs i (f (get_or xs i d)) ≡ changed k f xs
 changed-place k f [] i d distinct place = absurd (omega (arith, place.within))
 changed-place k f (x ∷ xs) zero d distinct place = sym (ap (λ (b : Bool). if b then f x ∷ xs else x ∷ changed k f xs) (here_same k x (place.path_there x)))
 changed-place k f (x ∷ xs) (suc i) d distinct place =
@@ -251,14 +251,14 @@ AreDistinct-append (x ∷ xs) e distinct none = go (λ is. AreDistinct-append xs
 -- ---- a cache, whose entries lie in a list
 
 -- what was read at a path's place is the path's entry
-pub read_at_place : (k : List Bool) (xs : List Entry) (i : ℕ) (e : Entry) → AreDistinct xs → IsPlaceOf k xs i → e ≡ get_or xs i e → entry_of k xs ≡ Some e
+pub read_at_place : (k : List Bool) (xs : List Entry) (i : ℕ) (e : Entry) → AreDistinct xs → IsIndexOf k xs i → e ≡ get_or xs i e → entry_of k xs ≡ Some e
 read_at_place k xs i e distinct place read = entry_of-place k xs i e distinct place ∙ ap (λ (x : Entry). Some x) (sym read)
 
-pub path_at_place : (k : List Bool) (xs : List Entry) (i : ℕ) (e : Entry) → IsPlaceOf k xs i → e ≡ get_or xs i e → e.path ≡ k
+pub path_at_place : (k : List Bool) (xs : List Entry) (i : ℕ) (e : Entry) → IsIndexOf k xs i → e ≡ get_or xs i e → e.path ≡ k
 path_at_place k xs i e place read = ap (λ (x : Entry). x.path) read ∙ place.path_there e
 
 -- what was read at a path's place is changed there
-pub set_at_place : (k : List Bool) (f : Entry → Entry) (xs : List Entry) (i : ℕ) (e new : Entry) → AreDistinct xs → IsPlaceOf k xs i → e ≡ get_or xs i e → new ≡ f e → set xs i new ≡ changed k f xs
+pub set_at_place : (k : List Bool) (f : Entry → Entry) (xs : List Entry) (i : ℕ) (e new : Entry) → AreDistinct xs → IsIndexOf k xs i → e ≡ get_or xs i e → new ≡ f e → set xs i new ≡ changed k f xs
 set_at_place k f xs i e new distinct place read change = ap (set xs i) (change ∙ ap f read) ∙ changed-place k f xs i e distinct place
 
 pub IsHeld-append : (xs ys : List Entry) (room : ℕ) (e : Entry) → IsHeld (record { entries = xs; room = room }) → length xs < room → IsNone (entry_of e.path xs) → ys ≡ xs ++ e ∷ [] → IsHeld (record { entries = ys; room = room })
@@ -266,23 +266,23 @@ IsHeld-append xs ys room e held short none is =
     let fits : length (xs ++ e ∷ []) ≤ room = simp length-append (omega arith) in
     subst (λ (zs : List Entry). IsHeld (record { entries = zs; room = room })) (sym is) (record { distinct = AreDistinct-append xs e held.distinct none; within = fits })
 
-pub IsHeld-remove : (k : List Bool) (xs ys : List Entry) (room i : ℕ) → IsHeld (record { entries = xs; room = room }) → IsPlaceOf k xs i → ys ≡ remove xs i → IsHeld (record { entries = ys; room = room })
+pub IsHeld-remove : (k : List Bool) (xs ys : List Entry) (room i : ℕ) → IsHeld (record { entries = xs; room = room }) → IsIndexOf k xs i → ys ≡ remove xs i → IsHeld (record { entries = ys; room = room })
 IsHeld-remove k xs ys room i held place is =
     let left : ys ≡ without k xs = is ∙ without-place k xs i held.distinct place in
     let fewer : suc (length (without k xs)) ≡ length xs = length-without k xs _ (entry_of-place k xs i (new_entry k (values.Blob None) Root) held.distinct place) in
     subst (λ (zs : List Entry). IsHeld (record { entries = zs; room = room })) (sym left) (record { distinct = AreDistinct-without k xs held.distinct; within = omega (arith, held.within, fewer) })
 
-pub IsHeld-set : (k : List Bool) (xs : List Entry) (room i : ℕ) (e : Entry) → IsHeld (record { entries = xs; room = room }) → IsPlaceOf k xs i → e.path ≡ k → IsHeld (record { entries = set xs i e; room = room })
+pub IsHeld-set : (k : List Bool) (xs : List Entry) (room i : ℕ) (e : Entry) → IsHeld (record { entries = xs; room = room }) → IsIndexOf k xs i → e.path ≡ k → IsHeld (record { entries = set xs i e; room = room })
 IsHeld-set k xs room i e held place path =
     subst (λ (zs : List Entry). IsHeld (record { entries = zs; room = room })) (sym (changed-place k (λ old. e) xs i e held.distinct place))
     (record { distinct = AreDistinct-changed k (λ old. e) xs (λ old is. path) held.distinct; within = omega (arith, held.within, length-changed k (λ old. e) xs) })
 
 -- a place in a list is one in the same list
-pub place_in : (k : List Bool) (xs ys : List Entry) (i : ℕ) → ys ≡ xs → IsPlaceOf k ys i → IsPlaceOf k xs i
-place_in k xs ys i same place = subst (λ (zs : List Entry). IsPlaceOf k zs i) same place
+pub place_in : (k : List Bool) (xs ys : List Entry) (i : ℕ) → ys ≡ xs → IsIndexOf k ys i → IsIndexOf k xs i
+place_in k xs ys i same place = subst (λ (zs : List Entry). IsIndexOf k zs i) same place
 
 -- what holds of the value that was read at a path's place holds of the path's entry
-pub value_at_place : (k : List Bool) (xs : List Entry) (i : ℕ) (e : Entry) → AreDistinct xs → IsPlaceOf k xs i → e ≡ get_or xs i e → IfSome (entry_of k xs) (λ entry. e.value ≡ entry.value)
+pub value_at_place : (k : List Bool) (xs : List Entry) (i : ℕ) (e : Entry) → AreDistinct xs → IsIndexOf k xs i → e ≡ get_or xs i e → IfSome (entry_of k xs) (λ entry. e.value ≡ entry.value)
 value_at_place k xs i e distinct place read =
     subst (λ (o : Option Entry). IfSome o (λ entry. e.value ≡ entry.value)) (sym (read_at_place k xs i e distinct place read)) refl
 

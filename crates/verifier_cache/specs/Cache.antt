@@ -43,6 +43,6 @@ pub record IsHeld (cache : Held) : Type 0 where
   pub within : length cache.entries ≤ cache.room
 
 -- the path's entry stands at this index
-pub record IsPlaceOf (path : List Bool) (entries : List Entry) (index : ℕ) : Type 0 where
+pub record IsIndexOf (path : List Bool) (entries : List Entry) (index : ℕ) : Type 0 where
   pub within : index < length entries
   pub path_there : HoldsAt (λ entry. entry.path ≡ path) entries index

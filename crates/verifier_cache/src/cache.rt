@@ -3,7 +3,7 @@ ghost use Rattle.std.specs.Option.{option_map, option_copied};
 ghost use Rattle.std.specs.Borrow.{sem};
 ghost use Rattle.verifier_cache.specs.LendsValue.{LendsValue};
 ghost use Rattle.verifier_cache.specs.Entry.{kid_of, set_kid, new_entry};
-ghost use Rattle.verifier_cache.specs.Cache.{Held, IsHeld, entry_of, without, changed, replaced, AreDistinct, IsPlaceOf};
+ghost use Rattle.verifier_cache.specs.Cache.{Held, IsHeld, entry_of, without, changed, replaced, AreDistinct, IsIndexOf};
 
 use crate::entry::{Entry, Hold};
 use record_text::Value;
@@ -168,7 +168,7 @@ impl Cache {
 // The index at which a path's entry stands. The search begins at the end, where the latest entries are,
 // which are the soonest to be used again.
 fn position(entries: &[Entry], k: &Path) -> Option<usize>
-    ensures found { IfSome result (IsPlaceOf k.now entries.now) }
+    ensures found { IfSome result (IsIndexOf k.now entries.now) }
     ensures none { IfNone result (entry_of k.now entries.now ≡ None) }
 {
     for i in (0..entries.len()).rev() {
@@ -182,7 +182,7 @@ fn position(entries: &[Entry], k: &Path) -> Option<usize>
 // The index at which the entry of a path stands that is there.
 fn place(entries: &[Entry], k: &Path) -> usize
     requires there { IsSome (entry_of k.now entries.now) }
-    ensures place { IsPlaceOf k.now entries.now result }
+    ensures place { IsIndexOf k.now entries.now result }
 {
     position(entries, k).unwrap()
 }

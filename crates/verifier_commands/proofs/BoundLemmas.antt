@@ -3,7 +3,7 @@ use Rattle.std.proofs.Common.{◌≡◌, ◌+◌, ◌<◌, ◌≤◌, arith, ap}
 use Rattle.lamport_clocks.specs.Reading.{Reading}
 use Rattle.multiset_sum.specs.Tally.{Tally}
 use Rattle.verifier_commands.specs.declared.sums.Sums.{Sums}
-use Rattle.verifier_commands.specs.Sums.{turn_sums}
+use Rattle.verifier_commands.specs.Sums.{advanced_sums}
 use Rattle.verifier_commands.specs.Machine.{AreBounded, CountsAdd}
 
 pub bounded_add : (old new : Sums) (before after : Reading) → AreBounded old before → CountsAdd old new
@@ -35,13 +35,13 @@ bounded_evict old new before after bounded others count moved within =
       evicted_before = omega arith;
     }
 
-pub bounded_turn : (old new : Sums) (before after : Reading) → AreBounded old before → new ≡ turn_sums old
+pub bounded_turn : (old new : Sums) (before after : Reading) → AreBounded old before → new ≡ advanced_sums old
     → (after.end ≡ before.end) × (after.at.counter ≡ 0) → AreBounded new after
-bounded_turn old new before after bounded turned moved =
-    let added_before : new.added_before.count ≡ old.added.count = ap (λ (s : Sums). s.added_before.count) turned in
-    let evicted_before : new.evicted_before.count ≡ old.evicted.count = ap (λ (s : Sums). s.evicted_before.count) turned in
-    let added : new.added.count ≡ 0 = ap (λ (s : Sums). s.added.count) turned in
-    let evicted : new.evicted.count ≡ 0 = ap (λ (s : Sums). s.evicted.count) turned in
+bounded_turn old new before after bounded advanced moved =
+    let added_before : new.added_before.count ≡ old.added.count = ap (λ (s : Sums). s.added_before.count) advanced in
+    let evicted_before : new.evicted_before.count ≡ old.evicted.count = ap (λ (s : Sums). s.evicted_before.count) advanced in
+    let added : new.added.count ≡ 0 = ap (λ (s : Sums). s.added.count) advanced in
+    let evicted : new.evicted.count ≡ 0 = ap (λ (s : Sums). s.evicted.count) advanced in
     record {
       end = omega arith;
       counter = omega arith;

@@ -3,15 +3,15 @@ use Rattle.std.specs.Prelude.{◌≡◌, ℕ, ◌+◌, ◌<◌, ◌≤◌, Bool,
 use Rattle.lamport_clocks.specs.declared.header.Header.{Header}
 use Rattle.lamport_clocks.specs.Reading.{Reading}
 use Rattle.lamport_clocks.specs.declared.stamp.Stamp.{Stamp}
-use Rattle.lamport_clocks.specs.InOrder.{and_then}
+use Rattle.step_words.specs.Steps.{and_then}
 use Rattle.record_text.specs.declared.operation.Operation.{Operation}
 use Rattle.record_text.specs.declared.refusal.Refusal.{Refusal}
-use Rattle.record_text.specs.Format.{short_keys}
 use Rattle.log_codec.specs.declared.command.Command.{Command}
+use Rattle.merkle_records.specs.Scheme.{Scheme}
 use Rattle.verifier_commands.specs.declared.state.State.{State}
 use Rattle.verifier_commands.specs.declared.sums.Sums.{Sums}
 use Rattle.verifier_commands.specs.declared.outcome.Outcome.{Outcome}
-use Rattle.verifier_commands.specs.declared.outcome.Outcome.TheVariants.{Moved, Added, Evicted, Got, Wrote, Turned}
+use Rattle.verifier_commands.specs.declared.outcome.Outcome.TheVariants.{AddM, EvictM, AddB, EvictB, EvictBM, Get, Put, NextEpoch}
 use Rattle.verifier_commands.specs.declared.effect.Effect.{Effect}
 use Rattle.verifier_commands.specs.declared.effect.Effect.TheVariants.{Plain, Did, Opened, Sealed}
 use Rattle.verifier_commands.specs.State.{opening}
@@ -22,14 +22,14 @@ use Rattle.verifier_commands.specs.Sums.{zero_sums, sums_after}
 -- what a verifier is
 pub record Machine : Type 0 where
   pub number : ℕ
-  pub verifiers : ℕ
+  pub header : Header
   pub state : State
   pub sums : Sums
   pub accepted : ℕ
 
 -- a verifier before its first command
 abbrev pub opening_machine : ℕ → Header → Machine
-opening_machine number header = record { number = number; verifiers = header.verifiers; state = opening number header; sums = zero_sums; accepted = 0 }
+opening_machine number header = record { number = number; header = header; state = opening number header; sums = zero_sums; accepted = 0 }
 
 -- an operation of this machine's next command, at this stamp
 abbrev pub operation_by : Machine → Stamp → Bool → ℕ → Option (List ℕ) → Operation
@@ -44,48 +44,50 @@ operation_by machine at put key value = record {
 
 -- what an outcome answers, where the clock then stands so: an operation, or the sums of a sealed epoch
 abbrev pub effect_of : Machine → Stamp → Outcome → Effect
-effect_of machine at Moved = Plain
-effect_of machine at (Added element) = Plain
-effect_of machine at (Evicted element) = Plain
-effect_of machine at (Got key value) = Did (operation_by machine at false key value)
-effect_of machine at (Wrote key value) = Did (operation_by machine at true key value)
-effect_of machine at (Turned None) = Opened
-effect_of machine at (Turned (Some epoch)) =
+effect_of machine at AddM = Plain
+effect_of machine at EvictM = Plain
+effect_of machine at (AddB element) = Plain
+effect_of machine at (EvictB element) = Plain
+effect_of machine at (EvictBM element) = Plain
+effect_of machine at (Get key value) = Did (operation_by machine at false key value)
+effect_of machine at (Put key value) = Did (operation_by machine at true key value)
+effect_of machine at (NextEpoch None) = Opened
+effect_of machine at (NextEpoch (Some epoch)) =
     Sealed (record { verifier = machine.number; epoch = epoch; added = machine.sums.added_before; evicted = machine.sums.evicted_before })
 
 -- the machine after a command with this outcome that left this state
-abbrev pub machine_after : Rules → Machine → Outcome → State → Machine
-machine_after rules machine outcome state = record machine {
+abbrev pub machine_after : Scheme → Machine → Outcome → State → Machine
+machine_after scheme machine outcome state = record machine {
   state = state;
-  sums = sums_after rules machine.state.clock.at.epoch machine.sums outcome;
+  sums = sums_after scheme machine.state.clock.at.epoch machine.sums outcome;
   accepted = machine.accepted + 1;
 }
 
 -- the answer and the machine after a step of its state
-abbrev pub concluded : Rules → Machine → Result (Outcome × State) Refusal → Result (Effect × Machine) Refusal
-concluded rules machine step =
-    and_then step (λ done. Ok (effect_of machine done.1.clock.at done.0, machine_after rules machine done.0 done.1))
+abbrev pub concluded : Scheme → Machine → Result (Outcome × State) Refusal → Result (Effect × Machine) Refusal
+concluded scheme machine step =
+    and_then step (λ done. Ok (effect_of machine done.1.clock.at done.0, machine_after scheme machine done.0 done.1))
 
--- the rules for a verifier with these digests
-abbrev pub rules_for : (List ℕ → List ℕ) → (List ℕ → List ℕ) → Machine → Rules
-rules_for digest lanes machine =
-    record { format = short_keys; digest = digest; lanes = lanes; number = machine.number; verifiers = machine.verifiers }
+-- the rules for a verifier under a scheme
+abbrev pub rules_for : Scheme → Machine → Rules
+rules_for scheme machine = record { scheme = scheme; number = machine.number; verifiers = machine.header.verifiers }
 
 -- One command: its answer and the machine after it, or the first refusal.
-abbrev pub stepped : (List ℕ → List ℕ) → (List ℕ → List ℕ) → Machine → Command → Result (Effect × Machine) Refusal
-stepped digest lanes machine command =
-    concluded (rules_for digest lanes machine) machine (told (transition (rules_for digest lanes machine) machine.state command))
+abbrev pub stepped : Scheme → Machine → Command → Result (Effect × Machine) Refusal
+stepped scheme machine command = concluded scheme machine (told (transition (rules_for scheme machine) machine.state command))
 
 -- ---- why no sum grows too large
 
 -- How the clock moves with an outcome: it stands, or its counter rises, or the counter begins again at 0.
 abbrev pub ClockMoves : Reading → Reading → Outcome → Type 0
-ClockMoves old new Moved = new ≡ old
-ClockMoves old new (Added element) = (new.end ≡ old.end) × (old.at.counter < new.at.counter)
-ClockMoves old new (Evicted element) = (new.end ≡ old.end) × (old.at.counter < new.at.counter)
-ClockMoves old new (Got key value) = new ≡ old
-ClockMoves old new (Wrote key value) = new ≡ old
-ClockMoves old new (Turned sealed) = (new.end ≡ old.end) × (new.at.counter ≡ 0)
+ClockMoves old new AddM = new ≡ old
+ClockMoves old new EvictM = new ≡ old
+ClockMoves old new (AddB element) = (new.end ≡ old.end) × (old.at.counter < new.at.counter)
+ClockMoves old new (EvictB element) = (new.end ≡ old.end) × (old.at.counter < new.at.counter)
+ClockMoves old new (EvictBM element) = (new.end ≡ old.end) × (old.at.counter < new.at.counter)
+ClockMoves old new (Get key value) = new ≡ old
+ClockMoves old new (Put key value) = new ≡ old
+ClockMoves old new (NextEpoch sealed) = (new.end ≡ old.end) × (new.at.counter ≡ 0)
 
 -- Each add and each evict raises the counter, which is bounded: so is the number of elements in each sum.
 pub record AreBounded (sums : Sums) (clock : Reading) : Type 0 where

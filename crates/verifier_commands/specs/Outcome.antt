@@ -5,9 +5,9 @@ use Rattle.record_text.specs.declared.value.Value.{Value}
 use Rattle.record_text.specs.declared.value.Value.TheVariants as values
 use Rattle.record_text.specs.declared.refusal.Refusal.{Refusal}
 use Rattle.verifier_commands.specs.declared.outcome.Outcome.{Outcome}
-use Rattle.verifier_commands.specs.declared.outcome.Outcome.TheVariants.{Moved, Added, Evicted, Got, Wrote, Turned}
+use Rattle.verifier_commands.specs.declared.outcome.Outcome.TheVariants as outcomes
 use Rattle.verifier_commands.specs.declared.state.State.{State}
-use Rattle.verifier_commands.specs.Change.{Change, joins, leaves, comes, goes, defers, reads, writes, turns}
+use Rattle.verifier_commands.specs.Change.{Change, did_add_m, did_evict_m, did_add_b, did_evict_b, did_evict_bm, did_get, did_put, did_next_epoch}
 use Rattle.verifier_commands.specs.Transition.{Step}
 
 -- the data value that a value is
@@ -17,14 +17,14 @@ blob_of (values.Node node) = None
 
 -- what a change hands up
 abbrev pub outcome_of : Change → Outcome
-outcome_of (joins parent after child) = Moved
-outcome_of (leaves parent after child) = Moved
-outcome_of (comes child element) = Added element
-outcome_of (goes child element) = Evicted element
-outcome_of (defers parent after child element) = Evicted element
-outcome_of (reads entry) = Got (number_of entry.path) (blob_of entry.value)
-outcome_of (writes before after) = Wrote (number_of after.path) (blob_of after.value)
-outcome_of (turns sealed) = Turned sealed
+outcome_of (did_add_m parent after child) = outcomes.AddM
+outcome_of (did_evict_m parent after child) = outcomes.EvictM
+outcome_of (did_add_b child element) = outcomes.AddB element
+outcome_of (did_evict_b child element) = outcomes.EvictB element
+outcome_of (did_evict_bm parent after child element) = outcomes.EvictBM element
+outcome_of (did_get entry) = outcomes.Get (number_of entry.path) (blob_of entry.value)
+outcome_of (did_put before after) = outcomes.Put (number_of after.path) (blob_of after.value)
+outcome_of (did_next_epoch sealed) = outcomes.NextEpoch sealed
 
 -- a step by what it hands up
 abbrev pub told : Step → Result (Outcome × State) Refusal

@@ -4,8 +4,8 @@ use Rattle.std.specs.Prelude.{ℕ, ◌==◌, nat_le, Bool, true, false, not, Lis
 use Rattle.lamport_clocks.specs.declared.stamp.Stamp.{Stamp}
 use Rattle.lamport_clocks.specs.declared.clock.ClockFault.{ClockFault}
 use Rattle.lamport_clocks.specs.declared.clock.ClockFault.TheVariants as faults
-use Rattle.lamport_clocks.specs.InOrder.{test, need, and_then}
-use Rattle.lamport_clocks.specs.Clock.{received, sent, turned}
+use Rattle.step_words.specs.Steps.{test, need, and_then}
+use Rattle.lamport_clocks.specs.Clock.{received, sent, advanced}
 use Rattle.record_text.specs.declared.value.Value.{Value}
 use Rattle.record_text.specs.declared.element.Element.{Element}
 use Rattle.record_text.specs.declared.refusal.Refusal.{Refusal}
@@ -14,6 +14,7 @@ use Rattle.record_text.specs.Format.{Format, path_bits}
 use Rattle.log_codec.specs.declared.command.Command.{Command}
 use Rattle.log_codec.specs.declared.command.Command.TheVariants.{AddM, EvictM, AddB, EvictB, EvictBM, Get, Put, NextEpoch}
 use Rattle.merkle_records.specs.Merkle.{Digest}
+use Rattle.merkle_records.specs.Scheme.{Scheme}
 use Rattle.verifier_cache.specs.declared.entry.Entry.{Entry}
 use Rattle.verifier_cache.specs.declared.entry.Hold.TheVariants.{B}
 use Rattle.verifier_cache.specs.Entry.{has_kid, new_entry}
@@ -21,7 +22,7 @@ use Rattle.verifier_cache.specs.Cache.{entry_of, without, replaced}
 use Rattle.record_text.specs.Same.{same_value}
 use Rattle.verifier_commands.specs.declared.state.State.{State}
 use Rattle.verifier_commands.specs.State.{with_entries, at_clock}
-use Rattle.verifier_commands.specs.Change.{Change, joins, leaves, comes, goes, defers, reads, writes, turns}
+use Rattle.verifier_commands.specs.Change.{Change, did_add_m, did_evict_m, did_add_b, did_evict_b, did_evict_bm, did_get, did_put, did_next_epoch}
 use Rattle.verifier_commands.specs.Changes.{add_under, evict_under, defer_under, is_by_stamp}
 
 -- what was done and the state after it, or why nothing was
@@ -65,7 +66,7 @@ add_m format digest state path value parent =
     (need (entry_of parent state.cache.entries) refusals.ParentNotCached
     (λ holder. and_then (add_under format digest holder path value)
     (λ family. Ok (
-      joins holder family.parent family.child,
+      did_add_m holder family.parent family.child,
       with_entries state (replaced family.parent state.cache.entries ++ family.child ∷ []),
     ))))))
 
@@ -77,7 +78,7 @@ evict_m format digest state path parent =
     (λ child. need (entry_of parent state.cache.entries) refusals.ParentNotCached
     (λ holder. and_then (evict_under format digest holder child)
     (λ after. Ok (
-      leaves holder after child,
+      did_evict_m holder after child,
       with_entries state (without path (replaced after state.cache.entries)),
     )))))
 
@@ -90,7 +91,7 @@ add_b verifiers state path value stamp verifier =
     (test (nat_le verifiers verifier) refusals.NoSuchVerifier
     (timed (received state.clock stamp)
     (λ clock. Ok (
-      comes (new_entry path value B) (record { path = path; value = value; stamp = stamp; verifier = verifier }),
+      did_add_b (new_entry path value B) (record { path = path; value = value; stamp = stamp; verifier = verifier }),
       at_clock state (state.cache.entries ++ new_entry path value B ∷ []) clock,
     ))))))
 
@@ -103,7 +104,7 @@ evict_b number state path stamp =
     (test (not (is_by_stamp child.hold)) refusals.WrongHold
     (timed (sent state.clock stamp)
     (λ clock. Ok (
-      goes child (evicted_as number child stamp),
+      did_evict_b child (evicted_as number child stamp),
       at_clock state (without path state.cache.entries) clock,
     ))))))
 
@@ -116,7 +117,7 @@ evict_bm number state path parent stamp =
     (λ holder. and_then (defer_under holder child)
     (λ after. timed (sent state.clock stamp)
     (λ clock. Ok (
-      defers holder after child (evicted_as number child stamp),
+      did_evict_bm holder after child (evicted_as number child stamp),
       at_clock state (without path (replaced after state.cache.entries)) clock,
     ))))))
 
@@ -126,7 +127,7 @@ get format state path value =
     need (entry_of path state.cache.entries) refusals.NotCached
     (λ entry. test (not (is_data format path)) refusals.NotData
     (test (not (same_value entry.value value)) refusals.WrongValue
-    (Ok (reads entry, state))))
+    (Ok (did_get entry, state))))
 
 -- Writing a data value.
 abbrev pub put : Format → State → List Bool → Value → Step
@@ -134,32 +135,30 @@ put format state path value =
     need (entry_of path state.cache.entries) refusals.NotCached
     (λ entry. test (not (is_data format path)) refusals.NotData
     (Ok (
-      writes entry (record entry { value = value }),
+      did_put entry (record entry { value = value }),
       with_entries state (replaced (record entry { value = value }) state.cache.entries),
     )))
 
 -- Turning to the next epoch.
 abbrev pub next_epoch : State → Step
 next_epoch state =
-    timed (turned state.clock)
-    (λ turn. Ok (turns turn.0, record state { clock = turn.1 }))
+    timed (advanced state.clock)
+    (λ turn. Ok (did_next_epoch turn.0, record state { clock = turn.1 }))
 
--- What the transition of a verifier stands on: the format, the digest of a text and the lanes of an element,
--- the verifier's number, and how many verifiers there are.
+-- What the transition of a verifier stands on: the scheme of its bundle, the verifier's number, and how many
+-- verifiers there are.
 pub record Rules : Type 0 where
-  pub format : Format
-  pub digest : Digest
-  pub lanes : List ℕ → List ℕ
+  pub scheme : Scheme
   pub number : ℕ
   pub verifiers : ℕ
 
 -- What each command does.
 abbrev pub transition : Rules → State → Command → Step
-transition rules state (AddM path value parent) = add_m rules.format rules.digest state path value parent
-transition rules state (EvictM path parent) = evict_m rules.format rules.digest state path parent
+transition rules state (AddM path value parent) = add_m rules.scheme.format rules.scheme.digest state path value parent
+transition rules state (EvictM path parent) = evict_m rules.scheme.format rules.scheme.digest state path parent
 transition rules state (AddB path value stamp verifier) = add_b rules.verifiers state path value stamp verifier
 transition rules state (EvictB path stamp) = evict_b rules.number state path stamp
 transition rules state (EvictBM path parent stamp) = evict_bm rules.number state path parent stamp
-transition rules state (Get path value) = get rules.format state path value
-transition rules state (Put path value) = put rules.format state path value
+transition rules state (Get path value) = get rules.scheme.format state path value
+transition rules state (Put path value) = put rules.scheme.format state path value
 transition rules state NextEpoch = next_epoch state

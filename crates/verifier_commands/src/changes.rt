@@ -85,7 +85,7 @@ fn add_first<D: Digests>(
 ) -> Result<Family, Refusal>
     requires on { side parent.now.path path.now ≡ Some above.now.on }
     requires first { IsFirst (case_of (node_side above.now.node above.now.on) path.now) }
-    ensures value { result ≡ add_by short_keys (D.text_digest d.now) parent.now above.now path.now value.now
+    ensures value { result ≡ add_by short_keys (D.functions d.now).digest parent.now above.now path.now value.now
         (case_of (node_side above.now.node above.now.on) path.now) }
     ensures parent { IfOk result (λ family. family.parent.path ≡ parent.now.path) }
     ensures child { IfOk result (λ family. family.child.path ≡ path.now) }
@@ -154,7 +154,7 @@ fn add_again<D: Digests>(
 ) -> Result<Family, Refusal>
     requires on { side parent.now.path path.now ≡ Some above.now.on }
     requires same { case_of (node_side above.now.node above.now.on) path.now ≡ Same }
-    ensures value { result ≡ add_by short_keys (D.text_digest d.now) parent.now above.now path.now value.now Same }
+    ensures value { result ≡ add_by short_keys (D.functions d.now).digest parent.now above.now path.now value.now Same }
     ensures parent { IfOk result (λ family. family.parent.path ≡ parent.now.path) }
     ensures child { IfOk result (λ family. family.child.path ≡ path.now) }
 {
@@ -183,7 +183,7 @@ pub(crate) fn add_under<D: Digests>(
     path: &Path,
     value: &Value,
 ) -> Result<Family, Refusal>
-    ensures value { result ≡ add_under short_keys (D.text_digest d.now) parent.now path.now value.now }
+    ensures value { result ≡ add_under short_keys (D.functions d.now).digest parent.now path.now value.now }
     ensures parent { IfOk result (λ family. family.parent.path ≡ parent.now.path) }
     ensures child { IfOk result (λ family. family.child.path ≡ path.now) }
 {
@@ -214,7 +214,7 @@ pub(crate) fn evict_under<D: Digests>(
     parent: &Entry,
     leaving: &Entry,
 ) -> Result<Entry, Refusal>
-    ensures value { result ≡ evict_under short_keys (D.text_digest d.now) parent.now leaving.now }
+    ensures value { result ≡ evict_under short_keys (D.functions d.now).digest parent.now leaving.now }
     ensures parent { IfOk result (λ after. after.path ≡ parent.now.path) }
     ensures apart { IfOk result (λ after. leaving.now.path ≢ after.path) }
 {

@@ -1,6 +1,6 @@
 //! The commands that come and go with a stamp: their records are checked by the sums of an epoch.
 ghost use Rattle.std.specs.Prelude.{◌≡◌, ◌≢◌, IsSome, IfSome, IfOk};
-ghost use Rattle.lamport_clocks.specs.Follows.{Follows};
+ghost use Rattle.step_words.specs.Follows.{Follows};
 ghost use Rattle.verifier_commands.specs.Transition.{add_b, evict_b, evict_bm};
 ghost use Rattle.verifier_cache.specs.Cache.{entry_of, without, replaced};
 ghost use Rattle.verifier_commands.specs.Changes.{is_by_stamp};
@@ -44,7 +44,7 @@ impl State {
             return Err(clock_refusal(fault));
         }
         self.cache.insert(*path, value.copy(), Hold::B);
-        Ok(Outcome::Added(Element {
+        Ok(Outcome::AddB(Element {
             path: *path,
             value,
             stamp,
@@ -78,7 +78,7 @@ impl State {
             return Err(clock_refusal(fault));
         }
         let value = self.cache.remove(path);
-        Ok(Outcome::Evicted(Element {
+        Ok(Outcome::EvictB(Element {
             path: *path,
             value,
             stamp,
@@ -111,7 +111,7 @@ impl State {
             return Err(clock_refusal(fault));
         }
         let value = take_out(&mut self.cache, path, after);
-        Ok(Outcome::Evicted(Element {
+        Ok(Outcome::EvictBM(Element {
             path: *path,
             value,
             stamp,

@@ -8,9 +8,9 @@
 #![tactic(auto)]
 
 mod changes;
-mod cold;
 mod deferred;
 mod effect;
+mod merkle;
 mod outcome;
 mod records;
 mod state;

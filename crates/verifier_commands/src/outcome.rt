@@ -1,18 +1,23 @@
+//! What an accepted command hands up.
 use record_text::{Blob, Element};
 
-/// What an accepted command hands up from the cache and the clock.
+/// What an accepted command hands up from the cache and the clock, named after the command.
 #[derive(Clone, Debug, PartialEq, Eq, Drop)]
 pub enum Outcome {
-    /// A record came or went by its digest.
-    Moved,
+    /// A record came in by its digest.
+    AddM,
+    /// A record went out into its parent.
+    EvictM,
     /// A record came back that had been evicted as this element.
-    Added(Element),
+    AddB(Element),
     /// A record went out as this element.
-    Evicted(Element),
+    EvictB(Element),
+    /// A record went out of its parent as this element.
+    EvictBM(Element),
     /// The value of a key was read.
-    Got(u64, Blob),
+    Get(u64, Blob),
     /// The value of a key was written.
-    Wrote(u64, Blob),
-    /// The epoch turned, which seals this one, if any.
-    Turned(Option<u32>),
+    Put(u64, Blob),
+    /// The clock went to the next epoch, which seals this one, if any.
+    NextEpoch(Option<u32>),
 }

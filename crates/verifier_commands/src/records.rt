@@ -1,6 +1,6 @@
-//! The commands on data values, and the turn of the epoch.
+//! The commands on data values, and the step to the next epoch.
 ghost use Rattle.std.specs.Prelude.{◌≡◌, IsSome, IfSome, IfOk};
-ghost use Rattle.lamport_clocks.specs.Follows.{Follows};
+ghost use Rattle.step_words.specs.Follows.{Follows};
 ghost use Rattle.verifier_commands.specs.Transition.{get, put, next_epoch};
 ghost use Rattle.record_text.specs.Format.{short_keys};
 ghost use Rattle.verifier_cache.specs.Entry.{with_value};
@@ -30,7 +30,7 @@ impl State {
         if !is_same_value(&entry.value, value) {
             return Err(Refusal::WrongValue);
         }
-        Ok(Outcome::Got(key, blob_of(&entry.value)))
+        Ok(Outcome::Get(key, blob_of(&entry.value)))
     }
 
     /// A put: the value that is written.
@@ -47,16 +47,16 @@ impl State {
         };
         let blob = blob_of(&value);
         write(&mut self.cache, path, value);
-        Ok(Outcome::Wrote(key, blob))
+        Ok(Outcome::Put(key, blob))
     }
 
-    /// A turn to the next epoch.
+    /// The step to the next epoch.
     pub(crate) fn next_epoch(&mut self) -> Result<Outcome, Refusal>
         ensures follows { Follows result self.old self.new (told (next_epoch self.old)) }
         ensures clock { IfOk result (ClockMoves self.old.clock self.new.clock) }
     {
         match self.clock.next_epoch() {
-            Ok(sealed) => Ok(Outcome::Turned(sealed)),
+            Ok(sealed) => Ok(Outcome::NextEpoch(sealed)),
             Err(fault) => Err(clock_refusal(fault)),
         }
     }

@@ -2,7 +2,7 @@ ghost use Rattle.std.specs.Prelude.{◌≡◌, ◌≤◌, IfOk};
 ghost use Rattle.record_text.specs.Same.{same_bytes, same_value};
 ghost use Rattle.verifier_commands.specs.Transition.{is_root, clock_refusal};
 
-use fv_outside::Memory;
+use want_of_memory::Memory;
 use lamport_clocks::{Clock, ClockFault, Header};
 use record_text::{Node, Refusal, Value};
 use std::alloc::Global;

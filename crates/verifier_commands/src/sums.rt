@@ -1,7 +1,7 @@
 ghost use Rattle.std.specs.Prelude.{◌≡◌, ◌+◌, ◌<◌, ◌^◌};
-ghost use Rattle.record_text.specs.Format.{short_keys};
-ghost use Rattle.verifier_commands.specs.Sums.{zero_sums, turn_sums, add_to, evict_to, sums_after};
-ghost use Rattle.verifier_commands.specs.Transition.{Rules};
+ghost use Rattle.lamport_clocks.specs.declared.header.Header.{Header};
+ghost use Rattle.merkle_records.specs.Scheme.{scheme_of};
+ghost use Rattle.verifier_commands.specs.Sums.{zero_sums, advanced_sums, add_to, evict_to, sums_after};
 ghost use Rattle.verifier_commands.specs.Machine.{AreBounded, ClockMoves, CountsAdd};
 
 use crate::outcome::Outcome;
@@ -32,9 +32,9 @@ impl Sums {
         }
     }
 
-    // The epoch turned: its sums are those of the epoch before from now on.
-    fn turn(&mut self)
-        ensures value { self.new ≡ turn_sums self.old }
+    // The next epoch: the sums of the old one are those of the epoch before from now on.
+    fn advance(&mut self)
+        ensures value { self.new ≡ advanced_sums self.old }
     {
         self.added_before = self.added;
         self.evicted_before = self.evicted;
@@ -46,8 +46,8 @@ impl Sums {
     fn add<D: Digests>(&mut self, d: &D, epoch: u32, element: &Element)
         requires added { self.old.added.count + 1 < 2 ^ 31 }
         requires added_before { self.old.added_before.count + 1 < 2 ^ 31 }
-        ensures value { (rules : Rules) → rules.format ≡ short_keys → rules.lanes ≡ D.element_lanes d.now
-            → self.new ≡ add_to rules epoch self.old element.now }
+        ensures value { (header : Header) → self.new
+            ≡ add_to (scheme_of (D.functions d.now) header) epoch self.old element.now }
         ensures counts { CountsAdd self.old self.new }
     {
         let lanes = d.element_lanes(element_text(element).as_slice());
@@ -61,8 +61,8 @@ impl Sums {
     // One element more was evicted.
     fn evict<D: Digests>(&mut self, d: &D, element: &Element)
         requires evicted { self.old.evicted.count + 1 < 2 ^ 31 }
-        ensures value { (rules : Rules) → rules.format ≡ short_keys → rules.lanes ≡ D.element_lanes d.now
-            → self.new ≡ evict_to rules self.old element.now }
+        ensures value { (header : Header) → self.new
+            ≡ evict_to (scheme_of (D.functions d.now) header) self.old element.now }
         ensures count { self.new.evicted.count ≡ self.old.evicted.count + 1 }
         ensures others { self.new ≡ record self.old { evicted = self.new.evicted } }
     {
@@ -81,15 +81,15 @@ impl Sums {
     )
         requires bounded { AreBounded self.old before.now }
         requires moved { ClockMoves before.now clock.now outcome.now }
-        ensures value { (rules : Rules) → rules.format ≡ short_keys → rules.lanes ≡ D.element_lanes d.now
-            → self.new ≡ sums_after rules before.now.at.epoch self.old outcome.now }
+        ensures value { (header : Header) → self.new
+            ≡ sums_after (scheme_of (D.functions d.now) header) before.now.at.epoch self.old outcome.now }
         ensures bounded { AreBounded self.new clock.now }
     {
         let _within = clock.at();
         match outcome {
-            Outcome::Added(element) => self.add(d, before.at().epoch, element),
-            Outcome::Evicted(element) => self.evict(d, element),
-            Outcome::Turned(_) => self.turn(),
+            Outcome::AddB(element) => self.add(d, before.at().epoch, element),
+            Outcome::EvictB(element) | Outcome::EvictBM(element) => self.evict(d, element),
+            Outcome::NextEpoch(_) => self.advance(),
             _ => {}
         }
     }

@@ -1,28 +1,29 @@
 //! Each command by its kind, and what its outcome answers.
 ghost use Rattle.std.specs.Prelude.{◌≡◌, IfOk, Option, List, ℕ, Some, None};
-ghost use Rattle.lamport_clocks.specs.Follows.{Follows};
-ghost use Rattle.record_text.specs.Format.{short_keys};
+ghost use Rattle.step_words.specs.Follows.{Follows};
+ghost use Rattle.merkle_records.specs.Scheme.{scheme_of};
 ghost use Rattle.verifier_commands.specs.Transition.{Rules, transition};
 ghost use Rattle.verifier_commands.specs.Outcome.{told};
 ghost use Rattle.verifier_commands.specs.Machine.{ClockMoves};
 
 use crate::outcome::Outcome;
 use crate::state::State;
+use lamport_clocks::Header;
 use log_codec::Command;
 use record_hash::Digests;
 use record_text::Refusal;
 
 impl State {
-    /// Takes one command by the verifier of this number, of so many.
+    /// Takes one command by the verifier of this number, under this header.
     pub(crate) fn take<D: Digests>(
         &mut self,
         d: &D,
         number: u16,
-        verifiers: u16,
+        header: &Header,
         command: Command,
     ) -> Result<Outcome, Refusal>
         ensures follows { Follows result self.old self.new
-            (told (transition (record { format = short_keys; digest = D.text_digest d.now; lanes = D.element_lanes d.now; number = number; verifiers = verifiers }) self.old command)) }
+            (told (transition (record { scheme = scheme_of (D.functions d.now) header.now; number = number; verifiers = header.now.verifiers }) self.old command)) }
         ensures clock { IfOk result (ClockMoves self.old.clock self.new.clock) }
     {
         match command {
@@ -37,7 +38,7 @@ impl State {
                 value,
                 stamp,
                 verifier,
-            } => self.add_b(verifiers, &path, value, stamp, verifier),
+            } => self.add_b(header.verifiers, &path, value, stamp, verifier),
             Command::EvictB { path, stamp } => self.evict_b(number, &path, stamp),
             Command::EvictBM {
                 path,

@@ -87,7 +87,7 @@ fn the_last_epoch_does_not_turn(rt: HostRuntime) -> Result<(), Fail> {
     let mut verifier = opened(rt.alloc(), 0, u32::MAX)?;
     match verifier.step(&ToyDigests, Command::NextEpoch) {
         Err(refusal) => assert_eq!(rt; refusal, Refusal::ClockEnd),
-        Ok(_) => return Err("it turned".into()),
+        Ok(_) => return Err("it advanced".into()),
     }
     assert_eq!(rt;
         verifier.clock(),

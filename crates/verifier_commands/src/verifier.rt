@@ -1,8 +1,9 @@
 ghost use Rattle.std.specs.Prelude.{◌≡◌, ◌<◌, ◌^◌, IfOk};
-ghost use Rattle.lamport_clocks.specs.Follows.{Follows};
+ghost use Rattle.step_words.specs.Follows.{Follows};
 ghost use Rattle.lamport_clocks.specs.Header.{IsHeader};
-ghost use Rattle.record_text.specs.Format.{short_keys};
+ghost use Rattle.record_text.specs.Format.{format_of};
 ghost use Rattle.log_codec.specs.Command.{IsCommand};
+ghost use Rattle.merkle_records.specs.Scheme.{scheme_of};
 ghost use Rattle.verifier_commands.specs.Transition.{transition};
 ghost use Rattle.verifier_commands.specs.Outcome.{told};
 ghost use Rattle.verifier_commands.specs.State.{opening};
@@ -12,7 +13,7 @@ use crate::effect::Effect;
 use crate::outcome::Outcome;
 use crate::state::State;
 use crate::sums::Sums;
-use fv_outside::Memory;
+use want_of_memory::Memory;
 use lamport_clocks::{Clock, Header, Stamp};
 use log_codec::Command;
 use multiset_sum::Part;
@@ -27,7 +28,7 @@ use verifier_cache::{Cache, Hold};
 #[derive(Drop)]
 pub struct Verifier {
     number: u16,
-    verifiers: u16,
+    header: Header,
     state: State,
     sums: Sums,
     accepted: u64,
@@ -38,7 +39,7 @@ impl Model for Verifier {
 
     ghost Value = { Machine };
 
-    ghost view = { λ v. record { number = v.number; verifiers = v.verifiers; state = v.state; sums = v.sums; accepted = v.accepted } };
+    ghost view = { λ v. record { number = v.number; header = v.header; state = v.state; sums = v.sums; accepted = v.accepted } };
 
     ghost invariant = { λ v. AreBounded v.sums v.state.clock };
 }
@@ -53,7 +54,7 @@ impl Verifier {
         let state = State::new(alloc, number, header)?;
         Ok(Verifier {
             number,
-            verifiers: header.verifiers,
+            header: *header,
             state,
             sums: Sums::zero(),
             accepted: 0,
@@ -63,13 +64,13 @@ impl Verifier {
     /// Takes one command: it answers what that did, or the first refusal. After a refusal the verifier is as
     /// before. No memory is taken.
     pub fn step<D: Digests>(&mut self, d: &D, command: Command) -> Result<Effect, Refusal>
-        requires kind { IsCommand short_keys command }
+        requires kind { IsCommand (format_of self.old.header) command }
         requires room { self.old.accepted < 2 ^ 63 }
         ensures follows { Follows result self.old self.new
-            (stepped (D.text_digest d.now) (D.element_lanes d.now) self.old command) }
+            (stepped (scheme_of (D.functions d.now) self.old.header) self.old command) }
     {
         let before = self.state.clock;
-        let outcome = self.state.take(d, self.number, self.verifiers, command)?;
+        let outcome = self.state.take(d, self.number, &self.header, command)?;
         let at = self.state.clock.at();
         let effect = effect_of(self.number, self.accepted, at, &self.sums, &outcome);
         self.sums.take(d, &before, &self.state.clock, &outcome);
@@ -98,10 +99,10 @@ fn effect_of(number: u16, accepted: u64, at: Stamp, sums: &Sums, outcome: &Outco
         → result ≡ effect_of machine at outcome.now }
 {
     let (put, key, value) = match outcome {
-        Outcome::Got(key, value) => (false, *key, value.copy()),
-        Outcome::Wrote(key, value) => (true, *key, value.copy()),
-        Outcome::Turned(None) => return Effect::Opened,
-        Outcome::Turned(Some(epoch)) => {
+        Outcome::Get(key, value) => (false, *key, value.copy()),
+        Outcome::Put(key, value) => (true, *key, value.copy()),
+        Outcome::NextEpoch(None) => return Effect::Opened,
+        Outcome::NextEpoch(Some(epoch)) => {
             return Effect::Sealed(Part {
                 verifier: number,
                 epoch: *epoch,
@@ -109,7 +110,11 @@ fn effect_of(number: u16, accepted: u64, at: Stamp, sums: &Sums, outcome: &Outco
                 evicted: sums.evicted_before,
             });
         }
-        Outcome::Moved | Outcome::Added(_) | Outcome::Evicted(_) => return Effect::Plain,
+        Outcome::AddM
+        | Outcome::EvictM
+        | Outcome::AddB(_)
+        | Outcome::EvictB(_)
+        | Outcome::EvictBM(_) => return Effect::Plain,
     };
     Effect::Did(Operation {
         stamp: at,

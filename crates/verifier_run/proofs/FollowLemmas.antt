@@ -5,42 +5,43 @@ use Rattle.std.proofs.Math.Seq.{take-add, drop-length}
 use Rattle.record_text.specs.declared.refusal.Refusal.{Refusal}
 use Rattle.record_text.specs.declared.refusal.Refusal.TheVariants as refusals
 use Rattle.record_text.specs.declared.reader.TextFault.TheVariants as faults
-use Rattle.record_text.specs.Format.{short_keys}
 use Rattle.log_codec.specs.declared.command.Command.{Command}
 use Rattle.log_codec.specs.Command.{command_text, command_at, IsCommand}
+use Rattle.merkle_records.specs.Scheme.{Scheme}
+use Rattle.log_codec.proofs.CommandLemmas.{IsWideFor}
 use Rattle.verifier_run.specs.Course.{Course, refuse, after_command}
 use Rattle.verifier_run.specs.Progress.{Progress, between_commands, progress_over, fed}
 use Rattle.verifier_run.proofs.CourseLemmas.{over-joined, over-empty, over-refused, over-malformed, over-cut, over-text}
 
 -- so many bytes of a piece have brought a course here, with no cut command
-pub record HasTaken (digest lanes : List ℕ → List ℕ) (start : Course) (bytes : List ℕ) (taken : ℕ) (now : Course) : Type 0 where
+pub record HasTaken (scheme : Scheme) (start : Course) (bytes : List ℕ) (taken : ℕ) (now : Course) : Type 0 where
   pub within : taken ≤ length bytes
   pub accepted : now.machine.accepted ≤ start.machine.accepted + taken
-  pub done : progress_over digest lanes start (take taken bytes) ≡ between_commands now
+  pub done : progress_over scheme start (take taken bytes) ≡ between_commands now
 
-pub none_taken : (digest lanes : List ℕ → List ℕ) (start : Course) (bytes : List ℕ) → HasTaken digest lanes start bytes 0 start
-none_taken digest lanes start bytes = record { within = omega arith; accepted = omega arith; done = over-empty digest lanes start }
+pub none_taken : (scheme : Scheme) (start : Course) (bytes : List ℕ) → HasTaken scheme start bytes 0 start
+none_taken scheme start bytes = record { within = omega arith; accepted = omega arith; done = over-empty scheme start }
 
 -- what the rest of the bytes makes of the course is what all of them make
-pub rest_of_piece : (digest lanes : List ℕ → List ℕ) (start : Course) (bytes : List ℕ) (taken : ℕ) (now : Course) → HasTaken digest lanes start bytes taken now → progress_over digest lanes start bytes ≡ progress_over digest lanes now (drop taken bytes)
-rest_of_piece digest lanes start bytes taken now so_far =
-    ap (progress_over digest lanes start) (sym (take-append-drop taken bytes))
-    ∙ (sym (over-joined digest lanes start (take taken bytes) (drop taken bytes))
-    ∙ ap (λ (progress : Progress). fed digest lanes progress (drop taken bytes)) so_far.done)
+pub rest_of_piece : (scheme : Scheme) (start : Course) (bytes : List ℕ) (taken : ℕ) (now : Course) → HasTaken scheme start bytes taken now → progress_over scheme start bytes ≡ progress_over scheme now (drop taken bytes)
+rest_of_piece scheme start bytes taken now so_far =
+    ap (progress_over scheme start) (sym (take-append-drop taken bytes))
+    ∙ (sym (over-joined scheme start (take taken bytes) (drop taken bytes))
+    ∙ ap (λ (progress : Progress). fed scheme progress (drop taken bytes)) so_far.done)
 
 -- a command more
-pub more_taken : (digest lanes : List ℕ → List ℕ) (start : Course) (bytes : List ℕ) (taken len : ℕ) (now after : Course) (command : Command)
-    → HasTaken digest lanes start bytes taken now → now.refused ≡ None → IsCommand short_keys command → take len (drop taken bytes) ≡ command_text short_keys command
-    → taken + len ≤ length bytes → after ≡ after_command digest lanes now command → after.machine.accepted ≤ start.machine.accepted + (taken + len)
-    → HasTaken digest lanes start bytes (taken + len) after
-more_taken digest lanes start bytes taken len now after command so_far none is spelled within is_after accepted = record {
+pub more_taken : (scheme : Scheme) (wide : IsWideFor scheme.format) (start : Course) (bytes : List ℕ) (taken len : ℕ) (now after : Course) (command : Command)
+    → HasTaken scheme start bytes taken now → now.refused ≡ None → IsCommand scheme.format command → take len (drop taken bytes) ≡ command_text scheme.format command
+    → taken + len ≤ length bytes → after ≡ after_command scheme now command → after.machine.accepted ≤ start.machine.accepted + (taken + len)
+    → HasTaken scheme start bytes (taken + len) after
+more_taken scheme wide start bytes taken len now after command so_far none is spelled within is_after accepted = record {
   within = within;
   accepted = accepted;
-  done = ap (progress_over digest lanes start) (take-add taken len bytes)
-      ∙ (sym (over-joined digest lanes start (take taken bytes) (take len (drop taken bytes)))
-      ∙ (ap (λ (progress : Progress). fed digest lanes progress (take len (drop taken bytes))) so_far.done
-      ∙ (ap (progress_over digest lanes now) spelled
-      ∙ (over-text digest lanes now command none is
+  done = ap (progress_over scheme start) (take-add taken len bytes)
+      ∙ (sym (over-joined scheme start (take taken bytes) (take len (drop taken bytes)))
+      ∙ (ap (λ (progress : Progress). fed scheme progress (take len (drop taken bytes))) so_far.done
+      ∙ (ap (progress_over scheme now) spelled
+      ∙ (over-text scheme wide now command none is
       ∙ ap between_commands (sym is_after)))));
 }
 
@@ -48,26 +49,26 @@ more_taken digest lanes start bytes taken len now after command so_far none is s
 all_taken : (course : Course) (bytes : List ℕ) → between_commands course ≡ record { course = course; held = drop (length bytes) bytes }
 all_taken course bytes = ap (λ (held : List ℕ). record { course = course; held = held }) (sym (drop-length bytes))
 
-pub refused_there : (digest lanes : List ℕ → List ℕ) (start : Course) (bytes : List ℕ) (taken : ℕ) (now : Course) (at : ℕ × Refusal)
-    → HasTaken digest lanes start bytes taken now → now.refused ≡ Some at
-    → progress_over digest lanes start bytes ≡ record { course = now; held = drop (length bytes) bytes }
-refused_there digest lanes start bytes taken now at so_far is =
-    rest_of_piece digest lanes start bytes taken now so_far
-    ∙ (over-refused digest lanes now (drop taken bytes) at is ∙ all_taken now bytes)
+pub refused_there : (scheme : Scheme) (start : Course) (bytes : List ℕ) (taken : ℕ) (now : Course) (at : ℕ × Refusal)
+    → HasTaken scheme start bytes taken now → now.refused ≡ Some at
+    → progress_over scheme start bytes ≡ record { course = now; held = drop (length bytes) bytes }
+refused_there scheme start bytes taken now at so_far is =
+    rest_of_piece scheme start bytes taken now so_far
+    ∙ (over-refused scheme now (drop taken bytes) at is ∙ all_taken now bytes)
 
-pub malformed_there : (digest lanes : List ℕ → List ℕ) (start : Course) (bytes : List ℕ) (taken : ℕ) (now after : Course)
-    → HasTaken digest lanes start bytes taken now → now.refused ≡ None → command_at short_keys (drop taken bytes) ≡ Err faults.Malformed → after ≡ refuse now refusals.Malformed
-    → progress_over digest lanes start bytes ≡ record { course = after; held = drop (length bytes) bytes }
-malformed_there digest lanes start bytes taken now after so_far none is is_after =
-    rest_of_piece digest lanes start bytes taken now so_far
-    ∙ (over-malformed digest lanes now (drop taken bytes) none is
+pub malformed_there : (scheme : Scheme) (start : Course) (bytes : List ℕ) (taken : ℕ) (now after : Course)
+    → HasTaken scheme start bytes taken now → now.refused ≡ None → command_at scheme.format (drop taken bytes) ≡ Err faults.Malformed → after ≡ refuse now refusals.Malformed
+    → progress_over scheme start bytes ≡ record { course = after; held = drop (length bytes) bytes }
+malformed_there scheme start bytes taken now after so_far none is is_after =
+    rest_of_piece scheme start bytes taken now so_far
+    ∙ (over-malformed scheme now (drop taken bytes) none is
     ∙ (ap between_commands (sym is_after) ∙ all_taken after bytes))
 
-pub cut_there : (digest lanes : List ℕ → List ℕ) (start : Course) (bytes : List ℕ) (taken : ℕ) (now : Course)
-    → HasTaken digest lanes start bytes taken now → now.refused ≡ None → command_at short_keys (drop taken bytes) ≡ Err faults.Truncated
-    → progress_over digest lanes start bytes ≡ record { course = now; held = drop taken bytes }
-cut_there digest lanes start bytes taken now so_far none is =
-    rest_of_piece digest lanes start bytes taken now so_far ∙ over-cut digest lanes now (drop taken bytes) none is
+pub cut_there : (scheme : Scheme) (start : Course) (bytes : List ℕ) (taken : ℕ) (now : Course)
+    → HasTaken scheme start bytes taken now → now.refused ≡ None → command_at scheme.format (drop taken bytes) ≡ Err faults.Truncated
+    → progress_over scheme start bytes ≡ record { course = now; held = drop taken bytes }
+cut_there scheme start bytes taken now so_far none is =
+    rest_of_piece scheme start bytes taken now so_far ∙ over-cut scheme now (drop taken bytes) none is
 
 pub ruleset following = (none_taken, more_taken, refused_there, malformed_there, cut_there)
 

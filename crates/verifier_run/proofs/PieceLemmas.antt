@@ -7,20 +7,22 @@ use Rattle.std.proofs.Math.Seq.{take-add, take-append-add, take-append_seam}
 use Rattle.record_text.specs.declared.refusal.Refusal.{Refusal}
 use Rattle.record_text.specs.declared.refusal.Refusal.TheVariants as refusals
 use Rattle.record_text.specs.declared.reader.TextFault.TheVariants as faults
-use Rattle.record_text.specs.Format.{short_keys}
-use Rattle.record_text.proofs.FieldLemmas.{wide64}
+use Rattle.lamport_clocks.specs.declared.header.Header.{Header}
+use Rattle.record_hash.specs.Functions.{DigestFunctions}
+use Rattle.record_text.specs.Format.{Format, short_keys}
 use Rattle.log_codec.specs.declared.command.Command.{Command}
 use Rattle.log_codec.specs.Command.{command_text, command_at, IsCommand}
-use Rattle.log_codec.proofs.CommandLemmas.{command_again}
+use Rattle.log_codec.proofs.CommandLemmas.{IsWideFor, command_again}
 use Rattle.verifier_run.specs.Course.{Course, refuse, after_command}
 use Rattle.verifier_run.specs.Progress.{Progress, between_commands, progress_over, fed, weight, IsBetweenPieces}
 use Rattle.verifier_run.proofs.CourseLemmas.{fed-joined, fed-weight, over-refused, over-malformed, over-cut, over-text, over-between, between-commands}
 use Rattle.log_codec.proofs.LengthLemmas.{cut_is_short}
+use Rattle.merkle_records.specs.Scheme.{Scheme, scheme_of}
 
 -- ---- nothing is held
 
-pub between-held : (course : Course) (held : List ℕ) → held ≡ [] → IsBetweenPieces (record { course = course; held = held })
-between-held course held none = subst (λ (held : List ℕ). IsBetweenPieces (record { course = course; held = held })) (sym none) (between-commands course)
+pub between-held : (format : Format) (course : Course) (held : List ℕ) → held ≡ [] → IsBetweenPieces format (record { course = course; held = held })
+between-held format course held none = subst (λ (held : List ℕ). IsBetweenPieces format (record { course = course; held = held })) (sym none) (between-commands format course)
 
 -- ---- what a run that is between two pieces knows
 
@@ -34,91 +36,92 @@ some_held n empty is e =
     let more : (n == 0) ≡ false = sym is ∙ e in omega (arith, eqb-false _ _ more)
 
 -- while bytes are held, no command was refused
-pub none_refused_yet : (course : Course) (held : List ℕ) → IsBetweenPieces (record { course = course; held = held }) → 0 < length held → course.refused ≡ None
-none_refused_yet course held between some = none_refused course.refused held between.idle some
+pub none_refused_yet : (format : Format) (course : Course) (held : List ℕ) → IsBetweenPieces format (record { course = course; held = held }) → 0 < length held → course.refused ≡ None
+none_refused_yet format course held between some = none_refused course.refused held between.idle some
 
-nothing_by : (digest lanes : List ℕ → List ℕ) (course : Course) (held : List ℕ) (refused : Option (ℕ × Refusal)) → course.refused ≡ refused → IsBetweenPieces (record { course = course; held = held }) → fed digest lanes (record { course = course; held = held }) [] ≡ record { course = course; held = held }
-nothing_by digest lanes course held None is between =
-    ap (progress_over digest lanes course) (append-nil held) ∙ over-cut digest lanes course held is between.cut
-nothing_by digest lanes course held (Some at) is between =
+nothing_by : (scheme : Scheme) (course : Course) (held : List ℕ) (refused : Option (ℕ × Refusal)) → course.refused ≡ refused → IsBetweenPieces scheme.format (record { course = course; held = held }) → fed scheme (record { course = course; held = held }) [] ≡ record { course = course; held = held }
+nothing_by scheme course held None is between =
+    ap (progress_over scheme course) (append-nil held) ∙ over-cut scheme course held is between.cut
+nothing_by scheme course held (Some at) is between =
     let none : held ≡ [] = subst (λ (refused : Option (ℕ × Refusal)). IfSome refused (λ at. held ≡ [])) is between.idle in
-    over-refused digest lanes course (held ++ []) at is
+    over-refused scheme course (held ++ []) at is
     ∙ ap (λ (held : List ℕ). record { course = course; held = held }) (sym none)
 
 -- no bytes do nothing
-pub fed-nothing : (digest lanes : List ℕ → List ℕ) (course : Course) (held : List ℕ) → IsBetweenPieces (record { course = course; held = held }) → fed digest lanes (record { course = course; held = held }) [] ≡ record { course = course; held = held }
-fed-nothing digest lanes course held between = nothing_by digest lanes course held course.refused refl between
+pub fed-nothing : (scheme : Scheme) (course : Course) (held : List ℕ) → IsBetweenPieces scheme.format (record { course = course; held = held }) → fed scheme (record { course = course; held = held }) [] ≡ record { course = course; held = held }
+fed-nothing scheme course held between = nothing_by scheme course held course.refused refl between
 
 -- ---- a piece that begins with a command
 
-pub left_is_short : (digest lanes : List ℕ → List ℕ) (course after : Course) (piece left : List ℕ) → progress_over digest lanes course piece ≡ record { course = after; held = left } → length left < 104
-left_is_short digest lanes course after piece left is = cut_is_short left (subst IsBetweenPieces is (over-between digest lanes course piece)).cut
+pub left_is_short : (functions : DigestFunctions) (header : Header) (course after : Course) (piece left : List ℕ) → progress_over (scheme_of functions header) course piece ≡ record { course = after; held = left } → length left < 104
+left_is_short functions header course after piece left is =
+    cut_is_short left (subst (IsBetweenPieces short_keys) is (over-between (scheme_of functions header) course piece)).cut
 
-pub left_between : (digest lanes : List ℕ → List ℕ) (course after : Course) (piece left : List ℕ) → progress_over digest lanes course piece ≡ record { course = after; held = left } → IsBetweenPieces (record { course = after; held = left })
-left_between digest lanes course after piece left is = subst IsBetweenPieces is (over-between digest lanes course piece)
+pub left_between : (scheme : Scheme) (course after : Course) (piece left : List ℕ) → progress_over scheme course piece ≡ record { course = after; held = left } → IsBetweenPieces scheme.format (record { course = after; held = left })
+left_between scheme course after piece left is = subst (IsBetweenPieces scheme.format) is (over-between scheme course piece)
 
 -- behind no held bytes a piece is all that there is
-pub alone : (digest lanes : List ℕ → List ℕ) (course : Course) (held piece : List ℕ) → held ≡ [] → fed digest lanes (record { course = course; held = held }) piece ≡ progress_over digest lanes course piece
-alone digest lanes course held piece none = ap (λ (held : List ℕ). progress_over digest lanes course (held ++ piece)) none
+pub alone : (scheme : Scheme) (course : Course) (held piece : List ℕ) → held ≡ [] → fed scheme (record { course = course; held = held }) piece ≡ progress_over scheme course piece
+alone scheme course held piece none = ap (λ (held : List ℕ). progress_over scheme course (held ++ piece)) none
 
-pub gone_on : (digest lanes : List ℕ → List ℕ) (course after : Course) (held piece left longer : List ℕ)
-    → held ≡ [] → progress_over digest lanes course piece ≡ record { course = after; held = left } → longer ≡ held ++ left
-    → record { course = after; held = longer } ≡ fed digest lanes (record { course = course; held = held }) piece
-gone_on digest lanes course after held piece left longer none is is_longer =
+pub gone_on : (scheme : Scheme) (course after : Course) (held piece left longer : List ℕ)
+    → held ≡ [] → progress_over scheme course piece ≡ record { course = after; held = left } → longer ≡ held ++ left
+    → record { course = after; held = longer } ≡ fed scheme (record { course = course; held = held }) piece
+gone_on scheme course after held piece left longer none is is_longer =
     ap (λ (held : List ℕ). record { course = after; held = held }) (is_longer ∙ ap (λ (held : List ℕ). held ++ left) none)
-    ∙ (sym is ∙ sym (alone digest lanes course held piece none))
+    ∙ (sym is ∙ sym (alone scheme course held piece none))
 
 -- ---- the rest of a command that was cut
 
 -- the text is longer than the held bytes, since these are cut
-pub longer_than_held : (held more : List ℕ) (command : Command) (len : ℕ) → command_at short_keys held ≡ Err faults.Truncated → IsCommand short_keys command → take len (held ++ more) ≡ command_text short_keys command → length held < len
-longer_than_held held more command len cut is spelled =
+pub longer_than_held : (format : Format) (wide : IsWideFor format) (held more : List ℕ) (command : Command) (len : ℕ) → command_at format held ≡ Err faults.Truncated → IsCommand format command → take len (held ++ more) ≡ command_text format command → length held < len
+longer_than_held format wide held more command len cut is spelled =
     elim (cases_lt (length held) len) [
       | inl longer ↦ longer
       | inr short ↦
-          let front : take len held ≡ command_text short_keys command = sym (take-append-le len held more short) ∙ spelled in
-          let whole : held ≡ command_text short_keys command ++ drop len held = sym (take-append-drop len held) ∙ ap (λ (text : List ℕ). text ++ drop len held) front in
-          let found : command_at short_keys held ≡ Ok (command, drop len held) = ap (command_at short_keys) whole ∙ command_again short_keys wide64 command (drop len held) is in
+          let front : take len held ≡ command_text format command = sym (take-append-le len held more short) ∙ spelled in
+          let whole : held ≡ command_text format command ++ drop len held = sym (take-append-drop len held) ∙ ap (λ (text : List ℕ). text ++ drop len held) front in
+          let found : command_at format held ≡ Ok (command, drop len held) = ap (command_at format) whole ∙ command_again format wide command (drop len held) is in
           absurd (cc)
     ]
 
-pub completed : (digest lanes : List ℕ → List ℕ) (course after : Course) (held piece nothing : List ℕ) (room len : ℕ) (command : Command)
-    → course.refused ≡ None → IsCommand short_keys command → take len (held ++ take room piece) ≡ command_text short_keys command
-    → length held < len → len ≤ length held + room → after ≡ after_command digest lanes course command → nothing ≡ []
-    → record { course = after; held = nothing } ≡ fed digest lanes (record { course = course; held = held }) (take (len - length held) piece)
-completed digest lanes course after held piece nothing room len command none is spelled longer within is_after empty =
+pub completed : (scheme : Scheme) (wide : IsWideFor scheme.format) (course after : Course) (held piece nothing : List ℕ) (room len : ℕ) (command : Command)
+    → course.refused ≡ None → IsCommand scheme.format command → take len (held ++ take room piece) ≡ command_text scheme.format command
+    → length held < len → len ≤ length held + room → after ≡ after_command scheme course command → nothing ≡ []
+    → record { course = after; held = nothing } ≡ fed scheme (record { course = course; held = held }) (take (len - length held) piece)
+completed scheme wide course after held piece nothing room len command none is spelled longer within is_after empty =
     let sum : len ≡ length held + (len - length held) = omega arith in
-    let joined : command_text short_keys command ≡ held ++ take (len - length held) piece =
+    let joined : command_text scheme.format command ≡ held ++ take (len - length held) piece =
     sym spelled
     ∙ (ap (λ (n : ℕ). take n (held ++ take room piece)) sum
     ∙ (take-append-add held (take room piece) (len - length held)
     ∙ ap (λ (rest : List ℕ). held ++ rest) (take-take (len - length held) room piece (omega arith)))) in
     ap (λ (held : List ℕ). record { course = after; held = held }) empty
     ∙ (ap between_commands is_after
-    ∙ (sym (over-text digest lanes course command none is) ∙ ap (progress_over digest lanes course) joined))
+    ∙ (sym (over-text scheme wide course command none is) ∙ ap (progress_over scheme course) joined))
 
-pub malformed_behind : (digest lanes : List ℕ → List ℕ) (course after : Course) (held piece nothing : List ℕ)
-    → course.refused ≡ None → command_at short_keys (held ++ piece) ≡ Err faults.Malformed → after ≡ refuse course refusals.Malformed → nothing ≡ []
-    → record { course = after; held = nothing } ≡ fed digest lanes (record { course = course; held = held }) piece
-malformed_behind digest lanes course after held piece nothing none is is_after empty =
+pub malformed_behind : (scheme : Scheme) (course after : Course) (held piece nothing : List ℕ)
+    → course.refused ≡ None → command_at scheme.format (held ++ piece) ≡ Err faults.Malformed → after ≡ refuse course refusals.Malformed → nothing ≡ []
+    → record { course = after; held = nothing } ≡ fed scheme (record { course = course; held = held }) piece
+malformed_behind scheme course after held piece nothing none is is_after empty =
     ap (λ (held : List ℕ). record { course = after; held = held }) empty
-    ∙ (ap between_commands is_after ∙ sym (over-malformed digest lanes course (held ++ piece) none is))
+    ∙ (ap between_commands is_after ∙ sym (over-malformed scheme course (held ++ piece) none is))
 
-pub cut_behind : (digest lanes : List ℕ → List ℕ) (course : Course) (held piece longer : List ℕ)
-    → course.refused ≡ None → command_at short_keys (held ++ piece) ≡ Err faults.Truncated
-    → longer ≡ held ++ piece → record { course = course; held = longer } ≡ fed digest lanes (record { course = course; held = held }) piece
-cut_behind digest lanes course held piece longer none is is_longer =
-    ap (λ (held : List ℕ). record { course = course; held = held }) is_longer ∙ sym (over-cut digest lanes course (held ++ piece) none is)
+pub cut_behind : (scheme : Scheme) (course : Course) (held piece longer : List ℕ)
+    → course.refused ≡ None → command_at scheme.format (held ++ piece) ≡ Err faults.Truncated
+    → longer ≡ held ++ piece → record { course = course; held = longer } ≡ fed scheme (record { course = course; held = held }) piece
+cut_behind scheme course held piece longer none is is_longer =
+    ap (λ (held : List ℕ). record { course = course; held = held }) is_longer ∙ sym (over-cut scheme course (held ++ piece) none is)
 
 -- where memory was wanting, all is as it was
-pub restored : (digest lanes : List ℕ → List ℕ) (course after : Course) (held kept more : List ℕ) (n : ℕ)
-    → IsBetweenPieces (record { course = course; held = held }) → after ≡ course → n ≡ length held → kept ≡ take n (held ++ more)
-    → record { course = after; held = kept } ≡ fed digest lanes (record { course = course; held = held }) []
-restored digest lanes course after held kept more n between is_after len is =
+pub restored : (scheme : Scheme) (course after : Course) (held kept more : List ℕ) (n : ℕ)
+    → IsBetweenPieces scheme.format (record { course = course; held = held }) → after ≡ course → n ≡ length held → kept ≡ take n (held ++ more)
+    → record { course = after; held = kept } ≡ fed scheme (record { course = course; held = held }) []
+restored scheme course after held kept more n between is_after len is =
     let same : kept ≡ held = is ∙ (ap (λ (n : ℕ). take n (held ++ more)) len ∙ take-append_seam held more) in
     ap (λ (course : Course). record { course = course; held = kept }) is_after
     ∙ (ap (λ (held : List ℕ). record { course = course; held = held }) same
-    ∙ sym (fed-nothing digest lanes course held between))
+    ∙ sym (fed-nothing scheme course held between))
 
 -- where a command is still cut though there was room for more of the piece, the piece has ended
 pub piece_ended : (held piece : List ℕ) (room : ℕ) → command_at short_keys (held ++ take room piece) ≡ Err faults.Truncated
@@ -128,39 +131,39 @@ piece_ended held piece room cut full =
     omega (arith, short, length-append held (take room piece), length-take room piece)
 
 -- once a command was refused, what is fed does nothing
-pub refused_stays : (digest lanes : List ℕ → List ℕ) (course : Course) (held piece : List ℕ) (at : ℕ × Refusal)
-    → IsBetweenPieces (record { course = course; held = held }) → course.refused ≡ Some at
-    → record { course = course; held = held } ≡ fed digest lanes (record { course = course; held = held }) piece
-refused_stays digest lanes course held piece at between is =
+pub refused_stays : (scheme : Scheme) (course : Course) (held piece : List ℕ) (at : ℕ × Refusal)
+    → IsBetweenPieces scheme.format (record { course = course; held = held }) → course.refused ≡ Some at
+    → record { course = course; held = held } ≡ fed scheme (record { course = course; held = held }) piece
+refused_stays scheme course held piece at between is =
     let none : held ≡ [] = subst (λ (refused : Option (ℕ × Refusal)). IfSome refused (λ at. held ≡ [])) is between.idle in
     ap (λ (held : List ℕ). record { course = course; held = held }) none
-    ∙ sym (over-refused digest lanes course (held ++ piece) at is)
+    ∙ sym (over-refused scheme course (held ++ piece) at is)
 
 -- ---- both, one after the other
 
-pub fed_both : (digest lanes : List ℕ → List ℕ) (old mid new : Progress) (piece : List ℕ) (from : ℕ)
-    → mid ≡ fed digest lanes old (take from piece) → new ≡ fed digest lanes mid (drop from piece)
-    → new ≡ fed digest lanes old piece
-fed_both digest lanes old mid new piece from first second =
+pub fed_both : (scheme : Scheme) (old mid new : Progress) (piece : List ℕ) (from : ℕ)
+    → mid ≡ fed scheme old (take from piece) → new ≡ fed scheme mid (drop from piece)
+    → new ≡ fed scheme old piece
+fed_both scheme old mid new piece from first second =
     second
-    ∙ (ap (λ (progress : Progress). fed digest lanes progress (drop from piece)) first
-    ∙ (fed-joined digest lanes old (take from piece) (drop from piece)
-    ∙ ap (fed digest lanes old) (take-append-drop from piece)))
+    ∙ (ap (λ (progress : Progress). fed scheme progress (drop from piece)) first
+    ∙ (fed-joined scheme old (take from piece) (drop from piece)
+    ∙ ap (fed scheme old) (take-append-drop from piece)))
 
-pub fed_front : (digest lanes : List ℕ → List ℕ) (old mid new : Progress) (piece : List ℕ) (from more : ℕ)
-    → mid ≡ fed digest lanes old (take from piece) → new ≡ fed digest lanes mid (take more (drop from piece))
-    → new ≡ fed digest lanes old (take (from + more) piece)
-fed_front digest lanes old mid new piece from more first second =
+pub fed_front : (scheme : Scheme) (old mid new : Progress) (piece : List ℕ) (from more : ℕ)
+    → mid ≡ fed scheme old (take from piece) → new ≡ fed scheme mid (take more (drop from piece))
+    → new ≡ fed scheme old (take (from + more) piece)
+fed_front scheme old mid new piece from more first second =
     second
-    ∙ (ap (λ (progress : Progress). fed digest lanes progress (take more (drop from piece))) first
-    ∙ (fed-joined digest lanes old (take from piece) (take more (drop from piece))
-    ∙ ap (fed digest lanes old) (sym (take-add from more piece))))
+    ∙ (ap (λ (progress : Progress). fed scheme progress (take more (drop from piece))) first
+    ∙ (fed-joined scheme old (take from piece) (take more (drop from piece))
+    ∙ ap (fed scheme old) (sym (take-add from more piece))))
 
-pub weight_all : (digest lanes : List ℕ → List ℕ) (old new : Progress) (piece : List ℕ)
-    → new ≡ fed digest lanes old piece → weight new ≤ weight old + length piece
-weight_all digest lanes old new piece is = subst (λ (progress : Progress). weight progress ≤ weight old + length piece) (sym is) (fed-weight digest lanes old piece)
+pub weight_all : (scheme : Scheme) (old new : Progress) (piece : List ℕ)
+    → new ≡ fed scheme old piece → weight new ≤ weight old + length piece
+weight_all scheme old new piece is = subst (λ (progress : Progress). weight progress ≤ weight old + length piece) (sym is) (fed-weight scheme old piece)
 
-pub weight_front : (digest lanes : List ℕ → List ℕ) (old new : Progress) (piece : List ℕ) (from : ℕ)
-    → new ≡ fed digest lanes old (take from piece) → weight new + (length piece - from) ≤ weight old + length piece
-weight_front digest lanes old new piece from is =
-    let most = weight_all digest lanes old new (take from piece) is in omega (arith, most, length-take from piece)
+pub weight_front : (scheme : Scheme) (old new : Progress) (piece : List ℕ) (from : ℕ)
+    → new ≡ fed scheme old (take from piece) → weight new + (length piece - from) ≤ weight old + length piece
+weight_front scheme old new piece from is =
+    let most = weight_all scheme old new (take from piece) is in omega (arith, most, length-take from piece)

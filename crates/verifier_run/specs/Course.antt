@@ -5,6 +5,7 @@ use Rattle.multiset_sum.specs.declared.part.Part.{Part}
 use Rattle.record_text.specs.declared.operation.Operation.{Operation}
 use Rattle.record_text.specs.declared.refusal.Refusal.{Refusal}
 use Rattle.log_codec.specs.declared.command.Command.{Command}
+use Rattle.merkle_records.specs.Scheme.{Scheme}
 use Rattle.verifier_commands.specs.declared.effect.Effect.{Effect}
 use Rattle.verifier_commands.specs.Machine.{Machine, stepped}
 use Rattle.verifier_run.specs.Trace.{operation_in, part_in}
@@ -35,5 +36,5 @@ after_step course (Ok done) = record course {
 after_step course (Err refusal) = refuse course refusal
 
 -- The course after one command more.
-unfoldable pub after_command : (List ℕ → List ℕ) → (List ℕ → List ℕ) → Course → Command → Course
-after_command digest lanes course command = after_step course (stepped digest lanes course.machine command)
+unfoldable pub after_command : Scheme → Course → Command → Course
+after_command scheme course command = after_step course (stepped scheme course.machine command)

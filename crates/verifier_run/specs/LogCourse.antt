@@ -5,8 +5,8 @@ use Rattle.record_text.specs.declared.refusal.Refusal.{Refusal}
 use Rattle.record_text.specs.declared.refusal.Refusal.TheVariants as refusals
 use Rattle.record_text.specs.declared.reader.TextFault.{TextFault}
 use Rattle.record_text.specs.declared.reader.TextFault.TheVariants as faults
-use Rattle.record_text.specs.Format.{short_keys}
 use Rattle.log_codec.specs.Log.{LogEnd, whole, faulty, read_log}
+use Rattle.merkle_records.specs.Scheme.{Scheme}
 use Rattle.verifier_commands.specs.Machine.{Machine}
 use Rattle.verifier_run.specs.Trace.{Trace, trace, operations_of, parts_of}
 use Rattle.verifier_run.specs.Course.{Course}
@@ -36,6 +36,6 @@ course_of trace end = record {
 }
 
 -- What the bytes of a log come to, from this verifier on.
-abbrev pub log_course : (List ℕ → List ℕ) → (List ℕ → List ℕ) → Machine → List ℕ → Course
-log_course digest lanes machine bytes =
-    course_of (trace digest lanes machine (read_log short_keys bytes).commands) (read_log short_keys bytes).end
+abbrev pub log_course : Scheme → Machine → List ℕ → Course
+log_course scheme machine bytes =
+    course_of (trace scheme machine (read_log scheme.format bytes).commands) (read_log scheme.format bytes).end

@@ -5,10 +5,11 @@ use Rattle.lamport_clocks.specs.declared.header.Header.{Header}
 use Rattle.record_text.specs.declared.refusal.Refusal.{Refusal}
 use Rattle.record_text.specs.declared.refusal.Refusal.TheVariants as refusals
 use Rattle.record_text.specs.declared.reader.TextFault.TheVariants as faults
-use Rattle.record_text.specs.Format.{short_keys}
+use Rattle.record_text.specs.Format.{Format}
 use Rattle.record_text.specs.Fields.{Parsed}
 use Rattle.log_codec.specs.declared.command.Command.{Command}
 use Rattle.log_codec.specs.Command.{command_at}
+use Rattle.merkle_records.specs.Scheme.{Scheme}
 use Rattle.verifier_commands.specs.Machine.{opening_machine}
 use Rattle.verifier_run.specs.Course.{Course, opening_course, refuse, after_command}
 
@@ -38,20 +39,20 @@ unless_refused (Some refused) course progress = between_commands course
 
 -- What bytes, from a command's first byte on, make of a course. The count bounds how many commands are read:
 -- each takes a byte at least, so the number of bytes is enough.
-unfoldable pub read_up_to : ℕ → (List ℕ → List ℕ) → (List ℕ → List ℕ) → Course → List ℕ → Progress
-read_up_to zero digest lanes course bytes = record { course = course; held = bytes }
-read_up_to (suc count) digest lanes course bytes =
+unfoldable pub read_up_to : ℕ → Scheme → Course → List ℕ → Progress
+read_up_to zero scheme course bytes = record { course = course; held = bytes }
+read_up_to (suc count) scheme course bytes =
     unless_refused course.refused course
-    (progress_behind course bytes (command_at short_keys bytes)
-    (λ command rest. read_up_to count digest lanes (after_command digest lanes course command) rest))
+    (progress_behind course bytes (command_at scheme.format bytes)
+    (λ command rest. read_up_to count scheme (after_command scheme course command) rest))
 
 -- the same, of as many commands as the bytes may hold
-abbrev pub progress_over : (List ℕ → List ℕ) → (List ℕ → List ℕ) → Course → List ℕ → Progress
-progress_over digest lanes course bytes = read_up_to (length bytes) digest lanes course bytes
+abbrev pub progress_over : Scheme → Course → List ℕ → Progress
+progress_over scheme course bytes = read_up_to (length bytes) scheme course bytes
 
 -- The progress once these bytes are fed: they go on with the cut command.
-abbrev pub fed : (List ℕ → List ℕ) → (List ℕ → List ℕ) → Progress → List ℕ → Progress
-fed digest lanes progress piece = progress_over digest lanes progress.course (progress.held ++ piece)
+abbrev pub fed : Scheme → Progress → List ℕ → Progress
+fed scheme progress piece = progress_over scheme progress.course (progress.held ++ piece)
 
 -- the course at the end of the log, where the bytes held are so: a command that is cut is refused
 abbrev pub course_at_end : Course → List ℕ → Course
@@ -67,6 +68,6 @@ abbrev pub weight : Progress → ℕ
 weight progress = progress.course.machine.accepted + length progress.held
 
 -- Between two pieces the bytes held begin a command that is cut, and a refused course holds none.
-pub record IsBetweenPieces (progress : Progress) : Type 0 where
-  pub cut : command_at short_keys progress.held ≡ Err faults.Truncated
+pub record IsBetweenPieces (format : Format) (progress : Progress) : Type 0 where
+  pub cut : command_at format progress.held ≡ Err faults.Truncated
   pub idle : IfSome progress.course.refused (λ refused. progress.held ≡ [])

@@ -5,6 +5,7 @@ use Rattle.multiset_sum.specs.declared.part.Part.{Part}
 use Rattle.record_text.specs.declared.operation.Operation.{Operation}
 use Rattle.record_text.specs.declared.refusal.Refusal.{Refusal}
 use Rattle.log_codec.specs.declared.command.Command.{Command}
+use Rattle.merkle_records.specs.Scheme.{Scheme}
 use Rattle.verifier_commands.specs.declared.effect.Effect.{Effect}
 use Rattle.verifier_commands.specs.declared.effect.Effect.TheVariants.{Plain, Did, Opened, Sealed}
 use Rattle.verifier_commands.specs.Machine.{Machine, stepped}
@@ -25,10 +26,10 @@ trace_behind machine (Ok done) more = with_effect done.0 (more done.1)
 trace_behind machine (Err refusal) more = record { effects = []; machine = machine; refused = Some refusal }
 
 -- The trace of a verifier over commands, with these digests of texts and lanes of elements.
-unfoldable pub trace : (List ℕ → List ℕ) → (List ℕ → List ℕ) → Machine → List Command → Trace
-trace digest lanes machine [] = record { effects = []; machine = machine; refused = None }
-trace digest lanes machine (command ∷ commands) =
-    trace_behind machine (stepped digest lanes machine command) (λ after. trace digest lanes after commands)
+unfoldable pub trace : Scheme → Machine → List Command → Trace
+trace scheme machine [] = record { effects = []; machine = machine; refused = None }
+trace scheme machine (command ∷ commands) =
+    trace_behind machine (stepped scheme machine command) (λ after. trace scheme after commands)
 
 -- the operation that an effect is, if it is one
 abbrev pub operation_in : Effect → List Operation

@@ -2,13 +2,14 @@
 ghost use Rattle.std.specs.Prelude.{◌≡◌, ◌+◌, ◌<◌, ◌≤◌, ◌^◌, ◌++◌, [], length, take, drop, IsSome, IsOk, IfOk, IfErr, OnOk, OnErr};
 ghost use Rattle.arrayvec.specs.ArrayVec.{array_vec_len};
 ghost use Rattle.lamport_clocks.specs.Header.{IsHeader};
+ghost use Rattle.merkle_records.specs.Scheme.{scheme_of};
 ghost use Rattle.verifier_commands.specs.Machine.{opening_machine};
 ghost use Rattle.verifier_run.specs.Progress.{Progress, between_commands, opening_progress, progress_over, fed, ended, weight};
 ghost use Rattle.verifier_run.specs.LogCourse.{log_course};
 
 use crate::tracer::Tracer;
 use arrayvec::ArrayVec;
-use fv_outside::Memory;
+use want_of_memory::Memory;
 use lamport_clocks::Header;
 use log_codec::{Decoded, LONGEST_COMMAND_TEXT, read};
 use multiset_sum::Part;
@@ -31,13 +32,14 @@ pub struct Run {
 }
 
 impl Model for Run {
+    ghost use Rattle.record_text.specs.Format.{format_of};
     ghost use Rattle.verifier_run.specs.Progress.{Progress, IsBetweenPieces};
 
     ghost Value = { Progress };
 
     ghost view = { λ r. record { course = r.tracer; held = r.held.items } };
 
-    ghost invariant = { λ r. IsBetweenPieces (record { course = r.tracer; held = r.held.items }) };
+    ghost invariant = { λ r. IsBetweenPieces (format_of r.tracer.machine.header) (record { course = r.tracer; held = r.held.items }) };
 }
 
 impl Run {
@@ -63,9 +65,9 @@ impl Run {
         requires room { weight self.old + length piece.now < 2 ^ 63 }
 
         // All of the piece is done, or what is said to be.
-        ensures ok { OnOk result (self.new ≡ fed (D.text_digest d.now) (D.element_lanes d.now) self.old piece.now) }
+        ensures ok { OnOk result (self.new ≡ fed (scheme_of (D.functions d.now) self.old.course.machine.header) self.old piece.now) }
         ensures stop { IfErr result (λ stop.
-            self.new ≡ fed (D.text_digest d.now) (D.element_lanes d.now) self.old (take stop.taken piece.now)) }
+            self.new ≡ fed (scheme_of (D.functions d.now) self.old.course.machine.header) self.old (take stop.taken piece.now)) }
         ensures within { IfErr result (λ stop. stop.taken ≤ length piece.now) }
         ensures weight { weight self.new ≤ weight self.old + length piece.now }
 
@@ -92,11 +94,11 @@ impl Run {
     fn complete<D: Digests>(&mut self, d: &D, piece: &[u8]) -> Result<usize, FeedStop>
         requires room { weight self.old + length piece.now < 2 ^ 63 }
         ensures ok { IfOk result (λ taken.
-            self.new ≡ fed (D.text_digest d.now) (D.element_lanes d.now) self.old (take taken piece.now)) }
+            self.new ≡ fed (scheme_of (D.functions d.now) self.old.course.machine.header) self.old (take taken piece.now)) }
         ensures within { IfOk result (λ taken. taken ≤ length piece.now) }
         ensures none_held { IfOk result (λ taken. taken < length piece.now → self.new.held ≡ []) }
         ensures stop { IfErr result (λ stop.
-            self.new ≡ fed (D.text_digest d.now) (D.element_lanes d.now) self.old (take stop.taken piece.now)) }
+            self.new ≡ fed (scheme_of (D.functions d.now) self.old.course.machine.header) self.old (take stop.taken piece.now)) }
         ensures none { IfErr result (λ stop. stop.taken ≡ 0) }
     {
         if self.held.is_empty() {
@@ -127,9 +129,9 @@ impl Run {
     fn go_on<D: Digests>(&mut self, d: &D, piece: &[u8]) -> Result<(), FeedStop>
         requires none_held { self.old.held ≡ [] }
         requires room { self.old.course.machine.accepted + length piece.now < 2 ^ 63 }
-        ensures ok { OnOk result (self.new ≡ fed (D.text_digest d.now) (D.element_lanes d.now) self.old piece.now) }
+        ensures ok { OnOk result (self.new ≡ fed (scheme_of (D.functions d.now) self.old.course.machine.header) self.old piece.now) }
         ensures stop { IfErr result (λ stop.
-            self.new ≡ fed (D.text_digest d.now) (D.element_lanes d.now) self.old (take stop.taken piece.now)) }
+            self.new ≡ fed (scheme_of (D.functions d.now) self.old.course.machine.header) self.old (take stop.taken piece.now)) }
         ensures within { IfErr result (λ stop. stop.taken ≤ length piece.now) }
     {
         let taken = follow(&mut self.tracer, d, piece)?;
@@ -175,11 +177,11 @@ impl Run {
 fn follow<D: Digests>(tracer: &mut Tracer, d: &D, bytes: &[u8]) -> Result<usize, FeedStop>
     requires room { tracer.old.machine.accepted + length bytes.now < 2 ^ 63 }
     ensures ok { IfOk result (λ taken.
-        progress_over (D.text_digest d.now) (D.element_lanes d.now) tracer.old bytes.now
+        progress_over (scheme_of (D.functions d.now) tracer.old.machine.header) tracer.old bytes.now
         ≡ record { course = tracer.new; held = drop taken bytes.now }) }
     ensures within { IfOk result (λ taken. taken ≤ length bytes.now) }
     ensures stop { IfErr result (λ stop.
-        progress_over (D.text_digest d.now) (D.element_lanes d.now) tracer.old (take stop.taken bytes.now)
+        progress_over (scheme_of (D.functions d.now) tracer.old.machine.header) tracer.old (take stop.taken bytes.now)
         ≡ between_commands tracer.new) }
     ensures stop_within { IfErr result (λ stop. stop.taken ≤ length bytes.now) }
 {
@@ -235,7 +237,7 @@ pub fn run_log<D: Digests>(
     requires header { IsHeader header.now }
     requires number { number < header.now.verifiers }
     ensures course { IfOk result (λ run. run.course
-        ≡ log_course (D.text_digest d.now) (D.element_lanes d.now) (opening_machine number header.now) log.now) }
+        ≡ log_course (scheme_of (D.functions d.now) header.now) (opening_machine number header.now) log.now) }
     ensures none_held { IfOk result (λ run. run.held ≡ []) }
 {
     let mut run = Run::new(alloc, number, header)?;

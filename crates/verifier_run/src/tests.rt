@@ -3,7 +3,7 @@ ghost use Rattle.std.specs.Prelude.{◌≡◌, ◌<◌, ◌^◌, length};
 ghost use Rattle.lamport_clocks.specs.Header.{IsHeader};
 
 use crate::{Run, run_log};
-use fv_outside::Memory;
+use want_of_memory::Memory;
 use lamport_clocks::{Header, Stamp};
 use record_hash::{ShaDigests, ToyDigests};
 use record_text::{Blob, Operation, Refusal};

@@ -1,13 +1,14 @@
 //! A verifier and what its commands have come to, command by command.
 ghost use Rattle.std.specs.Prelude.{◌≡◌, ◌+◌, ◌<◌, ◌≤◌, ◌^◌, ◌++◌, ◌∷◌, [], length, take, drop, is_some, vec_len, vec_capacity, IfOk, IfErr, OnOk, OnErr};
 ghost use Rattle.lamport_clocks.specs.Header.{IsHeader};
-ghost use Rattle.record_text.specs.Format.{short_keys};
+ghost use Rattle.record_text.specs.Format.{format_of};
 ghost use Rattle.log_codec.specs.Command.{IsCommand};
+ghost use Rattle.merkle_records.specs.Scheme.{scheme_of};
 ghost use Rattle.verifier_commands.specs.Machine.{opening_machine};
 ghost use Rattle.verifier_run.specs.Trace.{operation_in, part_in};
 ghost use Rattle.verifier_run.specs.Course.{Course, opening_course, refuse, after_command};
 
-use fv_outside::Memory;
+use want_of_memory::Memory;
 use lamport_clocks::Header;
 use log_codec::Command;
 use multiset_sum::Part;
@@ -84,9 +85,9 @@ impl Tracer {
     /// Takes one command. For want of memory nothing of it is done.
     #[tactic(auto, unfolding(crate::specs::Course::after_command))]
     pub(crate) fn take<D: Digests>(&mut self, d: &D, command: Command) -> Result<(), Memory>
-        requires kind { IsCommand short_keys command }
+        requires kind { IsCommand (format_of self.old.machine.header) command }
         requires room { self.old.machine.accepted < 2 ^ 63 }
-        ensures ok { OnOk result (self.new ≡ after_command (D.text_digest d.now) (D.element_lanes d.now) self.old command) }
+        ensures ok { OnOk result (self.new ≡ after_command (scheme_of (D.functions d.now) self.old.machine.header) self.old command) }
         ensures err { OnErr result (self.new ≡ self.old) }
         ensures count { self.new.machine.accepted ≤ self.old.machine.accepted + 1 }
     {

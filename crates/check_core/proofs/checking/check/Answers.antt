@@ -4,20 +4,20 @@ use Rattle.check_core.proofs.checking.check.Goals as goal
 
 pub returns-in-Ok-clause-headline : goal.returns-in-Ok-clause-headline
 returns-in-Ok-clause-headline g c =
-    of_left (IsSound (g.D.Digests.text_digest c.args.d.now) (g.D.Digests.element_lanes c.args.d.now)) (g.S.Source.left c.args.source.now)
-    (λ bytes. headline (g.D.Digests.text_digest c.args.d.now) (g.D.Digests.element_lanes c.args.d.now) bytes (λ text. (c.digests_have_32_bytes.ensures.digests text).size))
+    of_left (IsSound (g.D.Digests.functions c.args.d.now)) (g.S.Source.left c.args.source.now)
+    (λ bytes. headline (g.D.Digests.functions c.args.d.now) bytes (λ text. (c.digests_have_32_bytes.ensures.digests text).size))
 
 pub returns-in-Err-Memory-clause-headline : goal.returns-in-Err-Memory-clause-headline
 returns-in-Err-Memory-clause-headline g c =
-    of_left (IsSound (g.D.Digests.text_digest c.args.d.now) (g.D.Digests.element_lanes c.args.d.now)) (g.S.Source.left c.args.source.now)
-    (λ bytes. headline (g.D.Digests.text_digest c.args.d.now) (g.D.Digests.element_lanes c.args.d.now) bytes (λ text. (c.digests_have_32_bytes.ensures.digests text).size))
+    of_left (IsSound (g.D.Digests.functions c.args.d.now)) (g.S.Source.left c.args.source.now)
+    (λ bytes. headline (g.D.Digests.functions c.args.d.now) bytes (λ text. (c.digests_have_32_bytes.ensures.digests text).size))
 
 pub returns-in-Err-ReadFault-clause-headline : goal.returns-in-Err-ReadFault-clause-headline
 returns-in-Err-ReadFault-clause-headline g c =
-    of_left (IsSound (g.D.Digests.text_digest c.args.d.now) (g.D.Digests.element_lanes c.args.d.now)) (g.S.Source.left c.args.source.now)
-    (λ bytes. headline (g.D.Digests.text_digest c.args.d.now) (g.D.Digests.element_lanes c.args.d.now) bytes (λ text. (c.digests_have_32_bytes.ensures.digests text).size))
+    of_left (IsSound (g.D.Digests.functions c.args.d.now)) (g.S.Source.left c.args.source.now)
+    (λ bytes. headline (g.D.Digests.functions c.args.d.now) bytes (λ text. (c.digests_have_32_bytes.ensures.digests text).size))
 
 pub returns-in-Err-InputLimit-clause-headline : goal.returns-in-Err-InputLimit-clause-headline
 returns-in-Err-InputLimit-clause-headline g c =
-    of_left (IsSound (g.D.Digests.text_digest c.args.d.now) (g.D.Digests.element_lanes c.args.d.now)) (g.S.Source.left c.args.source.now)
-    (λ bytes. headline (g.D.Digests.text_digest c.args.d.now) (g.D.Digests.element_lanes c.args.d.now) bytes (λ text. (c.digests_have_32_bytes.ensures.digests text).size))
+    of_left (IsSound (g.D.Digests.functions c.args.d.now)) (g.S.Source.left c.args.source.now)
+    (λ bytes. headline (g.D.Digests.functions c.args.d.now) bytes (λ text. (c.digests_have_32_bytes.ensures.digests text).size))

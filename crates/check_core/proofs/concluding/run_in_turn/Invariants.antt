@@ -1,4 +1,5 @@
 use Rattle.std.proofs.Common.{◌≡◌, ◌++◌, map, drop}
+use Rattle.merkle_records.specs.Scheme.{scheme_of}
 use Rattle.check_core.specs.RunReport.{courses_from, courses_of}
 use Rattle.check_core.proofs.concluding.run_in_turn.Given as goal
 
@@ -6,5 +7,5 @@ use Rattle.check_core.proofs.concluding.run_in_turn.Given as goal
 abbrev pub invariant-loop-number : goal.invariant-loop-number
 invariant-loop-number g l =
     map (λ run. run.course) l.runs.items
-    ++ courses_from (g.D.Digests.text_digest l.d) (g.D.Digests.element_lanes l.d) l.header l.number (map (λ log. log.items) (drop l.number l.logs))
-    ≡ courses_of (g.D.Digests.text_digest l.d) (g.D.Digests.element_lanes l.d) l.header (map (λ log. log.items) l.logs)
+    ++ courses_from (scheme_of (g.D.Digests.functions l.d) l.header) l.header l.number (map (λ log. log.items) (drop l.number l.logs))
+    ≡ courses_of (scheme_of (g.D.Digests.functions l.d) l.header) l.header (map (λ log. log.items) l.logs)

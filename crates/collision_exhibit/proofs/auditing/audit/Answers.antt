@@ -1,5 +1,7 @@
 use Rattle.std.proofs.Common.{◌≡◌, List, map, IfOk, sym, ◌∙◌, ap, subst}
+use Rattle.merkle_records.specs.Scheme.{scheme_of}
 use Rattle.record_text.specs.declared.exhibit.Exhibit.{Exhibit}
+use Rattle.record_text.specs.Format.{short_keys}
 use Rattle.soundness.specs.Sound.{commands_of, histories_read}
 use Rattle.collision_exhibit.specs.declared.act.Act.{Act}
 use Rattle.collision_exhibit.specs.Elements.{HaveOwnStamps}
@@ -12,17 +14,17 @@ pub shown-requires : goal.shown-requires
 shown-requires g c = record {
   own_stamps =
       subst (λ (acts : List Act). HaveOwnStamps (went_among acts)) (sym (c.deref.ensures.value ∙ c.in_ok-acts.ensures.acts))
-      (distinct_evicts (g.D.Digests.text_digest c.args.d.now) (g.D.Digests.element_lanes c.args.d.now) c.args.header.now
-      (commands_of (map (λ log. log.items) c.args.logs.now)));
+      (distinct_evicts (scheme_of (g.D.Digests.functions c.args.d.now) c.args.header.now) c.args.header.now
+      (commands_of short_keys (map (λ log. log.items) c.args.logs.now)));
 }
 
 pub returns : goal.returns
 returns g c = record {
   exhibit =
       subst (λ (shown : Exhibit). IfOk c.shown.result (λ exhibit. exhibit ≡ shown))
-      (ap (exhibit_among c.args.header.now.first c.args.epochs) (c.deref.ensures.value ∙ c.in_ok-acts.ensures.acts)
+      (ap (exhibit_among short_keys c.args.header.now.first c.args.epochs) (c.deref.ensures.value ∙ c.in_ok-acts.ensures.acts)
       ∙ exhibit_acts
-      (histories_read (g.D.Digests.text_digest c.args.d.now) (g.D.Digests.element_lanes c.args.d.now) c.args.header.now (map (λ log. log.items) c.args.logs.now))
+      (histories_read (scheme_of (g.D.Digests.functions c.args.d.now) c.args.header.now) c.args.header.now (map (λ log. log.items) c.args.logs.now))
       c.args.header.now.first c.args.epochs)
       c.shown.ensures.exhibit;
 }

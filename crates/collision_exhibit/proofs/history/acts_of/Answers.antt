@@ -1,12 +1,13 @@
 -- A stable sort by the moments leaves the merged list, whatever the lanes of elements are.
 use Rattle.std.proofs.Common.{List, rules, map, ap, ◌∙◌}
+use Rattle.merkle_records.specs.Scheme.{scheme_of}
 use Rattle.std.proofs.lemmas.List.Sorted.{answers_always}
 use Rattle.stamp_order.proofs.MergedLemmas.{merged-from_stable}
 use Rattle.soundness.specs.History.{Event}
 use Rattle.soundness.specs.Certified.{all_events, order_of}
 use Rattle.soundness.specs.Sound.{histories_read}
 use Rattle.collision_exhibit.specs.Act.{acts_in, act_moment}
-use Rattle.collision_exhibit.specs.Lanes.{no_lanes}
+use Rattle.collision_exhibit.specs.Lanes.{without_lanes}
 use Rattle.collision_exhibit.proofs.LaneLemmas.{same_histories}
 use Rattle.collision_exhibit.proofs.OrderedLemmas.{ordered_acts}
 use Rattle.collision_exhibit.proofs.history.acts_of.Goals as goal
@@ -14,11 +15,11 @@ use Rattle.collision_exhibit.proofs.history.acts_of.Goals as goal
 pub returns : goal.returns
 returns g c = record {
   acts =
-      ordered_acts (all_events (histories_read (g.D.Digests.text_digest c.args.d.now) (λ bytes. no_lanes) c.args.header.now (map (λ log. log.items) c.args.logs.now)))
+      ordered_acts (all_events (histories_read (scheme_of (without_lanes (g.D.Digests.functions c.args.d.now)) c.args.header.now) c.args.header.now (map (λ log. log.items) c.args.logs.now)))
       c.new-acts.result.items c.tell_in_turn.new.acts.items c.sort_by_key.new.self.items c.new-acts.ensures.items c.in_ok-tell_in_turn.ensures.told
       (merged-from_stable act_moment _ _
       (c.in_ok-sort_by_key.ensures.sorted act_moment (answers_always _ _ _ (λ f a r g h. search rules)))
       (c.in_ok-sort_by_key.ensures.stable act_moment (answers_always _ _ _ (λ f a r g h. search rules))))
       ∙ ap (λ (histories : List (List Event)). acts_in (order_of histories))
-      (same_histories (g.D.Digests.text_digest c.args.d.now) (λ bytes. no_lanes) (g.D.Digests.element_lanes c.args.d.now) c.args.header.now (map (λ log. log.items) c.args.logs.now));
+      (same_histories (scheme_of (without_lanes (g.D.Digests.functions c.args.d.now)) c.args.header.now) (g.D.Digests.functions c.args.d.now).lanes c.args.header.now (map (λ log. log.items) c.args.logs.now));
 }

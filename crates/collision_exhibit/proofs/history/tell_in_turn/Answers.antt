@@ -1,12 +1,13 @@
 use Rattle.std.proofs.Common.{[], ◌++◌, map, sym, ap, ◌∙◌, arith}
+use Rattle.merkle_records.specs.Scheme.{scheme_of}
 use Rattle.std.proofs.lemmas.List.{get_or-map, length-map}
 use Rattle.collision_exhibit.proofs.OrderedLemmas.{acts_behind, more_in_turn, all_in_turn}
 use Rattle.collision_exhibit.proofs.history.tell_in_turn.Goals as goal
 
 pub loop-index-preserved : goal.loop-index-preserved
 loop-index-preserved g c =
-    more_in_turn (g.D.Digests.text_digest c.args.d.now) (g.D.Digests.element_lanes c.args.d.now) c.args.header.now
-    (c.args.acts.now.items ++ acts_behind (g.D.Digests.text_digest c.args.d.now) (g.D.Digests.element_lanes c.args.d.now) c.args.header.now 0 (map (λ log. log.items) c.args.logs.now))
+    more_in_turn (scheme_of (g.D.Digests.functions c.args.d.now) c.args.header.now) c.args.header.now
+    (c.args.acts.now.items ++ acts_behind (scheme_of (g.D.Digests.functions c.args.d.now) c.args.header.now) c.args.header.now 0 (map (λ log. log.items) c.args.logs.now))
     c.loop-index.acts.items c.append_acts.new.acts.items (map (λ log. log.items) c.args.logs.now) c.loop-index.index c.deref.result.now
     c.loop-index.invariant (omega (arith, length-map c.args.logs.now (λ log. log.items), c.loop-index-test.true))
     (get_or-map (λ log. log.items) c.args.logs.now c.loop-index.index c.index-logs-index.result [] c.loop-index-test.true ∙ ap (λ log. log.items) (sym c.index-logs-index.is) ∙ sym c.deref.ensures.value)
@@ -15,8 +16,8 @@ loop-index-preserved g c =
 pub returns : goal.returns
 returns g c = record {
   told =
-      all_in_turn (g.D.Digests.text_digest c.args.d.now) (g.D.Digests.element_lanes c.args.d.now) c.args.header.now
-      (c.args.acts.now.items ++ acts_behind (g.D.Digests.text_digest c.args.d.now) (g.D.Digests.element_lanes c.args.d.now) c.args.header.now 0 (map (λ log. log.items) c.args.logs.now))
+      all_in_turn (scheme_of (g.D.Digests.functions c.args.d.now) c.args.header.now) c.args.header.now
+      (c.args.acts.now.items ++ acts_behind (scheme_of (g.D.Digests.functions c.args.d.now) c.args.header.now) c.args.header.now 0 (map (λ log. log.items) c.args.logs.now))
       c.loop-index.acts.items (map (λ log. log.items) c.args.logs.now) c.loop-index.index c.loop-index.invariant
       (omega (arith, length-map c.args.logs.now (λ log. log.items), c.loop-index-test.false));
 }

@@ -1,6 +1,6 @@
 -- A step that was taken met none of its tests.
 use Rattle.std.proofs.Common.{◌≡◌, Bool, true, false, Result, Ok, refl}
-use Rattle.lamport_clocks.specs.InOrder.{test}
+use Rattle.step_words.specs.Steps.{test}
 
 -- the test was false, and what comes next is the answer
 pub test-ok : {E X : Type 0} (b : Bool) (refusal : E) (next : Result X E) (answer : X) → test b refusal next ≡ Ok answer → (b ≡ false) × (next ≡ Ok answer)

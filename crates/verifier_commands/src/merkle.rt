@@ -1,6 +1,6 @@
-//! The commands that come and go by digests: the records that the sparse Merkle tree protects.
+//! The Merkle commands, which come and go by digests: the records that the sparse Merkle tree protects.
 ghost use Rattle.std.specs.Prelude.{◌≡◌, IfOk};
-ghost use Rattle.lamport_clocks.specs.Follows.{Follows};
+ghost use Rattle.step_words.specs.Follows.{Follows};
 ghost use Rattle.record_text.specs.Format.{short_keys};
 ghost use Rattle.verifier_commands.specs.Transition.{add_m, evict_m};
 ghost use Rattle.verifier_commands.specs.Outcome.{told};
@@ -23,7 +23,7 @@ impl State {
         parent: &Path,
     ) -> Result<Outcome, Refusal>
         ensures follows { Follows result self.old self.new
-            (told (add_m short_keys (D.text_digest d.now) self.old path.now value.now parent.now)) }
+            (told (add_m short_keys (D.functions d.now).digest self.old path.now value.now parent.now)) }
         ensures clock { IfOk result (ClockMoves self.old.clock self.new.clock) }
     {
         if is_root(path) {
@@ -41,7 +41,7 @@ impl State {
         let family = add_under(d, holder, path, value)?;
         self.cache.replace(family.parent);
         self.cache.insert_entry(family.child);
-        Ok(Outcome::Moved)
+        Ok(Outcome::AddM)
     }
 
     /// Evicts a record into its parent, which keeps its digest.
@@ -53,7 +53,7 @@ impl State {
         parent: &Path,
     ) -> Result<Outcome, Refusal>
         ensures follows { Follows result self.old self.new
-            (told (evict_m short_keys (D.text_digest d.now) self.old path.now parent.now)) }
+            (told (evict_m short_keys (D.functions d.now).digest self.old path.now parent.now)) }
         ensures clock { IfOk result (ClockMoves self.old.clock self.new.clock) }
     {
         if is_root(path) {
@@ -68,6 +68,6 @@ impl State {
         let after = evict_under(d, holder, child)?;
         self.cache.replace(after);
         let _ = self.cache.remove(path);
-        Ok(Outcome::Moved)
+        Ok(Outcome::EvictM)
     }
 }

@@ -12,7 +12,7 @@ use Rattle.verifier_cache.specs.Entry.{has_kid, new_entry, with_value}
 use Rattle.verifier_cache.specs.Cache.{entry_of}
 use Rattle.verifier_commands.specs.declared.state.State.{State}
 use Rattle.verifier_commands.specs.Changes.{add_under, evict_under, defer_under}
-use Rattle.verifier_commands.specs.Change.{Change, joins, leaves, comes, goes, defers, reads, writes, turns}
+use Rattle.verifier_commands.specs.Change.{Change, did_add_m, did_evict_m, did_add_b, did_evict_b, did_evict_bm, did_get, did_put, did_next_epoch}
 
 -- what a cache shows of each path
 abbrev pub Shown : Type 0
@@ -35,7 +35,7 @@ abbrev pub showing_both : Shown → Entry → List Bool → Option Entry → Sho
 showing_both shown parent path child = showing (showing shown parent.path (Some parent)) path child
 
 -- a child came in under its parent, with this value
-pub record DidJoin (format : Format) (digest : Digest) (old new : Shown) (parent after child : Entry) : Type 0 where
+pub record DidAddM (format : Format) (digest : Digest) (old new : Shown) (parent after child : Entry) : Type 0 where
   pub value : Value
   pub had_parent : old parent.path ≡ Some parent
   pub kind : IsOf format child.path value
@@ -43,20 +43,20 @@ pub record DidJoin (format : Format) (digest : Digest) (old new : Shown) (parent
   pub shown : ShowSame new (showing_both old after child.path (Some child))
 
 -- a child left into its parent
-pub record DidLeave (format : Format) (digest : Digest) (old new : Shown) (parent after child : Entry) : Type 0 where
+pub record DidEvictM (format : Format) (digest : Digest) (old new : Shown) (parent after child : Entry) : Type 0 where
   pub had_parent : old parent.path ≡ Some parent
   pub had_child : old child.path ≡ Some child
   pub evicted : evict_under format digest parent child ≡ Ok after
   pub shown : ShowSame new (showing_both old after child.path None)
 
 -- a record came in with its element
-pub record DidCome (format : Format) (old new : Shown) (child : Entry) (element : Element) : Type 0 where
+pub record DidAddB (format : Format) (old new : Shown) (child : Entry) (element : Element) : Type 0 where
   pub came_as : child ≡ new_entry element.path element.value B
   pub kind : IsOf format element.path element.value
   pub shown : ShowSame new (showing old child.path (Some child))
 
 -- a record went out with an element
-pub record DidGo (old new : Shown) (child : Entry) (element : Element) : Type 0 where
+pub record DidEvictB (old new : Shown) (child : Entry) (element : Element) : Type 0 where
   pub had_child : old child.path ≡ Some child
   pub kids : has_kid child ≡ false
   pub hold : child.hold ≡ B
@@ -65,7 +65,7 @@ pub record DidGo (old new : Shown) (child : Entry) (element : Element) : Type 0 
   pub shown : ShowSame new (showing old child.path None)
 
 -- a child went out of its parent with an element
-pub record DidDefer (old new : Shown) (parent after child : Entry) (element : Element) : Type 0 where
+pub record DidEvictBM (old new : Shown) (parent after child : Entry) (element : Element) : Type 0 where
   pub had_parent : old parent.path ≡ Some parent
   pub had_child : old child.path ≡ Some child
   pub deferred : defer_under parent child ≡ Ok after
@@ -74,13 +74,13 @@ pub record DidDefer (old new : Shown) (parent after child : Entry) (element : El
   pub shown : ShowSame new (showing_both old after child.path None)
 
 -- a data value was read
-pub record DidRead (format : Format) (old new : Shown) (entry : Entry) : Type 0 where
+pub record DidGet (format : Format) (old new : Shown) (entry : Entry) : Type 0 where
   pub had : old entry.path ≡ Some entry
   pub at_data : length entry.path ≡ path_bits format
   pub shown : ShowSame new old
 
 -- a data value was written
-pub record DidWrite (format : Format) (old new : Shown) (before after : Entry) : Type 0 where
+pub record DidPut (format : Format) (old new : Shown) (before after : Entry) : Type 0 where
   pub value : Value
   pub had : old before.path ≡ Some before
   pub at_data : length before.path ≡ path_bits format
@@ -89,12 +89,12 @@ pub record DidWrite (format : Format) (old new : Shown) (before after : Entry) :
   pub shown : ShowSame new (showing old before.path (Some after))
 
 -- what a step did, by the change
-abbrev pub Did : Format → Digest → Shown → Shown → Change → Type 0
-Did format digest old new (joins parent after child) = DidJoin format digest old new parent after child
-Did format digest old new (leaves parent after child) = DidLeave format digest old new parent after child
-Did format digest old new (comes child element) = DidCome format old new child element
-Did format digest old new (goes child element) = DidGo old new child element
-Did format digest old new (defers parent after child element) = DidDefer old new parent after child element
-Did format digest old new (reads entry) = DidRead format old new entry
-Did format digest old new (writes before after) = DidWrite format old new before after
-Did format digest old new (turns sealed) = ShowSame new old
+abbrev pub HasDone : Format → Digest → Shown → Shown → Change → Type 0
+HasDone format digest old new (did_add_m parent after child) = DidAddM format digest old new parent after child
+HasDone format digest old new (did_evict_m parent after child) = DidEvictM format digest old new parent after child
+HasDone format digest old new (did_add_b child element) = DidAddB format old new child element
+HasDone format digest old new (did_evict_b child element) = DidEvictB old new child element
+HasDone format digest old new (did_evict_bm parent after child element) = DidEvictBM old new parent after child element
+HasDone format digest old new (did_get entry) = DidGet format old new entry
+HasDone format digest old new (did_put before after) = DidPut format old new before after
+HasDone format digest old new (did_next_epoch sealed) = ShowSame new old

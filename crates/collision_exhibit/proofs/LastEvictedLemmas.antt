@@ -15,8 +15,8 @@ use Rattle.tree_keys.specs.Path.{same_path, word_of}
 use Rattle.tree_keys.proofs.BitsLemmas.{number_of-lt, bits_of-number_of}
 use Rattle.tree_keys.proofs.PathLemmas.{same_path-self, same_path-true}
 use Rattle.record_text.specs.declared.value.Value.{Value}
-use Rattle.soundness.specs.Exhibit.{with_taken}
-use Rattle.collision_exhibit.specs.Taken.{path_number, Entries, taken_at}
+use Rattle.soundness.specs.Clash.{with_last_evicted}
+use Rattle.collision_exhibit.specs.LastEvicted.{path_number, Entries, last_evicted_at}
 
 -- a word of 64 bits is below 2 ^ 64
 word_of-lt : (path : List Bool) → length path ≤ 64 → word_of 64 path < 2 ^ 64
@@ -62,7 +62,7 @@ module _ {R : Type 0} (seen : R → Value) where
 
   -- what is found at the number of a path is what was taken of it
   pub taken_found : (entries : List (ℕ × R)) (path : List Bool) (number : ℕ) (found : Option R) → number ≡ path_number path
-      → found ≡ lookup (is_at (nat_cmp number)) entries → option_map seen found ≡ taken_at (seen_in entries) path
+      → found ≡ lookup (is_at (nat_cmp number)) entries → option_map seen found ≡ last_evicted_at (seen_in entries) path
   taken_found entries path number found is at =
       ap (option_map seen) (at ∙ ap (λ (n : ℕ). lookup (is_at (nat_cmp n)) entries) is) ∙ sym (lookup-map_values seen (is_at (nat_cmp (path_number path))) entries)
 
@@ -74,7 +74,7 @@ module _ {R : Type 0} (seen : R → Value) where
   -- entries that have a value more, at the number of a path, are what was taken and that value of the path
   pub taken_put : (old new : List (ℕ × R)) (path : List Bool) (number : ℕ) (value : R) → length path ≤ 64 → number ≡ path_number path
       → ((n : ℕ) → lookup (is_at (nat_cmp n)) new ≡ cond (is_at (nat_cmp number) n) (Some value) (lookup (is_at (nat_cmp n)) old))
-      → taken_at (seen_in new) ≡ with_taken (taken_at (seen_in old)) path (seen value)
+      → last_evicted_at (seen_in new) ≡ with_last_evicted (last_evicted_at (seen_in old)) path (seen value)
   taken_put old new path number value fits is updates = fun_ext λ other.
       let kept = lookup (is_at (nat_cmp (path_number other))) old in
       let here : is_at (nat_cmp number) (path_number other) ≡ same_path path other =

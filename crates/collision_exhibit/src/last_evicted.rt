@@ -1,10 +1,10 @@
 //! What went out of the caches, of each path the last.
 ghost use Rattle.std.specs.Prelude.{◌≡◌, ◌≤◌, length, OnOk, OnErr};
 ghost use Rattle.std.specs.Option.{option_map};
-ghost use Rattle.soundness.specs.Exhibit.{none_taken, with_taken};
-ghost use Rattle.collision_exhibit.specs.Taken.{path_number, taken_at};
+ghost use Rattle.soundness.specs.Clash.{none_evicted, with_last_evicted};
+ghost use Rattle.collision_exhibit.specs.LastEvicted.{path_number, last_evicted_at};
 
-use fv_outside::Memory;
+use want_of_memory::Memory;
 use record_text::Value;
 use std::alloc::Global;
 use std::collections::BTreeMap;
@@ -14,32 +14,32 @@ use tree_keys::Path;
 /// The value that was taken out last of each path, if one was. Contracts see the entries, and read them as a
 /// function from paths by `taken_at`.
 #[derive(Drop)]
-pub(crate) struct TakenValues<'a> {
+pub(crate) struct LastEvictedValues<'a> {
     values: BTreeMap<u128, &'a Value>,
 }
 
-impl<'a> Model for TakenValues<'a> {
+impl<'a> Model for LastEvictedValues<'a> {
     ghost use Rattle.std.specs.Prelude.{map};
-    ghost use Rattle.collision_exhibit.specs.Taken.{Entries};
+    ghost use Rattle.collision_exhibit.specs.LastEvicted.{Entries};
 
     ghost Value = { Entries };
 
     ghost view = { λ t. map (λ entry. (entry.0, entry.1.now)) t.values.entries };
 }
 
-impl<'a> TakenValues<'a> {
+impl<'a> LastEvictedValues<'a> {
     /// Nothing was taken. It takes memory from `alloc` as it grows.
     pub(crate) fn new(alloc: Global) -> Self
-        ensures none { taken_at result ≡ none_taken }
+        ensures none { last_evicted_at result ≡ none_evicted }
     {
-        TakenValues {
+        LastEvictedValues {
             values: BTreeMap::new(alloc),
         }
     }
 
     /// A value was taken out of this path. For want of memory all is as before.
     pub(crate) fn put(&mut self, path: &Path, value: &'a Value) -> Result<(), Memory>
-        ensures ok { OnOk result (taken_at self.new ≡ with_taken (taken_at self.old) path.now value.now) }
+        ensures ok { OnOk result (last_evicted_at self.new ≡ with_last_evicted (last_evicted_at self.old) path.now value.now) }
         ensures err { OnErr result (self.new ≡ self.old) }
     {
         self.values.insert(path_number(path), value)?;
@@ -48,7 +48,7 @@ impl<'a> TakenValues<'a> {
 
     /// What was taken out of a path last.
     pub(crate) fn get(&self, path: &Path) -> Option<&'a Value>
-        ensures value { option_map (λ value. value.now) result ≡ taken_at self.now path.now }
+        ensures value { option_map (λ value. value.now) result ≡ last_evicted_at self.now path.now }
     {
         match self.values.get(&path_number(path)) {
             Some(value) => Some(*value),

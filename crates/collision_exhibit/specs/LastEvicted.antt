@@ -5,7 +5,7 @@ use Rattle.std.specs.Map.{lookup}
 use Rattle.std.specs.BTreeMap.{is_at}
 use Rattle.tree_keys.specs.Path.{word_of}
 use Rattle.record_text.specs.declared.value.Value.{Value}
-use Rattle.soundness.specs.Exhibit.{Taken}
+use Rattle.soundness.specs.Clash.{LastEvicted}
 
 -- The number of a path: its length before its word of 64 bits. It is no other path's, if the path is of at most 64 bits.
 abbrev pub path_number : List Bool → ℕ
@@ -16,5 +16,5 @@ abbrev pub Entries : Type 0
 Entries = List (ℕ × Value)
 
 -- the entries as a function: what was taken of a path, by the path's number
-abbrev pub taken_at : Entries → Taken
-taken_at entries = λ path. lookup (is_at (nat_cmp (path_number path))) entries
+abbrev pub last_evicted_at : Entries → LastEvicted
+last_evicted_at entries = λ path. lookup (is_at (nat_cmp (path_number path))) entries

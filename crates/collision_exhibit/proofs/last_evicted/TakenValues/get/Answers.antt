@@ -1,18 +1,18 @@
 use Rattle.std.proofs.Common.{None, Some, ◌∙◌, ap}
-use Rattle.collision_exhibit.specs.Taken.{taken_at}
-use Rattle.collision_exhibit.proofs.TakenLemmas.{taken_found}
-use Rattle.collision_exhibit.proofs.taken.TakenValues.get.Goals as goal
+use Rattle.collision_exhibit.specs.LastEvicted.{last_evicted_at}
+use Rattle.collision_exhibit.proofs.LastEvictedLemmas.{taken_found}
+use Rattle.collision_exhibit.proofs.last_evicted.LastEvictedValues.get.Goals as goal
 
 pub returns-in-Some : goal.returns-in-Some
 returns-in-Some c = record {
   value =
       taken_found (λ value. value.now) c.self.inside.values.entries c.args.path.now c.path_number.result (Some c.in-Some.value.now) c.path_number.ensures.value c.in-Some.ensures.value
-      ∙ ap (λ entries. taken_at entries c.args.path.now) c.self.view_is;
+      ∙ ap (λ entries. last_evicted_at entries c.args.path.now) c.self.view_is;
 }
 
 pub returns-in-None : goal.returns-in-None
 returns-in-None c = record {
   value =
       taken_found (λ value. value.now) c.self.inside.values.entries c.args.path.now c.path_number.result None c.path_number.ensures.value c.in-None.ensures.value
-      ∙ ap (λ entries. taken_at entries c.args.path.now) c.self.view_is;
+      ∙ ap (λ entries. last_evicted_at entries c.args.path.now) c.self.view_is;
 }

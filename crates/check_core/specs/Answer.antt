@@ -1,0 +1,61 @@
+-- What a check answers to bytes: its report, and the status that ends it.
+use Rattle.std.specs.Prelude.{ℕ, ◌≡◌, List, map, Option, Some, None}
+use Rattle.record_hash.specs.Functions.{DigestFunctions}
+use Rattle.record_hash.specs.ShaDigests.{sha_under}
+use Rattle.lamport_clocks.specs.declared.header.Header.{Header}
+use Rattle.record_text.specs.Format.{format_of}
+use Rattle.log_codec.specs.Log.{Log, read_log}
+use Rattle.merkle_records.specs.Scheme.{Scheme, scheme_of}
+use Rattle.report_text.specs.declared.status.Status.{Status}
+use Rattle.report_text.specs.declared.status.Status.TheVariants.{BadBundle, WriteFault}
+use Rattle.report_text.specs.Status.{last_line}
+use Rattle.fv_outside.specs.Written.{Grows, GrowsByFront}
+use Rattle.soundness.specs.Certified.{certified_count}
+use Rattle.check_core.specs.Intake.{Logged, logged_of}
+use Rattle.check_core.specs.Outcomes.{IsEnd}
+use Rattle.check_core.specs.BundleReport.{histories_in, histories_at, exit_of, report_of_logs}
+
+-- the text and the status that a call comes to
+pub record Answer : Type 0 where
+  pub text : List ℕ
+  pub status : Status
+
+-- to logs under a header, in a bundle in which so much is bad
+abbrev pub answer_on : Scheme → Header → List Log → Option ℕ → Answer
+answer_on scheme header logs bad = record {
+  text = report_of_logs scheme header logs (histories_in scheme header logs) bad;
+  status = exit_of scheme header logs (histories_in scheme header logs) bad;
+}
+
+-- to a bundle that isn't taken: nothing is certified, and it is bad from its first byte
+abbrev pub no_answer : Answer
+no_answer = record { text = last_line (BadBundle 0); status = BadBundle 0 }
+
+-- to a bundle with this header, if it is good, and these logs
+abbrev pub answer_at : DigestFunctions → Option Header → List (List ℕ) → Option ℕ → Answer
+answer_at functions None logs bad = no_answer
+answer_at functions (Some header) logs bad = answer_on (scheme_of functions header) header (map (read_log (format_of header)) logs) bad
+
+-- how many epochs of a bundle are certified, with this header, if it is good, and these logs
+abbrev pub certified_at : DigestFunctions → Option Header → List (List ℕ) → ℕ
+certified_at functions None logs = 0
+certified_at functions (Some header) logs =
+    certified_count (scheme_of functions header) header.first (histories_at (scheme_of functions header) header logs)
+
+-- to a bundle that was read
+abbrev pub answer_by : DigestFunctions → Logged → Answer
+answer_by functions bundle = answer_at functions bundle.header bundle.logs bundle.bad
+
+-- What a check answers to bytes, where the verifiers compute these functions.
+abbrev pub check_answer : DigestFunctions → List ℕ → Answer
+check_answer functions bytes = answer_by functions (logged_of bytes)
+
+-- the same with SHA-256, and with HMAC under a key
+abbrev pub sha_check_answer : List ℕ → List ℕ → Answer
+sha_check_answer key bytes = check_answer (sha_under key) bytes
+
+-- A run that ended so wrote the text of an answer, whose status it has; where the sink failed, a front of it.
+pub record Reports (result : Status) (old new : Option (List ℕ)) (answer : Answer) : Type 0 where
+  pub status : IsEnd result → result ≡ answer.status
+  pub whole : IsEnd result → Grows old new answer.text
+  pub front : result ≡ WriteFault → GrowsByFront old new answer.text

@@ -1,0 +1,75 @@
+-- The first record that came back by its digest with another value than the one that it was last evicted with.
+use Rattle.std.specs.Prelude.{ℕ, Bool, true, false, List, [], ◌∷◌, Option, Some, None, if◌then◌else◌}
+use Rattle.std.specs.Option.{option_or}
+use Rattle.tree_keys.specs.Path.{same_path}
+use Rattle.record_text.specs.declared.value.Value.{Value}
+use Rattle.record_text.specs.Format.{Format}
+use Rattle.record_text.specs.Value.{node_side}
+use Rattle.record_text.specs.Texts.{value_text}
+use Rattle.verifier_cache.specs.declared.entry.Entry.{Entry}
+use Rattle.verifier_commands.specs.declared.changes.Parent.{Parent}
+use Rattle.record_text.specs.Same.{same_bytes}
+use Rattle.verifier_commands.specs.Changes.{above, leads_to}
+use Rattle.verifier_commands.specs.Change.{Change, did_add_m, did_evict_m, did_add_b, did_evict_b, did_evict_bm, did_get, did_put, did_next_epoch}
+
+-- the value that the last evictM of each path took out of a cache, if there was one
+abbrev pub LastEvicted : Type 0
+LastEvicted = List Bool → Option Value
+
+-- before any evictM
+abbrev pub none_evicted : LastEvicted
+none_evicted = λ path. None
+
+-- what was taken, once an evictM took this value of this path
+abbrev pub with_last_evicted : LastEvicted → List Bool → Value → LastEvicted
+with_last_evicted taken path value = λ other. if same_path path other then Some value else taken other
+
+-- what was taken, once this was done
+abbrev pub last_evicted_after : LastEvicted → Change → LastEvicted
+last_evicted_after taken (did_add_m parent after child) = taken
+last_evicted_after taken (did_evict_m parent after child) = with_last_evicted taken child.path child.value
+last_evicted_after taken (did_add_b child element) = taken
+last_evicted_after taken (did_evict_b child element) = taken
+last_evicted_after taken (did_evict_bm parent after child element) = taken
+last_evicted_after taken (did_get entry) = taken
+last_evicted_after taken (did_put before after) = taken
+last_evicted_after taken (did_next_epoch sealed) = taken
+
+-- the parent's pointer already led to the path
+abbrev pub is_known : Option Parent → List Bool → Bool
+is_known None path = false
+is_known (Some parent) path = leads_to (node_side parent.node parent.on) path
+
+-- two strings that are to have one digest: what went out, and what came in for it
+abbrev pub Strings : Type 0
+Strings = List ℕ × List ℕ
+
+-- the texts of what an evictM took out and what was then added, if they differ
+abbrev pub differing : Format → Option Value → Value → Option Strings
+differing format None added = None
+differing format (Some evicted) added =
+    if same_bytes (value_text format evicted) (value_text format added)
+    then None
+    else Some (value_text format evicted, value_text format added)
+
+-- what an addM shows: the child came in where the parent's pointer led to it, with another value than the last
+-- evictM took out
+abbrev pub clash_at : Format → LastEvicted → Bool → Entry → Option Strings
+clash_at format taken false child = None
+clash_at format taken true child = differing format (taken child.path) child.value
+
+abbrev pub clash_of : Format → LastEvicted → Change → Option Strings
+clash_of format taken (did_add_m parent after child) = clash_at format taken (is_known (above parent child.path) child.path) child
+clash_of format taken (did_evict_m parent after child) = None
+clash_of format taken (did_add_b child element) = None
+clash_of format taken (did_evict_b child element) = None
+clash_of format taken (did_evict_bm parent after child element) = None
+clash_of format taken (did_get entry) = None
+clash_of format taken (did_put before after) = None
+clash_of format taken (did_next_epoch sealed) = None
+
+-- The first clash among what was done.
+abbrev pub first_clash : Format → LastEvicted → List Change → Option Strings
+first_clash format taken [] = None
+first_clash format taken (change ∷ changes) =
+    option_or (clash_of format taken change) (first_clash format (last_evicted_after taken change) changes)

@@ -1,0 +1,2 @@
+-- Laws of steps, for the crates above.
+pub mod StepLaws

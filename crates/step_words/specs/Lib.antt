@@ -1,0 +1,3 @@
+-- What the clauses on steps cite.
+pub mod Steps
+pub mod Follows
