@@ -5,10 +5,10 @@ use Rattle.lamport_clocks.specs.declared.header.Header.{Header}
 use Rattle.log_codec.specs.Log.{read_log}
 use Rattle.multiset_sum.specs.Tally.{Tally}
 use Rattle.epoch_gather.specs.declared.outcome.Verdict.TheVariants.{Balanced, Unbalanced, Missing}
-use Rattle.report_text.specs.declared.status.Status.TheVariants as statuses
+use Rattle.report_text.specs.declared.ending.BundleEnd.TheVariants as ends
 use Rattle.soundness.specs.History.{Event}
 use Rattle.soundness.specs.Certified.{order_of, added_in, sum_over, sealed_by_all, is_balanced, balanced_from, certified_count}
-use Rattle.check_core.specs.BundleReport.{done_or_bad, status_or, exit_of, histories_in}
+use Rattle.check_core.specs.BundleReport.{done_or_bad, end_or, end_of, histories_in}
 use Rattle.check_core.specs.RunReport.{courses_of, first_refused}
 use Rattle.check_core.proofs.EpochVerdictLemmas.{epoch_verdict, verdict-balanced, verdict-unbalanced, verdict-missing}
 use Rattle.check_core.proofs.RunTextLemmas.{exit-unbalanced, exit-whole}
@@ -84,13 +84,13 @@ module _ (scheme : Scheme) (header : Header) (logs : List (List ℕ)) where
     pub ends-unbalanced : (bad : Option ℕ) (added evicted : Tally)
         → counted_from done ≡ certified_count scheme header.first histories
         → epoch_verdict scheme header logs done ≡ Unbalanced added evicted
-        → statuses.Unbalanced (header.first + done) added evicted
-        ≡ exit_of scheme header (map (read_log scheme.format) logs) histories bad
+        → ends.Unbalanced (header.first + done) added evicted
+        ≡ end_of scheme header (map (read_log scheme.format) logs) histories bad
     ends-unbalanced bad added evicted count is =
         let told = verdict-unbalanced scheme header logs whole some done added evicted is in
-        ap (λ (sum : Tally). statuses.Unbalanced (header.first + done) sum evicted) told.2
+        ap (λ (sum : Tally). ends.Unbalanced (header.first + done) sum evicted) told.2
         ∙ ap (λ (sum : Tally).
-        statuses.Unbalanced (header.first + done) (sum_over scheme (added_in (header.first + done) order)) sum) told.3
+        ends.Unbalanced (header.first + done) (sum_over scheme (added_in (header.first + done) order)) sum) told.3
         ∙ exit-unbalanced scheme header logs bad done
         (sym (counted-unbalanced added evicted is) ∙ count) told.0
 
@@ -98,8 +98,8 @@ module _ (scheme : Scheme) (header : Header) (logs : List (List ℕ)) where
     pub ends-missing : (bad : Option ℕ) (verifier : ℕ)
         → counted_from done ≡ certified_count scheme header.first histories
         → epoch_verdict scheme header logs done ≡ Missing verifier
-        → status_or (first_refused 0 (courses_of scheme header logs)) (done_or_bad done bad)
-        ≡ exit_of scheme header (map (read_log scheme.format) logs) histories bad
+        → end_or (first_refused 0 (courses_of scheme header logs)) (done_or_bad done bad)
+        ≡ end_of scheme header (map (read_log scheme.format) logs) histories bad
     ends-missing bad verifier count is =
         exit-whole scheme header logs bad done (sym (counted-missing verifier is) ∙ count)
         (verdict-missing scheme header logs whole some done verifier is)

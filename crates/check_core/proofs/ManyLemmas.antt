@@ -12,17 +12,19 @@ use Rattle.epoch_gather.specs.declared.outcome.Verdict.{Verdict}
 use Rattle.epoch_gather.specs.declared.outcome.Verdict.TheVariants.{Balanced, Unbalanced, Missing}
 use Rattle.epoch_gather.specs.Verdict.{verdict_of}
 use Rattle.verifier_run.specs.Course.{Course}
-use Rattle.report_text.specs.declared.status.Status.{Status}
-use Rattle.report_text.specs.declared.status.Status.TheVariants as statuses
+use Rattle.report_text.specs.declared.ending.BundleEnd.{BundleEnd}
+use Rattle.report_text.specs.declared.ending.BundleEnd.TheVariants as ends
 use Rattle.report_text.specs.Status.{last_line}
+use Rattle.report_text.specs.Ending.{status_of}
 use Rattle.soundness.specs.History.{Event, log_events}
 use Rattle.soundness.specs.Certified.{order_of, sealed_count, sealed_by_all, balanced_from, certified_count}
 use Rattle.check_core.specs.declared.judging.Judged.{Judged}
-use Rattle.check_core.specs.Answer.{Answer, answer_on}
+use Rattle.check_core.specs.Answer.{answer_on}
+use Rattle.report_text.specs.Answer.{Answer}
 use Rattle.check_core.specs.Report.{front_count, epoch_text, certified_text}
-use Rattle.check_core.specs.BundleReport.{epochs_from, refused_status, done_or_bad, status_or, exit_of, report_of_logs, histories_in}
+use Rattle.check_core.specs.BundleReport.{epochs_from, refused_end, done_or_bad, end_or, end_of, report_of_logs, histories_in}
 use Rattle.check_core.specs.RunReport.{courses_from, courses_of, parts_at, operations_among, operations_within, first_refused, epochs_text}
-use Rattle.check_core.specs.Judged.{judged_by, judged_from, judged, CanBeJudged, first_parts, last_epoch, operations_by, refused_log_by, refused_log, ends_by, answer_judged, answer_of_runs}
+use Rattle.check_core.specs.Judged.{judged_by, judged_from, judged, CanBeJudged, first_parts, last_epoch, operations_by, refused_log_by, refused_log, end_by, answer_judged, answer_of_runs}
 use Rattle.check_core.proofs.PartLemmas.{part_of, log-parts}
 use Rattle.check_core.proofs.EpochPartLemmas.{parts-numbers, parts-once, parts-counts}
 use Rattle.check_core.proofs.EpochVerdictLemmas.{epoch_verdict}
@@ -90,17 +92,17 @@ module _ (scheme : Scheme) (number : ℕ) (events : List Event) where
 
 -- How it ends where no epoch is unbalanced: with the status of the first refused course, if there is one.
 ends-even : (count number : ℕ) (courses : List Course) (bad : Option ℕ)
-    → ends_by count None (refused_log number courses) bad
-    ≡ status_or (first_refused number courses) (done_or_bad count bad)
+    → end_by count None (refused_log number courses) bad
+    ≡ end_or (first_refused number courses) (done_or_bad count bad)
 ends-even count number [] None = refl
 ends-even count number [] (Some offset) = refl
 ends-even count number (course ∷ courses) bad = go course.refused (ends-even count (suc number) courses bad)
   where
     go : (refused : Option (ℕ × Refusal))
-        → ends_by count None (refused_log (suc number) courses) bad
-        ≡ status_or (first_refused (suc number) courses) (done_or_bad count bad)
-        → ends_by count None (refused_log_by number refused (refused_log (suc number) courses)) bad
-        ≡ status_or (option_or (option_map (refused_status number) refused) (first_refused (suc number) courses))
+        → end_by count None (refused_log (suc number) courses) bad
+        ≡ end_or (first_refused (suc number) courses) (done_or_bad count bad)
+        → end_by count None (refused_log_by number refused (refused_log (suc number) courses)) bad
+        ≡ end_or (option_or (option_map (refused_end number) refused) (first_refused (suc number) courses))
         (done_or_bad count bad)
     go None further = further
     go (Some refused) further = refl
@@ -159,14 +161,14 @@ module _ (scheme : Scheme) (header : Header) (logs : List (List ℕ)) where
   certified = certified_count scheme header.first histories
 
   -- how the report ends
-  abbrev exit : Option ℕ → Status
-  exit bad = exit_of scheme header read histories bad
+  abbrev exit : Option ℕ → BundleEnd
+  exit bad = end_of scheme header read histories bad
 
   -- What was judged of so many epochs, behind those that are known to be balanced, is what the histories say.
   abbrev IsJudged : Option ℕ → ℕ → ℕ → Judged → Type 0
   IsJudged bad done many more =
       (done + more.count ≡ certified)
-      × (ends_by (done + more.count) more.unbalanced (refused_log 0 courses) bad ≡ exit bad)
+      × (end_by (done + more.count) more.unbalanced (refused_log 0 courses) bad ≡ exit bad)
       × (more.count ≤ many)
 
   -- behind all that are sealed nothing is counted
@@ -188,19 +190,19 @@ module _ (scheme : Scheme) (header : Header) (logs : List (List ℕ)) where
         ∙ counted-balanced scheme header logs whole some done is ∙ count) in
         let same : suc done + more.count ≡ done + suc more.count = omega arith in (
           sym same ∙ behind.0,
-          ap (λ (n : ℕ). ends_by n more.unbalanced (refused_log 0 courses) bad) (sym same) ∙ behind.1,
+          ap (λ (n : ℕ). end_by n more.unbalanced (refused_log 0 courses) bad) (sym same) ∙ behind.1,
           omega (arith, behind.2),
         )
     judged-epoch done many epoch at count (Unbalanced added evicted) is more further = (
       add-zero done ∙ sym (counted-unbalanced scheme header logs whole some done added evicted is) ∙ count,
-      ap (λ (e : ℕ). statuses.Unbalanced e added evicted) at
+      ap (λ (e : ℕ). ends.Unbalanced e added evicted) at
           ∙ ends-unbalanced scheme header logs whole some done bad added evicted count is,
       omega arith,
     )
     judged-epoch done many epoch at count (Missing verifier) is more further = (
       add-zero done ∙ sym (counted-missing scheme header logs whole some done verifier is) ∙ count,
       ends-even (done + 0) 0 courses bad
-          ∙ ap (λ (n : ℕ). status_or (first_refused 0 courses) (done_or_bad n bad)) (add-zero done)
+          ∙ ap (λ (n : ℕ). end_or (first_refused 0 courses) (done_or_bad n bad)) (add-zero done)
           ∙ ends-missing scheme header logs whole some done bad verifier count is,
       omega arith,
     )
@@ -229,9 +231,9 @@ module _ (scheme : Scheme) (header : Header) (logs : List (List ℕ)) where
 
     -- ---- the verdict
 
-    -- a verdict by its text and status
-    abbrev verdict_told : List ℕ → Status → Answer
-    verdict_told text status = record { text = text; status = status }
+    -- an answer by its text and end
+    abbrev answer_told : List ℕ → BundleEnd → Answer
+    answer_told text end = record { text = text; status = status_of end }
 
     -- What was judged, where the first course has the parts of so many epochs.
     verdict-judged : (number : ℕ) (events : List Event) (many : ℕ) (found : Judged)
@@ -240,24 +242,24 @@ module _ (scheme : Scheme) (header : Header) (logs : List (List ℕ)) where
         → answer_judged found courses bad ≡ answer_on scheme header read bad
     verdict-judged number events many found first is =
         let count = found.count in
-        let ends = ends_by count found.unbalanced (refused_log 0 courses) bad in
+        let ends = end_by count found.unbalanced (refused_log 0 courses) bad in
         let parts : take count (first_parts courses) ≡ parts_in scheme number events header.first count =
         ap (take count) first ∙ take-parts scheme number events count many header.first is.2 in
         let own = operations_within header.first count (operations_among courses) in
         let same : count ≡ 0 + count = omega arith in
         let counted = same ∙ is.0 in
         let ended : ends ≡ exit bad =
-        ap (λ (n : ℕ). ends_by n found.unbalanced (refused_log 0 courses) bad) same ∙ is.1 in
-        ap (λ (ps : List Part). verdict_told
-        (certified_text ps (operations_by (last_epoch ps) courses) ++ last_line ends) ends) parts
-        ∙ ap (λ (ops : List Operation). verdict_told
-        (certified_text (parts_in scheme number events header.first count) ops ++ last_line ends) ends)
+        ap (λ (n : ℕ). end_by n found.unbalanced (refused_log 0 courses) bad) same ∙ is.1 in
+        ap (λ (ps : List Part). answer_told
+        (certified_text ps (operations_by (last_epoch ps) courses) ++ last_line (status_of ends)) ends) parts
+        ∙ ap (λ (ops : List Operation). answer_told
+        (certified_text (parts_in scheme number events header.first count) ops ++ last_line (status_of ends)) ends)
         (operations-parts scheme number events count header.first courses)
-        ∙ ap (λ (text : List ℕ). verdict_told (text ++ last_line ends) ends)
+        ∙ ap (λ (text : List ℕ). answer_told (text ++ last_line (status_of ends)) ends)
         (text-epochs scheme number events count header.first own)
-        ∙ ap (λ (text : List ℕ). verdict_told text ends)
+        ∙ ap (λ (text : List ℕ). answer_told text ends)
         (report_by_courses scheme header logs bad count own ends counted refl ended)
-        ∙ ap (verdict_told (report_of_logs scheme header read histories bad)) ended
+        ∙ ap (answer_told (report_of_logs scheme header read histories bad)) ended
 
 -- ---- of all verifiers
 

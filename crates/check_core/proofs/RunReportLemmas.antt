@@ -9,7 +9,7 @@ use Rattle.lamport_clocks.specs.declared.header.Header.{Header}
 use Rattle.record_text.specs.declared.operation.Operation.{Operation}
 use Rattle.record_text.specs.declared.refusal.Refusal.{Refusal}
 use Rattle.log_codec.specs.Log.{Log, read_log}
-use Rattle.report_text.specs.declared.status.Status.{Status}
+use Rattle.report_text.specs.declared.ending.BundleEnd.{BundleEnd}
 use Rattle.stamp_order.specs.Merged.{merged, up_to}
 use Rattle.stamp_order.specs.Operations.{moment_of, merged_up_to}
 use Rattle.stamp_order.proofs.MergedLemmas.{merged-filter, merged-flat_map}
@@ -19,7 +19,7 @@ use Rattle.verifier_run.specs.Trace.{Trace, trace}
 use Rattle.verifier_run.specs.LogCourse.{refusal_by, log_course}
 use Rattle.soundness.specs.History.{Event, log_events, histories_from}
 use Rattle.soundness.specs.Certified.{event_moment, all_events, order_up_to, order_within, operations_by, operations_in}
-use Rattle.check_core.specs.BundleReport.{refused_in, refused_status, refused_among, histories_in}
+use Rattle.check_core.specs.BundleReport.{refused_in, refused_end, refused_among, histories_in}
 use Rattle.check_core.specs.RunReport.{courses_from, courses_of, operations_among, operations_within, first_refused}
 use Rattle.check_core.proofs.HistoryRunLemmas.{trace-operations, trace-accepted, trace-refused}
 
@@ -157,10 +157,10 @@ module _ (scheme : Scheme) (header : Header) where
   refused-courses number [] = refl
   refused-courses number (log ∷ logs) =
       ap (λ (refused : Option (ℕ × Refusal)).
-      option_or (option_map (refused_status number) refused)
+      option_or (option_map (refused_end number) refused)
       (first_refused (suc number) (courses_from scheme header (suc number) logs)))
       (course-refused number log)
-      ∙ ap (λ (status : Option Status).
-      option_or (option_map (refused_status number) (refused_in scheme header number (read_log scheme.format log)))
+      ∙ ap (λ (status : Option BundleEnd).
+      option_or (option_map (refused_end number) (refused_in scheme header number (read_log scheme.format log)))
       status)
       (refused-courses (suc number) logs)

@@ -7,8 +7,9 @@ use Rattle.std.proofs.lemmas.Grind.{flat_map-append}
 use Rattle.lamport_clocks.specs.declared.header.Header.{Header}
 use Rattle.record_text.specs.declared.operation.Operation.{Operation}
 use Rattle.log_codec.specs.Log.{Log, read_log}
-use Rattle.report_text.specs.declared.status.Status.{Status}
+use Rattle.report_text.specs.declared.ending.BundleEnd.{BundleEnd}
 use Rattle.report_text.specs.Status.{last_line}
+use Rattle.report_text.specs.Ending.{status_of}
 use Rattle.stamp_order.specs.Merged.{comes_before, IsMerged, up_to}
 use Rattle.stamp_order.specs.Operations.{moment_of}
 use Rattle.stamp_order.proofs.InOrderLemmas.{every-weaker, every-filter, every-append, every-in_order}
@@ -19,7 +20,7 @@ use Rattle.soundness.specs.Certified.{all_events, order_of, order_within, operat
 use Rattle.soundness.proofs.HistoryLemmas.{IsOfLog, log-epochs}
 use Rattle.soundness.proofs.SplitLemmas.{epoch_not_before}
 use Rattle.check_core.specs.Report.{front_count, epoch_text, certified_text}
-use Rattle.check_core.specs.BundleReport.{epochs_from, epoch_lines, done_or_bad, status_or, unbalanced_status, exit_of, report_of_logs, histories_in}
+use Rattle.check_core.specs.BundleReport.{epochs_from, epoch_lines, done_or_bad, end_or, unbalanced_end, end_of, report_of_logs, histories_in}
 use Rattle.check_core.specs.RunReport.{courses_from, courses_of, operations_among, operations_within, first_refused, epochs_text}
 use Rattle.check_core.proofs.PartLemmas.{part_of}
 use Rattle.check_core.proofs.EpochTextLemmas.{IsByEpoch, epochs-text}
@@ -136,48 +137,48 @@ module _ (scheme : Scheme) (header : Header) (logs : List (List ℕ)) where
   -- ---- how it ends
 
   -- how a report ends where so many epochs are certified, by the runs
-  abbrev exit_by_courses : Option ℕ → ℕ → Status
+  abbrev exit_by_courses : Option ℕ → ℕ → BundleEnd
   exit_by_courses bad count =
       if nat_lt count (sealed_by_all histories)
-      then unbalanced_status scheme (order_of histories) (header.first + count)
-      else status_or (first_refused 0 (courses_of scheme header logs)) (done_or_bad count bad)
+      then unbalanced_end scheme (order_of histories) (header.first + count)
+      else end_or (first_refused 0 (courses_of scheme header logs)) (done_or_bad count bad)
 
   exit-courses : (bad : Option ℕ)
-      → exit_of scheme header read histories bad
+      → end_of scheme header read histories bad
       ≡ exit_by_courses bad (certified_count scheme header.first histories)
   exit-courses bad =
       let count = certified_count scheme header.first histories in
-      ap (λ (refused : Option Status).
+      ap (λ (refused : Option BundleEnd).
       if nat_lt count (sealed_by_all histories)
-      then unbalanced_status scheme (order_of histories) (header.first + count)
-      else status_or refused (done_or_bad count bad))
+      then unbalanced_end scheme (order_of histories) (header.first + count)
+      else end_or refused (done_or_bad count bad))
       (sym (refused-courses scheme header 0 logs))
 
   -- Where an epoch that all have sealed is not certified, that is told.
   pub exit-unbalanced : (bad : Option ℕ) (count : ℕ) → count ≡ certified_count scheme header.first histories
       → count < sealed_by_all histories
-      → unbalanced_status scheme (order_of histories) (header.first + count)
-      ≡ exit_of scheme header read histories bad
+      → unbalanced_end scheme (order_of histories) (header.first + count)
+      ≡ end_of scheme header read histories bad
   exit-unbalanced bad count is below =
       let test : nat_lt count (sealed_by_all histories) ≡ true = grind (arith, nat_tests) in
       sym (exit-courses bad ∙ ap (exit_by_courses bad) (sym is)
       ∙ ap (λ (b : Bool).
       if b
-      then unbalanced_status scheme (order_of histories) (header.first + count)
-      else status_or (first_refused 0 (courses_of scheme header logs)) (done_or_bad count bad)) test)
+      then unbalanced_end scheme (order_of histories) (header.first + count)
+      else end_or (first_refused 0 (courses_of scheme header logs)) (done_or_bad count bad)) test)
 
   -- Where all of them are certified, the first refusal is told, or what is bad, or that all is read.
   pub exit-whole : (bad : Option ℕ) (count : ℕ) → count ≡ certified_count scheme header.first histories
       → sealed_by_all histories ≤ count
-      → status_or (first_refused 0 (courses_of scheme header logs)) (done_or_bad count bad)
-      ≡ exit_of scheme header read histories bad
+      → end_or (first_refused 0 (courses_of scheme header logs)) (done_or_bad count bad)
+      ≡ end_of scheme header read histories bad
   exit-whole bad count is past =
       let test : nat_lt count (sealed_by_all histories) ≡ false = grind (arith, nat_tests) in
       sym (exit-courses bad ∙ ap (exit_by_courses bad) (sym is)
       ∙ ap (λ (b : Bool).
       if b
-      then unbalanced_status scheme (order_of histories) (header.first + count)
-      else status_or (first_refused 0 (courses_of scheme header logs)) (done_or_bad count bad)) test)
+      then unbalanced_end scheme (order_of histories) (header.first + count)
+      else end_or (first_refused 0 (courses_of scheme header logs)) (done_or_bad count bad)) test)
 
   -- ---- the report
 
@@ -189,17 +190,17 @@ module _ (scheme : Scheme) (header : Header) (logs : List (List ℕ)) where
       ∙ ap (λ (n : ℕ). operations_in (order_within header.first n histories)) is
 
   -- The lines of the certified epochs, and then the last line, are the report.
-  pub report_by_courses : (bad : Option ℕ) (count : ℕ) (ops : List Operation) (status : Status)
+  pub report_by_courses : (bad : Option ℕ) (count : ℕ) (ops : List Operation) (last : BundleEnd)
       → count ≡ certified_count scheme header.first histories
       → ops ≡ ran_within count
-      → status ≡ exit_of scheme header read histories bad
-      → epochs_text header.first count ops ++ last_line status
+      → last ≡ end_of scheme header read histories bad
+      → epochs_text header.first count ops ++ last_line (status_of last)
       ≡ report_of_logs scheme header read histories bad
-  report_by_courses bad count ops status is own ends =
-      ap (λ (os : List Operation). epochs_text header.first count os ++ last_line status) own
-      ∙ ap (λ (text : List ℕ). text ++ last_line status) (text-courses count)
+  report_by_courses bad count ops last is own ends =
+      ap (λ (os : List Operation). epochs_text header.first count os ++ last_line (status_of last)) own
+      ∙ ap (λ (text : List ℕ). text ++ last_line (status_of last)) (text-courses count)
       ∙ ap (λ (n : ℕ).
       flat_map (epoch_lines (operations_in (order_within header.first n histories))) (epochs_from header.first n)
-      ++ last_line status) is
-      ∙ ap (λ (last : Status). flat_map (epoch_lines (certified_operations scheme header.first histories))
-      (epochs_from header.first (certified_count scheme header.first histories)) ++ last_line last) ends
+      ++ last_line (status_of last)) is
+      ∙ ap (λ (last : BundleEnd). flat_map (epoch_lines (certified_operations scheme header.first histories))
+      (epochs_from header.first (certified_count scheme header.first histories)) ++ last_line (status_of last)) ends

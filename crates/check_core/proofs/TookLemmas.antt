@@ -1,6 +1,6 @@
 -- What was taken of a source in two steps.
 use Rattle.std.proofs.Common.{◌≡◌, ℕ, ◌+◌, List, Option, Some, None, arith}
-use Rattle.check_core.specs.Consumed.{TookJust, TookAtMost}
+use Rattle.fv_outside.specs.Consumed.{TookJust, TookAtMost}
 
 pub TookJust-none : (x : Option (List ℕ)) → TookJust 0 x x
 TookJust-none None = tt

@@ -1,5 +1,5 @@
 -- What a check answers to bytes: its report, and the status that ends it.
-use Rattle.std.specs.Prelude.{ℕ, ◌≡◌, List, map, Option, Some, None}
+use Rattle.std.specs.Prelude.{ℕ, ◌≡◌, List, map, Option, Some, None, Result, Ok, Err}
 use Rattle.record_hash.specs.Functions.{DigestFunctions}
 use Rattle.record_hash.specs.ShaDigests.{sha_under}
 use Rattle.lamport_clocks.specs.declared.header.Header.{Header}
@@ -7,24 +7,23 @@ use Rattle.record_text.specs.Format.{format_of}
 use Rattle.log_codec.specs.Log.{Log, read_log}
 use Rattle.merkle_records.specs.Scheme.{Scheme, scheme_of}
 use Rattle.report_text.specs.declared.status.Status.{Status}
-use Rattle.report_text.specs.declared.status.Status.TheVariants.{BadBundle, WriteFault}
+use Rattle.report_text.specs.declared.status.Status.TheVariants.{BadBundle}
+use Rattle.report_text.specs.declared.ending.BundleEnd.{BundleEnd}
+use Rattle.report_text.specs.Ending.{status_of}
+use Rattle.report_text.specs.Answer.{Answer}
 use Rattle.report_text.specs.Status.{last_line}
 use Rattle.fv_outside.specs.Written.{Grows, GrowsByFront}
 use Rattle.soundness.specs.Certified.{certified_count}
 use Rattle.check_core.specs.Intake.{Logged, logged_of}
-use Rattle.check_core.specs.Outcomes.{IsEnd}
-use Rattle.check_core.specs.BundleReport.{histories_in, histories_at, exit_of, report_of_logs}
-
--- the text and the status that a call comes to
-pub record Answer : Type 0 where
-  pub text : List ℕ
-  pub status : Status
+use Rattle.check_core.specs.declared.stops.ReportStop.{ReportStop}
+use Rattle.check_core.specs.declared.stops.ReportStop.TheVariants as stops
+use Rattle.check_core.specs.BundleReport.{histories_in, histories_at, end_of, report_of_logs}
 
 -- to logs under a header, in a bundle in which so much is bad
 abbrev pub answer_on : Scheme → Header → List Log → Option ℕ → Answer
 answer_on scheme header logs bad = record {
   text = report_of_logs scheme header logs (histories_in scheme header logs) bad;
-  status = exit_of scheme header logs (histories_in scheme header logs) bad;
+  status = status_of (end_of scheme header logs (histories_in scheme header logs) bad);
 }
 
 -- to a bundle that isn't taken: nothing is certified, and it is bad from its first byte
@@ -54,8 +53,12 @@ check_answer functions bytes = answer_by functions (logged_of bytes)
 abbrev pub sha_check_answer : List ℕ → List ℕ → Answer
 sha_check_answer key bytes = check_answer (sha_under key) bytes
 
--- A run that ended so wrote the text of an answer, whose status it has; where the sink failed, a front of it.
-pub record Reports (result : Status) (old new : Option (List ℕ)) (answer : Answer) : Type 0 where
-  pub status : IsEnd result → result ≡ answer.status
-  pub whole : IsEnd result → Grows old new answer.text
-  pub front : result ≡ WriteFault → GrowsByFront old new answer.text
+-- What was written is the text of an answer, whose status goes with this end; where the sink failed, a front of it.
+abbrev pub EndsAs : {E : Type 0} → (E → Status) → Result E ReportStop → Option (List ℕ) → Option (List ℕ) → Answer → Type 0
+EndsAs status (Ok end) old new answer = (status end ≡ answer.status) × Grows old new answer.text
+EndsAs status (Err stops.Memory) old new answer = Unit {0}
+EndsAs status (Err stops.WriteFault) old new answer = GrowsByFront old new answer.text
+
+-- the same of how a bundle ends
+abbrev pub Ends : Result BundleEnd ReportStop → Option (List ℕ) → Option (List ℕ) → Answer → Type 0
+Ends result old new answer = EndsAs status_of result old new answer

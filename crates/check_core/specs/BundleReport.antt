@@ -8,10 +8,11 @@ use Rattle.record_text.specs.declared.operation.Operation.{Operation}
 use Rattle.record_text.specs.declared.refusal.Refusal.{Refusal}
 use Rattle.log_codec.specs.Log.{Log, read_log}
 use Rattle.verifier_run.specs.LogCourse.{refusal_by}
-use Rattle.report_text.specs.declared.status.Status.{Status}
-use Rattle.report_text.specs.declared.status.Status.TheVariants.{Done, BadBundle, Refused, Unbalanced}
+use Rattle.report_text.specs.declared.ending.BundleEnd.{BundleEnd}
+use Rattle.report_text.specs.declared.ending.BundleEnd.TheVariants.{Done, BadBundle, Refused, Unbalanced}
 use Rattle.report_text.specs.Lines.{epoch_line, operation_line}
 use Rattle.report_text.specs.Status.{last_line}
+use Rattle.report_text.specs.Ending.{status_of}
 use Rattle.soundness.specs.History.{Event, log_events, log_refusal, histories_of}
 use Rattle.soundness.specs.Certified.{order_of, added_in, evicted_in, sum_over, sealed_by_all, certified_count, certified_operations}
 
@@ -40,46 +41,46 @@ refused_in scheme header number log =
     (refusal_by (log_refusal scheme header number log.commands) log.end)
 
 -- the status of a refused log
-abbrev pub refused_status : ℕ → ℕ × Refusal → Status
-refused_status number refused = Refused number refused.0 refused.1
+abbrev pub refused_end : ℕ → ℕ × Refusal → BundleEnd
+refused_end number refused = Refused number refused.0 refused.1
 
 -- the status of the first of the logs that is refused, if one is
-abbrev pub refused_among : Scheme → Header → ℕ → List Log → Option Status
+abbrev pub refused_among : Scheme → Header → ℕ → List Log → Option BundleEnd
 refused_among scheme header number [] = None
 refused_among scheme header number (log ∷ logs) =
-    option_or (option_map (refused_status number) (refused_in scheme header number log))
+    option_or (option_map (refused_end number) (refused_in scheme header number log))
     (refused_among scheme header (suc number) logs)
 
 -- where no log is refused: a bad frame, or so many epochs are certified and all is read
-abbrev pub done_or_bad : ℕ → Option ℕ → Status
+abbrev pub done_or_bad : ℕ → Option ℕ → BundleEnd
 done_or_bad certified None = Done certified
 done_or_bad certified (Some offset) = BadBundle offset
 
 -- the first status, if there is one, and else the other
-abbrev pub status_or : Option Status → Status → Status
-status_or None status = status
-status_or (Some status) other = status
+abbrev pub end_or : Option BundleEnd → BundleEnd → BundleEnd
+end_or None status = status
+end_or (Some status) other = status
 
 -- the sums of an epoch that is not balanced
-abbrev pub unbalanced_status : Scheme → List Event → ℕ → Status
-unbalanced_status scheme events epoch =
+abbrev pub unbalanced_end : Scheme → List Event → ℕ → BundleEnd
+unbalanced_end scheme events epoch =
     Unbalanced epoch (sum_over scheme (added_in epoch events)) (sum_over scheme (evicted_in epoch events))
 
 -- How a report ends: the first epoch that all have sealed and that is not balanced goes before a refused log, and
 -- that before a bad frame.
-abbrev pub exit_of : Scheme → Header → List Log → List (List Event) → Option ℕ → Status
-exit_of scheme header logs histories bad =
+abbrev pub end_of : Scheme → Header → List Log → List (List Event) → Option ℕ → BundleEnd
+end_of scheme header logs histories bad =
     let certified = certified_count scheme header.first histories in
     if nat_lt certified (sealed_by_all histories)
-    then unbalanced_status scheme (order_of histories) (header.first + certified)
-    else status_or (refused_among scheme header 0 logs) (done_or_bad certified bad)
+    then unbalanced_end scheme (order_of histories) (header.first + certified)
+    else end_or (refused_among scheme header 0 logs) (done_or_bad certified bad)
 
 -- The report: the lines of each certified epoch, and the last line.
 abbrev pub report_of_logs : Scheme → Header → List Log → List (List Event) → Option ℕ → List ℕ
 report_of_logs scheme header logs histories bad =
     flat_map (epoch_lines (certified_operations scheme header.first histories))
     (epochs_from header.first (certified_count scheme header.first histories))
-    ++ last_line (exit_of scheme header logs histories bad)
+    ++ last_line (status_of (end_of scheme header logs histories bad))
 
 -- the histories of logs that were read
 abbrev pub histories_in : Scheme → Header → List Log → List (List Event)

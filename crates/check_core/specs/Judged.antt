@@ -11,12 +11,13 @@ use Rattle.record_text.specs.declared.operation.Operation.{Operation}
 use Rattle.record_text.specs.declared.refusal.Refusal.{Refusal}
 use Rattle.stamp_order.specs.Operations.{merged_up_to}
 use Rattle.verifier_run.specs.Course.{Course}
-use Rattle.report_text.specs.declared.status.Status.{Status}
-use Rattle.report_text.specs.declared.status.Status.TheVariants.{Done, BadBundle, Refused, Unbalanced}
+use Rattle.report_text.specs.declared.ending.BundleEnd.{BundleEnd}
+use Rattle.report_text.specs.declared.ending.BundleEnd.TheVariants.{Done, BadBundle, Refused, Unbalanced}
 use Rattle.check_core.specs.declared.judging.Judged.{Judged}
 use Rattle.check_core.specs.declared.judging.Uneven.{Uneven}
 use Rattle.check_core.specs.declared.report.RefusedLog.{RefusedLog}
-use Rattle.check_core.specs.Answer.{Answer}
+use Rattle.report_text.specs.Ending.{status_of}
+use Rattle.report_text.specs.Answer.{Answer}
 use Rattle.check_core.specs.Report.{answer_with}
 use Rattle.check_core.specs.RunReport.{parts_at, operations_among}
 
@@ -75,18 +76,18 @@ refused_log number [] = None
 refused_log number (course ∷ courses) = refused_log_by number course.refused (refused_log (suc number) courses)
 
 -- how the report ends: an epoch whose sums differ goes before a refused log, and that before what is bad
-abbrev pub ends_by : ℕ → Option Uneven → Option RefusedLog → Option ℕ → Status
-ends_by count (Some uneven) refused bad = Unbalanced uneven.epoch uneven.added uneven.evicted
-ends_by count None (Some log) bad = Refused log.verifier log.index log.refusal
-ends_by count None None (Some offset) = BadBundle offset
-ends_by count None None None = Done count
+abbrev pub end_by : ℕ → Option Uneven → Option RefusedLog → Option ℕ → BundleEnd
+end_by count (Some uneven) refused bad = Unbalanced uneven.epoch uneven.added uneven.evicted
+end_by count None (Some log) bad = Refused log.verifier log.index log.refusal
+end_by count None None (Some offset) = BadBundle offset
+end_by count None None None = Done count
 
 -- of what was judged
 abbrev pub answer_judged : Judged → List Course → Option ℕ → Answer
 answer_judged judged courses bad =
     answer_with (take judged.count (first_parts courses))
     (operations_by (last_epoch (take judged.count (first_parts courses))) courses)
-    (ends_by judged.count judged.unbalanced (refused_log 0 courses) bad)
+    (status_of (end_by judged.count judged.unbalanced (refused_log 0 courses) bad))
 
 -- of what all logs came to, in a bundle in which so much is bad
 abbrev pub answer_of_runs : List Course → Option ℕ → Answer

@@ -6,7 +6,7 @@ use Rattle.record_text.specs.declared.operation.Operation.{Operation}
 use Rattle.report_text.specs.declared.status.Status.{Status}
 use Rattle.report_text.specs.Lines.{epoch_line, operation_line}
 use Rattle.report_text.specs.Status.{last_line}
-use Rattle.check_core.specs.Answer.{Answer}
+use Rattle.report_text.specs.Answer.{Answer}
 
 -- how many operations at the front are of an epoch
 abbrev pub front_count : ℕ → List Operation → ℕ

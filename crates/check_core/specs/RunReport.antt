@@ -10,8 +10,8 @@ use Rattle.stamp_order.specs.Operations.{merged_up_to}
 use Rattle.verifier_commands.specs.Machine.{opening_machine}
 use Rattle.verifier_run.specs.Course.{Course}
 use Rattle.verifier_run.specs.LogCourse.{log_course}
-use Rattle.report_text.specs.declared.status.Status.{Status}
-use Rattle.check_core.specs.BundleReport.{refused_status}
+use Rattle.report_text.specs.declared.ending.BundleEnd.{BundleEnd}
+use Rattle.check_core.specs.BundleReport.{refused_end}
 use Rattle.check_core.specs.Report.{front_count, epoch_text}
 
 -- what the logs of verifiers come to, the first of which has this number
@@ -39,10 +39,10 @@ operations_within first zero operations = []
 operations_within first (suc count) operations = merged_up_to (first + count) operations
 
 -- the status of the first course that is refused, if one is, where the first course is of the verifier of this number
-abbrev pub first_refused : ℕ → List Course → Option Status
+abbrev pub first_refused : ℕ → List Course → Option BundleEnd
 first_refused number [] = None
 first_refused number (course ∷ courses) =
-    option_or (option_map (refused_status number) course.refused) (first_refused (suc number) courses)
+    option_or (option_map (refused_end number) course.refused) (first_refused (suc number) courses)
 
 -- The lines of so many epochs from this one on: the operations of each stand at the front of those that are left.
 abbrev pub epochs_text : ℕ → ℕ → List Operation → List ℕ

@@ -3,18 +3,19 @@ ghost use Rattle.std.specs.Prelude.{◌≡◌, ◌≤◌, ℕ, IfOk, length, map
 ghost use Rattle.merkle_records.specs.Scheme.{scheme_of};
 ghost use Rattle.lamport_clocks.specs.Header.{IsHeader};
 ghost use Rattle.check_core.specs.Intake.{logs_in, logged};
-ghost use Rattle.check_core.specs.Outcomes.{IsEnd, IsOutcome};
+ghost use Rattle.report_text.specs.Ending.{status_of};
+ghost use Rattle.merkle_records.specs.Scheme.{scheme_of};
 ghost use Rattle.check_core.specs.Answer.{certified_at, answer_by};
 ghost use Rattle.check_core.specs.RunReport.{courses_of, parts_at};
 ghost use Rattle.check_core.specs.Judged.{CanBeJudged, judged, answer_of_runs};
 
 use crate::intake::Intake;
 use crate::judging::judge;
-use crate::report::{exit_of, first_refused};
+use crate::report::{end_of, first_refused};
 use want_of_memory::Memory;
 use lamport_clocks::Header;
 use record_hash::Digests;
-use report_text::Status;
+use report_text::BundleEnd;
 use std::alloc::Global;
 use verifier_run::{Run, run_log};
 
@@ -22,22 +23,20 @@ use verifier_run::{Run, run_log};
 #[derive(Clone, Copy, Debug, PartialEq, Eq)]
 pub struct Conclusion {
     pub certified: u64,
-    pub status: Status,
+    pub end: BundleEnd,
 }
 
 /// What a check of a bundle that was read comes to. It takes no threads: the logs are run one after another.
 pub fn conclude<D: Digests>(alloc: Global, d: &D, intake: &Intake) -> Result<Conclusion, Memory>
     ensures certified { IfOk result (λ found. found.certified
         ≡ certified_at (D.functions d.now) intake.now.header (logs_in intake.now)) }
-    ensures status { IfOk result (λ found. found.status ≡ (answer_by (D.functions d.now) (logged intake.now)).status) }
-    ensures outcome { IfOk result (λ found. IsOutcome found.status) }
-    ensures end { IfOk result (λ found. IsEnd found.status) }
+    ensures end { IfOk result (λ found. status_of found.end ≡ (answer_by (D.functions d.now) (logged intake.now)).status) }
 {
     match intake.header {
         Some(header) => conclude_logs(alloc, d, &header, intake),
         None => Ok(Conclusion {
             certified: 0,
-            status: Status::BadBundle { offset: 0 },
+            end: BundleEnd::BadBundle { offset: 0 },
         }),
     }
 }
@@ -54,10 +53,8 @@ fn conclude_logs<D: Digests>(
     ensures certified { IfOk result (λ found.
         let courses = courses_of (scheme_of (D.functions d.now) header.now) header.now (logs_in intake.now) in
         found.certified ≡ (judged (length courses) courses).count) }
-    ensures status { IfOk result (λ found. found.status
+    ensures end { IfOk result (λ found. status_of found.end
         ≡ (answer_of_runs (courses_of (scheme_of (D.functions d.now) header.now) header.now (logs_in intake.now)) intake.now.bad).status) }
-    ensures outcome { IfOk result (λ found. IsOutcome found.status) }
-    ensures end { IfOk result (λ found. IsEnd found.status) }
 {
     match run_in_turn(alloc, d, header, &intake.logs) {
         Ok(runs) => conclude_runs(alloc, &runs, intake.bad),
@@ -70,18 +67,16 @@ fn conclude_runs(alloc: Global, runs: &[Run], bad: Option<u64>) -> Result<Conclu
     requires few { length runs.now ≤ 64 }
     requires parts { (index : ℕ) → CanBeJudged (length runs.now) (parts_at index (map (λ run. run.course) runs.now)) }
     ensures certified { IfOk result (λ found. found.certified ≡ (judged (length runs.now) (map (λ run. run.course) runs.now)).count) }
-    ensures status { IfOk result (λ found. found.status ≡ (answer_of_runs (map (λ run. run.course) runs.now) bad).status) }
-    ensures outcome { IfOk result (λ found. IsOutcome found.status) }
-    ensures end { IfOk result (λ found. IsEnd found.status) }
+    ensures end { IfOk result (λ found. status_of found.end ≡ (answer_of_runs (map (λ run. run.course) runs.now) bad).status) }
 {
     let judged = match judge(alloc, runs) {
         Ok(judged) => judged,
         Err(_) => return Err(Memory),
     };
-    let status = exit_of(&judged, first_refused(runs), bad);
+    let end = end_of(&judged, first_refused(runs), bad);
     Ok(Conclusion {
         certified: judged.count as u64,
-        status,
+        end,
     })
 }
 

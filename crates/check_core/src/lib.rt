@@ -18,12 +18,14 @@ mod laws;
 mod reading;
 mod report;
 mod running;
+mod stops;
 #[cfg(test)]
 mod tests;
 
 pub use checking::check;
 pub use concluding::{Conclusion, conclude};
-pub use intake::{Intake, Stop};
+pub use intake::Intake;
 pub use laws::{certified_answers_are_sound, digests_have_32_bytes};
 pub use reading::read_bundle;
 pub use report_text::Status;
+pub use stops::{ReadStop, ReportStop};

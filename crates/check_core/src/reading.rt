@@ -6,9 +6,10 @@ ghost use Rattle.bundle_frames.specs.Progress.{position, rest_of};
 ghost use Rattle.lamport_clocks.specs.Header.{IsHeader};
 ghost use Rattle.check_core.specs.Logs.{empty_logs, appended};
 ghost use Rattle.check_core.specs.Intake.{behind_at, logs_in, logged, logged_of, Means};
-ghost use Rattle.check_core.specs.Consumed.{TookAtMost, TookJust, ReadsOn};
+ghost use Rattle.fv_outside.specs.Consumed.{TookAtMost, TookJust, ReadsOn};
 
-use crate::intake::{Intake, Stop};
+use crate::intake::Intake;
+use crate::stops::ReadStop;
 use bundle_frames::{Found, Splitter};
 use fv_outside::{Failed, Source};
 use want_of_memory::Memory;
@@ -19,12 +20,12 @@ use std::alloc::{AllocError, Global};
 pub const PIECE_BYTES: usize = 65_536;
 
 /// Reads a bundle from a source, to its end or to the first bad frame, and no more than so many bytes.
-pub fn read_bundle<S: Source>(alloc: Global, limit: u64, source: &mut S) -> Result<Intake, Stop>
+pub fn read_bundle<S: Source>(alloc: Global, limit: u64, source: &mut S) -> Result<Intake, ReadStop>
     requires limit { limit ≤ 2 ^ 40 }
     ensures bundle { IfOk result (λ intake. IfSome (S.left source.old) (λ bytes. logged intake ≡ logged_of bytes)) }
-    ensures fault { result ≡ Err Stop.ReadFault → Rose (S.faults source.old) (S.faults source.new) }
-    ensures limit { result ≡ Err Stop.InputLimit → TookJust (limit + 1) (S.left source.old) (S.left source.new) }
-    ensures within { result ≢ Err Stop.InputLimit → TookAtMost limit (S.left source.old) (S.left source.new) }
+    ensures fault { result ≡ Err ReadStop.ReadFault → Rose (S.faults source.old) (S.faults source.new) }
+    ensures limit { result ≡ Err ReadStop.InputLimit → TookJust (limit + 1) (S.left source.old) (S.left source.new) }
+    ensures within { result ≢ Err ReadStop.InputLimit → TookAtMost limit (S.left source.old) (S.left source.new) }
     ensures never_falls { S.faults source.old ≤ S.faults source.new }
 {
     let mut splitter = Splitter::new(alloc)?;
@@ -70,7 +71,7 @@ fn read_turn<S: Source>(
     room: &mut [u8],
     splitter: &mut Splitter,
     intake: &mut Intake,
-) -> Result<Option<u64>, Stop>
+) -> Result<Option<u64>, ReadStop>
     requires limit { limit ≤ 2 ^ 40 }
     requires within { taken ≤ limit }
     requires room { length room.old ≡ PIECE_BYTES }
@@ -84,22 +85,22 @@ fn read_turn<S: Source>(
     ensures means { OnOk result (Means (S.left source.old) (S.left source.new)
         (behind_at (logs_in intake.old) splitter.old) (behind_at (logs_in intake.new) splitter.new)) }
     ensures end { IfOk result (λ turn. IsNone turn → IfSome (S.left source.new) (λ left. rest_of splitter.new left ≡ rest_of splitter.new [])) }
-    ensures last { result ≢ Err Stop.InputLimit → TookAtMost (limit - taken) (S.left source.old) (S.left source.new) }
-    ensures fault { result ≡ Err Stop.ReadFault → Rose (S.faults source.old) (S.faults source.new) }
-    ensures limit { result ≡ Err Stop.InputLimit → TookJust (limit + 1 - taken) (S.left source.old) (S.left source.new) }
+    ensures last { result ≢ Err ReadStop.InputLimit → TookAtMost (limit - taken) (S.left source.old) (S.left source.new) }
+    ensures fault { result ≡ Err ReadStop.ReadFault → Rose (S.faults source.old) (S.faults source.new) }
+    ensures limit { result ≡ Err ReadStop.InputLimit → TookJust (limit + 1 - taken) (S.left source.old) (S.left source.new) }
     ensures never_falls { S.faults source.old ≤ S.faults source.new }
 {
     let want = wanted(limit, taken);
     let count = match read_some(source, room, want) {
         Ok(count) => count,
-        Err(_) => return Err(Stop::ReadFault),
+        Err(_) => return Err(ReadStop::ReadFault),
     };
     if count == 0 {
         return Ok(None);
     }
     let read = count as u64;
     if taken + read > limit {
-        return Err(Stop::InputLimit);
+        return Err(ReadStop::InputLimit);
     }
     if take(alloc, splitter, intake, &room[..count])? {
         return Ok(Some(read));

@@ -7,15 +7,14 @@ ghost use Rattle.stamp_order.specs.Merged.{merged, up_to};
 ghost use Rattle.stamp_order.specs.Operations.{moment_of};
 ghost use Rattle.check_core.specs.Report.{front_count, epoch_text, report_of};
 ghost use Rattle.check_core.specs.RunReport.{operations_among};
-ghost use Rattle.check_core.specs.Judged.{first_parts, last_epoch, operations_by, refused_log, ends_by};
-ghost use Rattle.check_core.specs.Outcomes.{IsEnd, IsOutcome};
+ghost use Rattle.check_core.specs.Judged.{first_parts, last_epoch, operations_by, refused_log, end_by};
 
 use crate::judging::Judged;
 use fv_outside::{Failed, Sink};
 use want_of_memory::Memory;
 use multiset_sum::Part;
 use record_text::{Operation, Refusal};
-use report_text::{Page, Status, epoch_line, last_line, operation_line};
+use report_text::{BundleEnd, Page, Status, epoch_line, last_line, operation_line};
 use stamp_order::Moment;
 use std::alloc::{AllocError, Global};
 use verifier_run::Run;
@@ -130,24 +129,22 @@ pub fn first_refused(runs: &[Run]) -> Option<RefusedLog>
 }
 
 /// How a report ends: an epoch whose sums differ goes before a refused log, and that before what is bad.
-pub fn exit_of(judged: &Judged, refused: Option<RefusedLog>, bad: Option<u64>) -> Status
-    ensures value { result ≡ ends_by judged.now.count judged.now.unbalanced refused bad }
-    ensures outcome { IsOutcome result }
-    ensures end { IsEnd result }
+pub fn end_of(judged: &Judged, refused: Option<RefusedLog>, bad: Option<u64>) -> BundleEnd
+    ensures value { result ≡ end_by judged.now.count judged.now.unbalanced refused bad }
 {
     match (judged.unbalanced, refused, bad) {
-        (Some(uneven), _, _) => Status::Unbalanced {
+        (Some(uneven), _, _) => BundleEnd::Unbalanced {
             epoch: uneven.epoch,
             added: uneven.added,
             evicted: uneven.evicted,
         },
-        (None, Some(log), _) => Status::Refused {
+        (None, Some(log), _) => BundleEnd::Refused {
             verifier: log.verifier,
             index: log.index,
             refusal: log.refusal,
         },
-        (None, None, Some(offset)) => Status::BadBundle { offset },
-        (None, None, None) => Status::Done {
+        (None, None, Some(offset)) => BundleEnd::BadBundle { offset },
+        (None, None, None) => BundleEnd::Done {
             epochs: judged.count as u64,
         },
     }

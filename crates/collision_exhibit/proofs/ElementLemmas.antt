@@ -12,8 +12,8 @@ use Rattle.stamp_order.proofs.MergedLemmas.{merged-permutation, merged-filter}
 use Rattle.soundness.specs.Certified.{of_epoch}
 use Rattle.soundness.specs.Permutation.{same_element, count_of, without_one, permuted_behind, is_permutation}
 use Rattle.soundness.proofs.PermutationLemmas.{same_element-self, one_more, count_without, count_permuted, without_there}
-use Rattle.collision_exhibit.specs.declared.act.Act.{Act}
-use Rattle.collision_exhibit.specs.Shown.{came_among, went_among, uneven_among}
+use Rattle.collision_exhibit.specs.declared.audit_event.AuditEvent.{AuditEvent}
+use Rattle.collision_exhibit.specs.Shown.{added_elements, evicted_elements, uneven_among}
 use Rattle.collision_exhibit.specs.Elements.{evict_moment, is_within, within}
 
 -- ---- permutations by counts
@@ -124,11 +124,11 @@ first_failing-found test first (suc count) at from below passes fails =
 abbrev pub is_even : List Element → List Element → ℕ → Bool
 is_even xs ys epoch = is_permutation (of_epoch epoch xs) (of_epoch epoch ys)
 
-pub uneven_is_failing : (acts : List Act) (first count : ℕ)
-    → uneven_among acts first count ≡ first_failing (is_even (came_among acts) (went_among acts)) first count
-uneven_is_failing acts first zero = refl
-uneven_is_failing acts first (suc count) =
-    ap (λ (o : Option ℕ). if is_even (came_among acts) (went_among acts) first then o else Some first) (uneven_is_failing acts (suc first) count)
+pub uneven_is_failing : (audited : List AuditEvent) (first count : ℕ)
+    → uneven_among audited first count ≡ first_failing (is_even (added_elements audited) (evicted_elements audited)) first count
+uneven_is_failing audited first zero = refl
+uneven_is_failing audited first (suc count) =
+    ap (λ (o : Option ℕ). if is_even (added_elements audited) (evicted_elements audited) first then o else Some first) (uneven_is_failing audited (suc first) count)
 
 -- ---- lists
 

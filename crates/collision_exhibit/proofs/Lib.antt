@@ -1,6 +1,6 @@
 -- How what an audit shows is proved, in reading order.
-pub mod ActLemmas
-pub mod DeedLemmas
+pub mod AuditEventLemmas
+pub mod AuditChangeLemmas
 pub mod TellLemmas
 pub mod OrderedLemmas
 pub mod LaneLemmas

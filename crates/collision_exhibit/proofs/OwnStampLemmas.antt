@@ -21,10 +21,10 @@ use Rattle.soundness.specs.Certified.{event_moment, evicted_by, all_events, orde
 use Rattle.soundness.specs.Permutation.{same_stamp}
 use Rattle.soundness.specs.Timed.{IsEarlier, evicted_among, IsRising}
 use Rattle.soundness.proofs.RisingLemmas.{log_own, log_rising}
-use Rattle.collision_exhibit.specs.Act.{acts_in}
-use Rattle.collision_exhibit.specs.Shown.{went_among}
+use Rattle.collision_exhibit.specs.AuditEvent.{audit_events_in}
+use Rattle.collision_exhibit.specs.Shown.{evicted_elements}
 use Rattle.collision_exhibit.specs.Elements.{same_evict, HaveOwnStamps}
-use Rattle.collision_exhibit.proofs.ActLemmas.{went_in}
+use Rattle.collision_exhibit.proofs.AuditEventLemmas.{went_in}
 use Rattle.collision_exhibit.proofs.PartingLemmas.{never, same_evict-flips}
 
 -- ---- one log
@@ -136,9 +136,9 @@ module _ {X Y : Type 0} (lt : X → X → Bool) (block : X → List Y) where
       (IsPermutation-append_right (block x) (flat_map block xs) (flat_map block (in_order lt xs)) (ordered-blocks xs))
       (put-blocks x (in_order lt xs))
 
--- Of all logs' acts in their order, no verifier evicted two elements with one stamp.
+-- Of all logs' audit events in their order, no verifier evicted two elements with one stamp.
 pub distinct_evicts : (scheme : Scheme) (header : Header) (logs : List (List Command))
-    → HaveOwnStamps (went_among (acts_in (order_of (histories_of scheme header logs))))
+    → HaveOwnStamps (evicted_elements (audit_events_in (order_of (histories_of scheme header logs))))
 distinct_evicts scheme header logs =
     let histories = histories_of scheme header logs in
     subst HaveOwnStamps (sym (went_in (order_of histories)))

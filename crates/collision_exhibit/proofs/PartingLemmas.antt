@@ -16,8 +16,8 @@ use Rattle.stamp_order.proofs.MergedLemmas.{merged-sorts, merged-permutation}
 use Rattle.soundness.specs.Certified.{of_epoch}
 use Rattle.soundness.specs.Permutation.{same_element, count_of, without_one, permuted_behind, is_permutation}
 use Rattle.soundness.proofs.PermutationLemmas.{same_element-true, same_element-self, one_more}
-use Rattle.collision_exhibit.specs.declared.act.Act.{Act}
-use Rattle.collision_exhibit.specs.Shown.{came_among, went_among, uneven_among}
+use Rattle.collision_exhibit.specs.declared.audit_event.AuditEvent.{AuditEvent}
+use Rattle.collision_exhibit.specs.Shown.{added_elements, evicted_elements, uneven_among}
 use Rattle.collision_exhibit.specs.Elements.{same_evict, HaveOwnStamps, evict_moment, is_within, within, parting}
 use Rattle.collision_exhibit.proofs.ElementLemmas.{no_permutation, count_none, first_failing, first_failing-agree, first_failing-none, first_failing-found, is_even, uneven_is_failing, of_epoch-own, of_epoch-other, of_epoch-later, even_ordered}
 
@@ -237,20 +237,20 @@ parting_fails (x ∷ xs) (y ∷ ys) first count left right own x_inside y_inside
         ∙ further
     go false differ further = differ_here x y xs ys first count left right own x_inside.0 y_inside.0 differ
 
--- ---- acts
+-- ---- audit events
 
 all_inside : (first count : ℕ) (xs : List Element) → AllByRecursion (λ x. is_within first count x ≡ true) (merged evict_moment (within first count xs))
 all_inside first count xs =
     every-in_order (comes_before evict_moment) (λ x. is_within first count x ≡ true) (within first count xs) (every-passes (is_within first count) xs)
 
 -- The first uneven epoch is where the elements that were added and evicted part, in the order of their evicts.
-pub uneven_parts : (acts : List Act) (first count : ℕ) → HaveOwnStamps (went_among acts)
-    → parting (merged evict_moment (within first count (came_among acts))) (merged evict_moment (within first count (went_among acts)))
-    ≡ uneven_among acts first count
-uneven_parts acts first count own =
-    sym (parting_fails (merged evict_moment (within first count (came_among acts))) (merged evict_moment (within first count (went_among acts))) first count
-    (merged-sorts evict_moment (within first count (came_among acts))) (merged-sorts evict_moment (within first count (went_among acts)))
-    (own_stamps-ordered first count (went_among acts) own)
-    (all_inside first count (came_among acts)) (all_inside first count (went_among acts)))
-    ∙ even_ordered first count (came_among acts) (went_among acts)
-    ∙ sym (uneven_is_failing acts first count)
+pub uneven_parts : (audited : List AuditEvent) (first count : ℕ) → HaveOwnStamps (evicted_elements audited)
+    → parting (merged evict_moment (within first count (added_elements audited))) (merged evict_moment (within first count (evicted_elements audited)))
+    ≡ uneven_among audited first count
+uneven_parts audited first count own =
+    sym (parting_fails (merged evict_moment (within first count (added_elements audited))) (merged evict_moment (within first count (evicted_elements audited))) first count
+    (merged-sorts evict_moment (within first count (added_elements audited))) (merged-sorts evict_moment (within first count (evicted_elements audited)))
+    (own_stamps-ordered first count (evicted_elements audited) own)
+    (all_inside first count (added_elements audited)) (all_inside first count (evicted_elements audited)))
+    ∙ even_ordered first count (added_elements audited) (evicted_elements audited)
+    ∙ sym (uneven_is_failing audited first count)

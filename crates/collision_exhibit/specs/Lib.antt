@@ -1,6 +1,6 @@
 -- What the clauses on an audit cite, in reading order.
-pub mod Act
-pub mod Deed
+pub mod AuditEvent
+pub mod AuditChange
 pub mod Telling
 pub mod Lanes
 pub mod Shown

@@ -7,12 +7,12 @@ ghost use Rattle.lamport_clocks.specs.Header.{IsHeader};
 ghost use Rattle.soundness.specs.Exhibit.{exhibit_of};
 ghost use Rattle.soundness.specs.Sound.{histories_read};
 ghost use Rattle.collision_exhibit.specs.Elements.{HaveOwnStamps};
-ghost use Rattle.collision_exhibit.specs.Shown.{acts_within, clash_among, went_among, shown_by, exhibit_among};
+ghost use Rattle.collision_exhibit.specs.Shown.{audit_events_within, clash_among, evicted_elements, shown_by, exhibit_among};
 
-use crate::act::Act;
+use crate::audit_event::AuditEvent;
 use crate::clash::first_clash;
 use crate::elements::{added_of, evicted_of, first_uneven};
-use crate::history::acts_of;
+use crate::history::audit_events_of;
 use want_of_memory::Memory;
 use lamport_clocks::Header;
 use record_hash::Digests;
@@ -23,7 +23,7 @@ use std::alloc::Global;
 /// elements of the first epoch whose added ones are no permutation of its evicted ones; or else the texts of the
 /// first record that came back by its digest with another value than it went out with; or else nothing.
 ///
-/// Its time is near linear in the bytes of the logs: each is run once, and acts and elements are sorted.
+/// Its time is near linear in the bytes of the logs: each is run once, and audit events and elements are sorted.
 pub fn audit<D: Digests>(
     alloc: Global,
     d: &D,
@@ -36,30 +36,30 @@ pub fn audit<D: Digests>(
     ensures exhibit { IfOk result (λ exhibit. exhibit ≡ exhibit_of (format_of header.now) header.now.first epochs
         (histories_read (scheme_of (D.functions d.now) header.now) header.now (map (λ log. log.items) logs.now))) }
 {
-    let acts = acts_of(alloc, d, header, logs)?;
-    shown(alloc, &acts, header.first, epochs)
+    let audited = audit_events_of(alloc, d, header, logs)?;
+    shown(alloc, &audited, header.first, epochs)
 }
 
-// What acts in order show over so many epochs from the first on.
-fn shown(alloc: Global, acts: &[Act], first: u32, epochs: u64) -> Result<Exhibit, Memory>
-    requires own_stamps { HaveOwnStamps (went_among acts.now) }
-    ensures exhibit { IfOk result (λ exhibit. exhibit ≡ exhibit_among short_keys first epochs acts.now) }
+// What audit events in order show over so many epochs from the first on.
+fn shown(alloc: Global, audited: &[AuditEvent], first: u32, epochs: u64) -> Result<Exhibit, Memory>
+    requires own_stamps { HaveOwnStamps (evicted_elements audited.now) }
+    ensures exhibit { IfOk result (λ exhibit. exhibit ≡ exhibit_among short_keys first epochs audited.now) }
 {
-    match first_uneven(alloc, acts, first, epochs)? {
+    match first_uneven(alloc, audited, first, epochs)? {
         Some(epoch) => {
-            let added = added_of(alloc, acts, epoch)?;
-            let evicted = evicted_of(alloc, acts, epoch)?;
+            let added = added_of(alloc, audited, epoch)?;
+            let evicted = evicted_of(alloc, audited, epoch)?;
             Ok(Exhibit::Multisets(epoch, added, evicted))
         }
-        None => strings(alloc, acts, first, epochs),
+        None => strings(alloc, audited, first, epochs),
     }
 }
 
-// The first clash among acts in order of so many epochs from the first on, if there is one.
-fn strings(alloc: Global, acts: &[Act], first: u32, epochs: u64) -> Result<Exhibit, Memory>
-    ensures exhibit { IfOk result (λ exhibit. exhibit ≡ shown_by acts.now None (clash_among short_keys none_evicted (acts_within first epochs acts.now))) }
+// The first clash among audit events in order of so many epochs from the first on, if there is one.
+fn strings(alloc: Global, audited: &[AuditEvent], first: u32, epochs: u64) -> Result<Exhibit, Memory>
+    ensures exhibit { IfOk result (λ exhibit. exhibit ≡ shown_by audited.now None (clash_among short_keys none_evicted (audit_events_within first epochs audited.now))) }
 {
-    match first_clash(alloc, acts, first, epochs)? {
+    match first_clash(alloc, audited, first, epochs)? {
         Some(clash) => Ok(Exhibit::Strings(clash.evicted, clash.added)),
         None => Ok(Exhibit::Clean),
     }

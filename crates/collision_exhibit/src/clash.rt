@@ -3,11 +3,11 @@ ghost use Rattle.std.specs.Prelude.{◌≡◌, IfOk, OnOk, OnErr, Some};
 ghost use Rattle.std.specs.Option.{option_map};
 ghost use Rattle.record_text.specs.Format.{short_keys};
 ghost use Rattle.soundness.specs.Clash.{none_evicted, differing};
-ghost use Rattle.collision_exhibit.specs.Shown.{acts_within, clash_among, clash_by, last_evicted_by};
+ghost use Rattle.collision_exhibit.specs.Shown.{audit_events_within, clash_among, clash_by, last_evicted_by};
 ghost use Rattle.collision_exhibit.specs.LastEvicted.{last_evicted_at};
 ghost use Rattle.collision_exhibit.specs.Within.{is_within};
 
-use crate::act::{Act, Deed};
+use crate::audit_event::{AuditEvent, AuditChange};
 use crate::last_evicted::LastEvictedValues;
 use want_of_memory::Memory;
 use record_text::{Value, ValueText};
@@ -20,42 +20,42 @@ pub(crate) struct Clash {
     pub(crate) added: ValueText,
 }
 
-/// The first clash among the acts of so many epochs from this one on, and of those before it. It goes over the
-/// acts once, and makes texts only of a record that comes back after it went out.
+/// The first clash among the audit events of so many epochs from this one on, and of those before it. It goes over the
+/// audit events once, and makes texts only of a record that comes back after it went out.
 pub(crate) fn first_clash(
     alloc: Global,
-    acts: &[Act],
+    audited: &[AuditEvent],
     first: u32,
     epochs: u64,
 ) -> Result<Option<Clash>, Memory>
-    ensures clash { IfOk result (λ found. option_map (λ c. (c.evicted, c.added)) found ≡ clash_among short_keys none_evicted (acts_within first epochs acts.now)) }
+    ensures clash { IfOk result (λ found. option_map (λ c. (c.evicted, c.added)) found ≡ clash_among short_keys none_evicted (audit_events_within first epochs audited.now)) }
 {
     let mut taken = LastEvictedValues::new(alloc);
-    for act in acts {
-        if is_within(act, first, epochs) {
-            match clash_by(&taken, &act.deed) {
+    for item in audited {
+        if is_within(item, first, epochs) {
+            match clash_by(&taken, &item.change) {
                 Some(clash) => return Ok(Some(clash)),
-                None => take(&mut taken, &act.deed)?,
+                None => take(&mut taken, &item.change)?,
             }
         }
     }
     Ok(None)
 }
 
-// Whether an act is of one of so many epochs from this one on, or of one before it. Of no epochs there is none.
-fn is_within(act: &Act, first: u32, epochs: u64) -> bool
-    ensures value { result ≡ is_within first epochs act.now }
+// Whether an audit event is of one of so many epochs from this one on, or of one before it. Of no epochs there is none.
+fn is_within(item: &AuditEvent, first: u32, epochs: u64) -> bool
+    ensures value { result ≡ is_within first epochs item.now }
 {
     // An epoch before the first counts as the first.
-    (act.moment.at.epoch.saturating_sub(first) as u64) < epochs
+    (item.moment.at.epoch.saturating_sub(first) as u64) < epochs
 }
 
-// What went out and what came back for it by this deed, if their texts differ.
-fn clash_by(taken: &LastEvictedValues, deed: &Deed) -> Option<Clash>
-    ensures value { option_map (λ c. (c.evicted, c.added)) result ≡ clash_by short_keys (last_evicted_at taken.now) deed.now }
+// What went out and what came back for it by this change, if their texts differ.
+fn clash_by(taken: &LastEvictedValues, change: &AuditChange) -> Option<Clash>
+    ensures value { option_map (λ c. (c.evicted, c.added)) result ≡ clash_by short_keys (last_evicted_at taken.now) change.now }
 {
-    match deed {
-        Deed::Joined(path, added) => match taken.get(path) {
+    match change {
+        AuditChange::AddM(path, added) => match taken.get(path) {
             Some(evicted) => differing(evicted, added),
             None => None,
         },
@@ -76,13 +76,13 @@ fn differing(evicted: &Value, added: &Value) -> Option<Clash>
     }
 }
 
-// Keeps what a deed took out.
-fn take<'a>(taken: &mut LastEvictedValues<'a>, deed: &'a Deed) -> Result<(), Memory>
-    ensures ok { OnOk result (last_evicted_at taken.new ≡ last_evicted_by (last_evicted_at taken.old) deed.now) }
+// Keeps what a change took out.
+fn take<'a>(taken: &mut LastEvictedValues<'a>, change: &'a AuditChange) -> Result<(), Memory>
+    ensures ok { OnOk result (last_evicted_at taken.new ≡ last_evicted_by (last_evicted_at taken.old) change.now) }
     ensures err { OnErr result (taken.new ≡ taken.old) }
 {
-    match deed {
-        Deed::Left(path, value) => taken.put(path, value),
+    match change {
+        AuditChange::EvictM(path, value) => taken.put(path, value),
         _ => Ok(()),
     }
 }

@@ -1,5 +1,5 @@
 //! Clashes that were written out by hand.
-use crate::act::{Act, Deed};
+use crate::audit_event::{AuditEvent, AuditChange};
 use crate::clash::first_clash;
 use lamport_clocks::Stamp;
 use record_text::{Blob, Element, Node, Pointer, Value, ValueText};
@@ -29,7 +29,7 @@ const NODE: Place = (1, 1 << 63);
 
 const LONGER_NODE: Place = (2, 1 << 63);
 
-// The epoch of an act, what is done, the path, and the number of the value.
+// The epoch of an audit event, what is done, the path, and the number of the value.
 type Line = (u32, Way, Place, u8);
 
 // The lines, the first epoch, how many epochs, and the values of the clash.
@@ -62,16 +62,16 @@ fn element_of(path: Path, value: Value, stamp: Stamp) -> Element {
     }
 }
 
-fn deed_of(rt: &impl Abort, way: Way, path: Path, number: u8, at: Stamp) -> Deed {
+fn audit_change_of(rt: &impl Abort, way: Way, path: Path, number: u8, at: Stamp) -> AuditChange {
     match way {
-        Way::Back => Deed::Joined(path, value_of(rt, number)),
-        Way::Out => Deed::Left(path, value_of(rt, number)),
-        Way::Came => Deed::Came(element_of(path, value_of(rt, number), at)),
-        Way::Went => Deed::Went(element_of(path, value_of(rt, number), at)),
+        Way::Back => AuditChange::AddM(path, value_of(rt, number)),
+        Way::Out => AuditChange::EvictM(path, value_of(rt, number)),
+        Way::Came => AuditChange::AddB(element_of(path, value_of(rt, number), at)),
+        Way::Went => AuditChange::EvictB(element_of(path, value_of(rt, number), at)),
     }
 }
 
-fn act_of(rt: &impl Abort, line: &Line) -> Act {
+fn act_of(rt: &impl Abort, line: &Line) -> AuditEvent {
     let (epoch, way, place, number) = *line;
     let path = Path::of_word(place.0, place.1).expect(rt, "a path");
     let at = Stamp { epoch, counter: 0 };
@@ -80,18 +80,18 @@ fn act_of(rt: &impl Abort, line: &Line) -> Act {
         verifier: 0,
         index: 0,
     };
-    Act {
+    AuditEvent {
         moment,
-        deed: deed_of(rt, way, path, number, at),
+        change: audit_change_of(rt, way, path, number, at),
     }
 }
 
-fn acts_of(alloc: Global, rt: &impl Abort, lines: &[Line]) -> Result<Vec<Act>, AllocError> {
-    let mut acts = Vec::new(alloc);
+fn audit_events_of(alloc: Global, rt: &impl Abort, lines: &[Line]) -> Result<Vec<AuditEvent>, AllocError> {
+    let mut audited = Vec::new(alloc);
     for line in lines {
-        acts.push(act_of(rt, line))?;
+        audited.push(act_of(rt, line))?;
     }
-    Ok(acts)
+    Ok(audited)
 }
 
 #[test]
@@ -210,8 +210,8 @@ fn the_first_clash_of_the_epochs_is_shown(rt: HostRuntime) -> Result<(), Fail> {
         ),
     ];
     for (lines, first, epochs, shown) in table {
-        let acts = acts_of(rt.alloc(), &rt, lines)?;
-        match (first_clash(rt.alloc(), &acts, first, epochs)?, shown) {
+        let audited = audit_events_of(rt.alloc(), &rt, lines)?;
+        match (first_clash(rt.alloc(), &audited, first, epochs)?, shown) {
             (Some(clash), Some((evicted, added))) => {
                 assert_eq!(rt; clash.evicted, ValueText::of(&value_of(&rt, evicted)));
                 assert_eq!(rt; clash.added, ValueText::of(&value_of(&rt, added)));
@@ -226,8 +226,8 @@ fn the_first_clash_of_the_epochs_is_shown(rt: HostRuntime) -> Result<(), Fail> {
 #[test]
 fn a_clash_has_the_texts_of_its_values(rt: HostRuntime) -> Result<(), Fail> {
     let lines: [Line; 2] = [(0, Way::Out, KEY, 0), (0, Way::Back, KEY, 7)];
-    let acts = acts_of(rt.alloc(), &rt, &lines)?;
-    match first_clash(rt.alloc(), &acts, 0, 1)? {
+    let audited = audit_events_of(rt.alloc(), &rt, &lines)?;
+    match first_clash(rt.alloc(), &audited, 0, 1)? {
         Some(clash) => {
             assert_eq!(rt; clash.evicted.as_slice(), [0].as_slice());
             assert_eq!(rt; clash.added.as_slice(), [1, 1, 7].as_slice());

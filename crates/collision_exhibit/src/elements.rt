@@ -7,10 +7,10 @@ ghost use Rattle.std.specs.Prelude.{◌≡◌, map, min, IfOk, IsTrue, ◌↔◌
 ghost use Rattle.stamp_order.specs.Merged.{merged};
 ghost use Rattle.soundness.specs.Certified.{of_epoch};
 ghost use Rattle.soundness.specs.Permutation.{same_stamp, same_element};
-ghost use Rattle.collision_exhibit.specs.Shown.{came_among, went_among, uneven_among};
+ghost use Rattle.collision_exhibit.specs.Shown.{added_elements, evicted_elements, uneven_among};
 ghost use Rattle.collision_exhibit.specs.Elements.{HaveOwnStamps, evict_moment, is_within, within, parting};
 
-use crate::act::{Act, Deed};
+use crate::audit_event::{AuditEvent, AuditChange};
 use want_of_memory::Memory;
 use record_text::{Element, Elements};
 use stamp_order::Moment;
@@ -19,30 +19,30 @@ use std::alloc::Global;
 /// Of so many epochs from the first on, the first whose added elements are no permutation of its evicted ones.
 pub(crate) fn first_uneven(
     alloc: Global,
-    acts: &[Act],
+    audited: &[AuditEvent],
     first: u32,
     epochs: u64,
 ) -> Result<Option<u32>, Memory>
-    requires own_stamps { HaveOwnStamps (went_among acts.now) }
-    ensures uneven { IfOk result (λ found. found ≡ uneven_among acts.now first epochs) }
+    requires own_stamps { HaveOwnStamps (evicted_elements audited.now) }
+    ensures uneven { IfOk result (λ found. found ≡ uneven_among audited.now first epochs) }
 {
-    let added = in_order(came_within(alloc, acts, first, epochs)?)?;
-    let evicted = in_order(went_within(alloc, acts, first, epochs)?)?;
+    let added = in_order(came_within(alloc, audited, first, epochs)?)?;
+    let evicted = in_order(went_within(alloc, audited, first, epochs)?)?;
     Ok(parting(&added, &evicted))
 }
 
 /// The elements of an epoch that were added, in order.
-pub(crate) fn added_of(alloc: Global, acts: &[Act], epoch: u32) -> Result<Elements, Memory>
-    ensures elements { IfOk result (λ e. e ≡ of_epoch epoch (came_among acts.now)) }
+pub(crate) fn added_of(alloc: Global, audited: &[AuditEvent], epoch: u32) -> Result<Elements, Memory>
+    ensures elements { IfOk result (λ e. e ≡ of_epoch epoch (added_elements audited.now)) }
 {
-    copies(alloc, &came_within(alloc, acts, epoch, 1)?)
+    copies(alloc, &came_within(alloc, audited, epoch, 1)?)
 }
 
 /// The elements of an epoch that were evicted, in order.
-pub(crate) fn evicted_of(alloc: Global, acts: &[Act], epoch: u32) -> Result<Elements, Memory>
-    ensures elements { IfOk result (λ e. e ≡ of_epoch epoch (went_among acts.now)) }
+pub(crate) fn evicted_of(alloc: Global, audited: &[AuditEvent], epoch: u32) -> Result<Elements, Memory>
+    ensures elements { IfOk result (λ e. e ≡ of_epoch epoch (evicted_elements audited.now)) }
 {
-    copies(alloc, &went_within(alloc, acts, epoch, 1)?)
+    copies(alloc, &went_within(alloc, audited, epoch, 1)?)
 }
 
 // Whether an element is of one of so many epochs from the first on.
@@ -59,15 +59,15 @@ fn is_within(element: &Element, first: u32, epochs: u64) -> bool
 // The elements of so many epochs from the first on that were added, in order.
 fn came_within(
     alloc: Global,
-    acts: &[Act],
+    audited: &[AuditEvent],
     first: u32,
     epochs: u64,
 ) -> Result<Vec<&Element>, Memory>
-    ensures elements { IfOk result (λ v. map (λ e. e.now) v.items ≡ within first epochs (came_among acts.now)) }
+    ensures elements { IfOk result (λ v. map (λ e. e.now) v.items ≡ within first epochs (added_elements audited.now)) }
 {
     let mut elements = Vec::new(alloc);
-    for act in acts {
-        if let Deed::Came(element) = &act.deed {
+    for item in audited {
+        if let AuditChange::AddB(element) = &item.change {
             if is_within(element, first, epochs) {
                 elements.push(element)?;
             }
@@ -79,15 +79,15 @@ fn came_within(
 // The elements of so many epochs from the first on that were evicted, in order.
 fn went_within(
     alloc: Global,
-    acts: &[Act],
+    audited: &[AuditEvent],
     first: u32,
     epochs: u64,
 ) -> Result<Vec<&Element>, Memory>
-    ensures elements { IfOk result (λ v. map (λ e. e.now) v.items ≡ within first epochs (went_among acts.now)) }
+    ensures elements { IfOk result (λ v. map (λ e. e.now) v.items ≡ within first epochs (evicted_elements audited.now)) }
 {
     let mut elements = Vec::new(alloc);
-    for act in acts {
-        if let Deed::Went(element) = &act.deed {
+    for item in audited {
+        if let AuditChange::EvictB(element) = &item.change {
             if is_within(element, first, epochs) {
                 elements.push(element)?;
             }

@@ -1,7 +1,7 @@
 //! Uneven epochs that were found by hand.
 ghost use Rattle.std.specs.Prelude.{◌≡◌};
 
-use crate::act::{Act, Deed};
+use crate::audit_event::{AuditEvent, AuditChange};
 use crate::elements::{added_of, evicted_of, first_uneven};
 use want_of_memory::Memory;
 use lamport_clocks::Stamp;
@@ -26,20 +26,20 @@ fn element(spot: Spot) -> Element
     }
 }
 
-fn act(deed: Deed) -> Act
-    ensures deed { result.deed ≡ deed }
+fn item(change: AuditChange) -> AuditEvent
+    ensures change { result.change ≡ change }
 {
     let at = Stamp {
         epoch: 0,
         counter: 0,
     };
-    Act {
+    AuditEvent {
         moment: Moment {
             at,
             verifier: 0,
             index: 0,
         },
-        deed,
+        change,
     }
 }
 
@@ -52,13 +52,13 @@ fn uneven_of(
     first: u32,
     epochs: u64,
 ) -> Result<Option<u32>, Memory> {
-    let acts = [
-        act(Deed::Went(element((evicted[0].0, evicted[0].1, 0)))),
-        act(Deed::Came(element(added[0]))),
-        act(Deed::Went(element((evicted[1].0, evicted[1].1, 1)))),
-        act(Deed::Came(element(added[1]))),
+    let audited = [
+        item(AuditChange::EvictB(element((evicted[0].0, evicted[0].1, 0)))),
+        item(AuditChange::AddB(element(added[0]))),
+        item(AuditChange::EvictB(element((evicted[1].0, evicted[1].1, 1)))),
+        item(AuditChange::AddB(element(added[1]))),
     ];
-    first_uneven(alloc, &acts, first, epochs)
+    first_uneven(alloc, &audited, first, epochs)
 }
 
 #[test]
@@ -111,17 +111,17 @@ fn the_first_uneven_epoch_is_found(rt: HostRuntime) -> Result<(), Fail> {
 
 #[test]
 fn the_elements_of_an_epoch_are_told_by_their_way(rt: HostRuntime) -> Result<(), Fail> {
-    let acts = [
-        act(Deed::Came(element((1, 3, 0)))),
-        act(Deed::Went(element((1, 1, 1)))),
-        act(Deed::Came(element((2, 1, 0)))),
-        act(Deed::Came(element((1, 2, 0)))),
+    let audited = [
+        item(AuditChange::AddB(element((1, 3, 0)))),
+        item(AuditChange::EvictB(element((1, 1, 1)))),
+        item(AuditChange::AddB(element((2, 1, 0)))),
+        item(AuditChange::AddB(element((1, 2, 0)))),
     ];
-    let added = added_of(rt.alloc(), &acts, 1)?;
-    let evicted = evicted_of(rt.alloc(), &acts, 1)?;
+    let added = added_of(rt.alloc(), &audited, 1)?;
+    let evicted = evicted_of(rt.alloc(), &audited, 1)?;
     let both = [element((1, 3, 0)), element((1, 2, 0))];
     assert_eq!(rt; added.as_slice(), both.as_slice());
     assert_eq!(rt; evicted.as_slice(), [element((1, 1, 1))].as_slice());
-    assert!(rt; evicted_of(rt.alloc(), &acts, 2)?.as_slice().is_empty());
+    assert!(rt; evicted_of(rt.alloc(), &audited, 2)?.as_slice().is_empty());
     Ok(())
 }

@@ -1,4 +1,4 @@
-//! The acts of all logs, in the one order of their moments.
+//! The audit events of all logs, in the one order of their moments.
 ghost use Rattle.std.specs.Prelude.{◌≡◌, ◌+◌, ◌<◌, ◌≤◌, ◌^◌, ◌++◌, ◌∷◌, List, length, map, drop, IfOk, OnOk};
 ghost use Rattle.std.specs.Option.{option_to_list};
 ghost use Rattle.lamport_clocks.specs.Header.{IsHeader};
@@ -11,11 +11,11 @@ ghost use Rattle.verifier_commands.specs.Machine.{opening_machine};
 ghost use Rattle.soundness.specs.History.{log_events};
 ghost use Rattle.soundness.specs.Certified.{order_of, all_events};
 ghost use Rattle.soundness.specs.Sound.{histories_read};
-ghost use Rattle.collision_exhibit.specs.Act.{acts_in, act_moment};
-ghost use Rattle.collision_exhibit.specs.Telling.{act_then, acts_from, acts_if, acts_read};
+ghost use Rattle.collision_exhibit.specs.AuditEvent.{audit_events_in, audit_moment};
+ghost use Rattle.collision_exhibit.specs.Telling.{audit_event_then, audit_events_from, audit_events_if, audit_events_read};
 
-use crate::act::{Act, Deed};
-use crate::deed::deed_of;
+use crate::audit_event::{AuditEvent, AuditChange};
+use crate::audit_change::audit_change_of;
 use crate::text_digests::TextDigests;
 use want_of_memory::Memory;
 use lamport_clocks::Header;
@@ -26,7 +26,7 @@ use std::alloc::Global;
 use std::marker::Model;
 use verifier_commands::Verifier;
 
-// A verifier whose acts are told. Contracts see the verifier.
+// A verifier whose audit events are told. Contracts see the verifier.
 #[derive(Drop)]
 struct Teller {
     verifier: Verifier,
@@ -60,12 +60,12 @@ impl Teller {
         })
     }
 
-    // Takes one command, appends its act, and answers whether the command was accepted.
+    // Takes one command, appends its audit event, and answers whether the command was accepted.
     fn take<D: Digests>(
         &mut self,
         d: &D,
         command: Command,
-        acts: &mut Vec<Act>,
+        audited: &mut Vec<AuditEvent>,
     ) -> Result<bool, Memory>
         requires kind { IsCommand (format_of self.old.header) command }
         requires room { self.old.accepted < 2 ^ 63 }
@@ -73,11 +73,11 @@ impl Teller {
         // What is told now, and then of the commands behind this one, is what was told and what is told from
         // this one on.
         ensures told { IfOk result (λ accepted. (commands : List Command)
-            → acts.new.items ++ acts_if accepted (scheme_of (D.functions d.now) self.old.header) self.new commands
-            ≡ acts.old.items ++ acts_from (scheme_of (D.functions d.now) self.old.header) self.old (command ∷ commands)) }
+            → audited.new.items ++ audit_events_if accepted (scheme_of (D.functions d.now) self.old.header) self.new commands
+            ≡ audited.old.items ++ audit_events_from (scheme_of (D.functions d.now) self.old.header) self.old (command ∷ commands)) }
         ensures count { self.new.accepted ≤ self.old.accepted + 1 }
     {
-        let deed = deed_of(self.number, self.verifier.entries(), &command);
+        let change = audit_change_of(self.number, self.verifier.entries(), &command);
         match self.verifier.step(d, command) {
             Ok(_) => {}
             Err(_) => return Ok(false),
@@ -88,36 +88,36 @@ impl Teller {
             index: self.accepted,
         };
         self.accepted += 1;
-        keep(acts, moment, deed)?;
+        keep(audited, moment, change)?;
         Ok(true)
     }
 }
 
-// Appends a deed of this moment, if there is one.
-fn keep(acts: &mut Vec<Act>, moment: Moment, deed: Option<Deed>) -> Result<(), Memory>
-    ensures kept { OnOk result (acts.new.items ≡ acts.old.items ++ map (act_then moment) (option_to_list deed)) }
+// Appends a change of this moment, if there is one.
+fn keep(audited: &mut Vec<AuditEvent>, moment: Moment, change: Option<AuditChange>) -> Result<(), Memory>
+    ensures kept { OnOk result (audited.new.items ≡ audited.old.items ++ map (audit_event_then moment) (option_to_list change)) }
 {
-    match deed {
-        Some(deed) => acts.push(Act { moment, deed })?,
+    match change {
+        Some(change) => audited.push(AuditEvent { moment, change })?,
         None => {}
     }
     Ok(())
 }
 
-// Appends the acts of the commands that are whole, up to the first that is refused.
+// Appends the audit events of the commands that are whole, up to the first that is refused.
 fn tell<D: Digests>(
     teller: &mut Teller,
     d: &D,
     log: &[u8],
-    acts: &mut Vec<Act>,
+    audited: &mut Vec<AuditEvent>,
 ) -> Result<(), Memory>
     requires room { teller.old.accepted + length log.now < 2 ^ 63 }
-    ensures told { OnOk result (acts.new.items ≡ acts.old.items
-        ++ acts_read (scheme_of (D.functions d.now) teller.old.header) teller.old log.now) }
+    ensures told { OnOk result (audited.new.items ≡ audited.old.items
+        ++ audit_events_read (scheme_of (D.functions d.now) teller.old.header) teller.old log.now) }
 {
     let mut taken = 0;
     while let Decoded::Read(command, len) = read(behind(log, taken)) {
-        if !teller.take(d, command, acts)? {
+        if !teller.take(d, command, audited)? {
             return Ok(());
         }
         taken += len;
@@ -133,67 +133,67 @@ fn behind(bytes: &[u8], taken: usize) -> &[u8]
     &bytes[taken..]
 }
 
-/// Appends the acts of the log of the verifier of this number: of its commands up to the first that is refused
+/// Appends the audit events of the log of the verifier of this number: of its commands up to the first that is refused
 /// or isn't whole.
-pub(crate) fn append_acts<D: Digests>(
+pub(crate) fn append_audit_events<D: Digests>(
     alloc: Global,
     d: &D,
     number: u16,
     header: &Header,
     log: &[u8],
-    acts: &mut Vec<Act>,
+    audited: &mut Vec<AuditEvent>,
 ) -> Result<(), Memory>
     requires header { IsHeader header.now }
     requires number { number < header.now.verifiers }
-    ensures told { OnOk result (acts.new.items ≡ acts.old.items
-        ++ acts_in (log_events (scheme_of (D.functions d.now) header.now) header.now number (read_log (format_of header.now) log.now).commands)) }
+    ensures told { OnOk result (audited.new.items ≡ audited.old.items
+        ++ audit_events_in (log_events (scheme_of (D.functions d.now) header.now) header.now number (read_log (format_of header.now) log.now).commands)) }
 {
     let mut teller = Teller::new(alloc, number, header)?;
-    tell(&mut teller, d, log, acts)
+    tell(&mut teller, d, log, audited)
 }
 
-// Appends the acts of all logs, one log after another.
+// Appends the audit events of all logs, one log after another.
 fn tell_in_turn<D: Digests>(
     alloc: Global,
     d: &D,
     header: &Header,
     logs: &[Vec<u8>],
-    acts: &mut Vec<Act>,
+    audited: &mut Vec<AuditEvent>,
 ) -> Result<(), Memory>
     requires header { IsHeader header.now }
     requires count { length logs.now ≡ header.now.verifiers }
-    ensures told { OnOk result (acts.new.items ≡ acts.old.items ++ acts_in (all_events
+    ensures told { OnOk result (audited.new.items ≡ audited.old.items ++ audit_events_in (all_events
         (histories_read (scheme_of (D.functions d.now) header.now) header.now (map (λ log. log.items) logs.now)))) }
 {
     for (index, log) in logs.iter().enumerate() {
-        append_acts(alloc, d, index as u16, header, log, acts)?;
+        append_audit_events(alloc, d, index as u16, header, log, audited)?;
     }
     Ok(())
 }
 
-/// The acts of all logs, that of verifier 0 first, in the one order of their moments. No element is hashed: what a
+/// The audit events of all logs, that of verifier 0 first, in the one order of their moments. No element is hashed: what a
 /// log does is the same whatever the lanes of elements are.
-pub(crate) fn acts_of<D: Digests>(
+pub(crate) fn audit_events_of<D: Digests>(
     alloc: Global,
     d: &D,
     header: &Header,
     logs: &[Vec<u8>],
-) -> Result<Vec<Act>, Memory>
+) -> Result<Vec<AuditEvent>, Memory>
     requires header { IsHeader header.now }
     requires count { length logs.now ≡ header.now.verifiers }
-    ensures acts { IfOk result (λ acts. acts.items ≡ acts_in (order_of
+    ensures audited { IfOk result (λ audited. audited.items ≡ audit_events_in (order_of
         (histories_read (scheme_of (D.functions d.now) header.now) header.now (map (λ log. log.items) logs.now)))) }
 {
-    let mut acts = Vec::new(alloc);
+    let mut audited = Vec::new(alloc);
     let texts = TextDigests { inner: d };
-    tell_in_turn(alloc, &texts, header, logs, &mut acts)?;
-    acts.sort_by_key(moment_of)?;
-    Ok(acts)
+    tell_in_turn(alloc, &texts, header, logs, &mut audited)?;
+    audited.sort_by_key(moment_of)?;
+    Ok(audited)
 }
 
-// When an act was done.
-fn moment_of(act: &Act) -> Moment
-    ensures value { result ≡ act_moment act.now }
+// When an audit event was done.
+fn moment_of(item: &AuditEvent) -> Moment
+    ensures value { result ≡ audit_moment item.now }
 {
-    act.moment
+    item.moment
 }

@@ -2,20 +2,20 @@
 //!
 //! The exhibit is defined by `exhibit_of` in `soundness`, from the histories of all logs. Here each log is run
 //! once, with no element hashed, and of each accepted command only what an exhibit can be made of is kept: an
-//! `Act`. The acts of all logs are put into the one order of their moments; then elements are compared epoch by
+//! `AuditEvent`. Those of all logs are put into the one order of their moments; then elements are compared epoch by
 //! epoch, and what came back by its digest is compared with what went out. The crate stands on
 //! `verifier_commands` and `log_codec`, which run the logs, and on `soundness`, whose definitions it computes.
-//! Begin with `act.rt` and `specs/Act.antt`.
+//! Begin with `audit_event.rt` and `specs/AuditEvent.antt`.
 #![tactic(auto)]
 
-mod act;
+mod audit_event;
 #[cfg(test)]
 mod audit_tests;
 mod auditing;
 mod clash;
 #[cfg(test)]
 mod clash_tests;
-mod deed;
+mod audit_change;
 mod elements;
 #[cfg(test)]
 mod elements_tests;

@@ -6,10 +6,16 @@ use Rattle.record_text.specs.declared.exhibit.Exhibit.{Exhibit}
 use Rattle.record_text.specs.declared.exhibit.Exhibit.TheVariants.{Clean, Strings, Multisets}
 use Rattle.report_text.specs.declared.status.Status.{Status}
 use Rattle.report_text.specs.declared.status.Status.TheVariants as statuses
+use Rattle.report_text.specs.declared.ending.BundleEnd.{BundleEnd}
+use Rattle.report_text.specs.Ending.{status_of}
+use Rattle.report_text.specs.Answer.{Answer}
 use Rattle.report_text.specs.Exhibit.{exhibit_text}
 use Rattle.report_text.specs.Status.{last_line}
 use Rattle.check_core.specs.Intake.{Logged, logged_of}
-use Rattle.check_core.specs.Answer.{Answer, certified_at, answer_by}
+use Rattle.check_core.specs.Answer.{certified_at, answer_by}
+use Rattle.report_text.specs.Answer.{Answer}
+use Rattle.fastver_top.specs.declared.audit_end.AuditEnd.{AuditEnd}
+use Rattle.fastver_top.specs.declared.audit_end.AuditEnd.TheVariants as ends
 use Rattle.check_core.specs.Headline.{exhibit_at, CollidesAt}
 
 -- the status of an audit: `exhibit` where there is something to exhibit, and else how the check ends
@@ -17,6 +23,17 @@ abbrev pub audit_status : Exhibit → Status → Status
 audit_status Clean status = status
 audit_status (Strings evicted added) status = statuses.Exhibit
 audit_status (Multisets epoch added evicted) status = statuses.Exhibit
+
+-- the end of an audit that shows this, where the report of a check ends so
+abbrev pub audit_end : Exhibit → BundleEnd → AuditEnd
+audit_end Clean end = ends.Bundle end
+audit_end (Strings evicted added) end = ends.Exhibit
+audit_end (Multisets epoch added evicted) end = ends.Exhibit
+
+-- the status of a run that ends so
+abbrev pub audit_end_status : AuditEnd → Status
+audit_end_status ends.Exhibit = statuses.Exhibit
+audit_end_status (ends.Bundle end) = status_of end
 
 -- of an exhibit over so many certified epochs, where the report of a check ends so
 abbrev pub audit_of : Exhibit → ℕ → Status → Answer

@@ -6,10 +6,13 @@
 //! `specs/Answers.antt`.
 #![tactic(auto)]
 
+mod audit_end;
 mod auditing;
 mod top;
 
+pub use audit_end::AuditEnd;
 pub use auditing::audit_text;
+pub use record_text::{Exhibit, Refusal};
 pub use report_text::Status;
 pub use top::{INPUT_LIMIT, fastver};
 

@@ -7,3 +7,4 @@ pub mod SinkState
 pub mod SourceState
 pub mod SureSinkState
 pub mod Written
+pub mod Consumed

@@ -1,5 +1,7 @@
 -- What the clauses on reports cite, in reading order.
 pub mod Lines
 pub mod Status
+pub mod Ending
+pub mod Answer
 pub mod Exhibit
 pub mod Page

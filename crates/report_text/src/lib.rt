@@ -2,16 +2,18 @@
 //!
 //! Each line is one text, defined in `specs/Lines.antt`, `specs/Status.antt` and `specs/Exhibit.antt`. The
 //! crate stands on `fv_outside` for the sinks that lines are written to, and on `record_text` and
-//! `multiset_sum` for what they tell. Begin with `Status` in `status.rt`, the writers in `lines.rt`, and
-//! `write_exhibit` in `exhibit.rt`.
+//! `multiset_sum` for what they tell. `specs/Answer.antt` says what a call that reads and writes owes. Begin with
+//! `Status` in `status.rt`, the writers in `lines.rt`, and `write_exhibit` in `exhibit.rt`.
 #![tactic(auto)]
 
 mod digits;
+mod ending;
 mod exhibit;
 mod lines;
 mod page;
 mod status;
 
+pub use ending::BundleEnd;
 pub use exhibit::write_exhibit;
 pub use lines::{
     LONGEST_LINE, epoch_line, last_line, operation_line, write_epoch, write_last, write_operation,

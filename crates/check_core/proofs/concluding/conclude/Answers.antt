@@ -2,9 +2,11 @@ use Rattle.std.proofs.Common.{◌≡◌, ℕ, IfOk, Option, subst, sym, ap, ◌�
 use Rattle.merkle_records.specs.Scheme.{scheme_of}
 use Rattle.lamport_clocks.specs.declared.header.Header.{Header}
 use Rattle.report_text.specs.declared.status.Status.{Status}
+use Rattle.report_text.specs.Ending.{status_of}
 use Rattle.check_core.specs.Logs.{log_count}
 use Rattle.check_core.specs.Intake.{logs_in}
-use Rattle.check_core.specs.Answer.{certified_at, Answer}
+use Rattle.check_core.specs.Answer.{certified_at}
+use Rattle.report_text.specs.Answer.{Answer}
 use Rattle.check_core.proofs.MeaningLemmas.{logs_counted}
 use Rattle.check_core.proofs.ManyLemmas.{verdict-many, count-many}
 use Rattle.check_core.proofs.AnswerLemmas.{with_header}
@@ -22,13 +24,13 @@ returns-in-Some-clause-certified g c =
     ∙ sym (ap (λ (o : Option Header). certified_at functions o (logs_in c.args.intake.now)) c.in-Some.is))
     c.conclude_logs.ensures.certified
 
-pub returns-in-Some-clause-status : goal.returns-in-Some-clause-status
-returns-in-Some-clause-status g c =
+pub returns-in-Some-clause-end : goal.returns-in-Some-clause-end
+returns-in-Some-clause-end g c =
     let functions = g.D.Digests.functions c.args.d.now in
     let whole = logs_counted (λ log. log.items) c.args.intake.now.logs.items c.args.intake.now.header c.args.intake.now.logs.len (omega (arith, c.args.intake.now.logs.ok)) c.args.intake.now.count
     ∙ ap log_count c.in-Some.is in
-    subst (λ (s : Status). IfOk c.conclude_logs.result (λ found. found.status ≡ s))
+    subst (λ (s : Status). IfOk c.conclude_logs.result (λ found. status_of found.end ≡ s))
     (ap (λ (v : Answer). v.status)
     (verdict-many (scheme_of functions c.in-Some.header) c.in-Some.header (logs_in c.args.intake.now) c.args.intake.now.bad (c.args.intake.now.in_range c.in-Some.header c.in-Some.is) whole
     ∙ with_header functions c.args.intake.now.header c.in-Some.header (logs_in c.args.intake.now) c.args.intake.now.bad c.in-Some.is))
-    c.conclude_logs.ensures.status
+    c.conclude_logs.ensures.end

@@ -1,7 +1,7 @@
 use Rattle.std.proofs.Common.{◌≡◌, ◌-◌, ◌≤◌, vec_len}
 use Rattle.bundle_frames.specs.Progress.{position}
 use Rattle.check_core.specs.Intake.{Means, behind_at, logs_in, logged_of}
-use Rattle.check_core.specs.Consumed.{TookJust}
+use Rattle.fv_outside.specs.Consumed.{TookJust}
 use Rattle.check_core.proofs.reading.read_bundle.Given as goal
 
 -- what was read so far

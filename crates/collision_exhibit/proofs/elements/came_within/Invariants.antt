@@ -1,10 +1,10 @@
 use Rattle.std.proofs.Common.{◌≡◌, ◌++◌, map, drop}
-use Rattle.collision_exhibit.specs.Shown.{came_among}
+use Rattle.collision_exhibit.specs.Shown.{added_elements}
 use Rattle.collision_exhibit.specs.Elements.{within}
 use Rattle.collision_exhibit.proofs.elements.came_within.Given as goal
 
--- what was taken, and with what is to be taken of the acts that are left it is all
-abbrev pub invariant-loop-act : goal.invariant-loop-act
-invariant-loop-act l =
-    map (λ e. e.now) l.elements.items ++ within l.first l.epochs (came_among (drop l.act-index l.acts))
-    ≡ within l.first l.epochs (came_among l.acts)
+-- what was taken, and with what is to be taken of the audit events that are left it is all
+abbrev pub invariant-loop-item : goal.invariant-loop-item
+invariant-loop-item l =
+    map (λ e. e.now) l.elements.items ++ within l.first l.epochs (added_elements (drop l.item-index l.audited))
+    ≡ within l.first l.epochs (added_elements l.audited)

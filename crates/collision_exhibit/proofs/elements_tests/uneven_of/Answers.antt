@@ -2,9 +2,9 @@
 use Rattle.std.proofs.Common.{◌≡◌, [], ◌∷◌, ◌++◌, sym, ◌∙◌, ap, subst, arith}
 use Rattle.std.specs.List.{IsDistinct}
 use Rattle.record_text.specs.declared.element.Element.{Element}
-use Rattle.collision_exhibit.specs.declared.act.Deed.{Deed}
-use Rattle.collision_exhibit.specs.declared.act.Deed.TheVariants.{Came, Went}
-use Rattle.collision_exhibit.specs.Shown.{went_by}
+use Rattle.collision_exhibit.specs.declared.audit_event.AuditChange.{AuditChange}
+use Rattle.collision_exhibit.specs.declared.audit_event.AuditChange.TheVariants as audits
+use Rattle.collision_exhibit.specs.Shown.{evicted_element}
 use Rattle.collision_exhibit.specs.Elements.{HaveOwnStamps}
 use Rattle.collision_exhibit.proofs.OwnStampLemmas.{verifiers_apart}
 use Rattle.collision_exhibit.proofs.elements_tests.uneven_of.Goals as goal
@@ -13,18 +13,18 @@ two_apart : (a b : Element) → a.verifier ≡ 0 → b.verifier ≡ 1 → HaveOw
 unfolding IsDistinct
 two_apart a b first second = ((verifiers_apart a b 0 first (omega (arith, second)), tt), (tt, tt))
 
-went : (d e f g : Deed) (a b x y : Element) → d ≡ Went a → e ≡ Came x → f ≡ Went b → g ≡ Came y
-    → went_by d ++ (went_by e ++ (went_by f ++ (went_by g ++ []))) ≡ a ∷ b ∷ []
+went : (d e f g : AuditChange) (a b x y : Element) → d ≡ audits.EvictB a → e ≡ audits.AddB x → f ≡ audits.EvictB b → g ≡ audits.AddB y
+    → evicted_element d ++ (evicted_element e ++ (evicted_element f ++ (evicted_element g ++ []))) ≡ a ∷ b ∷ []
 went d e f g a b x y one two three four =
-    ap (λ (z : Deed). went_by z ++ (went_by e ++ (went_by f ++ (went_by g ++ [])))) one
-    ∙ ap (λ (z : Deed). a ∷ (went_by z ++ (went_by f ++ (went_by g ++ [])))) two
-    ∙ ap (λ (z : Deed). a ∷ (went_by z ++ (went_by g ++ []))) three
-    ∙ ap (λ (z : Deed). a ∷ b ∷ (went_by z ++ [])) four
+    ap (λ (z : AuditChange). evicted_element z ++ (evicted_element e ++ (evicted_element f ++ (evicted_element g ++ [])))) one
+    ∙ ap (λ (z : AuditChange). a ∷ (evicted_element z ++ (evicted_element f ++ (evicted_element g ++ [])))) two
+    ∙ ap (λ (z : AuditChange). a ∷ (evicted_element z ++ (evicted_element g ++ []))) three
+    ∙ ap (λ (z : AuditChange). a ∷ b ∷ (evicted_element z ++ [])) four
 
 pub first_uneven-requires : goal.first_uneven-requires
 first_uneven-requires c = record {
   own_stamps =
       subst HaveOwnStamps
-      (sym (went _ _ _ _ _ _ _ _ c.act.ensures.deed c.act-2.ensures.deed c.act-3.ensures.deed c.act-4.ensures.deed))
+      (sym (went _ _ _ _ _ _ _ _ c.item.ensures.change c.item-2.ensures.change c.item-3.ensures.change c.item-4.ensures.change))
       (two_apart _ _ c.element.ensures.verifier c.element-3.ensures.verifier);
 }

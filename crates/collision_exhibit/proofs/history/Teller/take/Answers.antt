@@ -4,14 +4,14 @@ use Rattle.collision_exhibit.proofs.history.Teller.take.Goals as goal
 
 pub returns-in-Err-clause-told : goal.returns-in-Err-clause-told
 returns-in-Err-clause-told g c commands =
-    told_all (scheme_of (g.D.Digests.functions c.args.d.now) c.args.self.now.header) c.args.self.now c.self.inside.verifier c.in-Err.field-0 c.args.command c.args.acts.now.items commands
+    told_all (scheme_of (g.D.Digests.functions c.args.d.now) c.args.self.now.header) c.args.self.now c.self.inside.verifier c.in-Err.field-0 c.args.command c.args.audited.now.items commands
     c.self.view_is c.in-Err.ensures.follows.0
 
 pub returns-clause-told : goal.returns-clause-told
 returns-clause-told g c commands =
     told_further (scheme_of (g.D.Digests.functions c.args.d.now) c.args.self.now.header) c.args.self.now c.self.inside.verifier c.step.new.self c.in-Ok.field-0 c.args.command
-    (record { at = c.clock.result; verifier = c.self.inside.number; index = c.self.inside.accepted }) c.deed_of-deed.result c.args.acts.now.items c.keep.new.acts.items commands
+    (record { at = c.clock.result; verifier = c.self.inside.number; index = c.self.inside.accepted }) c.audit_change_of-change.result c.args.audited.now.items c.keep.new.audited.items commands
     c.self.view_is c.in-Ok.ensures.follows
     (moment_told c.self.inside.verifier c.step.new.self c.clock.result c.self.inside.number c.self.inside.accepted c.clock.ensures.value c.self.invariant.0 c.self.invariant.1)
-    (deed_by_parts c.self.inside.verifier c.self.inside.number c.entries.result.now c.args.command c.deed_of-deed.result c.self.invariant.0 c.entries.ensures.value c.deed_of-deed.ensures.value)
+    (deed_by_parts c.self.inside.verifier c.self.inside.number c.entries.result.now c.args.command c.audit_change_of-change.result c.self.invariant.0 c.entries.ensures.value c.audit_change_of-change.ensures.value)
     c.in_ok-keep.ensures.kept

@@ -4,9 +4,9 @@ ghost use Rattle.std.specs.Option.{option_map};
 ghost use Rattle.verifier_cache.specs.Cache.{entry_of};
 ghost use Rattle.verifier_commands.specs.Changes.{above};
 ghost use Rattle.soundness.specs.Clash.{is_known};
-ghost use Rattle.collision_exhibit.specs.Deed.{deed_of, joined_under, left_by, went_with};
+ghost use Rattle.collision_exhibit.specs.AuditChange.{audit_change_of, added_under, evicted_m, evicted_with};
 
-use crate::act::Deed;
+use crate::audit_event::AuditChange;
 use lamport_clocks::Stamp;
 use log_codec::Command;
 use record_text::{Element, Value};
@@ -14,8 +14,8 @@ use tree_keys::Path;
 use verifier_cache::{Cache, Entry};
 
 /// What a command of the verifier of this number does for an audit, if it is accepted.
-pub(crate) fn deed_of(number: u16, cache: &Cache, command: &Command) -> Option<Deed>
-    ensures value { result ≡ deed_of number cache.now.entries command.now }
+pub(crate) fn audit_change_of(number: u16, cache: &Cache, command: &Command) -> Option<AuditChange>
+    ensures value { result ≡ audit_change_of number cache.now.entries command.now }
 {
     match command {
         Command::AddM {
@@ -29,7 +29,7 @@ pub(crate) fn deed_of(number: u16, cache: &Cache, command: &Command) -> Option<D
             value,
             stamp,
             verifier,
-        } => Some(Deed::Came(Element {
+        } => Some(AuditChange::AddB(Element {
             path: *path,
             value: value.copy(),
             stamp: *stamp,
@@ -46,31 +46,31 @@ pub(crate) fn deed_of(number: u16, cache: &Cache, command: &Command) -> Option<D
 }
 
 // A record comes in by its digest. Nothing is told of it where it is new under its parent.
-fn joined(cache: &Cache, path: &Path, value: &Value, parent: &Path) -> Option<Deed>
-    ensures value { result ≡ joined_under (entry_of parent.now cache.now.entries) path.now value.now }
+fn joined(cache: &Cache, path: &Path, value: &Value, parent: &Path) -> Option<AuditChange>
+    ensures value { result ≡ added_under (entry_of parent.now cache.now.entries) path.now value.now }
 {
     let holder = cache.entry(parent)?;
     if is_known(holder, path) {
-        Some(Deed::Joined(*path, value.copy()))
+        Some(AuditChange::AddM(*path, value.copy()))
     } else {
         None
     }
 }
 
 // A record goes out into its parent.
-fn left(cache: &Cache, path: &Path) -> Option<Deed>
-    ensures value { result ≡ option_map left_by (entry_of path.now cache.now.entries) }
+fn left(cache: &Cache, path: &Path) -> Option<AuditChange>
+    ensures value { result ≡ option_map evicted_m (entry_of path.now cache.now.entries) }
 {
     let entry = cache.entry(path)?;
-    Some(Deed::Left(entry.path, entry.value.copy()))
+    Some(AuditChange::EvictM(entry.path, entry.value.copy()))
 }
 
 // A record goes out with a stamp.
-fn went(number: u16, cache: &Cache, path: &Path, stamp: Stamp) -> Option<Deed>
-    ensures value { result ≡ option_map (went_with number stamp) (entry_of path.now cache.now.entries) }
+fn went(number: u16, cache: &Cache, path: &Path, stamp: Stamp) -> Option<AuditChange>
+    ensures value { result ≡ option_map (evicted_with number stamp) (entry_of path.now cache.now.entries) }
 {
     let entry = cache.entry(path)?;
-    Some(Deed::Went(Element {
+    Some(AuditChange::EvictB(Element {
         path: entry.path,
         value: entry.value.copy(),
         stamp,

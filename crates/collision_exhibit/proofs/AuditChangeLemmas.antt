@@ -29,10 +29,10 @@ use Rattle.soundness.specs.Clash.{is_known}
 use Rattle.soundness.proofs.FamilyLemmas.{IsAdd, on_empty, on_same, on_split, IsAdded, added_how}
 use Rattle.soundness.proofs.InvertLemmas.{need-ok, and_then-ok, timed-ok}
 use Rattle.soundness.proofs.SideLemmas.{above_apart}
-use Rattle.collision_exhibit.specs.declared.act.Deed.{Deed}
-use Rattle.collision_exhibit.specs.declared.act.Deed.TheVariants.{Joined}
-use Rattle.collision_exhibit.specs.Act.{deeds_by}
-use Rattle.collision_exhibit.specs.Deed.{joined_under, left_by, went_with, deed_of}
+use Rattle.collision_exhibit.specs.declared.audit_event.AuditChange.{AuditChange}
+use Rattle.collision_exhibit.specs.declared.audit_event.AuditChange.TheVariants as audits
+use Rattle.collision_exhibit.specs.AuditEvent.{audit_changes_by}
+use Rattle.collision_exhibit.specs.AuditChange.{added_under, evicted_m, evicted_with, audit_change_of}
 
 -- ---- a child that joins
 
@@ -74,16 +74,16 @@ as_added format digest holder path value family is = go added.how
 
 -- what is told of a child that joins
 joined_told : (path : List Bool) (value : Value) (child : Entry) (known : Bool) → (known ≡ true → child.value ≡ value) → child.path ≡ path
-    → (if known then Joined child.path child.value ∷ [] else []) ≡ option_to_list (if known then Some (Joined path value) else None)
+    → (if known then audits.AddM child.path child.value ∷ [] else []) ≡ option_to_list (if known then Some (audits.AddM path value) else None)
 joined_told path value child true kept at_path =
-    ap (λ (k : List Bool). Joined k child.value ∷ []) at_path ∙ ap (λ (v : Value). Joined path v ∷ []) (kept refl)
+    ap (λ (k : List Bool). audits.AddM k child.value ∷ []) at_path ∙ ap (λ (v : Value). audits.AddM path v ∷ []) (kept refl)
 joined_told path value child false kept at_path = refl
 
 -- ---- a command
 
 -- what was done is what was told
-abbrev DidAsTold : Option Deed → Change × State → Type 0
-DidAsTold told done = deeds_by done.0 ≡ option_to_list told
+abbrev DidAsTold : Option AuditChange → Change × State → Type 0
+DidAsTold told done = audit_changes_by done.0 ≡ option_to_list told
 
 -- a fact of an accepted step that needed an option: of the value that was there
 with_needed : {A X : Type 0} (P : Type 0) (option : Option A) (refusal : Refusal) (next : A → Result X Refusal) (answer : X)
@@ -92,60 +92,60 @@ with_needed P option refusal next answer is go =
     let found = need-ok option refusal next answer is in go found.0 found.1 found.2
 
 -- the entry of a path is there, and this is told of it
-told_of : (make : Entry → Deed) (found : Option Entry) (entry : Entry) → found ≡ Some entry → make entry ∷ [] ≡ option_to_list (option_map make found)
+told_of : (make : Entry → AuditChange) (found : Option Entry) (entry : Entry) → found ≡ Some entry → make entry ∷ [] ≡ option_to_list (option_map make found)
 told_of make found entry is = sym (ap (λ (o : Option Entry). option_to_list (option_map make o)) is)
 
 -- a family that is an add of a path under its holder is told
 family_told : (rules : Rules) (path : List Bool) (value : Value) (found : Option Entry) (holder : Entry) (family : Family) → found ≡ Some holder
     → add_under rules.scheme.format rules.scheme.digest holder path value ≡ Ok family
-    → deeds_by (did_add_m holder family.parent family.child) ≡ option_to_list (joined_under found path value)
+    → audit_changes_by (did_add_m holder family.parent family.child) ≡ option_to_list (added_under found path value)
 family_told rules path value found holder family there is =
     let added = as_added rules.scheme.format rules.scheme.digest holder path value family is in
-    ap (λ (k : List Bool). if is_known (above holder k) k then Joined family.child.path family.child.value ∷ [] else []) added.at_path
+    ap (λ (k : List Bool). if is_known (above holder k) k then audits.AddM family.child.path family.child.value ∷ [] else []) added.at_path
     ∙ joined_told path value family.child (is_known (above holder path) path) added.kept added.at_path
-    ∙ sym (ap (λ (o : Option Entry). option_to_list (joined_under o path value)) there)
+    ∙ sym (ap (λ (o : Option Entry). option_to_list (added_under o path value)) there)
 
 -- An accepted command did for an audit what the cache told before it.
 pub deed_told : (rules : Rules) (state : State) (command : Command) (done : Change × State)
-    → transition rules state command ≡ Ok done → deeds_by done.0 ≡ option_to_list (deed_of rules.number state.cache.entries command)
+    → transition rules state command ≡ Ok done → audit_changes_by done.0 ≡ option_to_list (audit_change_of rules.number state.cache.entries command)
 deed_told rules state (AddM path value parent) done is =
     let inner = test-ok (is_root path) _ _ done is in
     let fresh = test-ok (is_some (entry_of path state.cache.entries)) _ _ done inner.1 in
     let room = test-ok (is_full state) _ _ done fresh.1 in
-    let told = deed_of rules.number state.cache.entries (AddM path value parent) in
+    let told = audit_change_of rules.number state.cache.entries (AddM path value parent) in
     with_needed (DidAsTold told done) (entry_of parent state.cache.entries) _ _ done room.1 (λ holder there next.
     let family = and_then-ok (add_under rules.scheme.format rules.scheme.digest holder path value) _ done next in
     IfOk-at_ok (DidAsTold told) family.2 (family_told rules path value (entry_of parent state.cache.entries) holder family.0 there family.1))
 deed_told rules state (EvictM path parent) done is =
     let inner = test-ok (is_root path) _ _ done is in
-    let told = deed_of rules.number state.cache.entries (EvictM path parent) in
+    let told = audit_change_of rules.number state.cache.entries (EvictM path parent) in
     with_needed (DidAsTold told done) (entry_of path state.cache.entries) _ _ done inner.1 (λ child there next.
     with_needed (DidAsTold told done) (entry_of parent state.cache.entries) _ _ done next (λ holder here last.
     let after = and_then-ok (evict_under rules.scheme.format rules.scheme.digest holder child) _ done last in
-    IfOk-at_ok (DidAsTold told) after.2 (told_of left_by (entry_of path state.cache.entries) child there)))
+    IfOk-at_ok (DidAsTold told) after.2 (told_of evicted_m (entry_of path state.cache.entries) child there)))
 deed_told rules state (AddB path value stamp verifier) done is =
     let inner = test-ok (is_root path) _ _ done is in
     let fresh = test-ok (is_some (entry_of path state.cache.entries)) _ _ done inner.1 in
     let room = test-ok (is_full state) _ _ done fresh.1 in
     let known = test-ok (nat_le rules.verifiers verifier) _ _ done room.1 in
     let clock = timed-ok (received state.clock stamp) _ done known.1 in
-    IfOk-at_ok (DidAsTold (deed_of rules.number state.cache.entries (AddB path value stamp verifier))) clock.2 refl
+    IfOk-at_ok (DidAsTold (audit_change_of rules.number state.cache.entries (AddB path value stamp verifier))) clock.2 refl
 deed_told rules state (EvictB path stamp) done is =
     let inner = test-ok (is_root path) _ _ done is in
-    let told = deed_of rules.number state.cache.entries (EvictB path stamp) in
+    let told = audit_change_of rules.number state.cache.entries (EvictB path stamp) in
     with_needed (DidAsTold told done) (entry_of path state.cache.entries) _ _ done inner.1 (λ child there next.
     let lone = test-ok (has_kid child) _ _ done next in
     let held = test-ok (not (is_by_stamp child.hold)) _ _ done lone.1 in
     let clock = timed-ok (sent state.clock stamp) _ done held.1 in
-    IfOk-at_ok (DidAsTold told) clock.2 (told_of (went_with rules.number stamp) (entry_of path state.cache.entries) child there))
+    IfOk-at_ok (DidAsTold told) clock.2 (told_of (evicted_with rules.number stamp) (entry_of path state.cache.entries) child there))
 deed_told rules state (EvictBM path parent stamp) done is =
     let inner = test-ok (is_root path) _ _ done is in
-    let told = deed_of rules.number state.cache.entries (EvictBM path parent stamp) in
+    let told = audit_change_of rules.number state.cache.entries (EvictBM path parent stamp) in
     with_needed (DidAsTold told done) (entry_of path state.cache.entries) _ _ done inner.1 (λ child there next.
     with_needed (DidAsTold told done) (entry_of parent state.cache.entries) _ _ done next (λ holder here last.
     let after = and_then-ok (defer_under holder child) _ done last in
     let clock = timed-ok (sent state.clock stamp) _ done after.2 in
-    IfOk-at_ok (DidAsTold told) clock.2 (told_of (went_with rules.number stamp) (entry_of path state.cache.entries) child there)))
+    IfOk-at_ok (DidAsTold told) clock.2 (told_of (evicted_with rules.number stamp) (entry_of path state.cache.entries) child there)))
 deed_told rules state (Get path value) done is =
     with_needed (DidAsTold None done) (entry_of path state.cache.entries) _ _ done is (λ entry there next.
     let data_path = test-ok (not (is_data rules.scheme.format path)) _ _ done next in

@@ -3,22 +3,22 @@ use record_text::{Element, Value};
 use stamp_order::Moment;
 use tree_keys::Path;
 
-/// What of an accepted command an exhibit can be made of.
+/// What of an accepted command an exhibit can be made of, named after the command.
 #[derive(Debug, Drop)]
-pub enum Deed {
+pub enum AuditChange {
     /// A record came back by its digest: the parent's pointer already led to its path.
-    Joined(Path, Value),
+    AddM(Path, Value),
     /// A record went out into its parent, which keeps its digest.
-    Left(Path, Value),
+    EvictM(Path, Value),
     /// An element was added.
-    Came(Element),
+    AddB(Element),
     /// An element was evicted.
-    Went(Element),
+    EvictB(Element),
 }
 
-/// A deed, and when it was done.
+/// A change, and when it was done.
 #[derive(Debug, Drop)]
-pub struct Act {
+pub struct AuditEvent {
     pub moment: Moment,
-    pub deed: Deed,
+    pub change: AuditChange,
 }

@@ -1,0 +1,72 @@
+//! Why a check stops before its end, and the status that it then answers.
+ghost use Rattle.std.specs.Prelude.{◌≡◌};
+ghost use Rattle.check_core.specs.Stops.{reading_stopped, writing_stopped};
+
+use report_text::Status;
+use std::alloc::AllocError;
+use want_of_memory::Memory;
+
+/// Why a bundle was not read to its end.
+#[derive(Clone, Copy, Debug, PartialEq, Eq)]
+pub enum ReadStop {
+    /// Want of memory.
+    Memory,
+    /// The source failed.
+    ReadFault,
+    /// The source gave more than the limit's bytes.
+    InputLimit,
+}
+
+impl ReadStop {
+    /// The status of a call that stops so, where so many bytes are the limit.
+    pub fn status(&self, limit: u64) -> Status
+        ensures value { result ≡ reading_stopped limit self.now }
+    {
+        match self {
+            ReadStop::Memory => Status::Memory,
+            ReadStop::ReadFault => Status::ReadFault,
+            ReadStop::InputLimit => Status::InputLimit { taken: limit },
+        }
+    }
+}
+
+impl From<Memory> for ReadStop {
+    ghost use Rattle.check_core.specs.declared.stops.ReadStop.TheVariants.{Memory as OutOfMemory};
+
+    ghost from_gives = { λ _ stop. stop ≡ OutOfMemory };
+
+    fn from(_: Memory) -> ReadStop {
+        ReadStop::Memory
+    }
+}
+
+impl From<AllocError> for ReadStop {
+    ghost use Rattle.check_core.specs.declared.stops.ReadStop.TheVariants.{Memory as OutOfMemory};
+
+    ghost from_gives = { λ _ stop. stop ≡ OutOfMemory };
+
+    fn from(_: AllocError) -> ReadStop {
+        ReadStop::Memory
+    }
+}
+
+/// Why what was read was not reported to its end.
+#[derive(Clone, Copy, Debug, PartialEq, Eq)]
+pub enum ReportStop {
+    /// Want of memory.
+    Memory,
+    /// The sink failed.
+    WriteFault,
+}
+
+impl ReportStop {
+    /// The status of a call that stops so.
+    pub fn status(&self) -> Status
+        ensures value { result ≡ writing_stopped self.now }
+    {
+        match self {
+            ReportStop::Memory => Status::Memory,
+            ReportStop::WriteFault => Status::WriteFault,
+        }
+    }
+}
