@@ -102,7 +102,7 @@ fn read_turn<S: Source>(
     if taken + read > limit {
         return Err(ReadStop::InputLimit);
     }
-    if take(alloc, splitter, intake, &room[..count])? {
+    if feed(alloc, splitter, intake, &room[..count])? {
         return Ok(Some(read));
     }
     Ok(None)
@@ -134,7 +134,7 @@ fn read_some<S: Source>(source: &mut S, room: &mut [u8], want: usize) -> Result<
 }
 
 // Feeds a piece, and joins what is found in it. It answers whether more is to be read.
-fn take(
+fn feed(
     alloc: Global,
     splitter: &mut Splitter,
     intake: &mut Intake,
@@ -150,7 +150,7 @@ fn take(
 {
     let mut done = 0;
     while done < piece.len() {
-        match take_one(alloc, splitter, intake, &piece[done..])? {
+        match feed_once(alloc, splitter, intake, &piece[done..])? {
             Some(taken) => done += taken,
             None => return Ok(false),
         }
@@ -159,7 +159,7 @@ fn take(
 }
 
 // Feeds a piece once, and answers how much of it was taken, if there may be more to read.
-fn take_one(
+fn feed_once(
     alloc: Global,
     splitter: &mut Splitter,
     intake: &mut Intake,

@@ -35,7 +35,7 @@ pub(crate) fn first_clash(
         if is_within(item, first, epochs) {
             match clash_by(&taken, &item.change) {
                 Some(clash) => return Ok(Some(clash)),
-                None => take(&mut taken, &item.change)?,
+                None => keep_last(&mut taken, &item.change)?,
             }
         }
     }
@@ -77,7 +77,7 @@ fn differing(evicted: &Value, added: &Value) -> Option<Clash>
 }
 
 // Keeps what a change took out.
-fn take<'a>(taken: &mut LastEvictedValues<'a>, change: &'a AuditChange) -> Result<(), Memory>
+fn keep_last<'a>(taken: &mut LastEvictedValues<'a>, change: &'a AuditChange) -> Result<(), Memory>
     ensures ok { OnOk result (last_evicted_at taken.new ≡ last_evicted_by (last_evicted_at taken.old) change.now) }
     ensures err { OnErr result (taken.new ≡ taken.old) }
 {

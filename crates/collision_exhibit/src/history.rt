@@ -61,7 +61,7 @@ impl Teller {
     }
 
     // Takes one command, appends its audit event, and answers whether the command was accepted.
-    fn take<D: Digests>(
+    fn apply<D: Digests>(
         &mut self,
         d: &D,
         command: Command,
@@ -117,7 +117,7 @@ fn tell<D: Digests>(
 {
     let mut taken = 0;
     while let Decoded::Read(command, len) = read(behind(log, taken)) {
-        if !teller.take(d, command, audited)? {
+        if !teller.apply(d, command, audited)? {
             return Ok(());
         }
         taken += len;

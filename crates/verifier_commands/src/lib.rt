@@ -7,6 +7,7 @@
 //! Begin with `Verifier::step` in `verifier.rt`, beside `stepped` in `specs/Machine.antt`.
 #![tactic(auto)]
 
+mod applying;
 mod changes;
 mod deferred;
 mod effect;
@@ -15,7 +16,6 @@ mod outcome;
 mod records;
 mod state;
 mod sums;
-mod taking;
 mod verifier;
 
 pub use effect::Effect;

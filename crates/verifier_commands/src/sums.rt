@@ -72,7 +72,7 @@ impl Sums {
 
     /// Takes in a command with this outcome, between these readings of the clock.
     #[tactic(auto, using(crate::proofs::BoundLemmas::bounds))]
-    pub(crate) fn take<D: Digests>(
+    pub(crate) fn apply<D: Digests>(
         &mut self,
         d: &D,
         before: &Clock,

@@ -70,10 +70,10 @@ impl Verifier {
             (stepped (scheme_of (D.functions d.now) self.old.header) self.old command) }
     {
         let before = self.state.clock;
-        let outcome = self.state.take(d, self.number, &self.header, command)?;
+        let outcome = self.state.apply(d, self.number, &self.header, command)?;
         let at = self.state.clock.at();
         let effect = effect_of(self.number, self.accepted, at, &self.sums, &outcome);
-        self.sums.take(d, &before, &self.state.clock, &outcome);
+        self.sums.apply(d, &before, &self.state.clock, &outcome);
         self.accepted += 1;
         Ok(effect)
     }

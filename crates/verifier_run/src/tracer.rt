@@ -84,7 +84,7 @@ impl Tracer {
 
     /// Takes one command. For want of memory nothing of it is done.
     #[tactic(auto, unfolding(crate::specs::Course::after_command))]
-    pub(crate) fn take<D: Digests>(&mut self, d: &D, command: Command) -> Result<(), Memory>
+    pub(crate) fn apply<D: Digests>(&mut self, d: &D, command: Command) -> Result<(), Memory>
         requires kind { IsCommand (format_of self.old.machine.header) command }
         requires room { self.old.machine.accepted < 2 ^ 63 }
         ensures ok { OnOk result (self.new ≡ after_command (scheme_of (D.functions d.now) self.old.machine.header) self.old command) }

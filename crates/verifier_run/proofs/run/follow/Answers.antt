@@ -11,7 +11,7 @@ loop-command-preserved g c =
     let none = is_none_told c.loop-command.tracer.refused c.refused.result c.is_none.result c.refused.ensures.value c.is_none.ensures c.loop-command-test.true in
     let spelled = ap (take c.in-Read.len) (sym c.behind.ensures.value) ∙ c.in-Read.ensures.found in
     let left = ap length c.behind.ensures.value ∙ length-drop c.loop-command.taken c.args.bytes.now in
-    more_taken (scheme_of (g.D.Digests.functions c.args.d.now) c.args.tracer.now.machine.header) wide64 c.args.tracer.now c.args.bytes.now c.loop-command.taken c.in-Read.len c.loop-command.tracer c.take.new.self c.in-Read.command
+    more_taken (scheme_of (g.D.Digests.functions c.args.d.now) c.args.tracer.now.machine.header) wide64 c.args.tracer.now c.args.bytes.now c.loop-command.taken c.in-Read.len c.loop-command.tracer c.apply.new.self c.in-Read.command
     c.loop-command.invariant none c.in-Read.ensures.kind spelled
     (omega (arith, left, c.in-Read.ensures.within, c.loop-command.invariant.within)) c.in-Ok.ensures.ok
     (omega (arith, c.in-Ok.ensures.count, c.loop-command.invariant.accepted, c.in-Read.ensures.some))

@@ -15,7 +15,7 @@ returns-then-is_empty-clause-ok g c =
 
 pub returns-in_default-clause-stop : goal.returns-in_default-clause-stop
 returns-in_default-clause-stop g c =
-    restored (scheme_of (g.D.Digests.functions c.args.d.now) c.args.self.now.course.machine.header) c.self.inside.tracer c.take.new.self c.self.inside.held.items c.truncate.new.self.items
+    restored (scheme_of (g.D.Digests.functions c.args.d.now) c.args.self.now.course.machine.header) c.self.inside.tracer c.apply.new.self c.self.inside.held.items c.truncate.new.self.items
     c.front.result.now c.len-held.result c.self.invariant c.in_default.ensures.err c.len-held.ensures.value
     (c.truncate.ensures.items ∙ ap (take c.len-held.result) c.append.ensures.items)
     ∙ ap (λ (progress : Progress). fed (scheme_of (g.D.Digests.functions c.args.d.now) c.args.self.now.course.machine.header) progress []) c.self.view_is
@@ -28,7 +28,7 @@ overflow_sub-result g c =
     omega (arith, longer, c.len-held.ensures.value)
 
 pub invariant_of-self-in-Read : goal.invariant_of-self-in-Read
-invariant_of-self-in-Read g c = between-held short_keys c.take.new.self c.clear.new.self.items c.clear.ensures
+invariant_of-self-in-Read g c = between-held short_keys c.apply.new.self c.clear.new.self.items c.clear.ensures
 
 pub invariant_of-self-in-Malformed : goal.invariant_of-self-in-Malformed
 invariant_of-self-in-Malformed g c = between-held short_keys c.refuse.new.self c.clear-in-Malformed.new.self.items c.clear-in-Malformed.ensures
@@ -40,7 +40,7 @@ returns-in-Ok-clause-ok g c =
     let spelled = ap (take c.in-Read.len) (sym text) ∙ c.in-Read.ensures.found in
     let longer = longer_than_held short_keys wide64 c.self.inside.held.items (take c.min-room.result c.args.piece.now) c.in-Read.command c.in-Read.len c.self.invariant.cut c.in-Read.ensures.kind spelled in
     let whole = ap (λ (bytes : List ℕ). length bytes) text ∙ length-append c.self.inside.held.items (take c.min-room.result c.args.piece.now) in
-    completed (scheme_of (g.D.Digests.functions c.args.d.now) c.args.self.now.course.machine.header) wide64 c.self.inside.tracer c.take.new.self c.self.inside.held.items c.args.piece.now c.clear.new.self.items
+    completed (scheme_of (g.D.Digests.functions c.args.d.now) c.args.self.now.course.machine.header) wide64 c.self.inside.tracer c.apply.new.self c.self.inside.held.items c.args.piece.now c.clear.new.self.items
     c.min-room.result c.in-Read.len c.in-Read.command
     (none_refused_yet short_keys c.self.inside.tracer c.self.inside.held.items c.self.invariant some) c.in-Read.ensures.kind spelled longer
     (omega (arith, whole, c.in-Read.ensures.within, length-take c.min-room.result c.args.piece.now)) c.in-Ok.ensures.ok c.clear.ensures

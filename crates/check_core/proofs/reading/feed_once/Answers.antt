@@ -2,7 +2,7 @@ use Rattle.std.proofs.Common.{ℕ, List, [], map, sym, ◌∙◌, ap, arith}
 use Rattle.check_core.specs.Intake.{logs_in}
 use Rattle.check_core.specs.Logs.{log_count, appended}
 use Rattle.check_core.proofs.MeaningLemmas.{found_bad, found_its_frame, logs_counted}
-use Rattle.check_core.proofs.reading.take_one.Goals as goal
+use Rattle.check_core.proofs.reading.feed_once.Goals as goal
 
 pub returns-in-Bad-clause-rest : goal.returns-in-Bad-clause-rest
 returns-in-Bad-clause-rest c = λ more.

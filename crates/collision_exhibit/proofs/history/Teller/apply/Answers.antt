@@ -1,6 +1,6 @@
 use Rattle.collision_exhibit.proofs.TellLemmas.{moment_told, deed_by_parts, told_further, told_all}
 use Rattle.merkle_records.specs.Scheme.{scheme_of}
-use Rattle.collision_exhibit.proofs.history.Teller.take.Goals as goal
+use Rattle.collision_exhibit.proofs.history.Teller.apply.Goals as goal
 
 pub returns-in-Err-clause-told : goal.returns-in-Err-clause-told
 returns-in-Err-clause-told g c commands =

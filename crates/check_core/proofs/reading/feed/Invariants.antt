@@ -1,7 +1,7 @@
 use Rattle.std.proofs.Common.{◌≡◌, ℕ, ◌+◌, ◌-◌, ◌≤◌, List, ◌++◌, length, drop}
 use Rattle.bundle_frames.specs.Progress.{position}
 use Rattle.check_core.specs.Intake.{behind_at, logs_in}
-use Rattle.check_core.proofs.reading.take.Given as goal
+use Rattle.check_core.proofs.reading.feed.Given as goal
 
 -- the log so far, and the rest behind what is done of the piece, are what was left
 abbrev pub invariant-loop-done : goal.invariant-loop-done

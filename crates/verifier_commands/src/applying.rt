@@ -14,8 +14,8 @@ use record_hash::Digests;
 use record_text::Refusal;
 
 impl State {
-    /// Takes one command by the verifier of this number, under this header.
-    pub(crate) fn take<D: Digests>(
+    /// Applies one command by the verifier of this number, under this header.
+    pub(crate) fn apply<D: Digests>(
         &mut self,
         d: &D,
         number: u16,
