@@ -44,7 +44,7 @@ pub record Writing : Type 0 where
 
 -- A call that reads no more than so many bytes of a source and writes what it answers to them, with the sink before
 -- and after it.
-pub record AnswersTo {O : Type 0} (answer : List ℕ → Answer) (limit : ℕ) (result : Status) (reading : Reading)
+pub record AnswersTo {O : Type 0} (answer : List ℕ → Answer) (most : ℕ) (result : Status) (reading : Reading)
     (writing : Writing) (sink sink_after : O) : Type 0 where
   -- where it ends with an answer, that is the answer to the source's bytes: the status, and the text that was written
   pub status : IsEnd result → IfSome reading.left (λ bytes. result ≡ (answer bytes).status)
@@ -53,8 +53,8 @@ pub record AnswersTo {O : Type 0} (answer : List ℕ → Answer) (limit : ℕ) (
   pub front : result ≡ WriteFault → IfSome reading.left (λ bytes. GrowsByFront writing.held writing.held_after (answer bytes).text)
   pub unwritten : (IsEnd result → ⊥) → result ≢ WriteFault → sink_after ≡ sink
   -- where it answers that the input is too long, the source gave just a byte more than the limit, and else no more
-  pub limit : (taken : ℕ) → result ≡ InputLimit taken → (taken ≡ limit) × TookJust (limit + 1) reading.left reading.left_after
-  pub within : result ≢ InputLimit limit → TookAtMost limit reading.left reading.left_after
+  pub limit : (taken : ℕ) → result ≡ InputLimit taken → (taken ≡ most) × TookJust (most + 1) reading.left reading.left_after
+  pub within : result ≢ InputLimit most → TookAtMost most reading.left reading.left_after
   -- a fault comes only where the object's own count of faults rose
   pub read_fault : result ≡ ReadFault → Rose reading.faults reading.faults_after
   pub write_fault : result ≡ WriteFault → Rose writing.faults writing.faults_after
