@@ -11,7 +11,7 @@ use Rattle.soundness.specs.History.{Event, events_behind, events_from, machinery
 use Rattle.soundness.specs.Sound.{commands_of, histories_read}
 
 module _ (scheme : Scheme) (lanes : List ℕ → List ℕ) (header : Header) where
-  other : Scheme
+  abbrev pub other : Scheme
   other = record scheme { lanes = lanes }
 
   -- what a command does
@@ -63,4 +63,4 @@ module _ (scheme : Scheme) (lanes : List ℕ → List ℕ) (header : Header) whe
 
   -- The histories of all logs.
   pub same_histories : (logs : List (List ℕ)) → histories_read scheme header logs ≡ histories_read other header logs
-  same_histories logs = same_from 0 (commands_of logs)
+  same_histories logs = same_from 0 (commands_of scheme.format logs)

@@ -19,6 +19,7 @@ use Rattle.log_codec.proofs.LogLemmas.{read_log-empty, read_log-step, read_log-f
 use Rattle.verifier_cache.specs.Cache.{Held}
 use Rattle.verifier_commands.specs.declared.effect.Effect.{Effect}
 use Rattle.verifier_commands.specs.declared.state.State.{State}
+use Rattle.verifier_commands.specs.declared.outcome.Outcome.{Outcome}
 use Rattle.verifier_commands.specs.Change.{Change}
 use Rattle.verifier_commands.specs.Machine.{Machine, concluded, machine_after, rules_for, stepped}
 use Rattle.verifier_commands.specs.Outcome.{outcome_of, told}
@@ -54,14 +55,27 @@ abbrev machine_of : Machine → Result (Effect × Machine) Refusal → Machine
 machine_of other (Ok answer) = answer.1
 machine_of other (Err refusal) = other
 
+-- a step that is taken keeps the number, and is one more
+kept_by : (scheme : Scheme) (machine : Machine) (step : Result (Outcome × State) Refusal) (effect : Effect) (after : Machine)
+    → concluded scheme machine step ≡ Ok (effect, after) → (after.number ≡ machine.number) × (after.accepted ≡ machine.accepted + 1)
+kept_by scheme machine (Ok done) effect after is =
+    let whole = ap (machine_of machine) is in
+    (sym (ap (λ (m : Machine). m.number) whole), sym (ap (λ (m : Machine). m.accepted) whole))
+kept_by scheme machine (Err refusal) effect after is = absurd (cc)
+
+pub kept_step : (scheme : Scheme) (machine : Machine) (command : Command) (effect : Effect) (after : Machine)
+    → stepped scheme machine command ≡ Ok (effect, after) → (after.number ≡ machine.number) × (after.accepted ≡ machine.accepted + 1)
+kept_step scheme machine command effect after is =
+    kept_by scheme machine (told (transition (rules_for scheme machine) machine.state command)) effect after is
+
 module _ (scheme : Scheme) where
   -- the machine after a change that left this state
   abbrev changed : Machine → Change × State → Machine
-  changed machine done = machine_after (rules_for scheme machine) machine (outcome_of done.0) done.1
+  changed machine done = machine_after scheme machine (outcome_of done.0) done.1
 
   -- what a step comes to
   abbrev outcome : Machine → Step → Result (Effect × Machine) Refusal
-  outcome machine step = concluded (rules_for scheme machine) machine (told step)
+  outcome machine step = concluded scheme machine (told step)
 
   -- the audit events of a step, and of the commands behind it
   abbrev step_audit_events : Machine → List Command → Step → List AuditEvent

@@ -73,7 +73,7 @@ pub record AreHistories (scheme : Scheme) (header : Header) : Type 0 where
       → AllByRecursion (λ event. event.verifier ≡ number) (log_events scheme header number commands)
 
 -- the history of verifier v, where the first log is of the verifier of this number; none where no log is v's
-abbrev pub history_of : Digest → (List ℕ → List ℕ) → Header → ℕ → List (List Command) → ℕ → List Event
+abbrev pub history_of : Scheme → Header → ℕ → List (List Command) → ℕ → List Event
 history_of scheme header number [] v = []
 history_of scheme header number (log ∷ logs) v =
     if eqb number v
