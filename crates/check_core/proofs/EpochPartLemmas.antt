@@ -13,8 +13,7 @@ use Rattle.multiset_sum.specs.declared.part.Part.{Part}
 use Rattle.epoch_gather.specs.Parts.{is_same_part}
 use Rattle.stamp_order.proofs.InOrderLemmas.{every-weaker}
 use Rattle.soundness.specs.History.{Event, log_events}
-use Rattle.soundness.specs.Certified.{sealed_count}
-use Rattle.check_core.specs.BundleReport.{epochs_from}
+use Rattle.soundness.specs.Certified.{sealed_count, epochs_from}
 use Rattle.check_core.specs.RunReport.{courses_from, courses_of, parts_at}
 use Rattle.check_core.proofs.PartLemmas.{part_of, log-parts}
 use Rattle.check_core.proofs.RunReportLemmas.{told_from}

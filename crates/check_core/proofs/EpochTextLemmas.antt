@@ -10,31 +10,14 @@ use Rattle.record_text.specs.declared.operation.Operation.{Operation}
 use Rattle.stamp_order.specs.Merged.{up_to}
 use Rattle.verifier_commands.specs.Change.{Change, did_add_m, did_evict_m, did_add_b, did_evict_b, did_evict_bm, did_get, did_put, did_next_epoch}
 use Rattle.soundness.specs.History.{Event}
-use Rattle.soundness.specs.Certified.{event_moment, order_of, order_within, operations_by, operations_in}
+use Rattle.soundness.specs.Certified.{event_moment, order_of, order_within, operations_by, operations_in, operations_of, epochs_from}
 use Rattle.soundness.proofs.HistoryLemmas.{IsTicking, ticks-epoch}
+use Rattle.soundness.proofs.EpochLemmas.{IsByEpoch, none_before, by_change}
 use Rattle.check_core.specs.Report.{front_count, epoch_text, certified_text}
-use Rattle.check_core.specs.BundleReport.{operations_of, epochs_from, epoch_lines}
+use Rattle.check_core.specs.BundleReport.{epoch_lines}
 use Rattle.check_core.proofs.PartLemmas.{part_of}
 
 -- ---- operations epoch by epoch
-
--- each is of this epoch or of a later one than those before it, or of the same
-abbrev pub IsByEpoch : ℕ → List Operation → Type 0
-IsByEpoch epoch [] = Unit {0}
-IsByEpoch epoch (op ∷ ops) = (epoch ≤ op.stamp.epoch) × IsByEpoch op.stamp.epoch ops
-
-by_epoch-lower : (lower epoch : ℕ) (ops : List Operation) → lower ≤ epoch → IsByEpoch epoch ops → IsByEpoch lower ops
-by_epoch-lower lower epoch [] below by = tt
-by_epoch-lower lower epoch (op ∷ ops) below by = (omega (arith, by.0), by.1)
-
--- none is of an epoch before
-none_before : (later epoch : ℕ) (ops : List Operation) → epoch < later → IsByEpoch later ops
-    → operations_of epoch ops ≡ []
-none_before later epoch [] below by = refl
-none_before later epoch (op ∷ ops) below by =
-    ap (λ (b : Bool). cond b (op ∷ operations_of epoch ops) (operations_of epoch ops))
-    (ne_eqb _ _ (λ same. absurd (omega (arith, by.0))))
-    ∙ none_before op.stamp.epoch epoch ops (omega (arith, by.0)) by.1
 
 -- those at the front are those of the epoch
 front_of : (epoch : ℕ) (ops : List Operation) → IsByEpoch epoch ops
@@ -104,19 +87,6 @@ epochs-text scheme number events (suc count) epoch ops all by same =
     (λ later above below. same later (omega arith) (omega arith) ∙ sym (rest_of epoch later ops (omega arith))))
 
 -- ---- the operations of events
-
--- an operation is of its event's epoch
-by_change : (event : Event) (change : Change) (epoch : ℕ) (ops : List Operation) → epoch ≤ event.at.epoch
-    → IsByEpoch event.at.epoch ops → IsByEpoch epoch (operations_by event change ++ ops)
-by_change event (did_add_m parent after child) epoch ops above by = by_epoch-lower epoch event.at.epoch ops above by
-by_change event (did_evict_m parent after child) epoch ops above by = by_epoch-lower epoch event.at.epoch ops above by
-by_change event (did_add_b child element) epoch ops above by = by_epoch-lower epoch event.at.epoch ops above by
-by_change event (did_evict_b child element) epoch ops above by = by_epoch-lower epoch event.at.epoch ops above by
-by_change event (did_evict_bm parent after child element) epoch ops above by =
-    by_epoch-lower epoch event.at.epoch ops above by
-by_change event (did_get entry) epoch ops above by = (above, by)
-by_change event (did_put before after) epoch ops above by = (above, by)
-by_change event (did_next_epoch sealed) epoch ops above by = by_epoch-lower epoch event.at.epoch ops above by
 
 -- The operations of events come epoch by epoch.
 pub events-by_epoch : (number index : ℕ) (clock : Reading) (events : List Event) → IsTicking number index clock events

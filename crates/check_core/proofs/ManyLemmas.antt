@@ -17,12 +17,12 @@ use Rattle.report_text.specs.declared.ending.BundleEnd.TheVariants as ends
 use Rattle.report_text.specs.Status.{last_line}
 use Rattle.report_text.specs.Ending.{status_of}
 use Rattle.soundness.specs.History.{Event, log_events}
-use Rattle.soundness.specs.Certified.{order_of, sealed_count, sealed_by_all, balanced_from, certified_count}
+use Rattle.soundness.specs.Certified.{order_of, sealed_count, sealed_by_all, balanced_from, epochs_from, certified_count}
 use Rattle.check_core.specs.declared.judging.Judged.{Judged}
 use Rattle.check_core.specs.Answer.{answer_on}
 use Rattle.report_text.specs.Answer.{Answer}
 use Rattle.check_core.specs.Report.{front_count, epoch_text, certified_text}
-use Rattle.check_core.specs.BundleReport.{epochs_from, refused_end, done_or_bad, end_or, end_of, report_of_logs, histories_in}
+use Rattle.check_core.specs.BundleReport.{refused_end, done_or_bad, end_or, end_of, report_of_logs, histories_in}
 use Rattle.check_core.specs.RunReport.{courses_from, courses_of, parts_at, operations_among, operations_within, first_refused, epochs_text}
 use Rattle.check_core.specs.Judged.{judged_by, judged_from, judged, CanBeJudged, first_parts, last_epoch, operations_by, refused_log_by, refused_log, end_by, answer_judged, answer_of_runs}
 use Rattle.check_core.proofs.PartLemmas.{part_of, log-parts}

@@ -16,14 +16,15 @@ use Rattle.stamp_order.proofs.InOrderLemmas.{every-weaker, every-filter, every-a
 use Rattle.stamp_order.proofs.MergedLemmas.{merged-sorts}
 use Rattle.verifier_commands.specs.Change.{Change, did_add_m, did_evict_m, did_add_b, did_evict_b, did_evict_bm, did_get, did_put, did_next_epoch}
 use Rattle.soundness.specs.History.{Event, log_events}
-use Rattle.soundness.specs.Certified.{all_events, order_of, order_within, operations_by, operations_in, sealed_by_all, certified_count, certified_operations}
+use Rattle.soundness.specs.Certified.{all_events, order_of, order_within, operations_by, operations_in, sealed_by_all, epochs_from, certified_count, certified_operations}
 use Rattle.soundness.proofs.HistoryLemmas.{IsOfLog, log-epochs}
 use Rattle.soundness.proofs.SplitLemmas.{epoch_not_before}
+use Rattle.soundness.proofs.EpochLemmas.{IsByEpoch}
 use Rattle.check_core.specs.Report.{front_count, epoch_text, certified_text}
-use Rattle.check_core.specs.BundleReport.{epochs_from, epoch_lines, done_or_bad, end_or, unbalanced_end, end_of, report_of_logs, histories_in}
+use Rattle.check_core.specs.BundleReport.{epoch_lines, done_or_bad, end_or, unbalanced_end, end_of, report_of_logs, histories_in}
 use Rattle.check_core.specs.RunReport.{courses_from, courses_of, operations_among, operations_within, first_refused, epochs_text}
 use Rattle.check_core.proofs.PartLemmas.{part_of}
-use Rattle.check_core.proofs.EpochTextLemmas.{IsByEpoch, epochs-text}
+use Rattle.check_core.proofs.EpochTextLemmas.{epochs-text}
 use Rattle.check_core.proofs.RunReportLemmas.{told_from, operations-among, operations-courses, refused-courses}
 
 -- ---- operations stand epoch by epoch

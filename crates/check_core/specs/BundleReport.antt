@@ -1,5 +1,5 @@
 -- The report of a bundle and how it ends, by the histories of its logs.
-use Rattle.std.specs.Prelude.{ℕ, zero, suc, ◌+◌, ◌==◌, nat_lt, List, [], ◌∷◌, ◌++◌, length, map, filter, Option, Some, None, if◌then◌else◌}
+use Rattle.std.specs.Prelude.{ℕ, zero, suc, ◌+◌, nat_lt, List, [], ◌∷◌, ◌++◌, length, map, Option, Some, None, if◌then◌else◌}
 use Rattle.merkle_records.specs.Scheme.{Scheme}
 use Rattle.std.specs.List.{flat_map}
 use Rattle.std.specs.Option.{option_map, option_or}
@@ -14,18 +14,9 @@ use Rattle.report_text.specs.Lines.{epoch_line, operation_line}
 use Rattle.report_text.specs.Status.{last_line}
 use Rattle.report_text.specs.Ending.{status_of}
 use Rattle.soundness.specs.History.{Event, log_events, log_refusal, histories_of}
-use Rattle.soundness.specs.Certified.{order_of, added_in, evicted_in, sum_over, sealed_by_all, certified_count, certified_operations}
+use Rattle.soundness.specs.Certified.{order_of, operations_of, added_in, evicted_in, sum_over, sealed_by_all, epochs_from, certified_count, certified_operations}
 
 -- ---- the lines
-
--- the operations of an epoch
-abbrev pub operations_of : ℕ → List Operation → List Operation
-operations_of epoch operations = filter (λ operation. operation.stamp.epoch == epoch) operations
-
--- so many epochs from this one on
-abbrev pub epochs_from : ℕ → ℕ → List ℕ
-epochs_from epoch zero = []
-epochs_from epoch (suc count) = epoch ∷ epochs_from (suc epoch) count
 
 -- the lines of an epoch: how many operations it has, and then these
 abbrev pub epoch_lines : List Operation → ℕ → List ℕ

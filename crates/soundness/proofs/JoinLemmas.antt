@@ -101,9 +101,14 @@ taken_pair taken spots home after k spot apart not_merkle was path value is = go
 abbrev pub KeepsWaiting : Spots → Spots → Type 0
 KeepsWaiting old new = (path : List Bool) (element : Element) → old path ≡ waiting element → new path ≡ waiting element
 
--- the world behind a step, where what waited at the old spots waits on
+-- what waits at other paths than this one, waits on
+abbrev pub KeepsElsewhere : List Bool → Spots → Spots → Type 0
+KeepsElsewhere k old new = (path : List Bool) (element : Element) → k ≢ path → old path ≡ waiting element → new path ≡ waiting element
+
+-- the world behind a step, where what waited at the old spots waits on, and nothing else waits
 abbrev pub WorldAfter : Format → Digest → AllShown → LastEvicted → Stored → Spots → Type 0
-WorldAfter format digest shown taken stored old = (spots : Spots) × IsWorld format digest shown taken stored spots × KeepsWaiting old spots
+WorldAfter format digest shown taken stored old =
+    (spots : Spots) × IsWorld format digest shown taken stored spots × KeepsWaiting old spots × KeepsWaiting spots old
 
 abbrev pub is_waiting : Spot → Bool
 is_waiting untouched = false
@@ -123,6 +128,26 @@ pair_keeps spots home before after k spot was free path element waits =
     (λ same. not_waiting (spots after.path) (cached home before) element was refl (ap spots same ∙ waits))
     (λ same. free element (ap spots same ∙ waits))
     ∙ waits
+
+-- where they change, nothing waits but the child that didn't
+pub pair_since : (spots : Spots) (home : ℕ) (after : Entry) (k : List Bool) (spot : Spot) → after.path ≢ k
+    → KeepsElsewhere k (with_pair spots home after k spot) spots
+pair_since spots home after k spot apart path element further waits = go (this_or_other after.path path)
+  where
+    go : (after.path ≡ path) ⊎ (after.path ≢ path) → spots path ≡ waiting element
+    go (inl same) =
+        absurd (not_waiting (with_pair spots home after k spot path) (cached home after) element
+        (ap (with_pair spots home after k spot) (sym same) ∙ with_pair_parent spots home after k spot apart) refl waits)
+    go (inr away) = sym (with_pair_other spots home after k path spot away further) ∙ waits
+
+-- where nothing waits at the path that is left out, nothing does that didn't
+pub none_since : (old new : Spots) (k : List Bool) (spot : Spot) → new k ≡ spot → is_waiting spot ≡ false
+    → KeepsElsewhere k new old → KeepsWaiting new old
+none_since old new k spot at never elsewhere path element waits = go (this_or_other k path)
+  where
+    go : (k ≡ path) ⊎ (k ≢ path) → old path ≡ waiting element
+    go (inl same) = absurd (not_waiting (new path) spot element (ap new (sym same) ∙ at) never waits)
+    go (inr away) = elsewhere path element away waits
 
 -- What all joins have in common.
 pub join_world : (format : Format) (digest : Digest) (shown : AllShown) (taken : LastEvicted) (stored : Stored) (spots : Spots) (home : ℕ) (next : Shown) (parent child : Entry)
@@ -146,6 +171,9 @@ join_world format digest shown taken stored spots home next parent child on at n
       (sym (node_blob parent.value at is_node)) blob
       (taken_pair taken spots home after child.path (cached home child) apart refl world.was_taken),
   pair_keeps spots home parent after child.path (cached home child) was free,
+  none_since spots new child.path (cached home child)
+      (with_spot_at (with_spot spots after.path (cached home after)) child.path (cached home child)) refl
+      (pair_since spots home after child.path (cached home child) apart),
 )
   where
     after : Entry

@@ -23,7 +23,7 @@ use Rattle.soundness.proofs.MovedLemmas.{this_or_other}
 use Rattle.soundness.proofs.FamilyLemmas.{IsLeft, evicted_into, evicted_how, deferred_in, deferred_how, pointer_set, pointer_set_other, no_kids}
 use Rattle.soundness.proofs.UnderLemmas.{changed_parent, pair_moves, fits_known}
 use Rattle.soundness.proofs.WorldLemmas.{cached_elsewhere, spot_of_shown, with_spot, with_spot_at, with_pair, with_pair_parent, with_pair_other, world_pair}
-use Rattle.soundness.proofs.JoinLemmas.{is_merkle, KeepsWaiting, not_waiting, pair_keeps, taken_pair, WorldAfter, node_blob, parent_pointer, parent_kind}
+use Rattle.soundness.proofs.JoinLemmas.{is_merkle, KeepsWaiting, KeepsElsewhere, not_waiting, pair_keeps, pair_since, none_since, taken_pair, WorldAfter, node_blob, parent_pointer, parent_kind}
 
 -- What a child leaves: its spot has its value, and no cache shows it.
 pub record IsOut (child : Entry) (spot : Spot) : Type 0 where
@@ -32,10 +32,11 @@ pub record IsOut (child : Entry) (spot : Spot) : Type 0 where
   pub homeless : (which : Bool) → home_of spot which ≡ None
   pub hidden : (home : ℕ) → cached_in home spot ≡ None
 
--- the world behind a step that left a record at this spot
+-- the world behind a step that left a record at this spot, where nothing else waits that didn't
 abbrev pub LeftAt : Format → Digest → AllShown → LastEvicted → Stored → Spots → List Bool → Spot → Type 0
 LeftAt format digest shown taken stored old path spot =
     (spots : Spots) × IsWorld format digest shown taken stored spots × KeepsWaiting old spots × (spots path ≡ spot)
+    × KeepsElsewhere path spots old
 
 -- What an evict and a deferral have in common: the parent's node changes, its kid bit is cleared, and its pointer
 -- leads where the child is now.
@@ -63,6 +64,7 @@ leave_world format digest shown taken now_taken stored spots home next parent ch
       taken_is,
   pair_keeps spots home parent now_parent child.path spot was (λ element waits. not_waiting (spots child.path) (cached home child) element was_child refl waits),
   with_spot_at (with_spot spots now_parent.path (cached home now_parent)) child.path spot,
+  pair_since spots home now_parent child.path spot apart,
 )
   where
     now : Node
@@ -133,7 +135,8 @@ taken_now taken spots home after k kept apart was path value is = go (this_or_ot
 pub leave_step : (format : Format) (digest : Digest) (shown : AllShown) (taken : LastEvicted) (stored : Stored) (spots : Spots) (home : ℕ) (next : Shown) (parent after child : Entry)
     → GivesDigests digest → IsWorld format digest shown taken stored spots → DidEvictM format digest (shown home) next parent after child
     → WorldAfter format digest (with_shown shown home next) (with_last_evicted taken child.path child.value) stored spots
-leave_step format digest shown taken stored spots home next parent after child digests world did = (out.0, out.1, out.2)
+leave_step format digest shown taken stored spots home next parent after child digests world did =
+    (out.0, out.1, out.2, none_since spots out.0 child.path (merkle child.value) out.3 refl out.4)
   where
     left : IsLeft parent child after (evicted_into format digest child)
     left = evicted_how format digest parent child after did.evicted

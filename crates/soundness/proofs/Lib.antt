@@ -27,4 +27,7 @@ pub mod SoundLemmas
 pub mod TypedLemmas
 pub mod RisingLemmas
 pub mod WholeLemmas
+pub mod EpochLemmas
+pub mod DistinctLemmas
 pub mod PlaceLemmas
+pub mod PendingLemmas

@@ -8,7 +8,7 @@ use Rattle.lamport_clocks.specs.declared.header.Header.{Header}
 use Rattle.log_codec.specs.declared.command.Command.{Command}
 use Rattle.soundness.specs.Typed.{IsTyped}
 use Rattle.merkle_records.specs.Merkle.{Digest}
-use Rattle.stamp_order.specs.Merged.{comes_before, merged, IsMerged, up_to, of_verifier}
+use Rattle.stamp_order.specs.Merged.{comes_before, IsMerged, up_to, of_verifier}
 use Rattle.stamp_order.proofs.InOrderLemmas.{every-weaker, every-append, every-in_order}
 use Rattle.stamp_order.proofs.MergedLemmas.{merged-sorts, merged-of_verifier}
 use Rattle.verifier_commands.specs.State.{opening}
@@ -34,12 +34,12 @@ module _ {X : Type 0} where
   filter-dropped p x xs fails = cond-false (p x) (x ∷ filter p xs) (filter p xs) fails
 
   -- all members pass the test
-  filter-all : (p : X → Bool) (xs : List X) → AllByRecursion (λ x. p x ≡ true) xs → filter p xs ≡ xs
+  pub filter-all : (p : X → Bool) (xs : List X) → AllByRecursion (λ x. p x ≡ true) xs → filter p xs ≡ xs
   filter-all p [] all = refl
   filter-all p (x ∷ xs) all = filter-kept p x xs all.0 ∙ ap (λ zs. x ∷ zs) (filter-all p xs all.1)
 
   -- none does
-  filter-none : (p : X → Bool) (xs : List X) → AllByRecursion (λ x. p x ≡ false) xs → filter p xs ≡ []
+  pub filter-none : (p : X → Bool) (xs : List X) → AllByRecursion (λ x. p x ≡ false) xs → filter p xs ≡ []
   filter-none p [] all = refl
   filter-none p (x ∷ xs) all = filter-dropped p x xs all.0 ∙ filter-none p xs all.1
 
@@ -151,16 +151,24 @@ module _ (scheme : Scheme) (header : Header) where
       (history_of scheme header (suc number) logs v) (IsMerged event_moment)
       (λ _. known.sorted number log) (λ _. history_sorted known (suc number) logs v)
 
-  -- A verifier's part of the merged order, up to an epoch, is its history up to that epoch.
+  -- A verifier's part of the merged order is its history.
+  pub part_of_order : AreHistories scheme header → (logs : List (List Command)) (v : ℕ)
+      → of_verifier event_moment v (order_of (histories_of scheme header logs))
+      ≡ history_of scheme header 0 logs v
+  part_of_order known logs v =
+      let events = all_events (histories_of scheme header logs) in
+      let part = part_of_all known 0 logs v in
+      merged-of_verifier event_moment v events
+      (subst (IsMerged event_moment) (sym part) (history_sorted known 0 logs v)) ∙ part
+
+  -- And so it is up to an epoch.
   pub part_up_to : AreHistories scheme header → (logs : List (List Command)) (epoch v : ℕ)
       → of_verifier event_moment v (order_up_to epoch (histories_of scheme header logs))
       ≡ up_to event_moment epoch (history_of scheme header 0 logs v)
   part_up_to known logs epoch v =
-      let events = all_events (histories_of scheme header logs) in
-      let part = part_of_all known 0 logs v in
-      let sorted = subst (IsMerged event_moment) (sym part) (history_sorted known 0 logs v) in
-      filter-swap (λ event. eqb event.verifier v) (λ event. nat_le event.at.epoch epoch) (merged event_moment events)
-      ∙ ap (up_to event_moment epoch) (merged-of_verifier event_moment v events sorted ∙ part)
+      filter-swap (λ event. eqb event.verifier v) (λ event. nat_le event.at.epoch epoch)
+      (order_of (histories_of scheme header logs))
+      ∙ ap (up_to event_moment epoch) (part_of_order known logs v)
 
   -- ---- the run
 

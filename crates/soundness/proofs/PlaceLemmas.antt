@@ -27,7 +27,7 @@ use Rattle.soundness.proofs.KnownLemmas.{HasOneText, Clashes, Passes, join_step,
 use Rattle.soundness.proofs.LeaveLemmas.{LeftAt, leave_step, defer_step}
 use Rattle.soundness.proofs.SingleLemmas.{come_step, go_step, same_step, write_step}
 use Rattle.soundness.proofs.RunLemmas.{IsRun}
-use Rattle.soundness.proofs.SerialLemmas.{wait_on, wait_more, wait_less, waits_once_out, free_at}
+use Rattle.soundness.proofs.SerialLemmas.{wait_on, wait_more, wait_less, waits_once_out, waits_own, free_at}
 use Rattle.soundness.proofs.OrderLemmas.{order_run}
 use Rattle.soundness.proofs.OpeningLemmas.{opening_spots, opening_world}
 use Rattle.soundness.proofs.SoundLemmas.{one_text, are_histories, none_waiting}
@@ -132,7 +132,7 @@ module _ (format : Format) (digest : Digest) (one : HasOneText format) where
       joined parent after child scheduled free (inl clashes) = absurd (none-some clashes.0 (sym free ∙ clashes.1))
       joined parent after child scheduled free (inr passes) =
           let now = passes.1 in
-          (now.0, now.1, wait_on spots now.0 pending now.2 waits, scheduled)
+          (now.0, now.1, wait_on spots now.0 pending now.2 now.3 waits, scheduled)
 
       went : (child : Entry) (element : Element) → shown home child.path ≡ Some child → element.path ≡ child.path
           → behind (element ∷ pending)
@@ -140,7 +140,7 @@ module _ (format : Format) (digest : Digest) (one : HasOneText format) where
           → After taken stored (element ∷ pending)
       went child element had path scheduled left =
           let free = free_at format digest shown taken stored spots home child element world had path in
-          (left.0, left.1, wait_more spots left.0 pending element left.2 left.3 free waits, scheduled)
+          (left.0, left.1, wait_more spots left.0 pending element left.2 left.3 left.4 free waits, scheduled)
 
       go : (change : Change) → HasDone format digest (shown home) next change → IsScheduledBy pending change behind
           → clash_of format taken change ≡ None
@@ -150,11 +150,12 @@ module _ (format : Format) (digest : Digest) (one : HasOneText format) where
           (join_step format digest shown taken stored spots home next parent after child one digests world did)
       go (did_evict_m parent after child) did scheduled free =
           let now = leave_step format digest shown taken stored spots home next parent after child digests world did in
-          (now.0, now.1, wait_on spots now.0 pending now.2 waits, scheduled)
+          (now.0, now.1, wait_on spots now.0 pending now.2 now.3 waits, scheduled)
       go (did_add_b child element) did scheduled free =
           let there = waits.each element (waits_once_out element pending scheduled.0 scheduled.1) in
           let back = come_step format digest shown taken stored spots home next child element world did there in
-          let left = wait_less spots back.0 pending scheduled.0 element scheduled.1 back.2 waits in
+          let left = wait_less spots back.0 pending scheduled.0 element scheduled.1 back.2 back.3
+          (waits_own format digest shown taken stored spots world) waits in
           let out = ap (λ (rest : Option (List Element)). unwrap_or rest pending) scheduled.1 in
           subst (After taken stored) (sym out) (back.0, back.1, left, scheduled.2)
       go (did_evict_b child element) did scheduled free =
@@ -168,7 +169,7 @@ module _ (format : Format) (digest : Digest) (one : HasOneText format) where
           (spots, same, waits, scheduled)
       go (did_put before after) did scheduled free =
           let now = write_step format digest shown taken stored spots home next before after world did in
-          (now.0, now.1, wait_on spots now.0 pending now.2 waits, scheduled)
+          (now.0, now.1, wait_on spots now.0 pending now.2 now.3 waits, scheduled)
       go (did_next_epoch sealed) did scheduled free =
           (spots, same_step format digest shown taken stored spots home next world did, waits, scheduled)
 

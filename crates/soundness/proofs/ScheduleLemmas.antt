@@ -30,7 +30,7 @@ adds events = flat_map (λ event. added_by event.change) events
 abbrev evicts : List Event → List Element
 evicts events = flat_map (λ event. evicted_by event.change) events
 
-count-append : (x : Element) (xs ys : List Element) → count_of x (xs ++ ys) ≡ count_of x xs + count_of x ys
+pub count-append : (x : Element) (xs ys : List Element) → count_of x (xs ++ ys) ≡ count_of x xs + count_of x ys
 count-append x [] ys = omega arith
 count-append x (y ∷ xs) ys = go (same_element x y) (count-append x xs ys)
   where
@@ -38,14 +38,14 @@ count-append x (y ∷ xs) ys = go (same_element x y) (count-append x xs ys)
     go true further = omega (arith, further)
     go false further = further
 
-count_adds : (x : Element) (front behind : List Event) → count_of x (adds (front ++ behind)) ≡ count_of x (adds front) + count_of x (adds behind)
+pub count_adds : (x : Element) (front behind : List Event) → count_of x (adds (front ++ behind)) ≡ count_of x (adds front) + count_of x (adds behind)
 count_adds x front behind = ap (count_of x) (flat_map-append (λ (event : Event). added_by event.change) front behind) ∙ count-append x (adds front) (adds behind)
 
-count_evicts : (x : Element) (front behind : List Event) → count_of x (evicts (front ++ behind)) ≡ count_of x (evicts front) + count_of x (evicts behind)
+pub count_evicts : (x : Element) (front behind : List Event) → count_of x (evicts (front ++ behind)) ≡ count_of x (evicts front) + count_of x (evicts behind)
 count_evicts x front behind = ap (count_of x) (flat_map-append (λ (event : Event). evicted_by event.change) front behind) ∙ count-append x (evicts front) (evicts behind)
 
 -- an element is counted among those of its epoch
-count_in_epoch : (x : Element) (epoch : ℕ) (xs : List Element) → x.stamp.epoch ≡ epoch → count_of x (of_epoch epoch xs) ≡ count_of x xs
+pub count_in_epoch : (x : Element) (epoch : ℕ) (xs : List Element) → x.stamp.epoch ≡ epoch → count_of x (of_epoch epoch xs) ≡ count_of x xs
 count_in_epoch x epoch [] is = refl
 count_in_epoch x epoch (y ∷ xs) is = go (count_in_epoch x epoch xs is) (eqb y.stamp.epoch epoch) refl
   where
@@ -104,7 +104,7 @@ none_later x event first (other ∷ later) earlier order timed =
 
 -- ---- what stands behind in a list
 
-all_behind : {X : Type 0} (P : X → Type 0) (xs ys : List X) → AllByRecursion P (xs ++ ys) → AllByRecursion P ys
+pub all_behind : {X : Type 0} (P : X → Type 0) (xs ys : List X) → AllByRecursion P (xs ++ ys) → AllByRecursion P ys
 all_behind P [] ys all = all
 all_behind P (x ∷ xs) ys all = all_behind P xs ys all.1
 

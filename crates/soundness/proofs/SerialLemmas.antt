@@ -18,11 +18,12 @@ use Rattle.soundness.specs.Collision.{IsCollision}
 use Rattle.soundness.specs.Permutation.{same_element, count_of, without_one}
 use Rattle.soundness.specs.Scheduled.{IsScheduledBy, IsScheduled}
 use Rattle.soundness.specs.Showing.{HasDone}
-use Rattle.soundness.specs.Spot.{Spot, untouched, cached, merkle, waiting, Spots}
+use Rattle.soundness.specs.Spot.{Spot, untouched, cached, merkle, waiting, Spots, IsKind}
 use Rattle.soundness.specs.World.{AllShown, with_shown, Stored, IsWorld, IsWaiting}
 use Rattle.soundness.proofs.PermutationLemmas.{same_element-true, same_element-self, one_more, count_without}
+use Rattle.soundness.proofs.MovedLemmas.{this_or_other}
 use Rattle.soundness.proofs.WorldLemmas.{spot_of_shown}
-use Rattle.soundness.proofs.JoinLemmas.{KeepsWaiting, not_waiting}
+use Rattle.soundness.proofs.JoinLemmas.{KeepsWaiting, KeepsElsewhere, not_waiting}
 use Rattle.soundness.proofs.KnownLemmas.{HasOneText, Clashes, Passes, join_step}
 use Rattle.soundness.proofs.LeaveLemmas.{LeftAt, leave_step, defer_step}
 use Rattle.soundness.proofs.SingleLemmas.{come_step, go_step, same_step, read_value, write_step}
@@ -30,13 +31,29 @@ use Rattle.soundness.proofs.RunLemmas.{IsRun}
 
 -- ---- what waits
 
-pub wait_on : (old new : Spots) (pending : List Element) → KeepsWaiting old new → IsWaiting old pending → IsWaiting new pending
-wait_on old new pending keeps waits = record { each = λ x there. keeps x.path x (waits.each x there); once = waits.once }
+-- the element that waits at a spot, or this one
+abbrev element_at : Element → Spot → Element
+element_at other untouched = other
+element_at other (cached verifier entry) = other
+element_at other (merkle value) = other
+element_at other (waiting held) = held
+
+pub wait_on : (old new : Spots) (pending : List Element) → KeepsWaiting old new → KeepsWaiting new old
+    → IsWaiting old pending → IsWaiting new pending
+wait_on old new pending keeps since waits = record {
+  each = λ x there. keeps x.path x (waits.each x there);
+  once = waits.once;
+  only = λ path x there. waits.only path x (since path x there);
+}
 
 -- one element more waits, where its record didn't
 pub wait_more : (old new : Spots) (pending : List Element) (element : Element) → KeepsWaiting old new → new element.path ≡ waiting element
-    → ((x : Element) → old element.path ≡ waiting x → ⊥) → IsWaiting old pending → IsWaiting new (element ∷ pending)
-wait_more old new pending element keeps at free waits = record { each = λ x. each x (same_element x element) refl; once = λ x. once x (same_element x element) refl (count_of x pending) refl }
+    → KeepsElsewhere element.path new old → ((x : Element) → old element.path ≡ waiting x → ⊥) → IsWaiting old pending → IsWaiting new (element ∷ pending)
+wait_more old new pending element keeps at since free waits = record {
+  each = λ x. each x (same_element x element) refl;
+  once = λ x. once x (same_element x element) refl (count_of x pending) refl;
+  only = λ path x there. only path x there (this_or_other element.path path);
+}
   where
     each : (x : Element) (b : Bool) → same_element x element ≡ b → 1 ≤ count_of x (element ∷ pending) → new x.path ≡ waiting x
     each x true same there =
@@ -50,11 +67,24 @@ wait_more old new pending element keeps at free waits = record { each = λ x. ea
     once x true same (suc n) is =
         absurd (free x (subst (λ (y : Element). old y.path ≡ waiting x) (same_element-true x element same) (waits.each x (omega (arith, is)))))
 
+    counted : (x : Element) (b : Bool) → 1 ≤ count_of x pending → 1 ≤ one_more b (count_of x pending)
+    counted x true there = omega arith
+    counted x false there = there
+
+    only : (path : List Bool) (x : Element) → new path ≡ waiting x → (element.path ≡ path) ⊎ (element.path ≢ path) → 1 ≤ count_of x (element ∷ pending)
+    only path x there (inl same) =
+        let is_it : x ≡ element = ap (element_at element) (sym there ∙ ap new (sym same) ∙ at) in
+        subst (λ (b : Bool). 1 ≤ one_more b (count_of x pending))
+        (sym (ap (λ (y : Element). same_element y element) is_it ∙ same_element-self element)) (omega arith)
+    only path x there (inr away) = counted x (same_element x element) (waits.only path x (since path x away there))
+
 -- an element that waited came back
 pub wait_less : (old new : Spots) (pending rest : List Element) (element : Element) → without_one element pending ≡ Some rest
-    → ((path : List Bool) (x : Element) → element.path ≢ path → old path ≡ waiting x → new path ≡ waiting x)
+    → KeepsElsewhere element.path old new
+    → ((path : List Bool) (x : Element) → new path ≡ waiting x → (element.path ≢ path) × (old path ≡ waiting x))
+    → ((path : List Bool) (x : Element) → old path ≡ waiting x → x.path ≡ path)
     → IsWaiting old pending → IsWaiting new rest
-wait_less old new pending rest element out keeps waits = record { each = each; once = once }
+wait_less old new pending rest element out keeps since own waits = record { each = each; once = once; only = only }
   where
     counted : (x : Element) → count_of x pending ≡ one_more (same_element x element) (count_of x rest)
     counted x = count_without x element pending rest out
@@ -66,12 +96,6 @@ wait_less old new pending rest element out keeps waits = record { each = each; o
     here : count_of element pending ≡ suc (count_of element rest)
     here = counted element ∙ ap (λ (b : Bool). one_more b (count_of element rest)) (same_element-self element)
 
-    element_or : Element → Spot → Element
-    element_or other untouched = other
-    element_or other (cached verifier entry) = other
-    element_or other (merkle value) = other
-    element_or other (waiting held) = held
-
     each : (x : Element) → 1 ≤ count_of x rest → new x.path ≡ waiting x
     each x there = keeps x.path x apart was
       where
@@ -80,16 +104,31 @@ wait_less old new pending rest element out keeps waits = record { each = each; o
 
         apart : element.path ≢ x.path
         apart same =
-            let is_it : element ≡ x = ap (element_or element) (sym (waits.each element (omega (arith, here))) ∙ ap old same ∙ was) in
+            let is_it : element ≡ x = ap (element_at element) (sym (waits.each element (omega (arith, here))) ∙ ap old same ∙ was) in
             omega (arith, waits.once element, here, subst (λ (y : Element). 1 ≤ count_of y rest) (sym is_it) there)
 
     once : (x : Element) → count_of x rest ≤ 1
     once x = omega (arith, waits.once x, counted x, fewer (same_element x element) (count_of x rest))
 
+    left : (x : Element) (b : Bool) → same_element x element ≡ b → element.path ≢ x.path → 1 ≤ one_more b (count_of x rest) → 1 ≤ count_of x rest
+    left x true same apart there = absurd (apart (sym (ap (λ (y : Element). y.path) (same_element-true x element same))))
+    left x false other apart there = there
+
+    only : (path : List Bool) (x : Element) → new path ≡ waiting x → 1 ≤ count_of x rest
+    only path x there =
+        let was = since path x there in
+        left x (same_element x element) refl (λ same. was.0 (same ∙ own path x was.1))
+        (subst (λ (n : ℕ). 1 ≤ n) (counted x) (waits.only path x was.1))
+
 -- an element that can be taken out is there
 pub waits_once_out : (element : Element) (pending rest : List Element) → without_one element pending ≡ Some rest → 1 ≤ count_of element pending
 waits_once_out element pending rest out =
     subst (λ (n : ℕ). 1 ≤ n) (sym (count_without element element pending rest out ∙ ap (λ (b : Bool). one_more b (count_of element rest)) (same_element-self element))) (omega arith)
+
+-- an element that waits is of its path
+pub waits_own : (format : Format) (digest : Digest) (shown : AllShown) (taken : LastEvicted) (stored : Stored) (spots : Spots) → IsWorld format digest shown taken stored spots
+    → (path : List Bool) (x : Element) → spots path ≡ waiting x → x.path ≡ path
+waits_own format digest shown taken stored spots world path x there = (subst (IsKind format path) there (world.tree.kind path)).0
 
 -- a record that goes with an element stood in the cache, so it didn't wait
 pub free_at : (format : Format) (digest : Digest) (shown : AllShown) (taken : LastEvicted) (stored : Stored) (spots : Spots) (home : ℕ) (child : Entry) (element : Element)
@@ -166,7 +205,7 @@ run_keeps format digest one digests (event ∷ events) shown taken stored spots 
     joined further parent after child scheduled (inr passes) =
         let world_then = passes.1 in
         plain (did_add_m parent after child) passes.0 (λ serial. serial)
-        (further taken stored world_then.0 pending world_then.1 (wait_on spots world_then.0 pending world_then.2 waits) scheduled)
+        (further taken stored world_then.0 pending world_then.1 (wait_on spots world_then.0 pending world_then.2 world_then.3 waits) scheduled)
 
     went : Further → (change : Change) (element : Element) → clash_of format taken change ≡ None → last_evicted_after taken change ≡ taken
         → (IsSerialFrom stored (operations_in events) → IsSerialFrom stored (operations_in (record event { change = change } ∷ events)))
@@ -175,7 +214,7 @@ run_keeps format digest one digests (event ∷ events) shown taken stored spots 
     went further change element none same quiet free left scheduled =
         plain change none quiet
         (subst (λ (t : LastEvicted). Collides format digest t events ⊎ IsSound format t stored events) (sym same)
-        (further taken stored left.0 (element ∷ pending) left.1 (wait_more spots left.0 pending element left.2 left.3 free waits) scheduled))
+        (further taken stored left.0 (element ∷ pending) left.1 (wait_more spots left.0 pending element left.2 left.3 left.4 free waits) scheduled))
 
     go : Further → (change : Change) → HasDone format digest (shown event.verifier) run.0 change → IsScheduledBy pending change (λ after. IsScheduled after events) → Behind change
     go further (did_add_m parent after child) did scheduled =
@@ -183,11 +222,11 @@ run_keeps format digest one digests (event ∷ events) shown taken stored spots 
     go further (did_evict_m parent after child) did scheduled =
         let world_then = leave_step format digest shown taken stored spots event.verifier run.0 parent after child digests world did in
         plain (did_evict_m parent after child) refl (λ serial. serial)
-        (further (last_evicted_after taken (did_evict_m parent after child)) stored world_then.0 pending world_then.1 (wait_on spots world_then.0 pending world_then.2 waits) scheduled)
+        (further (last_evicted_after taken (did_evict_m parent after child)) stored world_then.0 pending world_then.1 (wait_on spots world_then.0 pending world_then.2 world_then.3 waits) scheduled)
     go further (did_add_b child element) did scheduled =
         let back = come_step format digest shown taken stored spots event.verifier run.0 child element world did (waits.each element (waits_once_out element pending scheduled.0 scheduled.1)) in
         plain (did_add_b child element) refl (λ serial. serial)
-        (further taken stored back.0 scheduled.0 back.1 (wait_less spots back.0 pending scheduled.0 element scheduled.1 back.2 waits) scheduled.2)
+        (further taken stored back.0 scheduled.0 back.1 (wait_less spots back.0 pending scheduled.0 element scheduled.1 back.2 back.3 (waits_own format digest shown taken stored spots world) waits) scheduled.2)
     go further (did_evict_b child element) did scheduled =
         went further (did_evict_b child element) element refl refl (λ serial. serial) (free_at format digest shown taken stored spots event.verifier child element world did.had_child did.path)
         (go_step format digest shown taken stored spots event.verifier run.0 child element world did) scheduled
@@ -200,7 +239,7 @@ run_keeps format digest one digests (event ∷ events) shown taken stored spots 
         (further taken stored spots pending (same_step format digest shown taken stored spots event.verifier run.0 world did.shown) waits scheduled)
     go further (did_put before after) did scheduled =
         let world_then = write_step format digest shown taken stored spots event.verifier run.0 before after world did in
-        written (further taken (update eqb stored (number_of after.path) (blob_of after.value)) world_then.0 pending world_then.1 (wait_on spots world_then.0 pending world_then.2 waits) scheduled)
+        written (further taken (update eqb stored (number_of after.path) (blob_of after.value)) world_then.0 pending world_then.1 (wait_on spots world_then.0 pending world_then.2 world_then.3 waits) scheduled)
       where
         written : Collides format digest taken events ⊎ IsSound format taken (update eqb stored (number_of after.path) (blob_of after.value)) events → Behind (did_put before after)
         written (inl collides) = inl collides

@@ -24,7 +24,7 @@ use Rattle.soundness.specs.World.{cached_in, blob_at, AllShown, with_shown, Stor
 use Rattle.soundness.proofs.MovedLemmas.{this_or_other, OneMoves, one_moves, leads_same_hold}
 use Rattle.soundness.proofs.FamilyLemmas.{no_kids}
 use Rattle.soundness.proofs.WorldLemmas.{cached_here, cached_elsewhere, spot_of_shown, with_spot, with_spot_at, with_spot_other, world_one}
-use Rattle.soundness.proofs.JoinLemmas.{is_merkle, KeepsWaiting, not_waiting, WorldAfter}
+use Rattle.soundness.proofs.JoinLemmas.{is_merkle, KeepsWaiting, KeepsElsewhere, not_waiting, none_since, WorldAfter}
 use Rattle.soundness.proofs.LeaveLemmas.{LeftAt}
 
 -- ---- what one moved record leaves as it was
@@ -55,6 +55,10 @@ holds_one format stored spots k spot same_blob was path wide = go (this_or_other
 keeps_one : (spots : Spots) (k : List Bool) (spot : Spot) → ((element : Element) → spots k ≡ waiting element → ⊥) → KeepsWaiting spots (with_spot spots k spot)
 keeps_one spots k spot free path element waits = with_spot_other spots k path spot (λ same. free element (ap spots same ∙ waits)) ∙ waits
 
+-- and nothing else waits elsewhere
+one_since : (spots : Spots) (k : List Bool) (spot : Spot) → KeepsElsewhere k (with_spot spots k spot) spots
+one_since spots k spot path element away waits = sym (with_spot_other spots k path spot away) ∙ waits
+
 -- a record that came in with an element is not a kid that came in by its digest
 not_both : (hold : Hold) → hold ≡ B → hold ≡ M → ⊥
 not_both hold is_b is_m = true≢false (ap by_element (sym is_b ∙ is_m))
@@ -66,10 +70,11 @@ not_both hold is_b is_m = true≢false (ap by_element (sym is_b ∙ is_m))
 
 -- ---- in and out with an element
 
--- the world behind a step that took the record of a path back, where what waited elsewhere waits on
+-- the world behind a step that took the record of a path back, where what waited elsewhere waits on, and nothing else
 abbrev pub TookBack : Format → Digest → AllShown → LastEvicted → Stored → Spots → List Bool → Type 0
 TookBack format digest shown taken stored old k =
-    (spots : Spots) × IsWorld format digest shown taken stored spots × ((path : List Bool) (element : Element) → k ≢ path → old path ≡ waiting element → spots path ≡ waiting element)
+    (spots : Spots) × IsWorld format digest shown taken stored spots × KeepsElsewhere k old spots
+    × ((path : List Bool) (element : Element) → spots path ≡ waiting element → (k ≢ path) × (old path ≡ waiting element))
 
 -- A record comes in with the element that it waits with.
 pub come_step : (format : Format) (digest : Digest) (shown : AllShown) (taken : LastEvicted) (stored : Stored) (spots : Spots) (home : ℕ) (next : Shown) (child : Entry) (element : Element)
@@ -85,6 +90,13 @@ come_step format digest shown taken stored spots home next child element world d
       (taken_one taken spots k (cached home child) refl world.was_taken)
       (holds_one format stored spots k (cached home child) (ap blob_of value_is ∙ ap blob_at (sym was)) world.holds),
   λ path other apart there. with_spot_other spots k path (cached home child) (λ same. apart (sym path_is ∙ same)) ∙ there,
+  λ path other there. (
+    λ same. not_waiting (with_spot spots k (cached home child) path) (cached home child) other
+        (ap (with_spot spots k (cached home child)) (sym (path_is ∙ same)) ∙ with_spot_at spots k (cached home child)) refl
+        there,
+    none_since spots (with_spot spots k (cached home child)) k (cached home child)
+        (with_spot_at spots k (cached home child)) refl (one_since spots k (cached home child)) path other there,
+  ),
 )
   where
     k : List Bool
@@ -138,6 +150,7 @@ go_step format digest shown taken stored spots home next child element world did
           (holds_one format stored spots child.path (waiting element) (ap blob_of did.value ∙ ap blob_at (sym was)) world.holds),
       keeps_one spots child.path (waiting element) (λ other waits. not_waiting (spots child.path) (cached home child) other was refl waits),
       with_spot_at spots child.path (waiting element),
+      one_since spots child.path (waiting element),
     )
   where
     was : spots child.path ≡ cached home child
@@ -209,6 +222,8 @@ write_step format digest shown taken stored spots home next before after world d
           (taken_one taken spots before.path spot refl world.was_taken)
           holds,
       keeps_one spots before.path spot (λ other waits. not_waiting (spots before.path) (cached home before) other was refl waits),
+      none_since spots (with_spot spots before.path spot) before.path spot (with_spot_at spots before.path spot) refl
+          (one_since spots before.path spot),
     )
   where
     now : Entry

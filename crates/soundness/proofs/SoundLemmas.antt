@@ -4,6 +4,7 @@ use Rattle.std.proofs.Common.{◌≡◌, ◌⊎◌, ℕ, zero, suc, ◌+◌, ◌
 use Rattle.std.specs.List.{AllByRecursion}
 use Rattle.std.proofs.lemmas.Bool.{leb-true}
 use Rattle.lamport_clocks.specs.declared.header.Header.{Header}
+use Rattle.record_text.specs.declared.element.Element.{Element}
 use Rattle.record_text.specs.Format.{short_keys}
 use Rattle.record_text.proofs.FieldLemmas.{wide64}
 use Rattle.record_text.proofs.OneTextLemmas.{one_value}
@@ -22,7 +23,10 @@ use Rattle.soundness.specs.Exhibit.{first_uneven, exhibit_by, exhibit_of}
 use Rattle.soundness.specs.Timed.{IsTimed}
 use Rattle.soundness.specs.Typed.{IsTyped}
 use Rattle.soundness.specs.Sound.{AreBalanced, IsSerialOrCollides}
+use Rattle.soundness.specs.Permutation.{count_of}
+use Rattle.soundness.specs.Spot.{untouched, waiting}
 use Rattle.soundness.specs.World.{IsWaiting, opening_shown}
+use Rattle.soundness.proofs.JoinLemmas.{not_waiting}
 use Rattle.soundness.proofs.KnownLemmas.{HasOneText}
 use Rattle.soundness.proofs.PermutationLemmas.{count_permuted}
 use Rattle.soundness.proofs.SerialLemmas.{run_keeps, Collides as CollidesAt, IsSound}
@@ -57,7 +61,11 @@ all_within epoch (event ∷ events) = go (nat_le event.at.epoch epoch) refl (all
 
 -- nothing waits at the opening
 pub none_waiting : IsWaiting opening_spots []
-none_waiting = record { each = λ x there. absurd (omega (arith, there)); once = λ x. omega arith }
+none_waiting = record { each = λ x there. absurd (omega (arith, there)); once = λ x. omega arith; only = only }
+  where
+    only : (path : List Bool) (x : Element) → opening_spots path ≡ waiting x → 1 ≤ count_of x []
+    only [] x there = absurd (not_waiting (opening_spots []) (opening_spots []) x refl refl there)
+    only (bit ∷ path) x there = absurd (not_waiting (opening_spots (bit ∷ path)) untouched x refl refl there)
 
 pub sound : (functions : DigestFunctions) (header : Header) (logs : List (List Command)) (count : ℕ)
     → GivesDigests functions.digest → AllByRecursion (AllByRecursion (IsTyped short_keys)) logs

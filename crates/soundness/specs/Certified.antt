@@ -1,5 +1,5 @@
 -- Which epochs are certified, and with which operations, by the histories of all logs.
-use Rattle.std.specs.Prelude.{ℕ, zero, suc, ◌+◌, ◌==◌, ◌&&◌, Bool, true, false, Option, Some, None, List, [], ◌∷◌, length, map, filter, if◌then◌else◌, min}
+use Rattle.std.specs.Prelude.{ℕ, zero, suc, ◌+◌, ◌==◌, nat_lt, ◌&&◌, Bool, true, false, Option, Some, None, List, [], ◌∷◌, length, map, filter, if◌then◌else◌, min}
 use Rattle.std.specs.List.{flat_map}
 use Rattle.tree_keys.specs.Bits.{number_of}
 use Rattle.record_text.specs.declared.element.Element.{Element}
@@ -33,6 +33,10 @@ order_of histories = merged event_moment (all_events histories)
 abbrev pub order_up_to : ℕ → List (List Event) → List Event
 order_up_to epoch histories = up_to event_moment epoch (order_of histories)
 
+-- and of those in later epochs
+abbrev pub order_after : ℕ → List (List Event) → List Event
+order_after epoch histories = filter (λ event. nat_lt epoch event.at.epoch) (order_of histories)
+
 -- ---- operations
 
 -- a get or a put of an entry, at an event
@@ -60,6 +64,10 @@ operations_by event (did_next_epoch sealed) = []
 -- the operations among events
 abbrev pub operations_in : List Event → List Operation
 operations_in events = flat_map (λ event. operations_by event event.change) events
+
+-- the operations of an epoch
+abbrev pub operations_of : ℕ → List Operation → List Operation
+operations_of epoch operations = filter (λ operation. operation.stamp.epoch == epoch) operations
 
 -- ---- elements (Blum et al. 1994)
 
@@ -149,6 +157,11 @@ certified_count scheme first histories = balanced_from scheme (order_of historie
 abbrev pub order_within : ℕ → ℕ → List (List Event) → List Event
 order_within first zero histories = []
 order_within first (suc count) histories = order_up_to (first + count) histories
+
+-- so many epochs from this one on
+abbrev pub epochs_from : ℕ → ℕ → List ℕ
+epochs_from epoch zero = []
+epochs_from epoch (suc count) = epoch ∷ epochs_from (suc epoch) count
 
 -- The certified operations: all those of the certified epochs, in order.
 abbrev pub certified_operations : Scheme → ℕ → List (List Event) → List Operation

@@ -7,7 +7,7 @@ use Rattle.lamport_clocks.specs.Stamp.{stamp_cmp}
 use Rattle.record_text.specs.declared.element.Element.{Element}
 use Rattle.verifier_commands.specs.Change.{Change, did_add_m, did_evict_m, did_add_b, did_evict_b, did_evict_bm, did_get, did_put, did_next_epoch}
 use Rattle.soundness.specs.History.{Event}
-use Rattle.soundness.specs.Certified.{evicted_by}
+use Rattle.soundness.specs.Certified.{added_by, evicted_by}
 
 -- a stamp is before another
 abbrev pub IsEarlier : Stamp → Stamp → Type 0
@@ -32,6 +32,10 @@ IsTimed first at (did_next_epoch sealed) = Unit {0}
 -- each of these events is timed
 abbrev pub AreTimed : ℕ → List Event → Type 0
 AreTimed first events = AllByRecursion (λ event. IsTimed first event.at event.change) events
+
+-- the elements that come with events
+abbrev pub added_among : List Event → List Element
+added_among events = flat_map (λ event. added_by event.change) events
 
 -- the elements that go with events
 abbrev pub evicted_among : List Event → List Element

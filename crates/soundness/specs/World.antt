@@ -16,6 +16,7 @@ use Rattle.verifier_commands.specs.Change.{Change, did_add_m, did_evict_m, did_a
 use Rattle.soundness.specs.History.{Event}
 use Rattle.soundness.specs.Certified.{operations_in}
 use Rattle.soundness.specs.Clash.{LastEvicted, none_evicted, last_evicted_after}
+use Rattle.soundness.specs.Timed.{added_among, evicted_among}
 use Rattle.soundness.specs.Permutation.{count_of, without_one}
 use Rattle.soundness.specs.Showing.{Shown, shown_by, showing, showing_both}
 use Rattle.soundness.specs.Spot.{Spot, untouched, cached, merkle, waiting, Spots, value_at, IsTree}
@@ -61,10 +62,11 @@ pub record IsWorld (format : Format) (digest : Digest) (shown : AllShown) (taken
   pub was_taken : (path : List Bool) (value : Value) → spots path ≡ merkle value → taken path ≡ Some value
   pub holds : (path : List Bool) → length path ≡ path_bits format → blob_at (spots path) ≡ stored (number_of path)
 
--- The elements that were evicted and not added back each wait at the spot of their path, and none twice.
+-- The elements that were evicted and not added back each wait at the spot of their path, none twice, and no others do.
 pub record IsWaiting (spots : Spots) (pending : List Element) : Type 0 where
   pub each : (x : Element) → 1 ≤ count_of x pending → spots x.path ≡ waiting x
   pub once : (x : Element) → count_of x pending ≤ 1
+  pub only : (path : List Bool) (x : Element) → spots path ≡ waiting x → 1 ≤ count_of x pending
 
 -- ---- what events leave
 
@@ -114,6 +116,12 @@ abbrev pub pending_behind : List Element → List Change → List Element
 pending_behind pending [] = pending
 pending_behind pending (change ∷ changes) = pending_behind (pending_after pending change) changes
 
+-- An element that was evicted once with events and not added back: it is one of those that wait behind them, once.
+pub record IsPending (element : Element) (events : List Event) : Type 0 where
+  pub evicted : count_of element (evicted_among events) ≡ 1
+  pub not_added : count_of element (added_among events) ≡ 0
+  pub waits : count_of element (pending_behind [] (changes_in events)) ≡ 1
+
 -- the plain map behind operations
 abbrev pub stored_behind : Stored → List Operation → Stored
 stored_behind stored [] = stored
@@ -122,7 +130,7 @@ stored_behind stored (operation ∷ operations) = stored_behind (map_after opera
 -- ---- the spots behind events
 
 -- The spots agree with what the caches show behind these events, what was taken by them, and their plain map; and
--- what was evicted and not added back waits.
+-- just what was evicted and not added back waits.
 pub record IsBehind (digest : Digest) (header : Header) (events : List Event) (spots : Spots) : Type 0 where
   pub world : IsWorld (format_of header) digest (shown_behind (opening_shown header) events)
       (last_evicted_behind none_evicted (changes_in events)) (stored_behind none_everywhere (operations_in events)) spots

@@ -1,22 +1,25 @@
 //! What follows from the definitions of histories, epochs and exhibits. These functions do nothing: their
 //! contracts are the laws.
-ghost use Rattle.std.specs.Prelude.{◌≡◌, ℕ, List, [], ◌∷◌, ◌++◌, None, get_or};
-ghost use Rattle.std.specs.List.{AllByRecursion};
+ghost use Rattle.std.specs.Prelude.{◌≡◌, ℕ, ◌≤◌, List, [], ◌∷◌, ◌++◌, None, get_or};
+ghost use Rattle.std.specs.List.{flat_map, AllByRecursion, IsDistinct};
 ghost use Rattle.lamport_clocks.specs.declared.header.Header.{Header};
 ghost use Rattle.log_codec.specs.declared.command.Command.{Command};
 ghost use Rattle.record_hash.specs.Functions.{DigestFunctions};
 ghost use Rattle.merkle_records.specs.Merkle.{GivesDigests};
 ghost use Rattle.merkle_records.specs.Scheme.{scheme_of};
 ghost use Rattle.stamp_order.specs.Merged.{up_to, of_verifier};
+ghost use Rattle.record_text.specs.declared.element.Element.{Element};
 ghost use Rattle.record_text.specs.Format.{format_of};
 ghost use Rattle.soundness.specs.History.{Event, log_events, histories_of};
-ghost use Rattle.soundness.specs.Certified.{event_moment, order_of, order_up_to, order_within, operations_in, certified_count, certified_operations};
-ghost use Rattle.soundness.specs.Timed.{AreTimed, evicted_among, IsRising};
+ghost use Rattle.soundness.specs.Certified.{event_moment, order_of, order_up_to, order_after, order_within, operations_in, operations_of, epochs_from, certified_count, certified_operations};
+ghost use Rattle.soundness.specs.Timed.{AreTimed, added_among, evicted_among, IsRising};
+ghost use Rattle.soundness.specs.Permutation.{same_element, count_of};
 ghost use Rattle.soundness.specs.Clash.{none_evicted, first_clash};
 ghost use Rattle.soundness.specs.Exhibit.{exhibit_of};
 ghost use Rattle.soundness.specs.Scheduled.{IsScheduled, ArePermuted};
 ghost use Rattle.soundness.specs.Sound.{AreTyped, AreBalanced, IsSerialOrCollides, histories_read};
-ghost use Rattle.soundness.specs.World.{changes_in, HaveSpots, TakesFromSpots};
+ghost use Rattle.soundness.specs.Spot.{waiting, Spots};
+ghost use Rattle.soundness.specs.World.{changes_in, pending_behind, IsPending, IsBehind, HaveSpots, TakesFromSpots};
 
 /// Of epochs that are balanced, from the first on, the gets and puts are serial and there is nothing to
 /// exhibit, or the exhibit collides. Whatever bytes the logs are, so it is of the certified epochs.
@@ -51,6 +54,16 @@ pub fn evicted_elements_are_timed()
         → IsRising (evicted_among (log_events (scheme_of functions header) header number commands)) }
 {}
 
+/// No element is evicted twice: those that a verifier evicts are distinct, and so are those of all verifiers together.
+pub fn evicted_elements_are_distinct()
+    ensures of_one { (functions : DigestFunctions) (header : Header)
+        (number : ℕ) (commands : List Command)
+        → IsDistinct same_element (evicted_among (log_events (scheme_of functions header) header number commands)) }
+    ensures of_all { (functions : DigestFunctions) (header : Header)
+        (logs : List (List Command))
+        → IsDistinct same_element (evicted_among (order_of (histories_of (scheme_of functions header) header logs))) }
+{}
+
 /// Where of each epoch up to one the added elements are a permutation of the evicted ones, each element that
 /// comes in the merged order up to that epoch was evicted before, and was not yet added back.
 pub fn even_epochs_are_scheduled()
@@ -68,11 +81,26 @@ pub fn merged_order_keeps_each_log()
         ≡ up_to event_moment epoch (get_or (histories_of (scheme_of functions header) header logs) verifier []) }
 {}
 
+/// The certified operations, written epoch by epoch, are the certified operations, in that order. So it is of any
+/// number of epochs from the first on.
+pub fn operations_come_epoch_by_epoch()
+    ensures within { (functions : DigestFunctions) (header : Header)
+        (logs : List (List Command)) (count : ℕ)
+        → let operations = operations_in (order_within header.first count (histories_of (scheme_of functions header) header logs)) in
+        flat_map (λ epoch. operations_of epoch operations) (epochs_from header.first count) ≡ operations }
+    ensures certified { (functions : DigestFunctions) (header : Header)
+        (logs : List (List Command))
+        → let histories = histories_of (scheme_of functions header) header logs in
+        let operations = certified_operations (scheme_of functions header) header.first histories in
+        flat_map (λ epoch. operations_of epoch operations)
+        (epochs_from header.first (certified_count (scheme_of functions header) header.first histories)) ≡ operations }
+{}
+
 /// Each path has one spot: untouched, in the cache of one verifier, kept by its parent's digest, or waiting
 /// with its element. Each pointer leads to the spot of its child, and covers all that is touched on its side.
 /// It is so behind each front of the merged order that shows no clash: the caches are what its changes left,
-/// what is kept by its digest is what the path's last evictM took, what was evicted and not added back waits,
-/// and the data values are those of the plain map.
+/// what is kept by its digest is what the path's last evictM took, just the elements that were evicted and not
+/// added back wait, and the data values are those of the plain map.
 pub fn records_have_one_spot()
     ensures spots { (functions : DigestFunctions) (header : Header)
         (logs : List (List Command)) (last : ℕ) (front back : List Event)
@@ -81,6 +109,32 @@ pub fn records_have_one_spot()
         → order_up_to last (histories_of (scheme_of functions header) header logs) ≡ front ++ back
         → first_clash (format_of header) none_evicted (changes_in front) ≡ None
         → HaveSpots functions.digest header front }
+{}
+
+/// Where of each epoch up to one the added elements are a permutation of the evicted ones, the elements of these
+/// epochs that come in later ones are just those that wait at the end of the merged order up to that one: each was
+/// evicted there once and not added back. Where that order shows no clash, the spot of its path waits with it.
+pub fn elements_added_later_wait()
+    ensures pending { (functions : DigestFunctions) (header : Header)
+        (logs : List (List Command)) (last : ℕ) (element : Element)
+        → let histories = histories_of (scheme_of functions header) header logs in
+        ArePermuted header.first last (order_of histories) → element.stamp.epoch ≤ last
+        → 1 ≤ count_of element (added_among (order_after last histories))
+        → IsPending element (order_up_to last histories) }
+    ensures added { (functions : DigestFunctions) (header : Header)
+        (logs : List (List Command)) (last : ℕ) (element : Element)
+        → let histories = histories_of (scheme_of functions header) header logs in
+        ArePermuted header.first last (order_of histories)
+        → 1 ≤ count_of element (pending_behind [] (changes_in (order_up_to last histories)))
+        → count_of element (added_among (order_after last histories)) ≡ 1 }
+    ensures waiting { (functions : DigestFunctions) (header : Header)
+        (logs : List (List Command)) (last : ℕ)
+        → let histories = histories_of (scheme_of functions header) header logs in
+        GivesDigests functions.digest → AreTyped (format_of header) logs → ArePermuted header.first last (order_of histories)
+        → first_clash (format_of header) none_evicted (changes_in (order_up_to last histories)) ≡ None
+        → (spots : Spots) × IsBehind functions.digest header (order_up_to last histories) spots
+        × ((element : Element) → element.stamp.epoch ≤ last
+        → 1 ≤ count_of element (added_among (order_after last histories)) → spots element.path ≡ waiting element) }
 {}
 
 /// What an add brings in is what is at its spot. An addM that shows no clash finds its path untouched, or kept
