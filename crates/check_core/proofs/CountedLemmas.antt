@@ -135,7 +135,7 @@ module _ (scheme : Scheme) (machine : Machine) (added evicted : List Element) (o
 
   -- an element came in, of the clock's epoch or of the one before
   keeps_received : (element : Element) → received old element.stamp ≡ Ok new
-      → Keeps scheme new.at.epoch (add_to (rules_for scheme machine) old.at.epoch machine.sums element)
+      → Keeps scheme new.at.epoch (add_to scheme old.at.epoch machine.sums element)
       (added ++ element ∷ []) (evicted ++ [])
   keeps_received element is =
       let epoch = received-epoch old new element.stamp is in
@@ -167,7 +167,7 @@ module _ (scheme : Scheme) (machine : Machine) (added evicted : List Element) (o
 
   -- an element went out, of the clock's epoch
   keeps_sent : (element : Element) → sent old element.stamp ≡ Ok new
-      → Keeps scheme new.at.epoch (evict_to (rules_for scheme machine) machine.sums element)
+      → Keeps scheme new.at.epoch (evict_to scheme machine.sums element)
       (added ++ []) (evicted ++ element ∷ [])
   keeps_sent element is =
       let own = (sent-ok old new element.stamp is).0 in
@@ -192,7 +192,7 @@ module _ (scheme : Scheme) (machine : Machine) (added evicted : List Element) (o
   -- The sums after a change are those of the elements with its own.
   pub keeps-after : (change : Change) → Ticks old new change
       → Keeps scheme new.at.epoch
-      (sums_after (rules_for scheme machine) old.at.epoch machine.sums (outcome_of change))
+      (sums_after scheme old.at.epoch machine.sums (outcome_of change))
       (added ++ added_by change) (evicted ++ evicted_by change)
   keeps-after (did_add_m parent after child) is = keeps_same is
   keeps-after (did_evict_m parent after child) is = keeps_same is

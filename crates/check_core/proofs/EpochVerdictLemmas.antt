@@ -193,7 +193,7 @@ module _ (scheme : Scheme) (first index : ℕ) where
   -- ---- the verdict
 
   -- the verdict where all have sealed the epoch
-  abbrev pub judged : List (List Event) → Answer
+  abbrev pub judged : List (List Event) → Verdict
   judged histories =
       if is_balanced scheme (order_of histories) (first + index)
       then Balanced
@@ -201,7 +201,7 @@ module _ (scheme : Scheme) (first index : ℕ) where
       (sum_over scheme (evicted_in (first + index) (order_of histories)))
 
   -- What a verdict tells: all have sealed the epoch and so it is, or one is missing.
-  abbrev pub Tells : List (List Event) → Answer → Type 0
+  abbrev pub Tells : List (List Event) → Verdict → Type 0
   Tells histories verdict =
       ((index < sealed_by_all histories) × (verdict ≡ judged histories))
       ⊎ ((sealed_by_all histories ≤ index) × ((missing : ℕ) × (verdict ≡ Missing missing)))
@@ -216,12 +216,12 @@ module _ (scheme : Scheme) (first index : ℕ) where
   judged_by : (histories : List (List Event)) (added evicted : Tally)
       → added ≡ sum_over scheme (added_in (first + index) (order_of histories))
       → evicted ≡ sum_over scheme (evicted_in (first + index) (order_of histories))
-      → answer_by None added evicted ≡ judged histories
+      → verdict_by None added evicted ≡ judged histories
   judged_by histories added evicted a e =
       let in_order = sum_over scheme (added_in (first + index) (order_of histories)) in
       let out_order = sum_over scheme (evicted_in (first + index) (order_of histories)) in
-      ap (λ (sum : Tally). answer_by None sum evicted) a
-      ∙ ap (λ (sum : Tally). answer_by None in_order sum) e
+      ap (λ (sum : Tally). verdict_by None sum evicted) a
+      ∙ ap (λ (sum : Tally). verdict_by None in_order sum) e
       ∙ ap (λ (b : Bool). if b && in_order.count == out_order.count then Balanced else Unbalanced in_order out_order)
       (same_lanes in_order.lanes out_order.lanes)
 
@@ -253,7 +253,7 @@ module _ (scheme : Scheme) (first index : ℕ) where
           (λ missing. (missing < length histories)
           × (has_part (told 0 histories) (first + index) missing ≡ false)
           × ((lower : ℕ) → lower < missing → has_part (told 0 histories) (first + index) lower ≡ true))
-          → Tells histories (answer_by lowest added evicted)
+          → Tells histories (verdict_by lowest added evicted)
       go None has =
           let all = seal_told 0 histories (λ verifier from below. has verifier (omega (arith, below))) in
           inl (
@@ -307,7 +307,7 @@ module _ (scheme : Scheme) (header : Header) (logs : List (List ℕ)) where
   order = order_of histories
 
   -- the verdict on an epoch by the parts of the runs
-  abbrev pub epoch_verdict : ℕ → Answer
+  abbrev pub epoch_verdict : ℕ → Verdict
   epoch_verdict index =
       verdict_of header.verifiers (header.first + index) (parts_at index (courses_of scheme header logs))
 

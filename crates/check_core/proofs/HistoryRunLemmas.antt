@@ -37,7 +37,7 @@ operation_told machine at (did_next_epoch (Some sealed)) = refl
 module _ (scheme : Scheme) where
   -- the machine after a change that left this state
   abbrev pub changed : Machine → Change × State → Machine
-  changed machine done = machine_after (rules_for scheme machine) machine (outcome_of done.0) done.1
+  changed machine done = machine_after scheme machine (outcome_of done.0) done.1
 
   -- the machinery of a machine
   abbrev pub machinery_of : Machine → Machinery State Command
@@ -57,7 +57,7 @@ module _ (scheme : Scheme) where
   -- the trace of a step, and of the commands behind it
   abbrev pub step_trace : Machine → List Command → Step → Trace
   step_trace machine commands step =
-      trace_behind machine (concluded (rules_for scheme machine) machine (told step))
+      trace_behind machine (concluded scheme machine (told step))
       (λ after. trace scheme after commands)
 
   -- what was done by an accepted command, and then by the machine after it

@@ -1,5 +1,6 @@
 -- The report that the runs of all verifiers tell is the report by their histories.
 use Rattle.std.proofs.Common.{◌≡◌, ℕ, zero, suc, ◌+◌, ◌<◌, ◌≤◌, nat_lt, nat_le, Bool, true, false, if◌then◌else◌, List, [], ◌∷◌, ◌++◌, map, take, drop, Option, refl, sym, ◌∙◌, ap, subst, arith}
+use Rattle.record_text.specs.Format.{short_keys}
 use Rattle.merkle_records.specs.Scheme.{Scheme}
 use Rattle.std.specs.List.{flat_map, AllByRecursion}
 use Rattle.std.proofs.lemmas.Bool.Decides.{nat_tests}
@@ -83,12 +84,16 @@ text-parts scheme (suc count) epoch ops =
     ap (λ (text : List ℕ). epoch_text epoch (take (front_count epoch ops) ops) ++ text)
     (text-parts scheme count (suc epoch) (drop (front_count epoch ops) ops))
 
+-- a scheme whose functions change nothing
+abbrev plain : Scheme
+plain = record { digest = λ text. text; lanes = λ text. text; format = short_keys }
+
 -- The lines of epochs whose operations stand at the front, epoch after epoch, are those of the operations of each.
 pub epochs_text-lines : (count epoch : ℕ) (ops : List Operation) → IsByEpoch epoch ops
     → epochs_text epoch count ops ≡ flat_map (epoch_lines ops) (epochs_from epoch count)
 epochs_text-lines count epoch ops by =
-    text-parts (λ text. text) count epoch ops
-    ∙ epochs-text (λ text. text) 0 [] count epoch ops ops by (λ later above below. refl)
+    text-parts plain count epoch ops
+    ∙ epochs-text plain 0 [] count epoch ops ops by (λ later above below. refl)
 
 module _ (scheme : Scheme) (header : Header) where
   -- the operations of all histories are of the header's first epoch or of later ones

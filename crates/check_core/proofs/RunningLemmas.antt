@@ -2,7 +2,7 @@
 use Rattle.std.proofs.Common.{◌≡◌, ℕ, zero, suc, ◌+◌, ◌<◌, ◌≤◌, List, [], ◌∷◌, length, map, slice_index_or, Result, Ok, IfOk, refl, sym, ◌∙◌, ap, subst, arith}
 use Rattle.merkle_records.specs.Scheme.{Scheme}
 use Rattle.std.proofs.lemmas.List.{length-map}
-use Rattle.fv_outside.specs.declared.errors.Memory.{Memory}
+use Rattle.want_of_memory.specs.declared.memory.Memory.{Memory}
 use Rattle.lamport_clocks.specs.declared.header.Header.{Header}
 use Rattle.verifier_commands.specs.Machine.{opening_machine}
 use Rattle.verifier_run.specs.Course.{Course}

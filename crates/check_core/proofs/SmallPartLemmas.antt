@@ -1,6 +1,6 @@
 -- The parts that a verifier hands in under a good header are small: each element that it counts raises its clock.
 use Rattle.std.proofs.Common.{◌≡◌, ℕ, zero, suc, ◌<◌, ◌^◌, ◌==◌, List, [], ◌∷◌, slice_get, Option, Some, None, Ok, Err, inl, inr, refl, sym, ap, subst, arith}
-use Rattle.merkle_records.specs.Scheme.{Scheme}
+use Rattle.merkle_records.specs.Scheme.{lanes_of, Scheme}
 use Rattle.std.specs.List.{AllByRecursion}
 use Rattle.std.specs.Option.{option_to_list}
 use Rattle.std.proofs.lemmas.Bool.{cond_both}
@@ -19,7 +19,7 @@ use Rattle.stamp_order.proofs.InOrderLemmas.{every-append}
 use Rattle.verifier_commands.specs.declared.sums.Sums.{Sums}
 use Rattle.verifier_commands.specs.Change.{Change, did_add_m, did_evict_m, did_add_b, did_evict_b, did_evict_bm, did_get, did_put, did_next_epoch}
 use Rattle.verifier_commands.specs.Outcome.{outcome_of}
-use Rattle.verifier_commands.specs.Sums.{lanes_of, add_to, evict_to, advanced_sums, sums_after}
+use Rattle.verifier_commands.specs.Sums.{add_to, evict_to, advanced_sums, sums_after}
 use Rattle.verifier_commands.specs.Transition.{Rules, Step, transition}
 use Rattle.verifier_commands.specs.Machine.{Machine, AreBounded, CountsAdd, opening_machine, effect_of, rules_for}
 use Rattle.verifier_commands.proofs.BoundLemmas.{bounded_add, bounded_evict, bounded_turn}
@@ -36,12 +36,12 @@ IsSmall part = (part.added.count < 2 ^ 25) × (part.evicted.count < 2 ^ 25)
 -- ---- a step
 
 -- an element more is counted once
-counts_add : (rules : Rules) (epoch : ℕ) (sums : Sums) (element : Element)
-    → CountsAdd sums (add_to rules epoch sums element)
-counts_add rules epoch sums element =
+counts_add : (scheme : Scheme) (epoch : ℕ) (sums : Sums) (element : Element)
+    → CountsAdd sums (add_to scheme epoch sums element)
+counts_add scheme epoch sums element =
     cond_both (element.stamp.epoch == epoch)
-    (record sums { added = with_lanes sums.added (lanes_of rules element) })
-    (record sums { added_before = with_lanes sums.added_before (lanes_of rules element) })
+    (record sums { added = with_lanes sums.added (lanes_of scheme element) })
+    (record sums { added_before = with_lanes sums.added_before (lanes_of scheme element) })
     (CountsAdd sums)
     (λ _. record { added = omega arith; added_before = omega arith; evicted = refl; evicted_before = refl })
     (λ _. record { added = omega arith; added_before = omega arith; evicted = refl; evicted_before = refl })
@@ -51,17 +51,17 @@ counter_later : (s t : Stamp) → t.epoch ≡ s.epoch → IsLater t s → s.coun
 counter_later s t same (inl later) = absurd (omega arith)
 counter_later s t same (inr later) = later.1
 
-module _ (rules : Rules) (old new : Reading) (sums : Sums) (bounded : AreBounded sums old) where
+module _ (scheme : Scheme) (old new : Reading) (sums : Sums) (bounded : AreBounded sums old) where
   bounded_same : new ≡ old → AreBounded sums new
   bounded_same is = subst (AreBounded sums) (sym is) bounded
 
   bounded_received : (epoch : ℕ) (element : Element) → received old element.stamp ≡ Ok new
-      → AreBounded (add_to rules epoch sums element) new
+      → AreBounded (add_to scheme epoch sums element) new
   bounded_received epoch element is =
       let took = received-ok old new element.stamp is in
       let end = (received-bounds old new element.stamp is).end in
       let counter = ap (λ (r : Reading). r.at.counter) took.2 in
-      bounded_add sums (add_to rules epoch sums element) old new bounded (counts_add rules epoch sums element) (
+      bounded_add sums (add_to scheme epoch sums element) old new bounded (counts_add scheme epoch sums element) (
         end,
         counter_later old.at new.at (received-epoch old new element.stamp is)
             (received-later old new element.stamp is),
@@ -69,12 +69,12 @@ module _ (rules : Rules) (old new : Reading) (sums : Sums) (bounded : AreBounded
       (omega (arith, took.1, end, counter))
 
   bounded_sent : (element : Element) → sent old element.stamp ≡ Ok new
-      → AreBounded (evict_to rules sums element) new
+      → AreBounded (evict_to scheme sums element) new
   bounded_sent element is =
       let gave = sent-ok old new element.stamp is in
       let end = (sent-bounds old new element.stamp is).end in
       let counter = ap (λ (r : Reading). r.at.counter) gave.3 in
-      bounded_evict sums (evict_to rules sums element) old new bounded refl refl
+      bounded_evict sums (evict_to scheme sums element) old new bounded refl refl
       (end, omega (arith, gave.1, counter))
       (omega (arith, gave.2, end, counter))
 
@@ -86,7 +86,7 @@ module _ (rules : Rules) (old new : Reading) (sums : Sums) (bounded : AreBounded
 
   -- The sums stay bounded after a change.
   bounded-after : (change : Change) → Ticks old new change
-      → AreBounded (sums_after rules old.at.epoch sums (outcome_of change)) new
+      → AreBounded (sums_after scheme old.at.epoch sums (outcome_of change)) new
   bounded-after (did_add_m parent after child) is = bounded_same is
   bounded-after (did_evict_m parent after child) is = bounded_same is
   bounded-after (did_add_b child element) is = bounded_received old.at.epoch element is
@@ -128,7 +128,7 @@ module _ (scheme : Scheme) where
       every-append IsSmall (part_in (effect_of machine done.1.clock.at (outcome_of done.0)))
       (parts_of (trace scheme after commands).effects)
       (small_told machine done.1.clock.at bounded done.0)
-      (further after (bounded-after (rules_for scheme machine) machine.state.clock done.1.clock machine.sums
+      (further after (bounded-after scheme machine.state.clock done.1.clock machine.sums
       bounded done.0 (ticks_step (rules_for scheme machine) machine.state command done is)))
   small_behind machine command commands (Err refusal) is bounded further = tt
 
