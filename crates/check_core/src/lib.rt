@@ -19,8 +19,6 @@ mod reading;
 mod report;
 mod running;
 mod stops;
-#[cfg(test)]
-mod tests;
 
 pub use checking::check;
 pub use concluding::{Conclusion, conclude};

@@ -9,8 +9,6 @@
 #![tactic(auto)]
 
 mod audit_event;
-#[cfg(test)]
-mod audit_tests;
 mod auditing;
 mod clash;
 #[cfg(test)]

@@ -15,10 +15,3 @@ pub use auditing::audit_text;
 pub use record_text::{Exhibit, Refusal};
 pub use report_text::Status;
 pub use top::{INPUT_LIMIT, fastver};
-
-#[cfg(test)]
-mod audit_tests;
-#[cfg(test)]
-mod tests;
-#[cfg(test)]
-mod tree_tests;

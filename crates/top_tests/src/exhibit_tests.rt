@@ -1,31 +1,53 @@
-//! Audits of logs that were written out by hand, under digests that collide at will.
-use crate::{Exhibit, audit};
+//! What is exhibited of a log, under digests that collide at will.
+use bundle_rows::log_of;
+use collision_exhibit::{Exhibit, audit};
 use lamport_clocks::Header;
 use record_hash::ToyDigests;
 use std::alloc::Global;
 use std::test::Fail;
 
 // What was put comes back by its digest.
-const CLEAN: &str =
-    "0140000000000000000500000000000000000000074000000000000000050102616202400000000000000005000000000000000000014000000000000000050102616200000000000000000006400000000000000005010261620808";
+const CLEAN: &str = "\
+addM 5 none root
+put 5 6162
+evictM 5 root
+addM 5 6162 root
+get 5 6162
+next
+next
+";
 
 // Another value with the same digest comes back.
-const CLASH: &str =
-    "0140000000000000000500000000000000000000074000000000000000050102616202400000000000000005000000000000000000014000000000000000050102626100000000000000000006400000000000000005010262610808";
+const CLASH: &str = "\
+addM 5 none root
+put 5 6162
+evictM 5 root
+addM 5 6261 root
+get 5 6261
+next
+next
+";
 
 // Another element with the same lanes comes back.
-const UNEVEN: &str =
-    "0140000000000000000500000000000000000000074000000000000000050102616205400000000000000005000000000000000000000000000000000103400000000000000005010262610000000000000001000006400000000000000005010262610808";
+const UNEVEN: &str = "\
+addM 5 none root
+put 5 6162
+evictBM 5 root 0.1
+addB 5 6261 0.1 v0
+get 5 6261
+next
+next
+";
 
 // What an audit of this log of one verifier shows over so many epochs.
-fn audited(alloc: Global, log: &str, epochs: u64) -> Result<Exhibit, Fail> {
+fn audited(alloc: Global, rows: &str, epochs: u64) -> Result<Exhibit, Fail> {
     let header = Header {
         verifiers: 1,
         cache: 4,
         first: 0,
         end: 0xff_ffff,
     };
-    let logs = vec![in alloc; hex::decode(alloc, log)?]?;
+    let logs = vec![in alloc; log_of(alloc, rows)?]?;
     Ok(audit(alloc, &ToyDigests, &header, &logs, epochs)?)
 }
 

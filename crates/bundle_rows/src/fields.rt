@@ -1,0 +1,112 @@
+//! The fields of a row: paths, values, stamps and verifiers, each of them one word.
+use lamport_clocks::Stamp;
+use record_text::{Blob, LONGEST_BLOB, Node, Pointer, Value, initial};
+use tree_keys::{KEY_BITS, Path};
+
+// How many bytes a digest has.
+const DIGEST_BYTES: usize = 32;
+
+/// The path of a word: `root`, a key as in `5`, bits as in `/01`, or a key's first bits as in `5/60`.
+pub(crate) fn path_of(word: &str) -> Option<Path> {
+    if word == "root" {
+        return Some(Path::root());
+    }
+    match word.split_once('/') {
+        None => Some(Path::of_key(word.parse().ok()?)),
+        Some((key, bits)) if key.is_empty() => path_of_bits(bits),
+        Some((key, len)) => front_of_key(key.parse().ok()?, len.parse().ok()?),
+    }
+}
+
+// The path of these bits.
+fn path_of_bits(bits: &str) -> Option<Path> {
+    let mut path = Path::root();
+    for bit in bits.bytes() {
+        if path.len() == KEY_BITS {
+            return None;
+        }
+        path = match bit {
+            b'0' => path.child(false),
+            b'1' => path.child(true),
+            _ => return None,
+        };
+    }
+    Some(path)
+}
+
+// So many of the first bits of a key.
+fn front_of_key(key: u64, len: u8) -> Option<Path> {
+    if len > KEY_BITS {
+        return None;
+    }
+    Some(Path::of_key(key).front(len))
+}
+
+/// The value of a word, at this path.
+pub(crate) fn value_of(path: &Path, word: &str) -> Option<Value> {
+    match word {
+        "initial" => Some(initial(path)),
+        "empty" => Some(Value::Node(Node::empty())),
+        "none" => Some(Value::Blob(Blob::none())),
+        "." => Some(Value::Blob(Blob::of_bytes(&[])?)),
+        _ => match word.split_once(',') {
+            None => Some(Value::Blob(blob_of(word)?)),
+            Some((side0, side1)) => Some(Value::Node(Node {
+                side0: side_of(side0)?,
+                side1: side_of(side1)?,
+            })),
+        },
+    }
+}
+
+// The data value of these digits.
+fn blob_of(digits: &str) -> Option<Blob> {
+    let len = digits.len() / 2;
+    if len > LONGEST_BLOB {
+        return None;
+    }
+    let mut bytes = [0; LONGEST_BLOB];
+    hex::decode_to_slice(digits, &mut bytes[..len]).ok()?;
+    Blob::of_bytes(&bytes[..len])
+}
+
+// The pointer of a side, or `-` where nothing is below.
+fn side_of(word: &str) -> Option<Option<Pointer>> {
+    if word == "-" {
+        return Some(None);
+    }
+    let (deferred, (path, digest)) = match word.split_once('?') {
+        Some(both) => (true, both),
+        None => (false, word.split_once(':')?),
+    };
+    Some(Some(Pointer {
+        path: path_of(path)?,
+        digest: digest_of(digest)?,
+        deferred,
+    }))
+}
+
+// The digest that ends with these digits, with zeros before them.
+fn digest_of(digits: &str) -> Option<[u8; DIGEST_BYTES]> {
+    let len = digits.len() / 2;
+    if len > DIGEST_BYTES {
+        return None;
+    }
+    let mut digest = [0; DIGEST_BYTES];
+    hex::decode_to_slice(digits, &mut digest[DIGEST_BYTES - len..]).ok()?;
+    Some(digest)
+}
+
+/// The stamp of a word: epoch and counter, as in `0.1`.
+pub(crate) fn stamp_of(word: &str) -> Option<Stamp> {
+    let (epoch, counter) = word.split_once('.')?;
+    Some(Stamp {
+        epoch: epoch.parse().ok()?,
+        counter: counter.parse().ok()?,
+    })
+}
+
+/// The verifier of a word, as in `v2`.
+pub(crate) fn verifier_of(word: &str) -> Option<u16> {
+    word.strip_prefix('v')?.parse().ok()
+}

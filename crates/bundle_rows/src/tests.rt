@@ -1,0 +1,152 @@
+//! Rows of each form, and the bytes that they must be.
+use crate::{Case, RowFault, bundle_of, cases_of, log_of};
+use std::test::Fail;
+
+// Rows of each form of a bundle, with their bytes.
+const BUNDLE: &str = "\
+verifiers 2 cache 8 first 7 end 9
+frames 3
+addM 5 6162 root
+raw 00ff
+log 1
+bytes 0102
+log 0
+
+next
+";
+
+// Each line is a header or a frame, or bytes that are neither.
+const BUNDLE_BYTES: [&str; 12] = [
+    "465642310002000000080000000700000009",
+    "000000000003014000",
+    "000000000003000000",
+    "000000000003000000",
+    "000000000003050102",
+    "000000000003616200",
+    "000000000003000000",
+    "000000000003000000",
+    "0000000000020000",
+    "00ff",
+    "0001000000020102",
+    "00000000000108",
+];
+
+#[test]
+fn bundles_are_written(rt: HostRuntime) -> Result<(), Fail> {
+    let bytes = bundle_of(rt.alloc(), BUNDLE)?;
+    let mut wanted = String::new(rt.alloc());
+    for line in BUNDLE_BYTES {
+        wanted.push_str(line)?;
+    }
+    let digits = hex::encode(rt.alloc(), bytes.as_slice())?;
+    assert_eq!(rt; digits, wanted);
+    Ok(())
+}
+
+// Each form of a row of a log, with its bytes.
+const COMMANDS: &str = "\
+addM 5 none root: 01 400000000000000005 00 000000000000000000
+evictM 5/60 /0: 02 3c0000000000000000 010000000000000000
+addB /01 empty 1.2 v3: 03 024000000000000000 0000 00000001 00000002 0003
+evictB 5 258.1: 04 400000000000000005 00000102 00000001
+evictBM 9223372036854775808 /1 0.1: 05 408000000000000000 018000000000000000 00000000 00000001
+get 18446744073709551615 .: 06 40ffffffffffffffff 0100
+put 5 6162: 07 400000000000000005 01026162
+put 5 initial: 07 400000000000000005 00
+get root initial: 06 000000000000000000 0000
+next: 08
+bytes 0aff: 0a ff
+";
+
+#[test]
+fn rows_have_their_bytes(rt: HostRuntime) -> Result<(), Fail> {
+    let mut count = 0;
+    for line in COMMANDS.lines() {
+        let (row, bytes) = line.split_once(": ").ok_or("no bytes")?;
+        let mut wanted = String::new(rt.alloc());
+        for digits in bytes.split_whitespace() {
+            wanted.push_str(digits)?;
+        }
+        let log = log_of(rt.alloc(), row)?;
+        let digits = hex::encode(rt.alloc(), log.as_slice())?;
+        assert_eq!(rt; digits, wanted, "{row}");
+        count = (count + 1).min(100);
+    }
+    assert_eq!(rt; count, 11);
+    Ok(())
+}
+
+#[test]
+fn a_node_has_two_sides(rt: HostRuntime) -> Result<(), Fail> {
+    let log = log_of(rt.alloc(), "put root -,9223372036854775808?01c6")?;
+    // the tag, the root, an empty side, then the tag of a deferred pointer, its path and its digest
+    let mut wanted = [0; 53];
+    wanted[0] = 7;
+    wanted[11] = 2;
+    wanted[12] = 64;
+    wanted[13] = 128;
+    wanted[51] = 1;
+    wanted[52] = 198;
+    assert_eq!(rt; log.as_slice(), wanted.as_slice());
+    Ok(())
+}
+
+// Rows that are none.
+const BAD_ROWS: &str = "\
+add 5 none root
+addM 5 none
+addM 5 none root 7
+addM -5 none root
+addM 18446744073709551616 none root
+addM /2 empty root
+addM 5/65 none root
+get 5 616
+get 5 -,5
+get 5 5:c,-
+addB 5 none 01 v0
+addB 5 none 0.4294967296 v0
+addB 5 none 0.1 0
+evictB 5 0.1 v0
+nexts
+next 1
+log x
+frames 0
+frames 65537
+verifiers
+verifiers 1 cache 4 first 0 end 1 end 1
+caches 4
+bytes 0
+raw 0g
+";
+
+#[test]
+fn bad_rows_are_named(rt: HostRuntime) -> Result<(), Fail> {
+    for row in BAD_ROWS.lines() {
+        match bundle_of(rt.alloc(), row) {
+            Err(fault) => assert_eq!(rt; fault, RowFault::BadRow(row)),
+            Ok(_) => panic!(rt; "{row}"),
+        }
+    }
+    Ok(())
+}
+
+#[test]
+fn tables_are_read(rt: HostRuntime) -> Result<(), Fail> {
+    let table = "== one\nnext\n-> 7\nab\ncd\n== two\n-> 0\n";
+    let cases = cases_of(rt.alloc(), table)?;
+    let one = Case {
+        label: "one",
+        rows: "next\n",
+        status: 7,
+        report: "ab\ncd\n",
+    };
+    let two = Case {
+        label: "two",
+        rows: "",
+        status: 0,
+        report: "",
+    };
+    assert_eq!(rt; cases.as_slice(), [one, two].as_slice());
+    assert!(rt; cases_of(rt.alloc(), "== one\nnext\n").is_err());
+    Ok(())
+}

@@ -1,0 +1,227 @@
+//! Bundles that were written out by hand, with the report and the status that each must have.
+use crate::running::assert_case;
+use bundle_rows::cases_of;
+use std::test::Fail;
+
+// Bundles of one verifier.
+const WHOLE_BUNDLES: &str = "\
+== the first vector
+cache 128
+frames 96
+addM /0 empty root
+evictBM /0 root 0.1
+addM /1 empty root
+evictBM /1 root 0.2
+next
+addB /0 empty 0.1 v0
+evictB /0 1.2
+addB /1 empty 0.2 v0
+evictB /1 1.4
+next
+-> 0
+epoch 0 certified 0
+done 1
+== a put and a get
+addM 5 none root
+put 5 6162
+evictM 5 root
+addM 5 6162 root
+get 5 6162
+next
+next
+-> 0
+epoch 0 certified 2
+0.0 v0 put 5 6162
+0.0 v0 get 5 6162
+done 1
+== a split and back
+addM 5 none root
+addM /0 empty root
+evictM 5 /0
+evictM /0 root
+next
+next
+-> 0
+epoch 0 certified 0
+done 1
+== added twice
+addM 5 none root
+put 5 6162
+evictBM 5 root 0.1
+addB 5 6162 0.1 v0
+evictB 5 0.3
+addB 5 6162 0.1 v0
+next
+next
+-> 9
+epoch 0 unbalanced added 2 evicted 2
+== a log that is cut
+addM 5 none root
+bytes 07
+-> 8
+refused v0 command 1 Truncated
+== no command
+bytes 09
+-> 8
+refused v0 command 0 Malformed
+== a refusal goes before a bad frame
+bytes 09
+raw 000000000000
+-> 8
+refused v0 command 0 Malformed
+== a frame of no bytes
+raw 000000000000
+-> 7
+bad bundle at byte 18
+== frames of one byte
+frames 1
+addM 5 none root
+put 5 6162
+evictM 5 root
+addM 5 6162 root
+get 5 6162
+next
+next
+-> 0
+epoch 0 certified 2
+0.0 v0 put 5 6162
+0.0 v0 get 5 6162
+done 1
+";
+
+#[test]
+fn whole_bundles_have_their_reports(rt: HostRuntime) -> Result<(), Fail> {
+    let cases = cases_of(rt.alloc(), WHOLE_BUNDLES)?;
+    assert_eq!(rt; cases.len(), 9);
+    for case in &cases {
+        assert_case(&rt, rt.alloc(), case)?;
+    }
+    Ok(())
+}
+
+// Bundles of two verifiers.
+const MANY_VERIFIERS: &str = "\
+== a record goes from one verifier to another
+verifiers 2
+addM 5 none root
+put 5 6162
+evictBM 5 root 0.1
+next
+addB 5 63 0.3 v1
+get 5 63
+next
+log 1
+addB 5 6162 0.1 v0
+get 5 6162
+put 5 63
+evictB 5 0.3
+next
+next
+-> 0
+epoch 0 certified 3
+0.0 v0 put 5 6162
+0.2 v1 get 5 6162
+0.2 v1 put 5 63
+done 1
+== one element is added by two verifiers
+verifiers 2
+addM 5 none root
+put 5 6162
+evictBM 5 root 0.1
+addB 5 6162 0.1 v0
+get 5 6162
+next
+next
+log 1
+addB 5 6162 0.1 v0
+put 5 6163
+next
+next
+-> 9
+epoch 0 unbalanced added 2 evicted 1
+== an epoch that one verifier has not sealed
+verifiers 2
+next
+next
+log 1
+next
+-> 0
+done 0
+== the second log is refused
+verifiers 2
+next
+next
+log 1
+bytes 09
+-> 8
+refused v1 command 0 Malformed
+== the lowest refused log is named
+verifiers 2
+bytes 09
+log 1
+bytes 09
+-> 8
+refused v0 command 0 Malformed
+== two verifiers with empty logs
+verifiers 2
+-> 0
+done 0
+";
+
+#[test]
+fn many_verifiers_have_one_report(rt: HostRuntime) -> Result<(), Fail> {
+    let cases = cases_of(rt.alloc(), MANY_VERIFIERS)?;
+    assert_eq!(rt; cases.len(), 6);
+    for case in &cases {
+        assert_case(&rt, rt.alloc(), case)?;
+    }
+    Ok(())
+}
+
+// Refusals beside those of the lying logs.
+const REFUSED_COMMANDS: &str = "\
+== the root is not added
+addM root empty root
+-> 8
+refused v0 command 0 IsRoot
+== a parent that is not there
+addM 5 none /0
+-> 8
+refused v0 command 0 ParentNotCached
+== another digest under a key
+addM 5 none root
+put 5 6162
+evictM 5 root
+addM 5 6261 root
+get 5 6261
+next
+next
+-> 8
+refused v0 command 3 WrongDigest
+== a split hands its kid on
+addM 5 none root
+addM /0 empty root
+evictM /0 root
+-> 8
+refused v0 command 2 HasChild
+== a get of another value
+addM 5 none root
+put 5 6162
+evictM 5 root
+addM 5 6162 root
+get 5 6163
+next
+next
+-> 8
+refused v0 command 4 WrongValue
+";
+
+#[test]
+fn other_commands_are_refused(rt: HostRuntime) -> Result<(), Fail> {
+    let cases = cases_of(rt.alloc(), REFUSED_COMMANDS)?;
+    assert_eq!(rt; cases.len(), 5);
+    for case in &cases {
+        assert_case(&rt, rt.alloc(), case)?;
+    }
+    Ok(())
+}

@@ -1,0 +1,109 @@
+//! Bundles that are cut, objects that fail, and a limit on what is read.
+use crate::running::{PUT_AND_GET, REPORT, run, run_between};
+use bundle_rows::bundle_of;
+use check_core::{Status, check};
+use fv_outside::{MemorySink, MemorySource};
+use record_hash::{Digests, ShaDigests};
+use std::test::Fail;
+
+// Two records that wait with their elements, and come back in the next epoch: two frames, which end at bytes 120 and
+// 208.
+const TWO_FRAMES: &str = "\
+cache 128
+frames 96
+addM /0 empty root
+evictBM /0 root 0.1
+addM /1 empty root
+evictBM /1 root 0.2
+next
+addB /0 empty 0.1 v0
+evictB /0 1.2
+addB /1 empty 0.2 v0
+evictB /1 1.4
+next
+";
+
+// A bundle that is cut.
+#[derive(Clone, Copy)]
+enum Cut {
+    PutAndGet,
+    TwoFrames,
+}
+
+impl Cut {
+    fn rows(self) -> &'static str {
+        match self {
+            Cut::PutAndGet => PUT_AND_GET,
+            Cut::TwoFrames => TWO_FRAMES,
+        }
+    }
+
+    // The report and status of its first bytes, so many of them.
+    fn report(self, len: usize) -> (&'static str, u8) {
+        match (self, len) {
+            (_, 0..18) => ("bad bundle at byte 0\n", 7),
+            (_, 18) => ("done 0\n", 0),
+            (Cut::PutAndGet, 19..116) => ("bad bundle at byte 18\n", 7),
+            (Cut::PutAndGet, _) => (REPORT, 0),
+            (Cut::TwoFrames, 19..120) => ("bad bundle at byte 18\n", 7),
+            (Cut::TwoFrames, 120) => ("done 0\n", 0),
+            (Cut::TwoFrames, 121..208) => ("bad bundle at byte 120\n", 7),
+            (Cut::TwoFrames, _) => ("epoch 0 certified 0\ndone 1\n", 0),
+        }
+    }
+}
+
+#[test]
+fn bundles_are_cut_at_each_length(rt: HostRuntime) -> Result<(), Fail> {
+    for cut in [Cut::PutAndGet, Cut::TwoFrames] {
+        let bytes = bundle_of(rt.alloc(), cut.rows())?;
+        for len in 0..bytes.len() + 1 {
+            let (report, number) = cut.report(len);
+            let (out, status) = run(&rt, rt.alloc(), "check", &bytes[..len], 1000)?;
+            assert_eq!(rt; out.bytes(), report.as_bytes(), "{len}");
+            assert_eq!(rt; status.number(), number, "{len}");
+        }
+    }
+    Ok(())
+}
+
+#[test]
+fn objects_that_fail_leave_a_front(rt: HostRuntime) -> Result<(), Fail> {
+    let bytes = bundle_of(rt.alloc(), PUT_AND_GET)?;
+    for k in 0..bytes.len() as u64 + 1 {
+        let mut source = MemorySource::new(rt.alloc(), &bytes, 1, &[k])?;
+        let mut out = MemorySink::new(rt.alloc(), 1000, 1, &[])?;
+        let status = run_between(&rt, rt.alloc(), "check", &mut source, &mut out)?;
+        assert_eq!(rt; status.number(), 3, "{k}");
+        assert!(rt; out.bytes().is_empty(), "{k}");
+    }
+    for k in 0..REPORT.len() {
+        let mut source = MemorySource::new(rt.alloc(), &bytes, 1, &[])?;
+        let mut out = MemorySink::new(rt.alloc(), 1000, 1, &[k as u64])?;
+        let status = run_between(&rt, rt.alloc(), "check", &mut source, &mut out)?;
+        assert_eq!(rt; status.number(), 4, "{k}");
+        assert_eq!(rt; out.bytes(), &REPORT.as_bytes()[..k], "{k}");
+    }
+    Ok(())
+}
+
+#[test]
+fn no_more_is_read_than_the_limit(rt: HostRuntime) -> Result<(), Fail> {
+    let d = ShaDigests::new(&[0; 32]);
+    let bytes = bundle_of(rt.alloc(), PUT_AND_GET)?;
+    for piece in [1, 40, 1000] {
+        let mut source = MemorySource::new(rt.alloc(), &bytes, piece, &[])?;
+        let mut out = MemorySink::new(rt.alloc(), 10_000, piece, &[])?;
+        let status = check(&rt, rt.alloc(), &d, 50, &mut source, &mut out);
+        assert!(rt; out.bytes().is_empty());
+        assert_eq!(rt; status, Status::InputLimit { taken: 50 });
+        assert_eq!(rt; source.left().len(), 65);
+        let mut source = MemorySource::new(rt.alloc(), &bytes, piece, &[])?;
+        let mut out = MemorySink::new(rt.alloc(), 10_000, piece, &[])?;
+        let status = check(&rt, rt.alloc(), &d, 116, &mut source, &mut out);
+        assert_eq!(rt; out.bytes(), REPORT.as_bytes());
+        assert_eq!(rt; status, Status::Done { epochs: 1 });
+        assert_eq!(rt; source.left().len(), 0);
+    }
+    Ok(())
+}
