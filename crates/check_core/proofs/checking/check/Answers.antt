@@ -7,17 +7,12 @@ returns-in-Ok-clause-headline g c =
     of_left (IsSound (g.D.Digests.functions c.args.d.now)) (g.S.Source.left c.args.source.now)
     (λ bytes. headline (g.D.Digests.functions c.args.d.now) bytes (λ text. (c.digests_have_32_bytes.ensures.digests text).size))
 
-pub returns-in-Err-Memory-clause-headline : goal.returns-in-Err-Memory-clause-headline
-returns-in-Err-Memory-clause-headline g c =
+pub returns-in-Ok-report-clause-headline : goal.returns-in-Ok-report-clause-headline
+returns-in-Ok-report-clause-headline g c =
     of_left (IsSound (g.D.Digests.functions c.args.d.now)) (g.S.Source.left c.args.source.now)
     (λ bytes. headline (g.D.Digests.functions c.args.d.now) bytes (λ text. (c.digests_have_32_bytes.ensures.digests text).size))
 
-pub returns-in-Err-ReadFault-clause-headline : goal.returns-in-Err-ReadFault-clause-headline
-returns-in-Err-ReadFault-clause-headline g c =
-    of_left (IsSound (g.D.Digests.functions c.args.d.now)) (g.S.Source.left c.args.source.now)
-    (λ bytes. headline (g.D.Digests.functions c.args.d.now) bytes (λ text. (c.digests_have_32_bytes.ensures.digests text).size))
-
-pub returns-in-Err-InputLimit-clause-headline : goal.returns-in-Err-InputLimit-clause-headline
-returns-in-Err-InputLimit-clause-headline g c =
+pub returns-clause-headline : goal.returns-clause-headline
+returns-clause-headline g c =
     of_left (IsSound (g.D.Digests.functions c.args.d.now)) (g.S.Source.left c.args.source.now)
     (λ bytes. headline (g.D.Digests.functions c.args.d.now) bytes (λ text. (c.digests_have_32_bytes.ensures.digests text).size))
