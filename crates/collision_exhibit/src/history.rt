@@ -64,20 +64,20 @@ impl Teller {
     fn apply<D: Digests>(
         &mut self,
         d: &D,
-        command: Command,
+        command: &Command,
         audited: &mut Vec<AuditEvent>,
     ) -> Result<bool, Memory>
-        requires kind { IsCommand (format_of self.old.header) command }
+        requires kind { IsCommand (format_of self.old.header) command.now }
         requires room { self.old.accepted < 2 ^ 63 }
 
         // What is told now, and then of the commands behind this one, is what was told and what is told from
         // this one on.
         ensures told { IfOk result (λ accepted. (commands : List Command)
             → audited.new.items ++ audit_events_if accepted (scheme_of (D.functions d.now) self.old.header) self.new commands
-            ≡ audited.old.items ++ audit_events_from (scheme_of (D.functions d.now) self.old.header) self.old (command ∷ commands)) }
+            ≡ audited.old.items ++ audit_events_from (scheme_of (D.functions d.now) self.old.header) self.old (command.now ∷ commands)) }
         ensures count { self.new.accepted ≤ self.old.accepted + 1 }
     {
-        let change = audit_change_of(self.number, self.verifier.entries(), &command);
+        let change = audit_change_of(self.number, self.verifier.entries(), command);
         match self.verifier.step(d, command) {
             Ok(_) => {}
             Err(_) => return Ok(false),
@@ -117,7 +117,7 @@ fn tell<D: Digests>(
 {
     let mut taken = 0;
     while let Decoded::Read(command, len) = read(behind(log, taken)) {
-        if !teller.apply(d, command, audited)? {
+        if !teller.apply(d, &command, audited)? {
             return Ok(());
         }
         taken += len;

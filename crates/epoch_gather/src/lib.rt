@@ -9,8 +9,6 @@
 mod judging;
 mod laws;
 mod outcome;
-#[cfg(test)]
-mod tests;
 
 pub use judging::verdict;
 pub use laws::{balanced_sums_are_equal, missing_is_the_lowest, totals_are_sums_of_all_elements};

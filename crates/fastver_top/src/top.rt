@@ -24,6 +24,7 @@ pub const INPUT_LIMIT: u64 = 1 << 40;
 /// `fastver check --key HEX` reads a bundle from the source and writes its report to the sink: a line for
 /// each certified epoch and each certified operation, and a last line. `fastver audit --key HEX` writes what
 /// there is to exhibit of the certified epochs, and the same last line. The vault is left as it is.
+#[tactic(auto, using(crate::proofs::AnswerLemmas::left_is_sound))]
 pub fn fastver<R: Threads + Wait + Sync, S: Source, O: Sink, V: Vault, G: Gate + Sync>(
     rt: &R,
     alloc: Global,

@@ -9,8 +9,6 @@
 mod cases;
 mod laws;
 mod nodes;
-#[cfg(test)]
-mod tests;
 
 pub use cases::AddCase;
 pub use laws::{one_pointer_changes, records_stay_of_their_kinds};

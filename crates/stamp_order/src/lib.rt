@@ -15,8 +15,6 @@ mod merging;
 mod moment;
 mod plain_map;
 mod serial;
-#[cfg(test)]
-mod tests;
 
 pub use laws::{
     merged_order_is_one, merging_goes_by_parts, merging_keeps_what_is_in_order, merging_sorts,

@@ -6,8 +6,9 @@ ghost use Rattle.verifier_cache.specs.Entry.{kid_of, set_kid, new_entry};
 ghost use Rattle.verifier_cache.specs.Cache.{Held, IsHeld, entry_of, without, changed, replaced, AreDistinct, IsIndexOf};
 
 use crate::entry::{Entry, Hold};
+use want_of_memory::Memory;
 use record_text::Value;
-use std::alloc::{AllocError, Global};
+use std::alloc::Global;
 use std::marker::Model;
 use tree_keys::Path;
 
@@ -32,7 +33,7 @@ impl Model for Cache {
 
 impl Cache {
     /// A cache that holds nothing, with room for so many entries. It takes all of its memory here.
-    pub fn new(alloc: Global, room: u32) -> Result<Self, AllocError>
+    pub fn new(alloc: Global, room: u32) -> Result<Self, Memory>
         ensures empty { IfOk result (λ cache. cache.entries ≡ []) }
         ensures room { IfOk result (λ cache. cache.room ≡ room) }
     {

@@ -2,16 +2,14 @@
 //!
 //! A contract sees a `Cache` as a list of entries, no path in two of them, and the most that it may hold;
 //! an entry is a record with its path, how it came in, and which of its children stand in the cache under
-//! it. All memory is taken when a cache is made. The crate stands on `tree_keys` and `record_text`. Begin
-//! with `Entry` in `entry.rt`, then `specs/Cache.antt` and `Cache` in `cache.rt`; `laws.rt` says what is
-//! found after an entry came in, went out or was changed.
+//! it. All memory is taken when a cache is made. The crate stands on `tree_keys`, `record_text` and
+//! `fv_outside`. Begin with `Entry` in `entry.rt`, then `specs/Cache.antt` and `Cache` in `cache.rt`;
+//! `laws.rt` says what is found after an entry came in, went out or was changed.
 #![tactic(auto)]
 
 mod cache;
 mod entry;
 mod laws;
-#[cfg(test)]
-mod tests;
 
 pub use cache::Cache;
 pub use entry::{Entry, Hold};

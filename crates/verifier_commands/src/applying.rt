@@ -20,10 +20,10 @@ impl State {
         d: &D,
         number: u16,
         header: &Header,
-        command: Command,
+        command: &Command,
     ) -> Result<Outcome, Refusal>
         ensures follows { Follows result self.old self.new
-            (told (transition (record { scheme = scheme_of (D.functions d.now) header.now; number = number; verifiers = header.now.verifiers }) self.old command)) }
+            (told (transition (record { scheme = scheme_of (D.functions d.now) header.now; number = number; verifiers = header.now.verifiers }) self.old command.now)) }
         ensures clock { IfOk result (ClockMoves self.old.clock self.new.clock) }
     {
         match command {
@@ -31,22 +31,22 @@ impl State {
                 path,
                 value,
                 parent,
-            } => self.add_m(d, &path, &value, &parent),
-            Command::EvictM { path, parent } => self.evict_m(d, &path, &parent),
+            } => self.add_m(d, path, value, parent),
+            Command::EvictM { path, parent } => self.evict_m(d, path, parent),
             Command::AddB {
                 path,
                 value,
                 stamp,
                 verifier,
-            } => self.add_b(header.verifiers, &path, value, stamp, verifier),
-            Command::EvictB { path, stamp } => self.evict_b(number, &path, stamp),
+            } => self.add_b(header.verifiers, path, value, *stamp, *verifier),
+            Command::EvictB { path, stamp } => self.evict_b(number, path, *stamp),
             Command::EvictBM {
                 path,
                 parent,
                 stamp,
-            } => self.evict_bm(number, &path, &parent, stamp),
-            Command::Get { path, value } => self.get(&path, &value),
-            Command::Put { path, value } => self.put(&path, value),
+            } => self.evict_bm(number, path, parent, *stamp),
+            Command::Get { path, value } => self.get(path, value),
+            Command::Put { path, value } => self.put(path, value),
             Command::NextEpoch => self.next_epoch(),
         }
     }

@@ -21,11 +21,11 @@ impl State {
         &mut self,
         verifiers: u16,
         path: &Path,
-        value: Value,
+        value: &Value,
         stamp: Stamp,
         verifier: u16,
     ) -> Result<Outcome, Refusal>
-        ensures follows { Follows result self.old self.new (told (add_b verifiers self.old path.now value stamp verifier)) }
+        ensures follows { Follows result self.old self.new (told (add_b verifiers self.old path.now value.now stamp verifier)) }
         ensures clock { IfOk result (ClockMoves self.old.clock self.new.clock) }
     {
         if is_root(path) {
@@ -46,7 +46,7 @@ impl State {
         self.cache.insert(*path, value.copy(), Hold::B);
         Ok(Outcome::AddB(Element {
             path: *path,
-            value,
+            value: value.copy(),
             stamp,
             verifier,
         }))

@@ -23,6 +23,3 @@ pub use outcome::Outcome;
 pub use state::State;
 pub use sums::Sums;
 pub use verifier::Verifier;
-
-#[cfg(test)]
-mod tests;

@@ -35,8 +35,8 @@ impl State {
 
     /// A put: the value that is written.
     #[tactic(auto, using(crate::proofs::KeyLemmas::key_view))]
-    pub(crate) fn put(&mut self, path: &Path, value: Value) -> Result<Outcome, Refusal>
-        ensures follows { Follows result self.old self.new (told (put short_keys self.old path.now value)) }
+    pub(crate) fn put(&mut self, path: &Path, value: &Value) -> Result<Outcome, Refusal>
+        ensures follows { Follows result self.old self.new (told (put short_keys self.old path.now value.now)) }
         ensures clock { IfOk result (ClockMoves self.old.clock self.new.clock) }
     {
         let Some(_) = self.cache.entry(path) else {
@@ -45,9 +45,8 @@ impl State {
         let Some(key) = path.key() else {
             return Err(Refusal::NotData);
         };
-        let blob = blob_of(&value);
-        write(&mut self.cache, path, value);
-        Ok(Outcome::Put(key, blob))
+        write(&mut self.cache, path, value.copy());
+        Ok(Outcome::Put(key, blob_of(value)))
     }
 
     /// The step to the next epoch.

@@ -63,11 +63,11 @@ impl Verifier {
 
     /// Takes one command: it answers what that did, or the first refusal. After a refusal the verifier is as
     /// before. No memory is taken.
-    pub fn step<D: Digests>(&mut self, d: &D, command: Command) -> Result<Effect, Refusal>
-        requires kind { IsCommand (format_of self.old.header) command }
+    pub fn step<D: Digests>(&mut self, d: &D, command: &Command) -> Result<Effect, Refusal>
+        requires kind { IsCommand (format_of self.old.header) command.now }
         requires room { self.old.accepted < 2 ^ 63 }
         ensures follows { Follows result self.old self.new
-            (stepped (scheme_of (D.functions d.now) self.old.header) self.old command) }
+            (stepped (scheme_of (D.functions d.now) self.old.header) self.old command.now) }
     {
         let before = self.state.clock;
         let outcome = self.state.apply(d, self.number, &self.header, command)?;

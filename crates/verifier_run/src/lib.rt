@@ -13,6 +13,3 @@ mod tracer;
 
 pub use laws::{logs_come_to_their_course, pieces_do_not_matter};
 pub use run::{FeedStop, Run, run_log};
-
-#[cfg(test)]
-mod tests;

@@ -109,7 +109,7 @@ impl Run {
         append(&mut self.held, front(piece, room));
         match read(self.held.as_slice()) {
             Decoded::Read(command, len) => {
-                let Ok(()) = self.tracer.apply(d, command) else {
+                let Ok(()) = self.tracer.apply(d, &command) else {
                     self.held.truncate(held);
                     return Err(FeedStop { taken: 0 });
                 };
@@ -188,7 +188,7 @@ fn follow<D: Digests>(tracer: &mut Tracer, d: &D, bytes: &[u8]) -> Result<usize,
     let mut taken = 0;
     while tracer.refused().is_none() {
         match read(behind(bytes, taken)) {
-            Decoded::Read(command, len) => match tracer.apply(d, command) {
+            Decoded::Read(command, len) => match tracer.apply(d, &command) {
                 Ok(()) => taken += len,
                 Err(Memory) => return Err(FeedStop { taken }),
             },

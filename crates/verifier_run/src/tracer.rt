@@ -84,10 +84,10 @@ impl Tracer {
 
     /// Takes one command. For want of memory nothing of it is done.
     #[tactic(auto, unfolding(crate::specs::Course::after_command))]
-    pub(crate) fn apply<D: Digests>(&mut self, d: &D, command: Command) -> Result<(), Memory>
-        requires kind { IsCommand (format_of self.old.machine.header) command }
+    pub(crate) fn apply<D: Digests>(&mut self, d: &D, command: &Command) -> Result<(), Memory>
+        requires kind { IsCommand (format_of self.old.machine.header) command.now }
         requires room { self.old.machine.accepted < 2 ^ 63 }
-        ensures ok { OnOk result (self.new ≡ after_command (scheme_of (D.functions d.now) self.old.machine.header) self.old command) }
+        ensures ok { OnOk result (self.new ≡ after_command (scheme_of (D.functions d.now) self.old.machine.header) self.old command.now) }
         ensures err { OnErr result (self.new ≡ self.old) }
         ensures count { self.new.machine.accepted ≤ self.old.machine.accepted + 1 }
     {

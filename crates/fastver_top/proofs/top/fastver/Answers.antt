@@ -4,9 +4,8 @@ use Rattle.program_words.specs.declared.words.Asked.{Asked}
 use Rattle.program_words.specs.declared.words.Asked.TheVariants.{Check, Audit}
 use Rattle.report_text.specs.Answer.{AnswersTo}
 use Rattle.check_core.specs.Answer.{check_answer}
-use Rattle.check_core.proofs.HeadlineLemmas.{sha_headline, of_left}
 use Rattle.fastver_top.specs.Auditing.{audit_answer}
-use Rattle.fastver_top.specs.Answers.{asked_key, answer_to, IsSoundFor}
+use Rattle.fastver_top.specs.Answers.{answer_to}
 use Rattle.fastver_top.proofs.AnswerLemmas.{asked_is}
 use Rattle.fastver_top.proofs.top.fastver.Goals as goal
 
@@ -25,17 +24,3 @@ returns-in-Ok-Audit-clause-answers g c = λ asked known.
     subst (λ (a : Asked). AnswersTo (answer_to a) (2 ^ 40) c.audit_text.result _ _ c.args.out.now c.audit_text.new.out) own
     (subst (λ (block : List ℕ). AnswersTo (audit_answer (sha_functions block)) (2 ^ 40) c.audit_text.result _ _ c.args.out.now c.audit_text.new.out)
     c.digests_under-in-Ok-Audit.ensures.value c.audit_text.ensures.answers)
-
--- ---- the headline
-
-pub returns-in-Ok-Check-clause-headline : goal.returns-in-Ok-Check-clause-headline
-returns-in-Ok-Check-clause-headline g c = λ asked known. of_left (IsSoundFor asked) (g.S.Source.left c.args.source.now) (sha_headline (asked_key asked))
-
-pub returns-in-Ok-Audit-clause-headline : goal.returns-in-Ok-Audit-clause-headline
-returns-in-Ok-Audit-clause-headline g c = λ asked known. of_left (IsSoundFor asked) (g.S.Source.left c.args.source.now) (sha_headline (asked_key asked))
-
-pub returns-in-Err-Usage-clause-headline : goal.returns-in-Err-Usage-clause-headline
-returns-in-Err-Usage-clause-headline g c = λ asked known. of_left (IsSoundFor asked) (g.S.Source.left c.args.source.now) (sha_headline (asked_key asked))
-
-pub returns-in-Err-Memory-clause-headline : goal.returns-in-Err-Memory-clause-headline
-returns-in-Err-Memory-clause-headline g c = λ asked known. of_left (IsSoundFor asked) (g.S.Source.left c.args.source.now) (sha_headline (asked_key asked))

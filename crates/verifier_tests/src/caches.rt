@@ -1,0 +1,176 @@
+//! A cache of a few records, by hand.
+ghost use Rattle.std.specs.Prelude.{◌≡◌, IsSome};
+ghost use Rattle.verifier_cache.specs.Entry.{with_value};
+ghost use Rattle.verifier_cache.specs.Cache.{entry_of, changed};
+
+use crate::rows::{field, one_byte, path_of};
+use record_text::{Value, initial};
+use std::test::Fail;
+use tree_keys::Path;
+use verifier_cache::{Cache, Entry, Hold};
+
+// Writes a value by the reference that the cache lends.
+fn write(cache: &mut Cache, k: &Path, value: Value)
+    requires there { IsSome (entry_of k.now cache.old.entries) }
+    ensures entries { cache.new.entries ≡ changed k.now (λ entry. with_value entry value) cache.old.entries }
+    ensures room { cache.new.room ≡ cache.old.room }
+{
+    *cache.value_mut(k) = value;
+}
+
+// Takes in a data path's first record, if it can.
+fn take_in(cache: &mut Cache, key: u64) -> bool {
+    let path = Path::of_key(key);
+    if cache.is_full() {
+        return false;
+    }
+    if cache.entry(&path).is_some() {
+        return false;
+    }
+    cache.insert(path, initial(&path), Hold::M);
+    true
+}
+
+// Takes a data path's record out, if it is there.
+fn take_out(cache: &mut Cache, key: u64) -> Option<Value> {
+    let path = Path::of_key(key);
+    if cache.find(&path).is_none() {
+        return None;
+    }
+    Some(cache.remove(&path))
+}
+
+// Both kid bits and the hold of a path.
+fn state_of(cache: &Cache, k: &Path) -> Option<([bool; 2], Hold)> {
+    if cache.entry(k).is_none() {
+        return None;
+    }
+    Some(([cache.kid(k, false), cache.kid(k, true)], cache.hold(k)))
+}
+
+// Whether a key is there.
+fn has(cache: &Cache, key: u64) -> bool {
+    cache.find(&Path::of_key(key)).is_some()
+}
+
+// A key, whether it comes in or goes out, whether it can, and whether the keys 0, 1, 2 and 3 are there then.
+const COMINGS: &str = "
+2 in true 0010
+2 in false 0010
+0 in true 1010
+3 in true 1011
+1 in false 1011
+1 out false 1011
+0 out true 0011
+1 in true 0111
+3 out true 0110
+2 out true 0100
+";
+
+#[test]
+fn entries_come_and_go(rt: HostRuntime) -> Result<(), Fail> {
+    let mut cache = Cache::new(rt.alloc(), 3)?;
+    assert_eq!(rt; cache.len(), 0);
+    for row in COMINGS.trim().lines() {
+        let key = field(row, 0)?.parse()?;
+        let done = if field(row, 1)? == "in" {
+            take_in(&mut cache, key)
+        } else {
+            take_out(&mut cache, key).is_some()
+        };
+        assert_eq!(rt; done, field(row, 2)? == "true", "{row}");
+        for (key, there) in field(row, 3)?.as_bytes().iter().enumerate() {
+            assert_eq!(rt; has(&cache, key as u64), *there == b'1', "{row}");
+        }
+    }
+    assert_eq!(rt; cache.len(), 1);
+    Ok(())
+}
+
+// Sets or clears a kid bit of a path, if it is there.
+fn change(cache: &mut Cache, k: &Path, side: bool, on: bool) -> bool {
+    if cache.entry(k).is_none() {
+        return false;
+    }
+    cache.set_kid(k, side, on);
+    true
+}
+
+// Writes a data value of one byte, and says that the record came in by a deferred add.
+fn rewrite(cache: &mut Cache, k: &Path, byte: &str) -> Result<(), Fail> {
+    if cache.find(k).is_none() {
+        Err("a path that is not there")?;
+    }
+    write(cache, k, one_byte(byte)?);
+    let held = cache.entry(k).ok_or("a path that has gone")?;
+    let entry = Entry {
+        path: held.path,
+        value: held.value.copy(),
+        hold: Hold::B,
+        kids: held.kids,
+    };
+    cache.replace(entry);
+    Ok(())
+}
+
+// Two bits from their text.
+fn bits_of(text: &str) -> Result<[bool; 2], Fail> {
+    Ok(match text {
+        "00" => [false, false],
+        "01" => [false, true],
+        "10" => [true, false],
+        "11" => [true, true],
+        _ => Err("a text that isn't two bits")?,
+    })
+}
+
+// The path, the side, the kid bit, and both kid bits of the root and of the key 5 then.
+const CHANGES: &str = "
+root 1 1 01 00
+k5 0 1 01 10
+root 0 1 11 10
+root 1 0 10 10
+k5 0 0 10 00
+";
+
+// A cache with the root and the key 5, and room for no more.
+fn cache_of_two(cache: &mut Cache) -> bool {
+    let root = Path::root();
+    if cache.is_full() || cache.entry(&root).is_some() {
+        return false;
+    }
+    cache.insert(root, initial(&root), Hold::Root);
+    take_in(cache, 5)
+}
+
+#[test]
+fn one_kid_bit_changes_at_a_time(rt: HostRuntime) -> Result<(), Fail> {
+    let mut cache = Cache::new(rt.alloc(), 2)?;
+    assert!(rt; cache_of_two(&mut cache));
+    for row in CHANGES.trim().lines() {
+        let path = path_of(field(row, 0)?)?;
+        let side = field(row, 1)? == "1";
+        assert!(rt; change(&mut cache, &path, side, field(row, 2)? == "1"));
+        let root = Some((bits_of(field(row, 3)?)?, Hold::Root));
+        assert_eq!(rt; state_of(&cache, &Path::root()), root, "{row}");
+        let key = Some((bits_of(field(row, 4)?)?, Hold::M));
+        assert_eq!(rt; state_of(&cache, &Path::of_key(5)), key, "{row}");
+    }
+    Ok(())
+}
+
+#[test]
+fn one_entry_is_written_at_a_time(rt: HostRuntime) -> Result<(), Fail> {
+    let root = Path::root();
+    let key = Path::of_key(5);
+    let mut cache = Cache::new(rt.alloc(), 2)?;
+    assert!(rt; cache_of_two(&mut cache));
+    assert!(rt; change(&mut cache, &root, false, true));
+    rewrite(&mut cache, &key, "7")?;
+    assert_eq!(rt; state_of(&cache, &key), Some(([false, false], Hold::B)));
+    assert_eq!(rt; state_of(&cache, &root), Some(([true, false], Hold::Root)));
+    assert_eq!(rt; take_out(&mut cache, 5), Some(one_byte("7")?));
+    assert_eq!(rt; take_out(&mut cache, 5), None);
+    assert!(rt; cache.find(&root).is_some());
+    Ok(())
+}

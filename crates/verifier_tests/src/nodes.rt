@@ -1,0 +1,191 @@
+//! Nodes that were worked out by hand, with digests that are sums of bytes.
+use crate::rows::{field, one_byte, path_of};
+use merkle_records::{AddCase, add_case, after_add, after_evict, defer, digest_of};
+use record_hash::ToyDigests;
+use record_text::{Node, Pointer, Value};
+use std::test::Fail;
+use tree_keys::Path;
+
+// The digest of a text whose bytes add up to this.
+fn digest(sum: u8) -> [u8; 32] {
+    let mut digest = [0; 32];
+    digest[31] = sum;
+    digest
+}
+
+// A pointer from its text: none, or the path, the sum of its digest, and whether it is deferred.
+fn pointer_of(text: &str) -> Result<Option<Pointer>, Fail> {
+    if text == "none" {
+        return Ok(None);
+    }
+    let (plain, deferred) = match text.strip_suffix(",deferred") {
+        Some(plain) => (plain, true),
+        None => (text, false),
+    };
+    let (path, sum) = plain.split_once(',').ok_or("a pointer without a digest")?;
+    Ok(Some(Pointer {
+        path: path_of(path)?,
+        digest: digest(sum.parse()?),
+        deferred,
+    }))
+}
+
+// A value from its text: a byte, the empty node, or a side and what its pointer alone is.
+fn value_of(text: &str) -> Result<Value, Fail> {
+    if text == "empty" {
+        return Ok(Value::Node(Node::empty()));
+    }
+    match text.split_once(':') {
+        None => one_byte(text),
+        Some((side, pointer)) => {
+            let node = Node::empty().with_side(side == "1", pointer_of(pointer)?);
+            Ok(Value::Node(node))
+        }
+    }
+}
+
+fn case_at(node: &Node, at: &Path, k: &Path) -> Option<AddCase> {
+    if !at.is_below(k) {
+        return None;
+    }
+    Some(add_case(node, at, k))
+}
+
+fn added(node: &Node, at: &Path, k: &Path, v: &Value) -> Option<(Node, Value)> {
+    if !at.is_below(k) {
+        return None;
+    }
+    match add_case(node, at, k) {
+        AddCase::Foreign => None,
+        _ => Some(after_add(&ToyDigests, node, at, k, v)),
+    }
+}
+
+fn evicted(node: &Node, at: &Path, k: &Path, v: &Value) -> Option<Node> {
+    if !at.is_below(k) {
+        return None;
+    }
+    Some(after_evict(&ToyDigests, node, at, k, v))
+}
+
+fn deferred(node: &Node, at: &Path, k: &Path) -> Option<Node> {
+    if !at.is_below(k) {
+        return None;
+    }
+    Some(defer(node, at, k))
+}
+
+// A case from its name.
+fn case_of(text: &str) -> Result<Option<AddCase>, Fail> {
+    Ok(match text {
+        "Empty" => Some(AddCase::Empty),
+        "Same" => Some(AddCase::Same),
+        "Split" => Some(AddCase::Split),
+        "Foreign" => Some(AddCase::Foreign),
+        "none" => None,
+        _ => Err("a case of another name")?,
+    })
+}
+
+// A node with this pointer of side 0, and one of side 1.
+fn with_left(side0: &str) -> Result<Node, Fail> {
+    Ok(Node {
+        side0: pointer_of(side0)?,
+        side1: pointer_of("1,1,deferred")?,
+    })
+}
+
+// Where the node stands, where its pointer of side 1 leads, the path that is asked for, and the case.
+const CASES: &str = "
+root 10 0 Empty
+root 10 10 Same
+root 10 1 Split
+root 10 11 Foreign
+root 10 101 Foreign
+root 10 root none
+0 0110 0 none
+0 0110 00 Empty
+0 0110 01 Split
+0 0110 011 Split
+0 0110 010 Foreign
+0 0110 0110 Same
+";
+
+#[test]
+fn pointers_lead_by_their_paths(rt: HostRuntime) -> Result<(), Fail> {
+    for row in CASES.trim().lines() {
+        let node = Node {
+            side0: None,
+            side1: Some(Pointer {
+                path: path_of(field(row, 1)?)?,
+                digest: digest(3),
+                deferred: false,
+            }),
+        };
+        let found = case_at(&node, &path_of(field(row, 0)?)?, &path_of(field(row, 2)?)?);
+        assert_eq!(rt; found, case_of(field(row, 3)?)?, "{row}");
+    }
+    Ok(())
+}
+
+// The text of the byte 7 is 1, 1 and 7. That of a node with a deferred pointer of side 1 to the path 10 is 0
+// and then 2, 2, 0x80, seven 0, and the digest, whose bytes add up to 9.
+#[test]
+fn digests_are_of_the_texts_of_values(rt: HostRuntime) -> Result<(), Fail> {
+    assert_eq!(rt; digest_of(&ToyDigests, &one_byte("7")?), digest(9));
+    assert_eq!(rt;
+        digest_of(&ToyDigests, &value_of("1:10,9,deferred")?),
+        digest(141)
+    );
+    Ok(())
+}
+
+// The root's pointer of side 0, the path, its value, that pointer after the add, and the value then. The key
+// of the longer number begins with the bits 0111.
+const ADDS: &str = "
+none k5 7 k5,9 7
+k5,4,deferred k5 7 k5,4,deferred 7
+k5,4,deferred 0 empty 0,0 0:k5,4,deferred
+k8070450532247928832,4 0 empty 0,0 1:k8070450532247928832,4
+";
+
+#[test]
+fn adds_change_one_side(rt: HostRuntime) -> Result<(), Fail> {
+    for row in ADDS.trim().lines() {
+        let node = with_left(field(row, 0)?)?;
+        let path = path_of(field(row, 1)?)?;
+        let found = added(&node, &Path::root(), &path, &value_of(field(row, 2)?)?);
+        let wanted = (with_left(field(row, 3)?)?, value_of(field(row, 4)?)?);
+        assert_eq!(rt; found, Some(wanted), "{row}");
+    }
+    Ok(())
+}
+
+// The root's pointer of side 0, the path, the value that it leaves with, and that pointer after it.
+const EVICTS: &str = "
+k5,4,deferred k5 7 k5,9
+0,4 0 1:10,9,deferred 0,141
+none 0 empty 0,0
+";
+
+#[test]
+fn evicts_change_one_side(rt: HostRuntime) -> Result<(), Fail> {
+    for row in EVICTS.trim().lines() {
+        let node = with_left(field(row, 0)?)?;
+        let path = path_of(field(row, 1)?)?;
+        let found = evicted(&node, &Path::root(), &path, &value_of(field(row, 2)?)?);
+        assert_eq!(rt; found, Some(with_left(field(row, 3)?)?), "{row}");
+    }
+    Ok(())
+}
+
+#[test]
+fn deferrals_set_one_flag(rt: HostRuntime) -> Result<(), Fail> {
+    let node = with_left("k5,4")?;
+    assert_eq!(rt;
+        deferred(&node, &Path::root(), &Path::of_key(5)),
+        Some(with_left("k5,4,deferred")?)
+    );
+    assert_eq!(rt; deferred(&node, &path_of("0")?, &Path::root()), None);
+    Ok(())
+}

@@ -1,0 +1,91 @@
+//! Verifiers that only turn their epochs; logs of every command are tested as bytes, by the crates above.
+ghost use Rattle.std.specs.Prelude.{◌≡◌, ◌<◌, IfOk};
+
+use lamport_clocks::{Header, Stamp};
+use log_codec::Command;
+use multiset_sum::Part;
+use record_hash::ToyDigests;
+use record_text::{Node, Refusal, Value};
+use std::alloc::Global;
+use std::test::Fail;
+use tree_keys::Path;
+use verifier_cache::{Entry, Hold};
+use verifier_commands::{Effect, Verifier};
+
+// A verifier of two, whose caches hold four entries, before its first command.
+fn opened(alloc: Global, number: u16, first: u32) -> Result<Verifier, Fail>
+    requires number { number < 2 }
+    ensures unstepped { IfOk result (λ verifier. verifier.accepted ≡ 0) }
+{
+    let header = Header {
+        verifiers: 2,
+        cache: 4,
+        first,
+        end: 5,
+    };
+    match Verifier::new(alloc, number, &header) {
+        Ok(verifier) => Ok(verifier),
+        Err(_) => Err("memory".into()),
+    }
+}
+
+fn start_of(epoch: u32) -> Stamp {
+    Stamp { epoch, counter: 0 }
+}
+
+#[test]
+fn the_root_is_cached_by_verifier_0_alone(rt: HostRuntime) -> Result<(), Fail> {
+    let first = opened(rt.alloc(), 0, 7)?;
+    let second = opened(rt.alloc(), 1, 7)?;
+    assert_eq!(rt; second.entries().len(), 0);
+    assert_eq!(rt; first.entries().len(), 1);
+    let root = Path::root();
+    let wanted = Entry {
+        path: root,
+        value: Value::Node(Node::empty()),
+        hold: Hold::Root,
+        kids: [false, false],
+    };
+    let found = first.entries().entry(&root).ok_or("no root")?;
+    assert_eq!(rt; found, &wanted);
+    assert_eq!(rt; second.clock(), start_of(7));
+    Ok(())
+}
+
+// The part that an effect hands in, if it seals an epoch.
+fn part_of(effect: &Effect) -> Option<Part> {
+    match effect {
+        Effect::Sealed(part) => Some(*part),
+        _ => None,
+    }
+}
+
+#[test]
+fn the_second_turn_seals_the_first_epoch(rt: HostRuntime) -> Result<(), Fail> {
+    let mut verifier = opened(rt.alloc(), 1, 7)?;
+    assert_eq!(rt;
+        verifier.step(&ToyDigests, &Command::NextEpoch),
+        Ok(Effect::Opened)
+    );
+    let Ok(effect) = verifier.step(&ToyDigests, &Command::NextEpoch) else {
+        return Err("a refusal".into());
+    };
+    let part = part_of(&effect).ok_or("no part")?;
+    assert_eq!(rt; part.verifier, 1);
+    assert_eq!(rt; part.epoch, 7);
+    assert_eq!(rt; part.added.count(), 0);
+    assert_eq!(rt; part.evicted.count(), 0);
+    assert_eq!(rt; verifier.clock(), start_of(9));
+    Ok(())
+}
+
+#[test]
+fn the_last_epoch_does_not_turn(rt: HostRuntime) -> Result<(), Fail> {
+    let mut verifier = opened(rt.alloc(), 0, u32::MAX)?;
+    assert_eq!(rt;
+        verifier.step(&ToyDigests, &Command::NextEpoch),
+        Err(Refusal::ClockEnd)
+    );
+    assert_eq!(rt; verifier.clock(), start_of(u32::MAX));
+    Ok(())
+}

@@ -1,0 +1,140 @@
+//! Verdicts on parts that were added up by hand.
+ghost use Rattle.std.specs.Prelude.{◌↔◌, ◌≡◌, ◌<◌, ◌≤◌, ◌^◌, IsTrue, false};
+ghost use Rattle.epoch_gather.specs.Parts.{is_same_place};
+
+use crate::rows::field;
+use epoch_gather::{Verdict, verdict};
+use multiset_sum::{Part, Sum};
+use std::test::Fail;
+
+// The lanes of an element from its letter: those of `a` end in the last number, and those of `z` are 0.
+fn lanes_of(letter: u8) -> [u32; 8] {
+    match letter {
+        b'a' => [1, 2, 3, 4, 5, 6, 7, u32::MAX],
+        b'b' => [10, 20, 30, 40, 50, 60, 70, 80],
+        _ => [0; 8],
+    }
+}
+
+// The sum of elements from their letters.
+fn sum(letters: &str) -> Sum {
+    let mut sum = Sum::zero();
+    for letter in letters.as_bytes() {
+        if sum.count() < 100 {
+            sum = sum.with(lanes_of(*letter));
+        }
+    }
+    sum
+}
+
+// Two sums from their text: what was added, a stroke, and what was evicted.
+fn sums_of(text: &str) -> Result<(Sum, Sum), Fail> {
+    let (added, evicted) = text.split_once('/').ok_or("sums without a stroke")?;
+    Ok((sum(added), sum(evicted)))
+}
+
+// A part from its text: the verifier, a point, the epoch, a colon, and the sums.
+fn part_of(text: &str) -> Result<Part, Fail> {
+    let (place, sums) = text.split_once(':').ok_or("a part without sums")?;
+    let (verifier, epoch) = place.split_once('.').ok_or("a part without an epoch")?;
+    let (added, evicted) = sums_of(sums)?;
+    Ok(Part {
+        verifier: verifier.parse()?,
+        epoch: epoch.parse()?,
+        added,
+        evicted,
+    })
+}
+
+// Three parts from their texts.
+fn parts_of(a: &str, b: &str, c: &str) -> Result<[Part; 3], Fail> {
+    Ok([part_of(a)?, part_of(b)?, part_of(c)?])
+}
+
+// A verdict from its text: balanced, the verifier that is missing, or the sums.
+fn verdict_of(text: &str) -> Result<Verdict, Fail> {
+    if text == "balanced" {
+        return Ok(Verdict::Balanced);
+    }
+    match text.strip_prefix("missing") {
+        Some(verifier) => Ok(Verdict::Missing(verifier.parse()?)),
+        None => {
+            let (added, evicted) = sums_of(text)?;
+            Ok(Verdict::Unbalanced(added, evicted))
+        }
+    }
+}
+
+// Whether a part is of one of so many verifiers, with small counts.
+fn is_fit(part: &Part, verifiers: u16) -> bool
+    ensures fit { IsTrue result ↔ ((part.now.verifier < verifiers) × (part.now.added.count < 2 ^ 25) × (part.now.evicted.count < 2 ^ 25)) }
+{
+    part.verifier < verifiers && (part.added.count() < 1 << 25 && part.evicted.count() < 1 << 25)
+}
+
+fn is_same_place(part: &Part, other: &Part) -> bool
+    ensures value { result ≡ is_same_place part.now other.now }
+{
+    part.verifier == other.verifier && part.epoch == other.epoch
+}
+
+// The verdict on three parts, if they are of different verifiers or epochs.
+fn verdict_on(parts: &[Part; 3], verifiers: u16, epoch: u32) -> Option<Verdict> {
+    let [a, b, c] = parts;
+    if verifiers == 0 || verifiers > 64 {
+        return None;
+    }
+    if !is_fit(a, verifiers) || !is_fit(b, verifiers) || !is_fit(c, verifiers) {
+        return None;
+    }
+    if is_same_place(a, b) || is_same_place(a, c) || is_same_place(b, c) {
+        return None;
+    }
+    Some(verdict(parts, verifiers, epoch))
+}
+
+// The parts, the number of verifiers, the epoch, and the verdict. In the first two rows each verifier by itself
+// is unbalanced in epoch 0, and both together are not; then one element is taken back twice, then what is taken
+// back isn't what was evicted, as many times, and then an element's lanes are all 0.
+const VERDICTS: &str = "
+1.0:a/b 0.1:a/ 0.0:b/a 2 0 balanced
+1.0:a/b 0.1:a/ 0.0:b/a 2 1 missing1
+0.0:a/a 1.0:a/ 1.1:/a 2 0 aa/a
+0.4:aa/b 1.4:/a 2.4:/ 3 4 aa/ba
+2.4:/z 1.4:/ 0.4:/ 3 4 /z
+0.0:/ 3.0:/ 1.1:/ 4 0 missing1
+0.0:/ 3.0:/ 1.1:/ 4 1 missing0
+0.0:/ 3.0:/ 1.1:/ 64 7 missing0
+";
+
+#[test]
+fn verdicts_are_by_all_verifiers(rt: HostRuntime) -> Result<(), Fail> {
+    for row in VERDICTS.trim().lines() {
+        let parts = parts_of(field(row, 0)?, field(row, 1)?, field(row, 2)?)?;
+        let found = verdict_on(&parts, field(row, 3)?.parse()?, field(row, 4)?.parse()?);
+        assert_eq!(rt; found, Some(verdict_of(field(row, 5)?)?), "{row}");
+    }
+    Ok(())
+}
+
+// The two sums of a verdict, if it has them.
+fn sums_in(verdict: Option<Verdict>) -> Option<(Sum, Sum)> {
+    match verdict? {
+        Verdict::Unbalanced(added, evicted) => Some((added, evicted)),
+        _ => None,
+    }
+}
+
+#[test]
+fn both_sums_are_handed_out(rt: HostRuntime) -> Result<(), Fail> {
+    let parts = parts_of("0.4:aa/b", "1.4:/a", "2.4:/")?;
+    let (added, evicted) = sums_in(verdict_on(&parts, 3, 4)).ok_or("the sums are one")?;
+    assert_eq!(rt; added.lanes(), [2, 4, 6, 8, 10, 12, 14, 8_589_934_590]);
+    assert_eq!(rt; added.count(), 2);
+    assert_eq!(rt;
+        evicted.lanes(),
+        [11, 22, 33, 44, 55, 66, 77, 4_294_967_375]
+    );
+    assert_eq!(rt; evicted.count(), 2);
+    Ok(())
+}
