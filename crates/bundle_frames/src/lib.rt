@@ -13,8 +13,6 @@ mod found;
 mod laws;
 mod parts;
 mod splitter;
-#[cfg(test)]
-mod tests;
 mod whole;
 mod writers;
 

@@ -33,6 +33,3 @@ pub use sources::Source;
 pub use std_streams::{StdSink, StdSource};
 pub use sure_sinks::{SureSink, SureVault};
 pub use want_of_memory::Memory;
-
-#[cfg(test)]
-mod tests;

@@ -11,8 +11,6 @@ mod clock;
 mod header;
 mod laws;
 mod stamp;
-#[cfg(test)]
-mod tests;
 
 pub use clock::{Clock, ClockFault};
 pub use header::Header;

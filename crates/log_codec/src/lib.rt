@@ -19,6 +19,3 @@ pub use laws::{
 };
 pub use reading::{Decoded, read};
 pub use writing::{LONGEST_COMMAND_TEXT, write};
-
-#[cfg(test)]
-mod tests;

@@ -10,8 +10,6 @@
 mod laws;
 mod part;
 mod sum;
-#[cfg(test)]
-mod tests;
 
 pub use laws::{adding_sums_the_list, joining_adds, order_leaves_no_trace};
 pub use part::Part;

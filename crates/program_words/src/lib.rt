@@ -9,6 +9,3 @@ mod words;
 
 pub use key::{Key, LONGEST_KEY, SHORTEST_KEY};
 pub use words::{Asked, WordsFault, read_words};
-
-#[cfg(test)]
-mod tests;

@@ -9,8 +9,6 @@
 mod digest_functions;
 mod hmac_sha256;
 mod sha_digests;
-#[cfg(test)]
-mod tests;
 mod toy_digests;
 
 pub use digest_functions::Digests;

@@ -33,6 +33,3 @@ pub use writing::{
     LONGEST_ELEMENT_TEXT, LONGEST_VALUE_TEXT, PATH_TEXT_LEN, element_text, push_path, push_stamp,
     push_u16, push_value, value_text,
 };
-
-#[cfg(test)]
-mod tests;

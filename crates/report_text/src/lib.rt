@@ -20,6 +20,3 @@ pub use lines::{
 };
 pub use page::{PAGE_ROOM, Page};
 pub use status::Status;
-
-#[cfg(test)]
-mod tests;

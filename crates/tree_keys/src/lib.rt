@@ -9,6 +9,3 @@
 mod path;
 
 pub use path::{KEY_BITS, Path};
-
-#[cfg(test)]
-mod tests;

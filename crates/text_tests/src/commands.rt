@@ -1,0 +1,183 @@
+//! Commands whose bytes were written out by hand, from the table of tags and fields.
+use crate::rows::{bytes_of, data_value, field, same, same_bytes, stamp};
+use log_codec::{Command, Decoded, LONGEST_COMMAND_TEXT, read, write};
+use record_text::{Blob, Node, Pointer, Value};
+use std::process::Abort;
+use std::test::Fail;
+use tree_keys::Path;
+
+// A command has this text, and is read from it, also where a byte follows, and from no front of it.
+fn assert_command(
+    rt: &impl Abort,
+    command: Command,
+    mut text: Vec<u8>,
+    row: &str,
+) -> Result<(), Fail> {
+    let len = text.len();
+    same_bytes(rt, row, write(&command).as_slice(), text.as_slice());
+    for cut in 0..len {
+        same(rt, row, &read(&text[..cut]), &Decoded::Truncated);
+    }
+    let whole = read(&text);
+    text.push(8)?;
+    same(rt, row, &read(&text), &whole);
+    same(rt, row, &whole, &Decoded::Read(command, len));
+    Ok(())
+}
+
+// A command of a node by its name.
+fn command_at_a_node(name: &str) -> Result<Command, Fail> {
+    let root = Path::root();
+    let zero = root.child(false);
+    let one = root.child(true);
+    Ok(match name {
+        "addM 0 empty root" => Command::AddM {
+            path: zero,
+            value: Value::Node(Node::empty()),
+            parent: root,
+        },
+        "evictBM 1 root 0.2" => Command::EvictBM {
+            path: one,
+            parent: root,
+            stamp: stamp(0, 2),
+        },
+        "addB 1 empty 0.2 v0" => Command::AddB {
+            path: one,
+            value: Value::Node(Node::empty()),
+            stamp: stamp(0, 2),
+            verifier: 0,
+        },
+        "evictB 1 1.4" => Command::EvictB {
+            path: one,
+            stamp: stamp(1, 4),
+        },
+        "next" => Command::NextEpoch,
+        _ => return Err("a command of another name")?,
+    })
+}
+
+const NODE_COMMANDS: &str = "
+addM 0 empty root | 01 01 0000000000000000 00 00 00 0000000000000000
+evictBM 1 root 0.2 | 05 01 8000000000000000 00 0000000000000000 00000000 00000002
+addB 1 empty 0.2 v0 | 03 01 8000000000000000 00 00 00000000 00000002 0000
+evictB 1 1.4 | 04 01 8000000000000000 00000001 00000004
+next | 08
+";
+
+#[test]
+fn commands_of_nodes_have_a_tag_and_fields(rt: HostRuntime) -> Result<(), Fail> {
+    for row in NODE_COMMANDS.trim().lines() {
+        let name = field(row, 0)?;
+        let text = field(row, 1)?;
+        let text = bytes_of(rt.alloc(), text)?;
+        assert_command(&rt, command_at_a_node(name)?, text, row)?;
+    }
+    Ok(())
+}
+
+// A command of the key 5 by its name.
+fn command_at_a_key(name: &str) -> Result<Command, Fail> {
+    let root = Path::root();
+    let path = Path::of_key(5);
+    let value = data_value(b"ab")?;
+    Ok(match name {
+        "addM 5 none root" => Command::AddM {
+            path,
+            value: Value::Blob(Blob::none()),
+            parent: root,
+        },
+        "put 5 6162" => Command::Put { path, value },
+        "evictM 5 root" => Command::EvictM { path, parent: root },
+        "addM 5 6162 0" => Command::AddM {
+            path,
+            value,
+            parent: root.child(false),
+        },
+        "get 5 6162" => Command::Get { path, value },
+        _ => return Err("a command of another name")?,
+    })
+}
+
+const KEY_COMMANDS: &str = "
+addM 5 none root | 01 40 0000000000000005 00 00 0000000000000000
+put 5 6162 | 07 40 0000000000000005 01 02 6162
+evictM 5 root | 02 40 0000000000000005 00 0000000000000000
+addM 5 6162 0 | 01 40 0000000000000005 01 02 6162 01 0000000000000000
+get 5 6162 | 06 40 0000000000000005 01 02 6162
+";
+
+#[test]
+fn commands_of_keys_have_a_tag_and_fields(rt: HostRuntime) -> Result<(), Fail> {
+    for row in KEY_COMMANDS.trim().lines() {
+        let name = field(row, 0)?;
+        let text = field(row, 1)?;
+        let text = bytes_of(rt.alloc(), text)?;
+        assert_command(&rt, command_at_a_key(name)?, text, row)?;
+    }
+    Ok(())
+}
+
+// A pointer to the path one bit longer than this one, on a side.
+fn pointer_below(path: &Path, side: bool) -> Option<Pointer> {
+    if path.len() == 64 {
+        return None;
+    }
+    Some(Pointer {
+        path: path.child(side),
+        digest: [0x11; 32],
+        deferred: side,
+    })
+}
+
+const LONGEST: &str = "
+03 01 0000000000000000
+01 02 0000000000000000 1111111111111111111111111111111111111111111111111111111111111111
+02 02 4000000000000000 1111111111111111111111111111111111111111111111111111111111111111
+01020304 05060708 090a
+";
+
+#[test]
+fn the_longest_has_104_bytes(rt: HostRuntime) -> Result<(), Fail> {
+    let path = Path::root().child(false);
+    let node = Node::empty()
+        .with_side(false, pointer_below(&path, false))
+        .with_side(true, pointer_below(&path, true));
+    let command = Command::AddB {
+        path,
+        value: Value::Node(node),
+        stamp: stamp(0x0102_0304, 0x0506_0708),
+        verifier: 0x090a,
+    };
+    let text = bytes_of(rt.alloc(), LONGEST)?;
+    same(&rt, "LONGEST_COMMAND_TEXT", &LONGEST_COMMAND_TEXT, &104);
+    same(&rt, "text.len()", &text.len(), &104);
+    assert_command(&rt, command, text, "the longest")
+}
+
+// A tag of no command; a path too long, or with an unused bit; a value of another kind, or one whose
+// pointer leads elsewhere.
+const MALFORMED: &str = "
+00
+09
+ff
+01 41 0000000000000000
+02 01 0000000000000000 01 4000000000000000
+03 01 0000000000000000 00 03
+03 01 0000000000000000 01 01 8000000000000000
+05 01 4000000000000000
+06 40 0000000000000005 02
+07 40 0000000000000005 01 41
+";
+
+#[test]
+fn fields_are_malformed_where_they_stand(rt: HostRuntime) -> Result<(), Fail> {
+    for row in MALFORMED.trim().lines() {
+        let mut text = bytes_of(rt.alloc(), row)?;
+        same(&rt, row, &read(&text), &Decoded::Malformed);
+        let front = text.get(..text.len().saturating_sub(1)).ok_or("short")?;
+        same(&rt, row, &read(front), &Decoded::Truncated);
+        text.extend_from_slice(&[0; 40])?;
+        same(&rt, row, &read(&text), &Decoded::Malformed);
+    }
+    Ok(())
+}

@@ -1,0 +1,20 @@
+//! Tests of the crates that read and write texts, over their public calls.
+//!
+//! A crate with tests is proved twice, so tests have a crate of their own for each layer. There is one file
+//! for each crate that is tested: `records` for `record_text`, `commands` for `log_codec`, `bundles` for
+//! `bundle_frames`, `reports` for `report_text` and `words` for `program_words`. A table is one text, a row a
+//! line, which is read as the test runs, and bytes stand in it as hexadecimal digits: begin at `rows`.
+#![tactic(auto)]
+
+#[cfg(test)]
+mod bundles;
+#[cfg(test)]
+mod commands;
+#[cfg(test)]
+mod records;
+#[cfg(test)]
+mod reports;
+#[cfg(test)]
+mod rows;
+#[cfg(test)]
+mod words;

@@ -1,0 +1,328 @@
+//! Lines that were worked out by hand, and sinks that fail.
+use crate::rows::{data_value, field, path_of, same, same_bytes, stamp};
+use fv_outside::MemorySink;
+use multiset_sum::Sum;
+use record_text::{
+    Blob, Element, Elements, Exhibit, Node, Operation, Pointer, Refusal, Value, ValueText,
+};
+use report_text::{
+    PAGE_ROOM, Page, Status, write_epoch, write_exhibit, write_last, write_operation,
+};
+use std::alloc::Global;
+use std::process::Abort;
+use std::test::Fail;
+
+// A status that tells nothing but its name.
+fn plain_status(name: &str) -> Option<Status> {
+    match name {
+        "Usage" => Some(Status::Usage),
+        "Memory" => Some(Status::Memory),
+        "ReadFault" => Some(Status::ReadFault),
+        "WriteFault" => Some(Status::WriteFault),
+        "VaultFault" => Some(Status::VaultFault),
+        "NotTagged" => Some(Status::NotTagged),
+        "NotCertified" => Some(Status::NotCertified),
+        "Exhibit" => Some(Status::Exhibit),
+        _ => None,
+    }
+}
+
+// A status that tells numbers.
+fn status_with_numbers(name: &str) -> Option<Status> {
+    match name {
+        "Done" => Some(Status::Done { epochs: 0 }),
+        "BadBundle" => Some(Status::BadBundle { offset: 18 }),
+        "Refused" => Some(Status::Refused {
+            verifier: 0,
+            index: 4,
+            refusal: Refusal::WrongValue,
+        }),
+        "Unbalanced" => Some(Status::Unbalanced {
+            epoch: 7,
+            added: Sum::zero().with([1, 2, 3, 4, 5, 6, 7, 8]),
+            evicted: Sum::zero(),
+        }),
+        "ClockEnd" => Some(Status::ClockEnd {
+            worker: 0,
+            at: stamp(4294967295, 6),
+        }),
+        "InputLimit" => Some(Status::InputLimit { taken: 50 }),
+        _ => None,
+    }
+}
+
+// The status of this name.
+fn status_of(name: &str) -> Result<Status, Fail> {
+    match plain_status(name) {
+        Some(status) => Ok(status),
+        None => Ok(status_with_numbers(name).ok_or("a status of another name")?),
+    }
+}
+
+// A status, its number and its text.
+const STATUSES: &str = "
+Done | 0 | done 0
+Usage | 1 | usage
+Memory | 2 | memory
+ReadFault | 3 | read fault
+WriteFault | 4 | write fault
+VaultFault | 5 | vault fault
+BadBundle | 7 | bad bundle at byte 18
+Refused | 8 | refused v0 command 4 WrongValue
+Unbalanced | 9 | epoch 7 unbalanced added 1 evicted 0
+ClockEnd | 10 | clock end worker 0 at 4294967295.6
+NotTagged | 11 | not tagged
+NotCertified | 12 | not certified
+Exhibit | 13 | exhibit
+InputLimit | 14 | input limit
+";
+
+#[test]
+fn each_status_has_its_number_and_text(rt: HostRuntime) -> Result<(), Fail> {
+    for row in STATUSES.trim().lines() {
+        let name = field(row, 0)?;
+        let number = field(row, 1)?;
+        let text = field(row, 2)?;
+        let status = status_of(name)?;
+        same(&rt, row, &status.number(), &number.parse::<u8>()?);
+        same_bytes(&rt, row, status.line().as_slice(), text.as_bytes());
+    }
+    Ok(())
+}
+
+// Its epoch, counter, verifier, whether it is a put, and its key; its value in characters, or `none`.
+const OPERATIONS: &str = "
+0 | 0 | 0 | true | 5 | ab
+4294967295 | 16777215 | 63 | false | 18446744073709551615 | none
+1 | 2 | 3 | true | 0 |
+";
+
+// The operation of a row.
+fn operation_of(row: &str) -> Result<Operation, Fail> {
+    let epoch = field(row, 0)?;
+    let counter = field(row, 1)?;
+    let verifier = field(row, 2)?;
+    let put = field(row, 3)?;
+    let key = field(row, 4)?;
+    let value = field(row, 5)?;
+    let value = match value {
+        "none" => Blob::none(),
+        _ => Blob::of_bytes(value.as_bytes()).ok_or("long")?,
+    };
+    Ok(Operation {
+        stamp: stamp(epoch.parse()?, counter.parse()?),
+        verifier: verifier.parse()?,
+        index: 9,
+        put: put.parse()?,
+        key: key.parse()?,
+        value,
+    })
+}
+
+#[test]
+fn lines_are_written_whole(rt: HostRuntime) -> Result<(), Fail> {
+    let mut sink = MemorySink::new(rt.alloc(), 1000, 7, &[])?;
+    write_epoch(0, 2, &mut sink).ok().ok_or("head")?;
+    for row in OPERATIONS.trim().lines() {
+        let op = operation_of(row)?;
+        write_operation(&op, &mut sink).ok().ok_or("line")?;
+    }
+    write_last(&Status::Done { epochs: 1 }, &mut sink)
+        .ok()
+        .ok_or("last")?;
+    let text =
+        "epoch 0 certified 2\n0.0 v0 put 5 6162\n4294967295.16777215 v63 get 18446744073709551615 none\n1.2 v3 put 0 .\ndone 1\n";
+    same_bytes(&rt, "sink.bytes()", sink.bytes(), text.as_bytes());
+    Ok(())
+}
+
+#[test]
+fn a_sink_that_fails_holds_a_front(rt: HostRuntime) -> Result<(), Fail> {
+    let mut sink = MemorySink::new(rt.alloc(), 1000, 1, &[3])?;
+    same(
+        &rt,
+        "write_last(&Status::Done { epochs: 1 }, &mut sink).is_err()",
+        &write_last(&Status::Done { epochs: 1 }, &mut sink).is_err(),
+        &true,
+    );
+    same_bytes(&rt, "sink.bytes()", sink.bytes(), b"don".as_slice());
+    same(&rt, "sink.faults()", &sink.faults(), &1);
+    Ok(())
+}
+
+#[test]
+fn pages_are_written_when_full(rt: HostRuntime) -> Result<(), Fail> {
+    let mut sink = MemorySink::new(rt.alloc(), 20000, 5000, &[])?;
+    let mut page = Page::new();
+    let line = [b'x'; 100];
+    for _ in 0..100 {
+        page.write(&line, &mut sink).ok().ok_or("write")?;
+    }
+    same(
+        &rt,
+        "sink.bytes().len()",
+        &sink.bytes().len(),
+        &(PAGE_ROOM / 100 * 100),
+    );
+    page.flush(&mut sink).ok().ok_or("flush")?;
+    same(&rt, "sink.bytes().len()", &sink.bytes().len(), &10000);
+    Ok(())
+}
+
+// The element of key 5 with this data value so many times.
+fn elements_of(alloc: Global, bytes: &[u8], count: usize) -> Result<Elements, Fail> {
+    let mut items = Vec::new(alloc);
+    for _ in 0..count {
+        items.push(Element {
+            path: path_of("#5")?,
+            value: data_value(bytes)?,
+            stamp: stamp(0, 1),
+            verifier: 0,
+        })?;
+    }
+    Ok(Elements::of(items))
+}
+
+// The value of the path 0, with pointers to the paths 00 and 011: the second has this byte as its digest.
+fn node_of(byte: u8) -> Result<Value, Fail> {
+    let left = Pointer {
+        path: path_of("00")?,
+        digest: [0x11; 32],
+        deferred: false,
+    };
+    let right = Pointer {
+        path: path_of("011")?,
+        digest: [byte; 32],
+        deferred: true,
+    };
+    Ok(Value::Node(Node {
+        side0: Some(left),
+        side1: Some(right),
+    }))
+}
+
+// The longest element.
+fn node_element(alloc: Global) -> Result<Elements, Fail> {
+    let mut items = Vec::new(alloc);
+    items.push(Element {
+        path: path_of("0")?,
+        value: node_of(0x22)?,
+        stamp: stamp(4294967295, 16777215),
+        verifier: 63,
+    })?;
+    Ok(Elements::of(items))
+}
+
+// What an audit shows that found two strings.
+fn strings_of(name: &str) -> Result<Exhibit, Fail> {
+    let (evicted, added) = match name {
+        "data values" => (data_value(b"ab")?, data_value(b"ba")?),
+        "nodes" => (node_of(0x22)?, node_of(0x33)?),
+        _ => return Err("strings of another name")?,
+    };
+    Ok(Exhibit::Strings(ValueText::of(&evicted), ValueText::of(&added)))
+}
+
+// What an audit shows that found two multisets.
+fn multisets_of(alloc: Global, name: &str) -> Result<Exhibit, Fail> {
+    let none = elements_of(alloc, b"", 0)?;
+    Ok(match name {
+        "one of each" => Exhibit::Multisets(
+            0,
+            elements_of(alloc, b"ba", 1)?,
+            elements_of(alloc, b"ab", 1)?,
+        ),
+        "the longest" => Exhibit::Multisets(4294967295, none, node_element(alloc)?),
+        "many added" => Exhibit::Multisets(3, elements_of(alloc, b"ba", 200)?, none),
+        _ => return Err("multisets of another name")?,
+    })
+}
+
+// What is written of an exhibit over so many epochs.
+fn assert_shown(
+    rt: &impl Abort,
+    alloc: Global,
+    exhibit: &Exhibit,
+    epochs: u64,
+    text: &str,
+) -> Result<(), Fail> {
+    let mut sink = MemorySink::new(alloc, 1000, 7, &[])?;
+    write_exhibit(exhibit, epochs, &mut sink)
+        .ok()
+        .ok_or("write")?;
+    same_bytes(rt, text, sink.bytes(), text.as_bytes());
+    Ok(())
+}
+
+#[test]
+fn nothing_to_show_has_its_text(rt: HostRuntime) -> Result<(), Fail> {
+    assert_shown(&rt, rt.alloc(), &Exhibit::Clean, 0, "clean 0\n")?;
+    assert_shown(&rt, rt.alloc(), &Exhibit::Clean, 1, "clean 1\n")
+}
+
+const TWO_DATA_VALUES: &str = "strings 01026162 01026261\n";
+
+const TWO_NODES: &str =
+    "strings 010200000000000000001111111111111111111111111111111111111111111111111111111111111111020360000000000000002222222222222222222222222222222222222222222222222222222222222222 010200000000000000001111111111111111111111111111111111111111111111111111111111111111020360000000000000003333333333333333333333333333333333333333333333333333333333333333\n";
+
+#[test]
+fn strings_have_their_text(rt: HostRuntime) -> Result<(), Fail> {
+    let values = strings_of("data values")?;
+    assert_shown(&rt, rt.alloc(), &values, 7, TWO_DATA_VALUES)?;
+    assert_shown(&rt, rt.alloc(), &strings_of("nodes")?, 7, TWO_NODES)
+}
+
+const ONE_OF_EACH: &str =
+    "multisets 0\nadded 4000000000000000050102626100000000000000010000\nevicted 4000000000000000050102616200000000000000010000\n";
+
+const THE_LONGEST: &str =
+    "multisets 4294967295\nevicted 010000000000000000010200000000000000001111111111111111111111111111111111111111111111111111111111111111020360000000000000002222222222222222222222222222222222222222222222222222222222222222ffffffff00ffffff003f\n";
+
+#[test]
+fn multisets_have_their_text(rt: HostRuntime) -> Result<(), Fail> {
+    let each = multisets_of(rt.alloc(), "one of each")?;
+    assert_shown(&rt, rt.alloc(), &each, 7, ONE_OF_EACH)?;
+    let longest = multisets_of(rt.alloc(), "the longest")?;
+    assert_shown(&rt, rt.alloc(), &longest, 7, THE_LONGEST)
+}
+
+// Each line is that of the element that was added many times.
+fn assert_added(rt: &impl Abort, lines: &[u8]) {
+    for line in lines.chunks(53) {
+        same_bytes(
+            rt,
+            "line",
+            line,
+            b"added 4000000000000000050102626100000000000000010000\n".as_slice(),
+        );
+    }
+}
+
+#[test]
+fn long_exhibits_are_written_by_pages(rt: HostRuntime) -> Result<(), Fail> {
+    let exhibit = multisets_of(rt.alloc(), "many added")?;
+    let mut sink = MemorySink::new(rt.alloc(), 20000, 20000, &[])?;
+    write_exhibit(&exhibit, 7, &mut sink).ok().ok_or("write")?;
+    let lines = sink.bytes().strip_prefix(b"multisets 3\n").ok_or("head")?;
+    same(&rt, "lines.len()", &lines.len(), &(200 * 53));
+    assert_added(&rt, lines);
+    Ok(())
+}
+
+#[test]
+fn a_sink_that_fails_at_its_second_write_holds_a_page(rt: HostRuntime) -> Result<(), Fail> {
+    let exhibit = multisets_of(rt.alloc(), "many added")?;
+    let mut sink = MemorySink::new(rt.alloc(), 20000, 20000, &[1])?;
+    same(
+        &rt,
+        "write_exhibit(&exhibit, 7, &mut sink).is_err()",
+        &write_exhibit(&exhibit, 7, &mut sink).is_err(),
+        &true,
+    );
+    same(&rt, "sink.faults()", &sink.faults(), &1);
+    // the head line and 154 lines of 53 bytes are on the first page
+    let lines = sink.bytes().strip_prefix(b"multisets 3\n").ok_or("head")?;
+    same(&rt, "lines.len()", &lines.len(), &(154 * 53));
+    assert_added(&rt, lines);
+    Ok(())
+}

@@ -1,0 +1,66 @@
+//! Tables as texts: a row is a line, with a bar between its fields. What fields mean more than one file reads.
+use lamport_clocks::Stamp;
+use record_text::{Blob, Value};
+use std::alloc::Global;
+use std::fmt::Debug;
+use std::process::Abort;
+use std::test::Fail;
+use tree_keys::Path;
+
+/// The field of a row at this place, counted from 0.
+pub fn field(row: &str, place: usize) -> Result<&str, Fail> {
+    match row.split('|').nth(place) {
+        Some(text) => Ok(text.trim()),
+        None => Err("a row with too few fields")?,
+    }
+}
+
+/// The bytes that these digits spell, between which blanks may stand. `..` are no bytes.
+pub fn bytes_of(alloc: Global, digits: &str) -> Result<Vec<u8>, Fail> {
+    let mut bytes = Vec::new(alloc);
+    for part in digits.split_whitespace() {
+        if part != ".." {
+            let more = hex::decode(alloc, part)?;
+            bytes.extend_from_slice(&more)?;
+        }
+    }
+    Ok(bytes)
+}
+
+/// The path of these bits, or, behind a `#`, of this key. `root` is the path of no bits.
+pub fn path_of(text: &str) -> Result<Path, Fail> {
+    if let Some(key) = text.strip_prefix('#') {
+        return Ok(Path::of_key(key.parse()?));
+    }
+    let mut path = Path::root();
+    if text == "root" {
+        return Ok(path);
+    }
+    for bit in text.bytes() {
+        if path.len() == 64 || (bit != b'0' && bit != b'1') {
+            return Err("a path of other bits")?;
+        }
+        path = path.child(bit == b'1');
+    }
+    Ok(path)
+}
+
+/// A data value of these bytes.
+pub fn data_value(bytes: &[u8]) -> Result<Value, Fail> {
+    Ok(Value::Blob(Blob::of_bytes(bytes).ok_or("more than 64 bytes")?))
+}
+
+/// A stamp of this epoch and counter.
+pub fn stamp(epoch: u32, counter: u32) -> Stamp {
+    Stamp { epoch, counter }
+}
+
+/// Two values are the same. Where they aren't, the test ends, and tells the row.
+pub fn same<T: PartialEq + Debug>(rt: &impl Abort, row: &str, found: &T, wanted: &T) {
+    assert_eq!(rt; found, wanted, "{row}");
+}
+
+/// Two texts are the same.
+pub fn same_bytes(rt: &impl Abort, row: &str, found: &[u8], wanted: &[u8]) {
+    assert_eq!(rt; found, wanted, "{row}");
+}
