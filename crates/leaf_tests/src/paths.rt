@@ -106,7 +106,7 @@ fn paths_lie_by_their_bits(rt: HostRuntime) -> Result<(), Fail> {
             _ => return Err("a side of another name")?,
         };
         same(&rt, row, &first.side(&second), &side);
-        same(&rt, row, &first.is_below(&second), &side.is_some());
+        same(&rt, row, &second.is_below(&first), &side.is_some());
         same(&rt, row, &first.common(&second), &path_of(common)?);
         same(&rt, row, &first.is_same(&second), &(upper == lower));
     }

@@ -45,14 +45,14 @@ fn value_of(text: &str) -> Result<Value, Fail> {
 }
 
 fn case_at(node: &Node, at: &Path, k: &Path) -> Option<AddCase> {
-    if !at.is_below(k) {
+    if !k.is_below(at) {
         return None;
     }
     Some(add_case(node, at, k))
 }
 
 fn added(node: &Node, at: &Path, k: &Path, v: &Value) -> Option<(Node, Value)> {
-    if !at.is_below(k) {
+    if !k.is_below(at) {
         return None;
     }
     match add_case(node, at, k) {
@@ -62,14 +62,14 @@ fn added(node: &Node, at: &Path, k: &Path, v: &Value) -> Option<(Node, Value)> {
 }
 
 fn evicted(node: &Node, at: &Path, k: &Path, v: &Value) -> Option<Node> {
-    if !at.is_below(k) {
+    if !k.is_below(at) {
         return None;
     }
     Some(after_evict(&ToyDigests, node, at, k, v))
 }
 
 fn deferred(node: &Node, at: &Path, k: &Path) -> Option<Node> {
-    if !at.is_below(k) {
+    if !k.is_below(at) {
         return None;
     }
     Some(defer(node, at, k))
