@@ -235,7 +235,7 @@ is_partial-bad (Some header) bytes bad =
     or_from _ _ (le-ltb _ _ (leb-true _ _ parts.0)) (and_left _ _ (not-true _ parts.1))
 
 -- what is bad stays bad, whatever follows
-is_bad-front : (header : Option Header) (xs ys : List ℕ) → is_bad header xs ≡ true → is_bad header (xs ++ ys) ≡ true
+pub is_bad-front : (header : Option Header) (xs ys : List ℕ) → is_bad header xs ≡ true → is_bad header (xs ++ ys) ≡ true
 is_bad-front None xs ys bad =
     let parts = and_parts _ _ bad in
     let long = leb-true _ _ parts.0 in

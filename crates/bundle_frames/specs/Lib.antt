@@ -1,6 +1,7 @@
 -- The words of this crate's contracts.
 pub mod Bundle
 pub mod Progress
+pub mod Extent
 pub mod Finds
 pub mod Unfinished
 pub mod Splitter

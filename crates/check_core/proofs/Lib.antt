@@ -1,6 +1,7 @@
 -- What reading a source comes to, what is certified, and that a run comes to what its history says.
 pub mod TookLemmas
 pub mod ReportLemmas
+pub mod ExtentLemmas
 pub mod LogLemmas
 pub mod MeaningLemmas
 pub mod HistoryRunLemmas

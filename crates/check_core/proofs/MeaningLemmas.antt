@@ -6,11 +6,11 @@ use Rattle.lamport_clocks.specs.declared.header.Header.{Header}
 use Rattle.std.proofs.lemmas.List.{length-map}
 use Rattle.bundle_frames.specs.Bundle.{Bundle, IsFrame, log_of, Frame as FrameOf}
 use Rattle.bundle_frames.specs.declared.found.Found.{Found}
-use Rattle.bundle_frames.specs.declared.found.Found.TheVariants.{Frame, Bad}
-use Rattle.bundle_frames.specs.Finds.{found_then, progress_after}
-use Rattle.bundle_frames.specs.Progress.{Progress, start, rest_of}
-use Rattle.check_core.specs.Logs.{log_count, joined_from, appended, logs_so_far}
-use Rattle.check_core.specs.Intake.{Logged, Means, behind, behind_at, logged_of}
+use Rattle.bundle_frames.specs.declared.found.Found.TheVariants.{Head, Frame, Bad}
+use Rattle.bundle_frames.specs.Finds.{FindsIn, found_then, progress_after}
+use Rattle.bundle_frames.specs.Progress.{Progress, start, meaning_at, rest_of}
+use Rattle.check_core.specs.Logs.{log_count, empty_logs, joined_from, appended, logs_so_far}
+use Rattle.check_core.specs.Intake.{Means, behind, behind_at, logged_of}
 
 -- ---- logs and frames
 
@@ -56,21 +56,21 @@ Means-start (Some bytes) logs p empty is =
     (subst (λ (q : Progress). logged_of bytes ≡ behind_at [] q bytes) (sym is) refl)
 
 -- one step after another
-pub Means-then : (x y z : Option (List ℕ)) (f g h : List ℕ → Logged) → Means x y f g → Means y z g h → Means x z f h
+pub Means-then : {A : Type 0} (x y z : Option (List ℕ)) (f g h : List ℕ → A) → Means x y f g → Means y z g h → Means x z f h
 Means-then None y z f g h first second = tt
 Means-then (Some bytes) None z f g h first second = absurd first
 Means-then (Some bytes) (Some rest) None f g h first second = absurd second
 Means-then (Some bytes) (Some rest) (Some more) f g h first second = first ∙ second
 
 -- a piece was read, and what it means was kept
-pub Means-read : (x y : Option (List ℕ)) (piece : List ℕ) (f g : List ℕ → Logged) → Consumes x y piece
+pub Means-read : {A : Type 0} (x y : Option (List ℕ)) (piece : List ℕ) (f g : List ℕ → A) → Consumes x y piece
     → ((more : List ℕ) → f (piece ++ more) ≡ g more) → Means x y f g
 Means-read None y piece f g read kept = tt
 Means-read (Some bytes) None piece f g read kept = absurd read
 Means-read (Some bytes) (Some rest) piece f g read kept = ap f read ∙ kept rest
 
 -- nothing was read
-pub Means-none : (x y : Option (List ℕ)) (count : ℕ) (room : List ℕ) (f : List ℕ → Logged) → count ≡ 0 → Consumes x y (take count room) → Means x y f f
+pub Means-none : {A : Type 0} (x y : Option (List ℕ)) (count : ℕ) (room : List ℕ) (f : List ℕ → A) → count ≡ 0 → Consumes x y (take count room) → Means x y f f
 Means-none x y count room f none read =
     Means-read x y [] f f (subst (λ (n : ℕ). Consumes x y (take n room)) none read) (λ more. refl)
 
@@ -119,6 +119,23 @@ found_bad logs old new piece taken at found is after rest last more =
     (rest more ∙ ap (λ (f : Found). found_then f new.body (rest_of new (drop taken piece ++ more))) is
     ∙ last (drop taken piece ++ more) ∙ sym (last (drop (length piece) piece ++ more)))
     ∙ ap (λ (h : Option Header). behind h logs (rest_of new (drop (length piece) piece ++ more))) (bad_header old new (take taken piece) at found is after)
+
+-- a header leaves as many empty logs as it has verifiers
+pub found_head : (logs now : List (List ℕ)) (header : Header) (old new : Progress) (piece : List ℕ) (taken : ℕ) (found : Found) → found ≡ Head header
+    → FindsIn old.header old.offset old.held piece taken found
+    → new ≡ progress_after old (take taken piece) found
+    → ((more : List ℕ) → rest_of old (piece ++ more) ≡ found_then found new.body (rest_of new (drop taken piece ++ more)))
+    → now ≡ empty_logs header.verifiers
+    → (more : List ℕ) → behind_at logs old (piece ++ more) ≡ behind_at now new (drop taken piece ++ more)
+found_head logs now header old new piece taken found is finds after rest now_is more =
+    let left : Bundle = rest_of new (drop taken piece ++ more) in
+    let none : old.header ≡ None = (subst (FindsIn old.header old.offset old.held piece taken) is finds).due in
+    let known : new.header ≡ Some header = ap (λ (p : Progress). p.header) (after ∙ ap (progress_after old (take taken piece)) is) in
+    let same : left.header ≡ Some header = ap (λ (h : Option Header). (meaning_at h new.offset (new.held ++ (drop taken piece ++ more))).header) known in
+    ap (behind old.header logs) (rest more ∙ ap (λ (f : Found). found_then f new.body left) is)
+    ∙ ap (λ (h : Option Header). behind h logs left) none
+    ∙ ap (λ (l : List (List ℕ)). record { header = left.header; logs = joined_from 0 l left.frames; bad = left.bad })
+    (ap (λ (h : Option Header). empty_logs (log_count h)) same ∙ sym now_is ∙ sym (ap (λ (h : Option Header). logs_so_far h now left.header) known))
 
 -- the progress behind a frame has the header that it had
 frame_header : (old new : Progress) (front : List ℕ) (verifier : ℕ) (found : Found) → found ≡ Frame verifier → new ≡ progress_after old front found → old.header ≡ new.header

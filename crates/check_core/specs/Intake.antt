@@ -26,7 +26,7 @@ abbrev pub logged : Intake → Logged
 logged intake = record { header = intake.header; logs = logs_in intake; bad = intake.bad }
 
 -- where a source tells its bytes: what one function says of those that it had, another says of those that are left
-abbrev pub Means : Option (List ℕ) → Option (List ℕ) → (List ℕ → Logged) → (List ℕ → Logged) → Type 0
+abbrev pub Means : {A : Type 0} → Option (List ℕ) → Option (List ℕ) → (List ℕ → A) → (List ℕ → A) → Type 0
 Means None new before after = ⊤
 Means (Some bytes) None before after = ⊥
 Means (Some bytes) (Some rest) before after = before bytes ≡ after rest

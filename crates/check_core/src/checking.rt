@@ -4,6 +4,7 @@ ghost use Rattle.lamport_clocks.specs.Header.{IsHeader};
 ghost use Rattle.merkle_records.specs.Scheme.{scheme_of};
 ghost use Rattle.fv_outside.specs.Faults.{Rose};
 ghost use Rattle.report_text.specs.Ending.{status_of};
+ghost use Rattle.bundle_frames.specs.Extent.{reading_end};
 ghost use Rattle.report_text.specs.Answer.{AnswersTo};
 ghost use Rattle.check_core.specs.Intake.{logs_in, logged};
 ghost use Rattle.check_core.specs.Outcomes.{IsCheckStatus};
@@ -45,7 +46,7 @@ pub fn check<R: Threads + Sync, D: Digests + Sync, S: Source, O: Sink>(
     ensures outcomes { IsCheckStatus result }
 
     // What is written, the status, what was taken of the source, and the faults.
-    ensures answers { AnswersTo (check_answer (D.functions d.now)) limit result
+    ensures answers { AnswersTo (check_answer (D.functions d.now)) reading_end limit result
         (record { left = S.left source.old; left_after = S.left source.new; faults = S.faults source.old; faults_after = S.faults source.new })
         (record { held = O.held out.old; held_after = O.held out.new; faults = O.faults out.old; faults_after = O.faults out.new })
         out.old out.new }

@@ -1,12 +1,13 @@
 //! A source, read to its end or to the first bad frame, and the logs joined.
-ghost use Rattle.std.specs.Prelude.{◌≡◌, ◌≢◌, ℕ, ◌+◌, ◌-◌, ◌^◌, ◌<◌, ◌≤◌, List, [], ◌++◌, length, map, drop, unwrap_or, false, take, Some, None, IfOk, IfSome, IsNone, OnOk, OnErr, Err, vec_len};
+ghost use Rattle.std.specs.Prelude.{◌≡◌, ◌≢◌, ℕ, ◌+◌, ◌-◌, ◌^◌, ◌<◌, ◌≤◌, List, [], ◌++◌, length, map, drop, unwrap_or, true, false, take, Some, None, IfOk, IfSome, IsNone, OnOk, OnErr, Err, vec_len};
 ghost use Rattle.fv_outside.specs.Faults.{Counts, Rose};
 ghost use Rattle.bundle_frames.specs.Bundle.{bundle_of};
 ghost use Rattle.bundle_frames.specs.Progress.{position, rest_of};
+ghost use Rattle.bundle_frames.specs.Extent.{end_behind, reading_end, IsDue};
 ghost use Rattle.lamport_clocks.specs.Header.{IsHeader};
 ghost use Rattle.check_core.specs.Logs.{empty_logs, appended};
 ghost use Rattle.check_core.specs.Intake.{behind_at, logs_in, logged, logged_of, Means};
-ghost use Rattle.fv_outside.specs.Consumed.{TookAtMost, TookJust, ReadsOn};
+ghost use Rattle.fv_outside.specs.Consumed.{EndsBehind, ReadsOn, StopsAtEnd, TookAtLeast, TookAtMost, TookJust, TookToEnd};
 
 use crate::intake::Intake;
 use crate::stops::ReadStop;
@@ -26,6 +27,9 @@ pub fn read_bundle<S: Source>(alloc: Global, limit: u64, source: &mut S) -> Resu
     ensures fault { result ≡ Err ReadStop.ReadFault → Rose (S.faults source.old) (S.faults source.new) }
     ensures limit { result ≡ Err ReadStop.InputLimit → TookJust (limit + 1) (S.left source.old) (S.left source.new) }
     ensures within { result ≢ Err ReadStop.InputLimit → TookAtMost limit (S.left source.old) (S.left source.new) }
+    ensures reached { OnOk result (TookToEnd reading_end (S.left source.old) (S.left source.new)) }
+    ensures stops { StopsAtEnd reading_end (S.left source.old) (S.left source.new) }
+    ensures beyond { result ≡ Err ReadStop.InputLimit → EndsBehind reading_end limit (S.left source.old) }
     ensures never_falls { S.faults source.old ≤ S.faults source.new }
 {
     let mut splitter = Splitter::new(alloc)?;
@@ -75,16 +79,23 @@ fn read_turn<S: Source>(
     requires limit { limit ≤ 2 ^ 40 }
     requires within { taken ≤ limit }
     requires room { length room.old ≡ PIECE_BYTES }
-    requires position { position splitter.old ≤ taken }
+    requires position { position splitter.old ≡ taken }
+    requires due { IsDue splitter.old }
     requires header { intake.old.header ≡ splitter.old.header }
     ensures some { IfOk result (λ turn. IfSome turn (λ count. 0 < count)) }
     ensures within { IfOk result (λ turn. IfSome turn (λ count. taken + count ≤ limit)) }
-    ensures position { IfOk result (λ turn. IfSome turn (λ count. position splitter.new ≤ taken + count)) }
+    ensures position { IfOk result (λ turn. IfSome turn (λ count. position splitter.new ≡ taken + count)) }
+    ensures due { IfOk result (λ turn. IfSome turn (λ _. IsDue splitter.new)) }
     ensures header { OnOk result (intake.new.header ≡ splitter.new.header) }
     ensures took { IfOk result (λ turn. IfSome turn (λ count. TookJust count (S.left source.old) (S.left source.new))) }
     ensures means { OnOk result (Means (S.left source.old) (S.left source.new)
         (behind_at (logs_in intake.old) splitter.old) (behind_at (logs_in intake.new) splitter.new)) }
     ensures end { IfOk result (λ turn. IsNone turn → IfSome (S.left source.new) (λ left. rest_of splitter.new left ≡ rest_of splitter.new [])) }
+    ensures extent { OnOk result (Means (S.left source.old) (S.left source.new) (end_behind splitter.old) (end_behind splitter.new)) }
+    ensures over { IfOk result (λ turn. IsNone turn → IfSome (S.left source.new) (λ left. end_behind splitter.new left ≤ position splitter.new)) }
+    ensures fed { OnOk result (TookAtLeast (position splitter.new - taken) (S.left source.old) (S.left source.new)) }
+    ensures piece { TookAtMost PIECE_BYTES (S.left source.old) (S.left source.new) }
+    ensures full { result ≡ Err ReadStop.InputLimit → taken ≡ limit }
     ensures last { result ≢ Err ReadStop.InputLimit → TookAtMost (limit - taken) (S.left source.old) (S.left source.new) }
     ensures fault { result ≡ Err ReadStop.ReadFault → Rose (S.faults source.old) (S.faults source.new) }
     ensures limit { result ≡ Err ReadStop.InputLimit → TookJust (limit + 1 - taken) (S.left source.old) (S.left source.new) }
@@ -115,6 +126,7 @@ fn wanted(limit: u64, taken: u64) -> usize
     ensures some { 0 < result }
     ensures room { result ≤ PIECE_BYTES }
     ensures limit { taken + result ≤ limit + 1 }
+    ensures within { taken < limit → taken + result ≤ limit }
 {
     let left = (limit - taken).min(PIECE_BYTES as u64);
     (left as usize).max(1)
@@ -141,12 +153,17 @@ fn feed(
     piece: &[u8],
 ) -> Result<bool, Memory>
     requires fits { position splitter.old + length piece.now < 2 ^ 63 }
+    requires due { IsDue splitter.old }
     requires header { intake.old.header ≡ splitter.old.header }
     ensures rest { OnOk result ((more : List ℕ) → behind_at (logs_in intake.old) splitter.old (piece.now ++ more)
         ≡ behind_at (logs_in intake.new) splitter.new more) }
     ensures last { IfOk result (λ more_due. more_due ≡ false → (more : List ℕ) → rest_of splitter.new more ≡ rest_of splitter.new []) }
+    ensures extent { OnOk result ((more : List ℕ) → end_behind splitter.old (piece.now ++ more) ≡ end_behind splitter.new more) }
+    ensures over { IfOk result (λ more_due. more_due ≡ false → (more : List ℕ) → end_behind splitter.new more ≡ position splitter.new) }
+    ensures due { IfOk result (λ more_due. more_due ≡ true → IsDue splitter.new) }
     ensures header { OnOk result (intake.new.header ≡ splitter.new.header) }
     ensures position { OnOk result (position splitter.new ≤ position splitter.old + length piece.now) }
+    ensures whole { IfOk result (λ more_due. more_due ≡ true → position splitter.new ≡ position splitter.old + length piece.now) }
 {
     let mut done = 0;
     while done < piece.len() {
@@ -167,13 +184,19 @@ fn feed_once(
 ) -> Result<Option<usize>, Memory>
     requires fits { position splitter.old + length piece.now < 2 ^ 63 }
     requires some { 0 < length piece.now }
+    requires due { IsDue splitter.old }
     requires header { intake.old.header ≡ splitter.old.header }
     ensures last { IfOk result (λ taken. IsNone taken → (more : List ℕ) → rest_of splitter.new more ≡ rest_of splitter.new []) }
+    ensures extent { IfOk result (λ taken. (more : List ℕ) → end_behind splitter.old (piece.now ++ more)
+        ≡ end_behind splitter.new (drop (unwrap_or taken (length piece.now)) piece.now ++ more)) }
+    ensures over { IfOk result (λ taken. IsNone taken → (more : List ℕ) → end_behind splitter.new more ≡ position splitter.new) }
+    ensures due { IfOk result (λ taken. IfSome taken (λ _. IsDue splitter.new)) }
     ensures rest { IfOk result (λ taken. (more : List ℕ) → behind_at (logs_in intake.old) splitter.old (piece.now ++ more)
         ≡ behind_at (logs_in intake.new) splitter.new (drop (unwrap_or taken (length piece.now)) piece.now ++ more)) }
     ensures header { OnOk result (intake.new.header ≡ splitter.new.header) }
     ensures position { IfOk result (λ taken. position splitter.new ≤ position splitter.old + unwrap_or taken (length piece.now)) }
     ensures taken { IfOk result (λ taken. IfSome taken (λ n. (0 < n) × (n ≤ length piece.now))) }
+    ensures exact { IfOk result (λ taken. IfSome taken (λ n. position splitter.new ≡ position splitter.old + n)) }
 {
     let fed = splitter.feed(piece);
     match fed.found {

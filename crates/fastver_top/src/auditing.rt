@@ -3,6 +3,7 @@ ghost use Rattle.std.specs.Prelude.{◌≡◌, ◌≢◌, ◌⊎◌, ◌≤◌, 
 ghost use Rattle.fv_outside.specs.Faults.{Counts, Rose};
 ghost use Rattle.fv_outside.specs.Written.{Grows, GrowsByFront};
 ghost use Rattle.report_text.specs.Ending.{status_of};
+ghost use Rattle.bundle_frames.specs.Extent.{reading_end};
 ghost use Rattle.report_text.specs.Answer.{AnswersTo};
 ghost use Rattle.report_text.specs.Exhibit.{exhibit_text};
 ghost use Rattle.report_text.specs.Status.{last_line};
@@ -35,7 +36,7 @@ pub fn audit_text<D: Digests + Sync, S: Source, O: Sink>(
     ensures outcomes { IsAuditStatus result }
 
     // What is written, the status, what was taken of the source, and the faults.
-    ensures answers { AnswersTo (audit_answer (D.functions d.now)) limit result
+    ensures answers { AnswersTo (audit_answer (D.functions d.now)) reading_end limit result
         (record { left = S.left source.old; left_after = S.left source.new; faults = S.faults source.old; faults_after = S.faults source.new })
         (record { held = O.held out.old; held_after = O.held out.new; faults = O.faults out.old; faults_after = O.faults out.new })
         out.old out.new }

@@ -3,6 +3,7 @@ ghost use Rattle.std.specs.Prelude.{◌≡◌, ◌^◌, map, None, Some, IfSome,
 ghost use Rattle.record_hash.specs.Hmac.{key_block};
 ghost use Rattle.program_words.specs.Words.{asked_of};
 ghost use Rattle.program_words.specs.declared.words.Asked.{Asked};
+ghost use Rattle.bundle_frames.specs.Extent.{reading_end};
 ghost use Rattle.report_text.specs.Answer.{AnswersTo};
 ghost use Rattle.fastver_top.specs.Answers.{answer_to, IsProgramStatus, IsStatusOf, IsSoundFor, CollidesFor};
 
@@ -45,7 +46,7 @@ pub fn fastver<R: Threads + Wait + Sync, S: Source, O: Sink, V: Vault, G: Gate +
     // Where they ask for something: what is written, the status, what was taken of the source, and the faults. The
     // answer is to the source's bytes under the key of the words.
     ensures answers { (asked : Asked) → asked_of (map (λ word. word.now) words.now) ≡ Some asked
-        → AnswersTo (answer_to asked) (2 ^ 40) result
+        → AnswersTo (answer_to asked) reading_end (2 ^ 40) result
         (record { left = S.left source.old; left_after = S.left source.new; faults = S.faults source.old; faults_after = S.faults source.new })
         (record { held = O.held out.old; held_after = O.held out.new; faults = O.faults out.old; faults_after = O.faults out.new })
         out.old out.new }
