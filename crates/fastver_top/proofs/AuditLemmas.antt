@@ -1,12 +1,14 @@
 -- What an audit shows is the exhibit of what was read, and that is a collision.
-use Rattle.std.proofs.Common.{◌≡◌, ◌≢◌, ◌⊎◌, ℕ, List, [], ◌∷◌, map, Option, Some, None, IfSome, refl, sym, ◌∙◌, ap, subst, inl, inr}
+use Rattle.std.proofs.Common.{◌≡◌, ◌≢◌, ℕ, List, [], ◌∷◌, map, Option, Some, None, IfSome, refl, sym, ◌∙◌, ap, subst, inl, inr}
 use Rattle.record_hash.specs.Functions.{DigestFunctions}
 use Rattle.lamport_clocks.specs.declared.header.Header.{Header}
 use Rattle.record_text.specs.declared.exhibit.Exhibit.{Exhibit}
 use Rattle.record_text.specs.declared.exhibit.Exhibit.TheVariants.{Clean, Strings, Multisets}
 use Rattle.record_text.specs.Format.{short_keys}
 use Rattle.record_text.specs.declared.operation.Operation.{Operation}
-use Rattle.report_text.specs.declared.status.Status.{Status}
+use Rattle.report_text.specs.declared.ending.BundleEnd.{BundleEnd}
+use Rattle.report_text.specs.declared.ending.BundleEnd.TheVariants as bundles
+use Rattle.report_text.specs.Ending.{status_of}
 use Rattle.report_text.specs.declared.status.Status.TheVariants as statuses
 use Rattle.log_codec.specs.declared.command.Command.{Command}
 use Rattle.log_codec.specs.Log.{Log, read_log}
@@ -17,10 +19,11 @@ use Rattle.soundness.specs.Sound.{commands_of, histories_read, IsSerialOrCollide
 use Rattle.merkle_records.specs.Scheme.{Scheme, scheme_of}
 use Rattle.check_core.specs.BundleReport.{histories_at}
 use Rattle.check_core.specs.Intake.{Logged, logged_of}
-use Rattle.check_core.specs.Outcomes.{IsOutcome}
 use Rattle.check_core.specs.Answer.{certified_at}
 use Rattle.check_core.specs.Headline.{exhibit_at, CollidesAt, IsSoundAt}
-use Rattle.fastver_top.specs.Auditing.{audit_status, ExhibitCollides}
+use Rattle.fastver_top.specs.declared.audit_end.AuditEnd.{AuditEnd}
+use Rattle.fastver_top.specs.declared.audit_end.AuditEnd.TheVariants as ends
+use Rattle.fastver_top.specs.Auditing.{audit_end, audit_end_status, ExhibitCollides}
 
 -- ---- what was read
 
@@ -45,21 +48,23 @@ exhibit_none functions found logs is = sym (ap (λ (o : Option Header). exhibit_
 
 -- ---- what is shown
 
--- a check never ends as an exhibit does
-not_shown : (status : Status) → IsOutcome status → status ≡ statuses.Exhibit → ⊥
-not_shown status outcome is = subst IsOutcome is outcome
-
 -- where an audit ends with an exhibit there is one
-pub status_shown : (exhibit : Exhibit) (status : Status) → IsOutcome status → audit_status exhibit status ≡ statuses.Exhibit → exhibit ≢ Clean
-status_shown Clean status outcome is = λ same. not_shown status outcome is
-status_shown (Strings evicted added) status outcome is = λ same. cc
-status_shown (Multisets epoch added evicted) status outcome is = λ same. cc
+pub end_shown : (exhibit : Exhibit) (end : BundleEnd) → audit_end exhibit end ≡ ends.Exhibit → exhibit ≢ Clean
+end_shown Clean end is = λ same. cc
+end_shown (Strings evicted added) end is = λ same. cc
+end_shown (Multisets epoch added evicted) end is = λ same. cc
 
--- an audit ends as a check, or as an exhibit
-pub status_audited : (exhibit : Exhibit) (status : Status) → IsOutcome status → IsOutcome (audit_status exhibit status) ⊎ audit_status exhibit status ≡ statuses.Exhibit
-status_audited Clean status outcome = inl outcome
-status_audited (Strings evicted added) status outcome = inr refl
-status_audited (Multisets epoch added evicted) status outcome = inr refl
+-- no report of a bundle ends as an exhibit does
+bundle_not_shown : (end : BundleEnd) → status_of end ≡ statuses.Exhibit → ⊥
+bundle_not_shown (bundles.Done epochs) is = cc
+bundle_not_shown (bundles.BadBundle offset) is = cc
+bundle_not_shown (bundles.Refused verifier index refusal) is = cc
+bundle_not_shown (bundles.Unbalanced epoch added evicted) is = cc
+
+-- an audit answers `exhibit` just where it ends so
+pub status_shown : (end : AuditEnd) → audit_end_status end ≡ statuses.Exhibit → end ≡ ends.Exhibit
+status_shown ends.Exhibit is = refl
+status_shown (ends.Bundle end) is = absurd (bundle_not_shown end is)
 
 -- what is exhibited collides
 shown_serial : (scheme : Scheme) (exhibit : Exhibit) (operations : List Operation)

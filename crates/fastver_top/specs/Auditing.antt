@@ -13,7 +13,6 @@ use Rattle.report_text.specs.Exhibit.{exhibit_text}
 use Rattle.report_text.specs.Status.{last_line}
 use Rattle.check_core.specs.Intake.{Logged, logged_of}
 use Rattle.check_core.specs.Answer.{certified_at, answer_by}
-use Rattle.report_text.specs.Answer.{Answer}
 use Rattle.fastver_top.specs.declared.audit_end.AuditEnd.{AuditEnd}
 use Rattle.fastver_top.specs.declared.audit_end.AuditEnd.TheVariants as ends
 use Rattle.check_core.specs.Headline.{exhibit_at, CollidesAt}

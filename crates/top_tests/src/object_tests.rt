@@ -107,3 +107,57 @@ fn no_more_is_read_than_the_limit(rt: HostRuntime) -> Result<(), Fail> {
     }
     Ok(())
 }
+
+#[test]
+fn nothing_is_read_behind_what_is_bad(rt: HostRuntime) -> Result<(), Fail> {
+    // Behind the frames the head of one with no bytes, whose last byte is number 122, and 100 bytes more.
+    let mut bytes = bundle_of(rt.alloc(), PUT_AND_GET)?;
+    bytes.extend_from_slice(&[0; 106])?;
+    let report =
+        "epoch 0 certified 2\n0.0 v0 put 5 6162\n0.0 v0 get 5 6162\nbad bundle at byte 116\n";
+    let d = ShaDigests::new(&[0; 32]);
+    for (limit, piece, left) in [
+        (1 << 40, 1, 100),
+        (122, 1, 100),
+        (122, 1000, 100),
+        (1 << 40, 1000, 0),
+    ] {
+        let mut source = MemorySource::new(rt.alloc(), &bytes, piece, &[])?;
+        let mut out = MemorySink::new(rt.alloc(), 10_000, piece, &[])?;
+        let status = check(&rt, rt.alloc(), &d, limit, &mut source, &mut out);
+        assert_eq!(rt; out.bytes(), report.as_bytes());
+        assert_eq!(rt; status, Status::BadBundle { offset: 116 });
+        assert_eq!(rt; source.left().len(), left);
+    }
+    let mut source = MemorySource::new(rt.alloc(), &bytes, 1000, &[])?;
+    let mut out = MemorySink::new(rt.alloc(), 10_000, 1000, &[])?;
+    let status = check(&rt, rt.alloc(), &d, 121, &mut source, &mut out);
+    assert_eq!(rt; status, Status::InputLimit { taken: 121 });
+    assert_eq!(rt; source.left().len(), 100);
+    Ok(())
+}
+
+// No clause can say it: of a source that counts faults in reads that give bytes too, a failed read with one that gives
+// bytes behind it looks like one read. So a body that reads again fails here alone.
+#[test]
+fn a_failed_read_is_the_last(rt: HostRuntime) -> Result<(), Fail> {
+    let d = ShaDigests::new(&[0; 32]);
+    let bytes = bundle_of(rt.alloc(), PUT_AND_GET)?;
+    // The calls that fail, and how many of 116 bytes are left behind the first of them, at 10 a read.
+    for (first, second, left) in [
+        (0, 7, 116),
+        (0, 1, 116),
+        (3, 4, 86),
+        (3, 5, 86),
+        (12, 13, 0),
+    ] {
+        let mut source = MemorySource::new(rt.alloc(), &bytes, 10, &[first, second])?;
+        let mut out = MemorySink::new(rt.alloc(), 10_000, 10, &[])?;
+        let status = check(&rt, rt.alloc(), &d, 1 << 40, &mut source, &mut out);
+        assert_eq!(rt; status, Status::ReadFault);
+        assert_eq!(rt; source.faults(), 1);
+        assert_eq!(rt; source.left().len(), left);
+        assert!(rt; out.bytes().is_empty());
+    }
+    Ok(())
+}

@@ -3,7 +3,7 @@ ghost use Rattle.std.specs.Prelude.{◌≡◌, IsSome};
 ghost use Rattle.verifier_cache.specs.Entry.{with_value};
 ghost use Rattle.verifier_cache.specs.Cache.{entry_of, changed};
 
-use crate::rows::{field, one_byte, path_of};
+use crate::rows::{field, one_byte, path_of, same};
 use record_text::{Value, initial};
 use std::test::Fail;
 use tree_keys::Path;
@@ -78,9 +78,9 @@ fn entries_come_and_go(rt: HostRuntime) -> Result<(), Fail> {
         } else {
             take_out(&mut cache, key).is_some()
         };
-        assert_eq!(rt; done, field(row, 2)? == "true", "{row}");
+        same(&rt, row, &done, &(field(row, 2)? == "true"));
         for (key, there) in field(row, 3)?.as_bytes().iter().enumerate() {
-            assert_eq!(rt; has(&cache, key as u64), *there == b'1', "{row}");
+            same(&rt, row, &has(&cache, key as u64), &(*there == b'1'));
         }
     }
     assert_eq!(rt; cache.len(), 1);
@@ -152,9 +152,9 @@ fn one_kid_bit_changes_at_a_time(rt: HostRuntime) -> Result<(), Fail> {
         let side = field(row, 1)? == "1";
         assert!(rt; change(&mut cache, &path, side, field(row, 2)? == "1"));
         let root = Some((bits_of(field(row, 3)?)?, Hold::Root));
-        assert_eq!(rt; state_of(&cache, &Path::root()), root, "{row}");
+        same(&rt, row, &state_of(&cache, &Path::root()), &root);
         let key = Some((bits_of(field(row, 4)?)?, Hold::M));
-        assert_eq!(rt; state_of(&cache, &Path::of_key(5)), key, "{row}");
+        same(&rt, row, &state_of(&cache, &Path::of_key(5)), &key);
     }
     Ok(())
 }

@@ -1,5 +1,5 @@
 //! Nodes that were worked out by hand, with digests that are sums of bytes.
-use crate::rows::{field, one_byte, path_of};
+use crate::rows::{field, one_byte, path_of, same};
 use merkle_records::{AddCase, add_case, after_add, after_evict, defer, digest_of};
 use record_hash::ToyDigests;
 use record_text::{Node, Pointer, Value};
@@ -123,7 +123,7 @@ fn pointers_lead_by_their_paths(rt: HostRuntime) -> Result<(), Fail> {
             }),
         };
         let found = case_at(&node, &path_of(field(row, 0)?)?, &path_of(field(row, 2)?)?);
-        assert_eq!(rt; found, case_of(field(row, 3)?)?, "{row}");
+        same(&rt, row, &found, &case_of(field(row, 3)?)?);
     }
     Ok(())
 }
@@ -156,7 +156,7 @@ fn adds_change_one_side(rt: HostRuntime) -> Result<(), Fail> {
         let path = path_of(field(row, 1)?)?;
         let found = added(&node, &Path::root(), &path, &value_of(field(row, 2)?)?);
         let wanted = (with_left(field(row, 3)?)?, value_of(field(row, 4)?)?);
-        assert_eq!(rt; found, Some(wanted), "{row}");
+        same(&rt, row, &found, &Some(wanted));
     }
     Ok(())
 }
@@ -174,7 +174,7 @@ fn evicts_change_one_side(rt: HostRuntime) -> Result<(), Fail> {
         let node = with_left(field(row, 0)?)?;
         let path = path_of(field(row, 1)?)?;
         let found = evicted(&node, &Path::root(), &path, &value_of(field(row, 2)?)?);
-        assert_eq!(rt; found, Some(with_left(field(row, 3)?)?), "{row}");
+        same(&rt, row, &found, &Some(with_left(field(row, 3)?)?));
     }
     Ok(())
 }

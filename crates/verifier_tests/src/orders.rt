@@ -1,4 +1,5 @@
 //! Merged orders and replies that were written out by hand.
+use crate::rows::same;
 use lamport_clocks::Stamp;
 use record_text::{Blob, Operation};
 use stamp_order::{Moment, PlainMap, is_serial, merge};
@@ -121,7 +122,7 @@ fn serial_lists_are_told_from_others(rt: HostRuntime) -> Result<(), Fail> {
         for word in words {
             operations.push(operation_of(word)?)?;
         }
-        assert_eq!(rt; is_serial(rt.alloc(), &operations)?, serial, "{row}");
+        same(&rt, row, &is_serial(rt.alloc(), &operations)?, &serial);
     }
     Ok(())
 }

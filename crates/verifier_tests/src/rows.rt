@@ -1,5 +1,7 @@
 //! Tables as texts: a row is a line, with one blank between its fields.
 use record_text::{Blob, Value};
+use std::fmt::Debug;
+use std::process::Abort;
 use std::test::Fail;
 use tree_keys::Path;
 
@@ -9,6 +11,11 @@ pub fn field(row: &str, place: usize) -> Result<&str, Fail> {
         Some(text) => Ok(text),
         None => Err("a row with too few fields")?,
     }
+}
+
+/// Two values are the same. Where they aren't, the test ends, and tells the row.
+pub fn same<T: PartialEq + Debug>(rt: &impl Abort, row: &str, found: &T, wanted: &T) {
+    assert_eq!(rt; found, wanted, "{row}");
 }
 
 /// A path from its text: `root`, the key of a data path behind a `k`, or else its bits.

@@ -2,7 +2,7 @@
 ghost use Rattle.std.specs.Prelude.{◌↔◌, ◌≡◌, ◌<◌, ◌≤◌, ◌^◌, IsTrue, false};
 ghost use Rattle.epoch_gather.specs.Parts.{is_same_place};
 
-use crate::rows::field;
+use crate::rows::{field, same};
 use epoch_gather::{Verdict, verdict};
 use multiset_sum::{Part, Sum};
 use std::test::Fail;
@@ -112,7 +112,7 @@ fn verdicts_are_by_all_verifiers(rt: HostRuntime) -> Result<(), Fail> {
     for row in VERDICTS.trim().lines() {
         let parts = parts_of(field(row, 0)?, field(row, 1)?, field(row, 2)?)?;
         let found = verdict_on(&parts, field(row, 3)?.parse()?, field(row, 4)?.parse()?);
-        assert_eq!(rt; found, Some(verdict_of(field(row, 5)?)?), "{row}");
+        same(&rt, row, &found, &Some(verdict_of(field(row, 5)?)?));
     }
     Ok(())
 }
