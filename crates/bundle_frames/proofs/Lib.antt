@@ -3,5 +3,5 @@ pub mod FrontLaws
 pub mod BundleLaws
 pub mod PartLaws
 pub mod FindsLaws
-pub mod TextLaws
-pub mod SpelledLaws
+mod TextLemmas
+mod SpelledLemmas

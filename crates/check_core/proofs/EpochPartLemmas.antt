@@ -11,7 +11,7 @@ use Rattle.lamport_clocks.specs.Header.{IsHeader}
 use Rattle.log_codec.specs.Log.{read_log}
 use Rattle.multiset_sum.specs.declared.part.Part.{Part}
 use Rattle.epoch_gather.specs.Parts.{is_same_part}
-use Rattle.stamp_order.proofs.InOrderLemmas.{every-weaker}
+use Rattle.stamp_order.proofs.InOrderLaws.{every-weaker}
 use Rattle.soundness.specs.History.{Event, log_events}
 use Rattle.soundness.specs.Certified.{sealed_count, epochs_from}
 use Rattle.check_core.specs.RunReport.{courses_from, courses_of, parts_at}

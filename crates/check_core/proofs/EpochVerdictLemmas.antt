@@ -16,8 +16,8 @@ use Rattle.epoch_gather.specs.declared.outcome.Verdict.{Verdict}
 use Rattle.epoch_gather.specs.declared.outcome.Verdict.TheVariants.{Balanced, Unbalanced, Missing}
 use Rattle.epoch_gather.specs.Parts.{of_epoch, has_part, lowest_missing, total}
 use Rattle.epoch_gather.specs.Verdict.{verdict_by, verdict_of}
-use Rattle.epoch_gather.proofs.VerdictLemmas.{lowest_missing-is}
-use Rattle.stamp_order.proofs.InOrderLemmas.{every-weaker}
+use Rattle.epoch_gather.proofs.VerdictLaws.{lowest_missing-is}
+use Rattle.stamp_order.proofs.InOrderLaws.{every-weaker}
 use Rattle.soundness.specs.History.{Event}
 use Rattle.soundness.specs.Certified.{all_events, order_of, added_by, evicted_by, added_in, evicted_in, sum_over, sealed_count, sealed_by_all, is_balanced}
 use Rattle.check_core.specs.BundleReport.{histories_in}

@@ -1,22 +1,22 @@
 -- What reading a source comes to, what is certified, and that a run comes to what its history says.
-pub mod TookLemmas
-pub mod ReportLemmas
-pub mod ExtentLemmas
-pub mod LogLemmas
-pub mod MeaningLemmas
-pub mod HistoryRunLemmas
-pub mod CountedLemmas
-pub mod SealedLemmas
-pub mod PartLemmas
-pub mod EpochTextLemmas
-pub mod RunReportLemmas
-pub mod RunTextLemmas
-pub mod SmallPartLemmas
-pub mod OrderSumLemmas
-pub mod EpochPartLemmas
-pub mod EpochVerdictLemmas
-pub mod CertifiedCountLemmas
-pub mod ManyLemmas
-pub mod RunningLemmas
-pub mod AnswerLemmas
-pub mod HeadlineLemmas
+mod TookLemmas
+mod ReportLemmas
+mod ExtentLemmas
+mod LogLemmas
+mod MeaningLemmas
+mod HistoryRunLemmas
+mod CountedLemmas
+mod SealedLemmas
+mod PartLemmas
+mod EpochTextLemmas
+mod RunReportLemmas
+mod RunTextLemmas
+mod SmallPartLemmas
+mod OrderSumLemmas
+mod EpochPartLemmas
+mod EpochVerdictLemmas
+mod CertifiedCountLemmas
+mod ManyLemmas
+mod RunningLemmas
+mod AnswerLemmas
+pub mod HeadlineLaws

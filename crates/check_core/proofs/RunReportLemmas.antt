@@ -12,7 +12,7 @@ use Rattle.log_codec.specs.Log.{Log, read_log}
 use Rattle.report_text.specs.declared.ending.BundleEnd.{BundleEnd}
 use Rattle.stamp_order.specs.Merged.{merged, up_to}
 use Rattle.stamp_order.specs.Operations.{moment_of, merged_up_to}
-use Rattle.stamp_order.proofs.MergedLemmas.{merged-filter, merged-flat_map}
+use Rattle.stamp_order.proofs.MergedLaws.{merged-filter, merged-flat_map}
 use Rattle.verifier_commands.specs.Change.{Change, did_add_m, did_evict_m, did_add_b, did_evict_b, did_evict_bm, did_get, did_put, did_next_epoch}
 use Rattle.verifier_commands.specs.Machine.{opening_machine}
 use Rattle.verifier_run.specs.Trace.{Trace, trace}

@@ -13,14 +13,14 @@ use Rattle.report_text.specs.Status.{last_line}
 use Rattle.report_text.specs.Ending.{status_of}
 use Rattle.stamp_order.specs.Merged.{comes_before, IsMerged, up_to}
 use Rattle.stamp_order.specs.Operations.{moment_of}
-use Rattle.stamp_order.proofs.InOrderLemmas.{every-weaker, every-filter, every-append, every-in_order}
-use Rattle.stamp_order.proofs.MergedLemmas.{merged-sorts}
+use Rattle.stamp_order.proofs.InOrderLaws.{every-weaker, every-filter, every-append, every-in_order}
+use Rattle.stamp_order.proofs.MergedLaws.{merged-sorts}
 use Rattle.verifier_commands.specs.Change.{Change, did_add_m, did_evict_m, did_add_b, did_evict_b, did_evict_bm, did_get, did_put, did_next_epoch}
 use Rattle.soundness.specs.History.{Event, log_events}
 use Rattle.soundness.specs.Certified.{all_events, order_of, order_within, operations_by, operations_in, sealed_by_all, epochs_from, certified_count, certified_operations}
-use Rattle.soundness.proofs.HistoryLemmas.{IsOfLog, log-epochs}
-use Rattle.soundness.proofs.SplitLemmas.{epoch_not_before}
-use Rattle.soundness.proofs.EpochLemmas.{IsByEpoch}
+use Rattle.soundness.proofs.HistoryLaws.{IsOfLog, log-epochs}
+use Rattle.soundness.proofs.SplitLaws.{epoch_not_before}
+use Rattle.soundness.proofs.EpochLaws.{IsByEpoch}
 use Rattle.check_core.specs.Report.{front_count, epoch_text, certified_text}
 use Rattle.check_core.specs.BundleReport.{epoch_lines, done_or_bad, end_or, unbalanced_end, end_of, report_of_logs, histories_in}
 use Rattle.check_core.specs.RunReport.{courses_from, courses_of, operations_among, operations_within, first_refused, epochs_text}

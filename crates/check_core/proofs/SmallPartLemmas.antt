@@ -15,17 +15,17 @@ use Rattle.record_text.specs.declared.element.Element.{Element}
 use Rattle.log_codec.specs.declared.command.Command.{Command}
 use Rattle.log_codec.specs.Log.{read_log}
 use Rattle.multiset_sum.specs.declared.part.Part.{Part}
-use Rattle.stamp_order.proofs.InOrderLemmas.{every-append}
+use Rattle.stamp_order.proofs.InOrderLaws.{every-append}
 use Rattle.verifier_commands.specs.declared.sums.Sums.{Sums}
 use Rattle.verifier_commands.specs.Change.{Change, did_add_m, did_evict_m, did_add_b, did_evict_b, did_evict_bm, did_get, did_put, did_next_epoch}
 use Rattle.verifier_commands.specs.Outcome.{outcome_of}
 use Rattle.verifier_commands.specs.Sums.{add_to, evict_to, advanced_sums, sums_after}
 use Rattle.verifier_commands.specs.Transition.{Rules, Step, transition}
 use Rattle.verifier_commands.specs.Machine.{Machine, AreBounded, CountsAdd, opening_machine, effect_of, rules_for}
-use Rattle.verifier_commands.proofs.BoundLemmas.{bounded_add, bounded_evict, bounded_turn}
+use Rattle.verifier_commands.proofs.BoundLaws.{bounded_add, bounded_evict, bounded_turn}
 use Rattle.multiset_sum.specs.Sum.{with_lanes}
 use Rattle.verifier_run.specs.Trace.{trace, parts_of, part_in}
-use Rattle.soundness.proofs.HistoryLemmas.{Ticks, ticks_step}
+use Rattle.soundness.proofs.HistoryLaws.{Ticks, ticks_step}
 use Rattle.check_core.specs.RunReport.{courses_from, parts_at}
 use Rattle.check_core.proofs.HistoryRunLemmas.{changed, step_trace}
 

@@ -4,7 +4,7 @@ use Rattle.std.specs.Option.{option_map, option_to_list}
 use Rattle.std.proofs.lemmas.Bool.{true≢false}
 use Rattle.std.proofs.lemmas.Result.{IfOk-at_ok}
 use Rattle.tree_keys.specs.Path.{side}
-use Rattle.tree_keys.proofs.PathLemmas.{same_path-apart}
+use Rattle.tree_keys.proofs.PathLaws.{same_path-apart}
 use Rattle.lamport_clocks.specs.Clock.{received, sent, advanced}
 use Rattle.step_words.specs.Steps.{need}
 use Rattle.step_words.proofs.StepLaws.{test-ok}
@@ -26,9 +26,9 @@ use Rattle.verifier_commands.specs.Change.{Change, did_add_m}
 use Rattle.verifier_commands.specs.Changes.{node_of, above, above_on, leads_to, add_under, evict_under, defer_under, is_by_stamp}
 use Rattle.verifier_commands.specs.Transition.{Rules, is_root, is_data, is_full, transition}
 use Rattle.soundness.specs.Clash.{is_known}
-use Rattle.soundness.proofs.FamilyLemmas.{IsAdd, on_empty, on_same, on_split, IsAdded, added_how}
-use Rattle.soundness.proofs.InvertLemmas.{need-ok, and_then-ok, timed-ok}
-use Rattle.soundness.proofs.SideLemmas.{above_apart}
+use Rattle.soundness.proofs.FamilyLaws.{IsAdd, on_empty, on_same, on_split, IsAdded, added_how}
+use Rattle.soundness.proofs.InvertLaws.{need-ok, and_then-ok, timed-ok}
+use Rattle.soundness.proofs.SideLaws.{above_apart}
 use Rattle.collision_exhibit.specs.declared.audit_event.AuditChange.{AuditChange}
 use Rattle.collision_exhibit.specs.declared.audit_event.AuditChange.TheVariants as audits
 use Rattle.collision_exhibit.specs.AuditEvent.{audit_changes_by}

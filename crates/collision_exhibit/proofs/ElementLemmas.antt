@@ -8,10 +8,10 @@ use Rattle.std.proofs.lemmas.List.Sorted.{sum_by-IsPermutation}
 use Rattle.std.proofs.lemmas.List.Sums.{sum_by-cons}
 use Rattle.record_text.specs.declared.element.Element.{Element}
 use Rattle.stamp_order.specs.Merged.{merged}
-use Rattle.stamp_order.proofs.MergedLemmas.{merged-permutation, merged-filter}
+use Rattle.stamp_order.proofs.MergedLaws.{merged-permutation, merged-filter}
 use Rattle.soundness.specs.Certified.{of_epoch}
 use Rattle.soundness.specs.Permutation.{same_element, count_of, without_one, permuted_behind, is_permutation}
-use Rattle.soundness.proofs.PermutationLemmas.{same_element-self, one_more, count_without, count_permuted, without_there}
+use Rattle.soundness.proofs.PermutationLaws.{same_element-self, one_more, count_without, count_permuted, without_there}
 use Rattle.collision_exhibit.specs.declared.audit_event.AuditEvent.{AuditEvent}
 use Rattle.collision_exhibit.specs.Shown.{added_elements, evicted_elements, uneven_among}
 use Rattle.collision_exhibit.specs.Elements.{evict_moment, is_within, within}

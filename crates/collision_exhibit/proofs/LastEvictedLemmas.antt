@@ -12,8 +12,8 @@ use Rattle.std.proofs.lemmas.Bool.Decides.{nat_tests}
 use Rattle.std.proofs.lemmas.Map.Made.{lookup-map_values}
 use Rattle.tree_keys.specs.Bits.{bits_of, number_of}
 use Rattle.tree_keys.specs.Path.{same_path, word_of}
-use Rattle.tree_keys.proofs.BitsLemmas.{number_of-lt, bits_of-number_of}
-use Rattle.tree_keys.proofs.PathLemmas.{same_path-self, same_path-true}
+use Rattle.tree_keys.proofs.BitsLaws.{number_of-lt, bits_of-number_of}
+use Rattle.tree_keys.proofs.PathLaws.{same_path-self, same_path-true}
 use Rattle.record_text.specs.declared.value.Value.{Value}
 use Rattle.soundness.specs.Clash.{with_last_evicted}
 use Rattle.collision_exhibit.specs.LastEvicted.{path_number, Entries, last_evicted_at}

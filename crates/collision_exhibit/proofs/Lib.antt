@@ -1,10 +1,10 @@
 -- How what an audit shows is proved, in reading order.
-pub mod AuditEventLemmas
-pub mod AuditChangeLemmas
-pub mod TellLemmas
-pub mod OrderedLemmas
-pub mod LaneLemmas
-pub mod ElementLemmas
-pub mod PartingLemmas
-pub mod OwnStampLemmas
-pub mod LastEvictedLemmas
+mod AuditEventLemmas
+mod AuditChangeLemmas
+mod TellLemmas
+mod OrderedLemmas
+mod LaneLemmas
+mod ElementLemmas
+mod PartingLemmas
+mod OwnStampLemmas
+mod LastEvictedLemmas

@@ -8,7 +8,7 @@ use Rattle.std.proofs.lemmas.Grind.{flat_map-append}
 use Rattle.lamport_clocks.specs.declared.header.Header.{Header}
 use Rattle.log_codec.specs.Log.{read_log}
 use Rattle.stamp_order.specs.Merged.{merged}
-use Rattle.stamp_order.proofs.MergedLemmas.{merged-flat_map}
+use Rattle.stamp_order.proofs.MergedLaws.{merged-flat_map}
 use Rattle.soundness.specs.History.{Event, log_events, histories_from}
 use Rattle.soundness.specs.Certified.{event_moment, all_events}
 use Rattle.soundness.specs.Sound.{commands_of}

@@ -15,12 +15,12 @@ use Rattle.record_text.specs.declared.element.Element.{Element}
 use Rattle.log_codec.specs.declared.command.Command.{Command}
 use Rattle.stamp_order.specs.InOrder.{put_in_order, in_order}
 use Rattle.stamp_order.specs.Merged.{comes_before}
-use Rattle.stamp_order.proofs.InOrderLemmas.{every-weaker, every-append}
+use Rattle.stamp_order.proofs.InOrderLaws.{every-weaker, every-append}
 use Rattle.soundness.specs.History.{Event, log_events, histories_from, histories_of}
 use Rattle.soundness.specs.Certified.{event_moment, evicted_by, all_events, order_of}
 use Rattle.soundness.specs.Permutation.{same_stamp}
 use Rattle.soundness.specs.Timed.{IsEarlier, evicted_among, IsRising}
-use Rattle.soundness.proofs.RisingLemmas.{log_own, log_rising}
+use Rattle.soundness.proofs.RisingLaws.{log_own, log_rising}
 use Rattle.collision_exhibit.specs.AuditEvent.{audit_events_in}
 use Rattle.collision_exhibit.specs.Shown.{evicted_elements}
 use Rattle.collision_exhibit.specs.Elements.{same_evict, HaveOwnStamps}

@@ -9,13 +9,13 @@ use Rattle.std.proofs.lemmas.Map.Keys.{IsDistinct-head, IsDistinct-tail, IsDisti
 use Rattle.record_text.specs.declared.element.Element.{Element}
 use Rattle.stamp_order.specs.declared.moment.Moment.{Moment}
 use Rattle.stamp_order.specs.Merged.{comes_before, merged, IsMerged}
-use Rattle.stamp_order.proofs.InOrderLemmas.{every-weaker, every-filter, every-in_order}
-use Rattle.stamp_order.proofs.OneOrderLemmas.{every-passes, not_before_itself}
-use Rattle.stamp_order.proofs.MomentLemmas.{is_before-order, comes_before-order, is_before-epoch, one_moment}
-use Rattle.stamp_order.proofs.MergedLemmas.{merged-sorts, merged-permutation}
+use Rattle.stamp_order.proofs.InOrderLaws.{every-weaker, every-filter, every-in_order}
+use Rattle.stamp_order.proofs.OneOrderLaws.{every-passes, not_before_itself}
+use Rattle.stamp_order.proofs.MomentLaws.{is_before-order, comes_before-order, is_before-epoch, one_moment}
+use Rattle.stamp_order.proofs.MergedLaws.{merged-sorts, merged-permutation}
 use Rattle.soundness.specs.Certified.{of_epoch}
 use Rattle.soundness.specs.Permutation.{same_element, count_of, without_one, permuted_behind, is_permutation}
-use Rattle.soundness.proofs.PermutationLemmas.{same_element-true, same_element-self, one_more}
+use Rattle.soundness.proofs.PermutationLaws.{same_element-true, same_element-self, one_more}
 use Rattle.collision_exhibit.specs.declared.audit_event.AuditEvent.{AuditEvent}
 use Rattle.collision_exhibit.specs.Shown.{added_elements, evicted_elements, uneven_among}
 use Rattle.collision_exhibit.specs.Elements.{same_evict, HaveOwnStamps, evict_moment, is_within, within, parting}

@@ -15,7 +15,7 @@ use Rattle.log_codec.specs.declared.reading.Decoded.TheVariants.{Read, Malformed
 use Rattle.log_codec.specs.Command.{command_at}
 use Rattle.log_codec.specs.Decoded.{Decodes}
 use Rattle.log_codec.specs.Log.{Log, read_log}
-use Rattle.log_codec.proofs.LogLemmas.{read_log-empty, read_log-step, read_log-fault}
+use Rattle.log_codec.proofs.LogLaws.{read_log-empty, read_log-step, read_log-fault}
 use Rattle.verifier_cache.specs.Cache.{Held}
 use Rattle.verifier_commands.specs.declared.effect.Effect.{Effect}
 use Rattle.verifier_commands.specs.declared.state.State.{State}

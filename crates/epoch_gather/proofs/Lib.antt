@@ -1,2 +1,2 @@
-pub mod RoomLemmas
-pub mod VerdictLemmas
+mod RoomLemmas
+pub mod VerdictLaws

@@ -1,3 +1,3 @@
 -- How what the program answers is what its words ask for.
-pub mod AuditLemmas
-pub mod AnswerLemmas
+mod AuditLemmas
+mod AnswerLemmas

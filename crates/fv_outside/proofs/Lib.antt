@@ -1,3 +1,3 @@
 -- Laws of this crate's words, for callers too.
-pub mod FaultLaws
+mod FaultLemmas
 pub mod WrittenLaws

@@ -1,7 +1,7 @@
 -- Lemmas on commands and logs, in reading order.
-pub mod StepLemmas
-pub mod CommandLemmas
-pub mod CommandKeepsOn
-pub mod LengthLemmas
-pub mod ReadLemmas
-pub mod LogLemmas
+pub mod StepLaws
+pub mod CommandLaws
+pub mod CommandKeepsOnLaws
+pub mod LengthLaws
+mod ReadLemmas
+pub mod LogLaws

@@ -5,14 +5,14 @@ use Rattle.record_text.specs.declared.reader.TextFault.{TextFault}
 use Rattle.record_text.specs.declared.reader.TextFault.TheVariants as faults
 use Rattle.record_text.specs.Format.{short_keys}
 use Rattle.record_text.specs.Fields.{Parsed}
-use Rattle.record_text.proofs.FieldLemmas.{AreBytes, wide64}
-use Rattle.record_text.proofs.CountLemmas.{taken, only_from_read}
+use Rattle.record_text.proofs.FieldLaws.{AreBytes, wide64}
+use Rattle.record_text.proofs.CountLaws.{taken, only_from_read}
 use Rattle.log_codec.specs.declared.command.Command.{Command}
 use Rattle.log_codec.specs.declared.reading.Decoded.{Decoded}
 use Rattle.log_codec.specs.declared.reading.Decoded.TheVariants.{Read, Malformed, Truncated}
 use Rattle.log_codec.specs.Command.{command_text, command_at, IsCommand}
-use Rattle.log_codec.proofs.CommandLemmas.{command_begins, command_again}
-use Rattle.log_codec.proofs.CommandKeepsOn.{command_shorter}
+use Rattle.log_codec.proofs.CommandLaws.{command_begins, command_again}
+use Rattle.log_codec.proofs.CommandKeepsOnLaws.{command_shorter}
 
 -- a command that was read, where so many bytes are left
 pub record IsRead (bytes : List ℕ) (command : Command) (left : ℕ) : Type 0 where

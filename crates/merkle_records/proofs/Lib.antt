@@ -1,2 +1,2 @@
 -- Lemmas on nodes and what their pointers lead to.
-pub mod KindLemmas
+pub mod KindLaws

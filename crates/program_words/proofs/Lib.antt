@@ -1,2 +1,2 @@
-pub mod WordsLemmas
+mod WordsLemmas
 mod WordsFacts

@@ -1,10 +1,10 @@
 -- Lemmas on records and their texts.
-pub mod SameLemmas
-pub mod SameTestLemmas
-pub mod FieldLemmas
-pub mod PathTextLemmas
-pub mod ValueTextLemmas
-pub mod ElementTextLemmas
-pub mod CountLemmas
-pub mod KeepsOnLemmas
-pub mod OneTextLemmas
+mod SameLemmas
+pub mod SameTestLaws
+pub mod FieldLaws
+pub mod PathTextLaws
+pub mod ValueTextLaws
+pub mod ElementTextLaws
+pub mod CountLaws
+pub mod KeepsOnLaws
+pub mod OneTextLaws

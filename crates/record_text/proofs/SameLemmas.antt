@@ -5,7 +5,7 @@ use Rattle.std.specs.Str.{bytes_eq}
 use Rattle.std.proofs.lemmas.Slice.Eq.{bytes_eq-Decides}
 use mathlib.Core.Bool.{beq}
 use Rattle.tree_keys.specs.Path.{same_path}
-use Rattle.tree_keys.proofs.PathLemmas.{same_path-self, same_path-true}
+use Rattle.tree_keys.proofs.PathLaws.{same_path-self, same_path-true}
 use Rattle.record_text.specs.declared.value.Pointer.{Pointer}
 
 -- paths that the test tells apart are not one

@@ -1,3 +1,3 @@
 -- Texts that are added one after another, to a line and to a page.
-pub mod Pushes
-pub mod PassLemmas
+mod Pushes
+pub mod PassLaws

@@ -14,17 +14,17 @@ use Rattle.record_text.specs.declared.element.Element.{Element}
 use Rattle.log_codec.specs.declared.command.Command.{Command}
 use Rattle.merkle_records.specs.Merkle.{Digest}
 use Rattle.stamp_order.specs.Merged.{comes_before, of_verifier}
-use Rattle.stamp_order.proofs.InOrderLemmas.{every-weaker, every-append, every-in_order}
+use Rattle.stamp_order.proofs.InOrderLaws.{every-weaker, every-append, every-in_order}
 use Rattle.soundness.specs.History.{Event, log_events, histories_from, histories_of}
 use Rattle.soundness.specs.Certified.{event_moment, evicted_by, all_events, order_of}
 use Rattle.soundness.specs.Timed.{IsEarlier, evicted_among, IsRising}
 use Rattle.soundness.specs.Permutation.{same_element, count_of}
-use Rattle.soundness.proofs.PermutationLemmas.{same_element-true, same_element-self, one_more}
+use Rattle.soundness.proofs.PermutationLaws.{same_element-true, same_element-self, one_more}
 use Rattle.soundness.proofs.ScheduleLemmas.{count-append, all_behind}
-use Rattle.soundness.proofs.HistoryLemmas.{IsOfLog, log-epochs}
+use Rattle.soundness.proofs.HistoryLaws.{IsOfLog, log-epochs}
 use Rattle.soundness.proofs.OrderLemmas.{history_of, part_of_order}
-use Rattle.soundness.proofs.RisingLemmas.{log_own, log_rising}
-use Rattle.soundness.proofs.SoundLemmas.{are_histories}
+use Rattle.soundness.proofs.RisingLaws.{log_own, log_rising}
+use Rattle.soundness.proofs.SoundLaws.{are_histories}
 
 -- ---- at most once, and distinct
 

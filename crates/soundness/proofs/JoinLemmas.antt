@@ -12,7 +12,7 @@ use Rattle.record_text.specs.Format.{Format, path_bits}
 use Rattle.record_text.specs.Value.{IsOf, IsPointer, node_side, with_side, empty_node, initial_value}
 use Rattle.record_text.specs.Texts.{value_text}
 use Rattle.merkle_records.specs.Merkle.{Digest, GivesDigests, pointer_to, pointing}
-use Rattle.merkle_records.proofs.KindLemmas.{IsOf-after_evict, IsOf-with_side, is_prefix-side, length-side}
+use Rattle.merkle_records.proofs.KindLaws.{IsOf-after_evict, IsOf-with_side, is_prefix-side, length-side}
 use Rattle.verifier_cache.specs.declared.entry.Entry.{Entry}
 use Rattle.verifier_cache.specs.declared.entry.Hold.TheVariants.{M}
 use Rattle.verifier_cache.specs.Entry.{kid_of, set_kid, new_entry}
@@ -22,9 +22,9 @@ use Rattle.soundness.specs.Clash.{LastEvicted}
 use Rattle.soundness.specs.Showing.{Shown, ShowSame, showing_both, DidAddM}
 use Rattle.soundness.specs.Spot.{Spot, untouched, cached, merkle, waiting, Spots, is_touched, side_of, pointer_at, home_of, LeadsBy, IsKeptBy, Covers, IsKind, IsTree}
 use Rattle.soundness.specs.World.{cached_in, blob_at, AllShown, with_shown, Stored, IsWorld}
-use Rattle.soundness.proofs.SideLemmas.{above_apart, above_no_prefix}
+use Rattle.soundness.proofs.SideLaws.{above_apart, above_no_prefix}
 use Rattle.soundness.proofs.MovedLemmas.{this_or_other, pointer_kind}
-use Rattle.soundness.proofs.FamilyLemmas.{IsAdded, added_how, pointer_set, pointer_set_other, kid_set}
+use Rattle.soundness.proofs.FamilyLaws.{IsAdded, added_how, pointer_set, pointer_set_other, kid_set}
 use Rattle.soundness.proofs.UnderLemmas.{FitsUnder, pair_moves, changed_parent, nothing_there, fits_empty, fits_split}
 use Rattle.soundness.proofs.WorldLemmas.{cached_here, cached_elsewhere, spot_of_shown, with_pair, with_pair_parent, with_pair_other, with_spot_at, with_spot, world_pair}
 

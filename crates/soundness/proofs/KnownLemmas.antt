@@ -3,7 +3,7 @@ use Rattle.std.proofs.Common.{◌≡◌, ◌≢◌, ◌⊎◌, ℕ, Bool, true, 
 use Rattle.std.proofs.lemmas.Bool.{true≢false}
 use Rattle.std.proofs.lemmas.Option.{none-some}
 use Rattle.tree_keys.specs.Path.{side, same_path}
-use Rattle.tree_keys.proofs.PathLemmas.{same_path-self, same_path-apart}
+use Rattle.tree_keys.proofs.PathLaws.{same_path-self, same_path-apart}
 use Rattle.record_text.specs.declared.value.Pointer.{Pointer}
 use Rattle.record_text.specs.declared.value.Node.{Node}
 use Rattle.record_text.specs.declared.value.Value.{Value}
@@ -16,7 +16,7 @@ use Rattle.verifier_cache.specs.declared.entry.Hold.TheVariants.{M}
 use Rattle.verifier_cache.specs.Entry.{kid_of, new_entry}
 use Rattle.verifier_commands.specs.declared.changes.Family.{Family}
 use Rattle.record_text.specs.Same.{same_bytes}
-use Rattle.record_text.proofs.SameTestLemmas.{same_bytes-self, same_bytes-true}
+use Rattle.record_text.proofs.SameTestLaws.{same_bytes-self, same_bytes-true}
 use Rattle.verifier_commands.specs.Changes.{node_of, above_on, leads_to}
 use Rattle.verifier_commands.specs.Outcome.{blob_of}
 use Rattle.verifier_commands.specs.Change.{Change, did_add_m}
@@ -25,8 +25,8 @@ use Rattle.soundness.specs.Collision.{IsCollision}
 use Rattle.soundness.specs.Showing.{Shown, ShowSame, showing_both, DidAddM}
 use Rattle.soundness.specs.Spot.{Spot, untouched, cached, merkle, Spots, is_touched, side_of, pointer_at, home_of, LeadsBy, IsKind, IsTree}
 use Rattle.soundness.specs.World.{cached_in, AllShown, with_shown, Stored, IsWorld, blob_at}
-use Rattle.soundness.proofs.SideLemmas.{above_apart}
-use Rattle.soundness.proofs.FamilyLemmas.{IsAdd, on_empty, on_same, on_split}
+use Rattle.soundness.proofs.SideLaws.{above_apart}
+use Rattle.soundness.proofs.FamilyLaws.{IsAdd, on_empty, on_same, on_split}
 use Rattle.soundness.proofs.UnderLemmas.{changed_parent, fits_known}
 use Rattle.soundness.proofs.JoinLemmas.{kept_value, not_waiting, join_world, Joining, joining, WorldAfter, parent_pointer, parent_kind, empty_untouched, split_untouched, join_empty, join_split}
 

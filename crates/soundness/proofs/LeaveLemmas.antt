@@ -3,7 +3,7 @@ use Rattle.std.proofs.Common.{◌≡◌, ◌≢◌, ◌⊎◌, ℕ, Bool, true, 
 use Rattle.std.proofs.lemmas.Bool.{false≢true}
 use Rattle.std.specs.Option.{option_map}
 use Rattle.tree_keys.specs.Path.{same_path}
-use Rattle.tree_keys.proofs.PathLemmas.{same_path-self, same_path-apart}
+use Rattle.tree_keys.proofs.PathLaws.{same_path-self, same_path-apart}
 use Rattle.record_text.specs.declared.value.Pointer.{Pointer}
 use Rattle.record_text.specs.declared.value.Node.{Node}
 use Rattle.record_text.specs.declared.value.Value.{Value}
@@ -12,15 +12,15 @@ use Rattle.record_text.specs.declared.element.Element.{Element}
 use Rattle.record_text.specs.Format.{Format}
 use Rattle.record_text.specs.Value.{IsOf, node_side, with_side}
 use Rattle.merkle_records.specs.Merkle.{Digest, GivesDigests, pointer_to, deferred_pointer}
-use Rattle.merkle_records.proofs.KindLemmas.{IsOf-after_evict, IsOf-after_defer}
+use Rattle.merkle_records.proofs.KindLaws.{IsOf-after_evict, IsOf-after_defer}
 use Rattle.verifier_cache.specs.declared.entry.Entry.{Entry}
 use Rattle.soundness.specs.Clash.{LastEvicted, with_last_evicted}
 use Rattle.soundness.specs.Showing.{Shown, ShowSame, showing_both, DidEvictM, DidEvictBM}
 use Rattle.soundness.specs.Spot.{Spot, untouched, cached, merkle, waiting, Spots, value_at, is_touched, pointer_in, pointer_at, home_of, LeadsBy, IsKind, IsTree}
 use Rattle.soundness.specs.World.{cached_in, blob_in, blob_at, AllShown, with_shown, Stored, IsWorld}
-use Rattle.soundness.proofs.SideLemmas.{above_apart}
+use Rattle.soundness.proofs.SideLaws.{above_apart}
 use Rattle.soundness.proofs.MovedLemmas.{this_or_other}
-use Rattle.soundness.proofs.FamilyLemmas.{IsLeft, evicted_into, evicted_how, deferred_in, deferred_how, pointer_set, pointer_set_other, no_kids}
+use Rattle.soundness.proofs.FamilyLaws.{IsLeft, evicted_into, evicted_how, deferred_in, deferred_how, pointer_set, pointer_set_other, no_kids}
 use Rattle.soundness.proofs.UnderLemmas.{changed_parent, pair_moves, fits_known}
 use Rattle.soundness.proofs.WorldLemmas.{cached_elsewhere, spot_of_shown, with_spot, with_spot_at, with_pair, with_pair_parent, with_pair_other, world_pair}
 use Rattle.soundness.proofs.JoinLemmas.{is_merkle, KeepsWaiting, KeepsElsewhere, not_waiting, pair_keeps, pair_since, none_since, taken_pair, WorldAfter, node_blob, parent_pointer, parent_kind}

@@ -1,33 +1,33 @@
 -- How soundness is proved, in reading order: paths, what a step does, the tree, the world and each command, what
 -- waits, the schedule, the merged order, and the whole.
-pub mod SideLemmas
-pub mod InvertLemmas
-pub mod ShownLemmas
-pub mod LawfulLemmas
-pub mod MovedLemmas
-pub mod PairLemmas
-pub mod FamilyLemmas
-pub mod UnderLemmas
-pub mod WorldLemmas
-pub mod JoinLemmas
-pub mod KnownLemmas
-pub mod LeaveLemmas
-pub mod SingleLemmas
-pub mod RunLemmas
-pub mod PermutationLemmas
-pub mod SerialLemmas
-pub mod ScheduleLemmas
-pub mod HistoryLemmas
-pub mod TimedLemmas
-pub mod SplitLemmas
-pub mod OrderLemmas
-pub mod OpeningLemmas
-pub mod CertifiedLemmas
-pub mod SoundLemmas
-pub mod TypedLemmas
-pub mod RisingLemmas
-pub mod WholeLemmas
-pub mod EpochLemmas
-pub mod DistinctLemmas
-pub mod PlaceLemmas
-pub mod PendingLemmas
+pub mod SideLaws
+pub mod InvertLaws
+mod ShownLemmas
+mod LawfulLemmas
+mod MovedLemmas
+mod PairLemmas
+pub mod FamilyLaws
+mod UnderLemmas
+mod WorldLemmas
+mod JoinLemmas
+mod KnownLemmas
+mod LeaveLemmas
+mod SingleLemmas
+mod RunLemmas
+pub mod PermutationLaws
+mod SerialLemmas
+mod ScheduleLemmas
+pub mod HistoryLaws
+mod TimedLemmas
+pub mod SplitLaws
+mod OrderLemmas
+mod OpeningLemmas
+pub mod CertifiedLaws
+pub mod SoundLaws
+pub mod TypedLaws
+pub mod RisingLaws
+pub mod WholeLaws
+pub mod EpochLaws
+mod DistinctLemmas
+mod PlaceLemmas
+mod PendingLemmas

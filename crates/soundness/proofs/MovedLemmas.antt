@@ -3,18 +3,18 @@ use Rattle.std.proofs.Common.{◌≡◌, ◌≢◌, ◌⊎◌, ℕ, Bool, true, 
 use Rattle.std.proofs.lemmas.Bool.{true≢false}
 use Rattle.std.proofs.lemmas.Option.{none-some, same_Some}
 use Rattle.tree_keys.specs.Path.{side, same_path}
-use Rattle.tree_keys.proofs.PathLemmas.{same_path-self, same_path-true}
+use Rattle.tree_keys.proofs.PathLaws.{same_path-self, same_path-true}
 use Rattle.record_text.specs.declared.value.Pointer.{Pointer}
 use Rattle.record_text.specs.declared.value.Value.{Value}
 use Rattle.record_text.specs.declared.value.Value.TheVariants as values
 use Rattle.record_text.specs.Format.{Format}
 use Rattle.record_text.specs.Value.{IsOf, IsPointer, IsSide}
 use Rattle.merkle_records.specs.Merkle.{Digest}
-use Rattle.merkle_records.proofs.KindLemmas.{IsSide-node_side}
+use Rattle.merkle_records.proofs.KindLaws.{IsSide-node_side}
 use Rattle.verifier_cache.specs.declared.entry.Entry.{Entry}
 use Rattle.verifier_commands.specs.Changes.{node_of}
 use Rattle.soundness.specs.Spot.{Spot, untouched, cached, merkle, waiting, Spots, is_touched, pointer_at, home_of, LeadsBy, Leads, Covers, IsKind, IsTree, side_of}
-use Rattle.soundness.proofs.SideLemmas.{side_of_prefix}
+use Rattle.soundness.proofs.SideLaws.{side_of_prefix}
 
 -- ---- where pointers lead
 

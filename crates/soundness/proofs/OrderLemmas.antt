@@ -9,8 +9,8 @@ use Rattle.log_codec.specs.declared.command.Command.{Command}
 use Rattle.soundness.specs.Typed.{IsTyped}
 use Rattle.merkle_records.specs.Merkle.{Digest}
 use Rattle.stamp_order.specs.Merged.{comes_before, IsMerged, up_to, of_verifier}
-use Rattle.stamp_order.proofs.InOrderLemmas.{every-weaker, every-append, every-in_order}
-use Rattle.stamp_order.proofs.MergedLemmas.{merged-sorts, merged-of_verifier}
+use Rattle.stamp_order.proofs.InOrderLaws.{every-weaker, every-append, every-in_order}
+use Rattle.stamp_order.proofs.MergedLaws.{merged-sorts, merged-of_verifier}
 use Rattle.verifier_commands.specs.State.{opening}
 use Rattle.soundness.specs.History.{Event, log_events, histories_from, histories_of}
 use Rattle.soundness.specs.Certified.{event_moment, all_events, order_of, order_up_to}
@@ -20,7 +20,7 @@ use Rattle.soundness.specs.World.{opening_shown}
 use Rattle.soundness.proofs.LawfulLemmas.{IsChain}
 use Rattle.soundness.proofs.RunLemmas.{IsRun, run_of_parts}
 use Rattle.soundness.proofs.TimedLemmas.{log_timed}
-use Rattle.soundness.proofs.SplitLemmas.{SplitsAt, split_up_to, log_run_up_to}
+use Rattle.soundness.proofs.SplitLaws.{SplitsAt, split_up_to, log_run_up_to}
 
 -- ---- filters
 

@@ -12,7 +12,7 @@ use Rattle.record_text.specs.declared.element.Element.{Element}
 use Rattle.record_text.specs.Format.{short_keys}
 use Rattle.log_codec.specs.declared.command.Command.{Command}
 use Rattle.merkle_records.specs.Merkle.{Digest, GivesDigests}
-use Rattle.stamp_order.proofs.InOrderLemmas.{every-weaker, every-append, every-filter}
+use Rattle.stamp_order.proofs.InOrderLaws.{every-weaker, every-append, every-filter}
 use Rattle.verifier_commands.specs.Change.{Change, did_add_m, did_evict_m, did_add_b, did_evict_b, did_evict_bm, did_get, did_put, did_next_epoch}
 use Rattle.soundness.specs.History.{Event, histories_of}
 use Rattle.soundness.specs.Certified.{added_by, evicted_by, added_in, evicted_in, order_of, order_up_to, order_after}
@@ -23,12 +23,12 @@ use Rattle.soundness.specs.Scheduled.{IsScheduledBy, IsScheduled, ArePermuted}
 use Rattle.soundness.specs.Sound.{AreTyped}
 use Rattle.soundness.specs.Spot.{waiting, Spots}
 use Rattle.soundness.specs.World.{changes_in, pending_after, pending_behind, IsPending, IsBehind}
-use Rattle.soundness.proofs.PermutationLemmas.{same_element-true, one_more, count_without, count_permuted}
+use Rattle.soundness.proofs.PermutationLaws.{same_element-true, one_more, count_without, count_permuted}
 use Rattle.soundness.proofs.ScheduleLemmas.{count_adds, count_evicts, count_in_epoch, all_behind}
 use Rattle.soundness.proofs.OrderLemmas.{filter-all, filter-none, order_timed, order_splits}
-use Rattle.soundness.proofs.SoundLemmas.{all_within}
-use Rattle.soundness.proofs.WholeLemmas.{order_scheduled}
-use Rattle.soundness.proofs.EpochLemmas.{order_from_first}
+use Rattle.soundness.proofs.SoundLaws.{all_within}
+use Rattle.soundness.proofs.WholeLaws.{order_scheduled}
+use Rattle.soundness.proofs.EpochLaws.{order_from_first}
 use Rattle.soundness.proofs.DistinctLemmas.{order_once}
 use Rattle.soundness.proofs.PlaceLemmas.{one_spot}
 

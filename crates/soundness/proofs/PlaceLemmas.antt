@@ -30,8 +30,8 @@ use Rattle.soundness.proofs.RunLemmas.{IsRun}
 use Rattle.soundness.proofs.SerialLemmas.{wait_on, wait_more, wait_less, waits_once_out, waits_own, free_at}
 use Rattle.soundness.proofs.OrderLemmas.{order_run}
 use Rattle.soundness.proofs.OpeningLemmas.{opening_spots, opening_world}
-use Rattle.soundness.proofs.SoundLemmas.{one_text, are_histories, none_waiting}
-use Rattle.soundness.proofs.WholeLemmas.{order_scheduled}
+use Rattle.soundness.proofs.SoundLaws.{one_text, are_histories, none_waiting}
+use Rattle.soundness.proofs.WholeLaws.{order_scheduled}
 
 -- ---- what the caches show
 

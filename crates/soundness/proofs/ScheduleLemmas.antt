@@ -19,7 +19,7 @@ use Rattle.soundness.specs.Certified.{event_moment, added_by, evicted_by, of_epo
 use Rattle.soundness.specs.Permutation.{same_element, count_of, without_one}
 use Rattle.soundness.specs.Scheduled.{IsScheduledBy, IsScheduled}
 use Rattle.soundness.specs.Timed.{IsEarlier, IsOfBefore, IsTimed}
-use Rattle.soundness.proofs.PermutationLemmas.{same_element-true, same_element-self, one_more, count_without, without_there}
+use Rattle.soundness.proofs.PermutationLaws.{same_element-true, same_element-self, one_more, count_without, without_there}
 
 -- ---- counts
 

@@ -20,7 +20,7 @@ use Rattle.soundness.specs.Scheduled.{IsScheduledBy, IsScheduled}
 use Rattle.soundness.specs.Showing.{HasDone}
 use Rattle.soundness.specs.Spot.{Spot, untouched, cached, merkle, waiting, Spots, IsKind}
 use Rattle.soundness.specs.World.{AllShown, with_shown, Stored, IsWorld, IsWaiting}
-use Rattle.soundness.proofs.PermutationLemmas.{same_element-true, same_element-self, one_more, count_without}
+use Rattle.soundness.proofs.PermutationLaws.{same_element-true, same_element-self, one_more, count_without}
 use Rattle.soundness.proofs.MovedLemmas.{this_or_other}
 use Rattle.soundness.proofs.WorldLemmas.{spot_of_shown}
 use Rattle.soundness.proofs.JoinLemmas.{KeepsWaiting, KeepsElsewhere, not_waiting}

@@ -3,10 +3,10 @@ use Rattle.std.proofs.Common.{◌≡◌, Bool, true, false, List, [], ◌∷◌,
 use Rattle.std.specs.Option.{option_or}
 use Rattle.std.proofs.lemmas.Bool.{false≢true}
 use Rattle.tree_keys.specs.Path.{same_path}
-use Rattle.tree_keys.proofs.PathLemmas.{same_path-self, same_path-true, same_path-apart}
+use Rattle.tree_keys.proofs.PathLaws.{same_path-self, same_path-true, same_path-apart}
 use Rattle.verifier_cache.specs.declared.entry.Entry.{Entry}
 use Rattle.verifier_cache.specs.Cache.{entry_of, without, replaced, AreDistinct}
-use Rattle.verifier_cache.proofs.EntriesLemmas.{entry_of-path, entry_of-append, entry_of-changed_other, entry_of-replaced, entry_of-without, entry_of-without_other, absent-changed, AreDistinct-changed, AreDistinct-without, AreDistinct-append}
+use Rattle.verifier_cache.proofs.EntriesLaws.{entry_of-path, entry_of-append, entry_of-changed_other, entry_of-replaced, entry_of-without, entry_of-without_other, absent-changed, AreDistinct-changed, AreDistinct-without, AreDistinct-append}
 
 -- paths that are apart are so the other way round
 pub apart-sym : (p q : List Bool) → same_path p q ≡ false → same_path q p ≡ false

@@ -4,7 +4,7 @@ use Rattle.std.specs.Map.{update}
 use Rattle.std.proofs.lemmas.Bool.{false≢true, true≢false, eq-eqb, ne_eqb, cases_eq}
 use Rattle.std.proofs.lemmas.Map.{update_same, update_other}
 use Rattle.tree_keys.specs.Bits.{bits_of, number_of}
-use Rattle.tree_keys.proofs.BitsLemmas.{bits_of-number_of}
+use Rattle.tree_keys.proofs.BitsLaws.{bits_of-number_of}
 use Rattle.record_text.specs.declared.value.Value.{Value}
 use Rattle.record_text.specs.declared.value.Value.TheVariants as values
 use Rattle.record_text.specs.declared.element.Element.{Element}
@@ -22,7 +22,7 @@ use Rattle.soundness.specs.Showing.{Shown, showing, ShowSame, DidAddB, DidEvictB
 use Rattle.soundness.specs.Spot.{Spot, cached, merkle, waiting, Spots, is_touched, side_of, pointer_at, home_of, LeadsBy, IsKind}
 use Rattle.soundness.specs.World.{cached_in, blob_at, AllShown, with_shown, Stored, IsWorld}
 use Rattle.soundness.proofs.MovedLemmas.{this_or_other, OneMoves, one_moves, leads_same_hold}
-use Rattle.soundness.proofs.FamilyLemmas.{no_kids}
+use Rattle.soundness.proofs.FamilyLaws.{no_kids}
 use Rattle.soundness.proofs.WorldLemmas.{cached_here, cached_elsewhere, spot_of_shown, with_spot, with_spot_at, with_spot_other, world_one}
 use Rattle.soundness.proofs.JoinLemmas.{is_merkle, KeepsWaiting, KeepsElsewhere, not_waiting, none_since, WorldAfter}
 use Rattle.soundness.proofs.LeaveLemmas.{LeftAt}

@@ -4,7 +4,7 @@ use Rattle.std.proofs.lemmas.Bool.{eq-eqb, ne_eqb, cases_eq}
 use Rattle.std.proofs.lemmas.Option.{none-some, same_Some}
 use Rattle.tree_keys.specs.Bits.{number_of}
 use Rattle.tree_keys.specs.Path.{same_path}
-use Rattle.tree_keys.proofs.PathLemmas.{same_path-self, same_path-apart}
+use Rattle.tree_keys.proofs.PathLaws.{same_path-self, same_path-apart}
 use Rattle.record_text.specs.declared.value.Value.{Value}
 use Rattle.record_text.specs.Format.{Format, path_bits}
 use Rattle.merkle_records.specs.Merkle.{Digest}

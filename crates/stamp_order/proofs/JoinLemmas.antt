@@ -6,8 +6,8 @@ use Rattle.std.specs.Cmp.{IsStrictWeakOrder}
 use Rattle.std.proofs.lemmas.Bool.{cond_both, cond-true, cond-false}
 use Rattle.std.proofs.lemmas.List.Elements.{filter-append}
 use Rattle.stamp_order.specs.InOrder.{put_in_order, in_order, IsInOrder}
-use Rattle.stamp_order.proofs.InOrderLemmas.{every-weaker, every-append, every-in_order, put-front, in_order-sorts, in_order-keeps}
-use Rattle.stamp_order.proofs.OneOrderLemmas.{every-passes, one_order, in_order-ties, untied, not_before_itself}
+use Rattle.stamp_order.proofs.InOrderLaws.{every-weaker, every-append, every-in_order, put-front, in_order-sorts, in_order-keeps}
+use Rattle.stamp_order.proofs.OneOrderLaws.{every-passes, one_order, in_order-ties, untied, not_before_itself}
 
 module _ {X : Type 0} (lt : X → X → Bool) where
   -- what comes after nothing of the second part goes into the first

@@ -1,6 +1,6 @@
-pub mod InOrderLemmas
-pub mod OneOrderLemmas
-pub mod JoinLemmas
-pub mod MomentLemmas
-pub mod MergedLemmas
-pub mod MapLemmas
+pub mod InOrderLaws
+pub mod OneOrderLaws
+mod JoinLemmas
+pub mod MomentLaws
+pub mod MergedLaws
+pub mod MapLaws

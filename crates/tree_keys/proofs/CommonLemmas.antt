@@ -9,8 +9,8 @@ use Rattle.std.specs.Int.Bits.{xor_zero_l, xor_zero_r, xor_self, xor_assoc}
 use Rattle.tree_keys.specs.Bits.{bits_of, bit_value}
 use Rattle.tree_keys.specs.BitsLaws.{length-bits_of, digit}
 use Rattle.tree_keys.specs.Path.{common}
-use Rattle.tree_keys.proofs.BitsLemmas.{take-bits_of, bit_of-bits_of}
-use Rattle.tree_keys.proofs.PathLemmas.{common-take}
+use Rattle.tree_keys.proofs.BitsLaws.{take-bits_of, bit_of-bits_of}
+use Rattle.tree_keys.proofs.PathLaws.{common-take}
 
 -- past the end of one path nothing is common
 common-end_left : (n : ℕ) (p k : List Bool) → length p ≤ n → common (drop n p) (drop n k) ≡ []

@@ -1,5 +1,5 @@
 -- Lemmas on bits and paths.
-pub mod BitsLemmas
-pub mod PathLemmas
-pub mod CommonLemmas
-pub mod WordLemmas
+pub mod BitsLaws
+pub mod PathLaws
+mod CommonLemmas
+mod WordLemmas

@@ -9,7 +9,7 @@ pub const KEY_BITS: u8 = 64;
 
 /// A path of the tree: 0 to 64 bits, the first bit most significant.
 #[derive(Clone, Copy, Debug, PartialEq, Eq)]
-#[tactic(auto, using(crate::proofs::BitsLemmas::path_view))]
+#[tactic(auto, using(crate::proofs::BitsLaws::path_view))]
 pub struct Path {
     len: u8,
     // the path's bits as the low bits of a number, those above them 0
@@ -32,7 +32,7 @@ impl Model for Path {
     ghost inverse_ok = { λ p small. fields_back (λ len bits. record { len = len; bits = bits }) p.len p.bits small.1 };
 }
 
-#[tactic(auto, using(crate::proofs::BitsLemmas::path_view))]
+#[tactic(auto, using(crate::proofs::BitsLaws::path_view))]
 impl Path {
     /// The path of no bits.
     #[tactic(auto, unfolding(crate::specs::Bits::bits_of))]
@@ -74,7 +74,7 @@ impl Path {
     }
 
     /// The path one bit longer on this side.
-    #[tactic(auto, using(crate::proofs::BitsLemmas::child_view))]
+    #[tactic(auto, using(crate::proofs::BitsLaws::child_view))]
     pub fn child(&self, side: bool) -> Self
         requires short { length self.now < 64 }
         ensures appended { result ≡ self.now ++ side ∷ [] }
@@ -86,7 +86,7 @@ impl Path {
     }
 
     /// The first bits, so many of them.
-    #[tactic(auto, using(crate::proofs::BitsLemmas::front_view))]
+    #[tactic(auto, using(crate::proofs::BitsLaws::front_view))]
     pub fn front(&self, len: u8) -> Self
         requires within { len ≤ length self.now }
         ensures bits { result ≡ take len self.now }
@@ -98,7 +98,7 @@ impl Path {
     }
 
     /// The bit at this place, counted from 0.
-    #[tactic(auto, using(crate::proofs::BitsLemmas::bit_view))]
+    #[tactic(auto, using(crate::proofs::BitsLaws::bit_view))]
     pub fn bit(&self, index: u8) -> bool
         requires within { index < length self.now }
         ensures value { slice_get self.now index ≡ Some result }
@@ -107,7 +107,7 @@ impl Path {
     }
 
     /// The side of this path on which the other lies properly below it, or none where it doesn't.
-    #[tactic(auto, using(crate::proofs::PathLemmas::side_view))]
+    #[tactic(auto, using(crate::proofs::PathLaws::side_view))]
     pub fn side(&self, other: &Path) -> Option<bool>
         ensures value { result ≡ side self.now other.now }
     {
@@ -136,7 +136,7 @@ impl Path {
     }
 
     /// Whether this path begins with the other, or is the other.
-    #[tactic(auto, using(crate::proofs::PathLemmas::prefix_view))]
+    #[tactic(auto, using(crate::proofs::PathLaws::prefix_view))]
     pub fn starts_with(&self, other: &Path) -> bool
         ensures value { result ≡ is_prefix other.now self.now }
     {
@@ -147,7 +147,7 @@ impl Path {
     }
 
     /// Whether both are the same path.
-    #[tactic(auto, using(crate::proofs::PathLemmas::same_view))]
+    #[tactic(auto, using(crate::proofs::PathLaws::same_view))]
     pub fn is_same(&self, other: &Path) -> bool
         ensures value { result ≡ same_path self.now other.now }
         ensures same { IsTrue result ↔ (self.now ≡ other.now) }

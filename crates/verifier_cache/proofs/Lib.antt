@@ -1,2 +1,2 @@
 -- Lemmas on the entries of a cache.
-pub mod EntriesLemmas
+pub mod EntriesLaws

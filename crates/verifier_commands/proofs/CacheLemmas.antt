@@ -1,11 +1,11 @@
 -- A path's entry stays where another's gives way, and a written value replaces its entry.
 use Rattle.std.proofs.Common.{◌≡◌, ◌≢◌, Bool, List, Option, Some, None, IfSome, refl, ◌∙◌}
-use Rattle.tree_keys.proofs.PathLemmas.{same_path-apart}
+use Rattle.tree_keys.proofs.PathLaws.{same_path-apart}
 use Rattle.record_text.specs.declared.value.Value.{Value}
 use Rattle.verifier_cache.specs.declared.entry.Entry.{Entry}
 use Rattle.verifier_cache.specs.Cache.{entry_of, changed, replaced}
 use Rattle.verifier_cache.specs.Entry.{with_value}
-use Rattle.verifier_cache.proofs.EntriesLemmas.{entry_of-changed_other, entry_of-path, changed-replaced}
+use Rattle.verifier_cache.proofs.EntriesLaws.{entry_of-changed_other, entry_of-path, changed-replaced}
 
 pub entry_of-replaced_other : (k : List Bool) (entries : List Entry) (new : Entry) → k ≢ new.path → entry_of k (replaced new entries) ≡ entry_of k entries
 entry_of-replaced_other k entries new apart =

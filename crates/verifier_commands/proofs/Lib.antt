@@ -1,5 +1,5 @@
 -- Lemmas on the tests of the transition.
-pub mod KeyLemmas
-pub mod BelowLemmas
-pub mod CacheLemmas
-pub mod BoundLemmas
+mod KeyLemmas
+pub mod BelowLaws
+mod CacheLemmas
+pub mod BoundLaws

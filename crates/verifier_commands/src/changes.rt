@@ -31,7 +31,7 @@ pub struct Parent {
     pub node: Node,
 }
 
-#[tactic(auto, using(crate::proofs::BelowLemmas::below_view))]
+#[tactic(auto, using(crate::proofs::BelowLaws::below_view))]
 // The entry as a parent of the path, if that lies properly below it.
 fn above(parent: &Entry, path: &Path) -> Option<Parent>
     ensures value { result ≡ above parent.now path.now }

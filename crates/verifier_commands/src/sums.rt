@@ -71,7 +71,7 @@ impl Sums {
     }
 
     /// Takes in a command with this outcome, between these readings of the clock.
-    #[tactic(auto, using(crate::proofs::BoundLemmas::bounds))]
+    #[tactic(auto, using(crate::proofs::BoundLaws::bounds))]
     pub(crate) fn apply<D: Digests>(
         &mut self,
         d: &D,

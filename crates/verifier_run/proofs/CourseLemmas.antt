@@ -9,8 +9,8 @@ use Rattle.record_text.specs.Fields.{Parsed}
 use Rattle.record_text.specs.Format.{Format}
 use Rattle.log_codec.specs.declared.command.Command.{Command}
 use Rattle.log_codec.specs.Command.{command_text, command_at, IsCommand}
-use Rattle.log_codec.proofs.CommandKeepsOn.{command_shorter, keeps_on-command}
-use Rattle.log_codec.proofs.CommandLemmas.{IsWideFor, command_again}
+use Rattle.log_codec.proofs.CommandKeepsOnLaws.{command_shorter, keeps_on-command}
+use Rattle.log_codec.proofs.CommandLaws.{IsWideFor, command_again}
 use Rattle.merkle_records.specs.Scheme.{Scheme}
 use Rattle.verifier_commands.specs.declared.outcome.Outcome.{Outcome}
 use Rattle.verifier_commands.specs.declared.state.State.{State}

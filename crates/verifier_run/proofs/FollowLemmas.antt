@@ -8,7 +8,7 @@ use Rattle.record_text.specs.declared.reader.TextFault.TheVariants as faults
 use Rattle.log_codec.specs.declared.command.Command.{Command}
 use Rattle.log_codec.specs.Command.{command_text, command_at, IsCommand}
 use Rattle.merkle_records.specs.Scheme.{Scheme}
-use Rattle.log_codec.proofs.CommandLemmas.{IsWideFor}
+use Rattle.log_codec.proofs.CommandLaws.{IsWideFor}
 use Rattle.verifier_run.specs.Course.{Course, refuse, after_command}
 use Rattle.verifier_run.specs.Progress.{Progress, between_commands, progress_over, fed}
 use Rattle.verifier_run.proofs.CourseLemmas.{over-joined, over-empty, over-refused, over-malformed, over-cut, over-text}

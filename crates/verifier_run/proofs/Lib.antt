@@ -1,5 +1,5 @@
 -- Lemmas on courses and runs.
-pub mod CourseLemmas
-pub mod TraceLemmas
-pub mod FollowLemmas
-pub mod PieceLemmas
+mod CourseLemmas
+mod TraceLemmas
+mod FollowLemmas
+mod PieceLemmas

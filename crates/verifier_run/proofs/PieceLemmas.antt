@@ -12,11 +12,11 @@ use Rattle.record_hash.specs.Functions.{DigestFunctions}
 use Rattle.record_text.specs.Format.{Format, short_keys}
 use Rattle.log_codec.specs.declared.command.Command.{Command}
 use Rattle.log_codec.specs.Command.{command_text, command_at, IsCommand}
-use Rattle.log_codec.proofs.CommandLemmas.{IsWideFor, command_again}
+use Rattle.log_codec.proofs.CommandLaws.{IsWideFor, command_again}
 use Rattle.verifier_run.specs.Course.{Course, refuse, after_command}
 use Rattle.verifier_run.specs.Progress.{Progress, between_commands, progress_over, fed, weight, IsBetweenPieces}
 use Rattle.verifier_run.proofs.CourseLemmas.{fed-joined, fed-weight, over-refused, over-malformed, over-cut, over-text, over-between, between-commands}
-use Rattle.log_codec.proofs.LengthLemmas.{cut_is_short}
+use Rattle.log_codec.proofs.LengthLaws.{cut_is_short}
 use Rattle.merkle_records.specs.Scheme.{Scheme, scheme_of}
 
 -- ---- nothing is held

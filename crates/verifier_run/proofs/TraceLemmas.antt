@@ -7,8 +7,8 @@ use Rattle.record_text.specs.declared.reader.TextFault.TheVariants as faults
 use Rattle.log_codec.specs.declared.command.Command.{Command}
 use Rattle.log_codec.specs.Command.{command_at}
 use Rattle.log_codec.specs.Log.{Log, LogEnd, whole, faulty, with_command, read_log}
-use Rattle.log_codec.proofs.CommandKeepsOn.{command_shorter}
-use Rattle.log_codec.proofs.LogLemmas.{read_log-empty, read_log-step, read_log-fault}
+use Rattle.log_codec.proofs.CommandKeepsOnLaws.{command_shorter}
+use Rattle.log_codec.proofs.LogLaws.{read_log-empty, read_log-step, read_log-fault}
 use Rattle.merkle_records.specs.Scheme.{Scheme}
 use Rattle.verifier_commands.specs.declared.effect.Effect.{Effect}
 use Rattle.verifier_commands.specs.Machine.{Machine, stepped}

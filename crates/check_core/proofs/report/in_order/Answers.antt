@@ -4,8 +4,8 @@ use Rattle.std.proofs.lemmas.List.Sorted.{answers_always}
 use Rattle.record_text.specs.declared.operation.Operation.{Operation}
 use Rattle.stamp_order.specs.declared.moment.Moment.{Moment}
 use Rattle.stamp_order.specs.Operations.{moment_of}
-use Rattle.stamp_order.proofs.MergedLemmas.{merged-from_stable}
-use Rattle.stamp_order.proofs.MapLemmas.{merged-map}
+use Rattle.stamp_order.proofs.MergedLaws.{merged-from_stable}
+use Rattle.stamp_order.proofs.MapLaws.{merged-map}
 use Rattle.check_core.proofs.report.in_order.Goals as goal
 
 -- the moment of the operation behind a reference

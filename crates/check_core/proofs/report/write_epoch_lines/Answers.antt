@@ -1,5 +1,5 @@
 use Rattle.std.proofs.Common.{◌∙◌, arith}
-use Rattle.report_text.proofs.PassLemmas.{Passes-then, Passes-stop, on_err}
+use Rattle.report_text.proofs.PassLaws.{Passes-then, Passes-stop, on_err}
 use Rattle.check_core.proofs.ReportLemmas.{line_step}
 use Rattle.check_core.proofs.report.write_epoch_lines.Goals as goal
 

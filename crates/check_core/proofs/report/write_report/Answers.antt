@@ -4,7 +4,7 @@ use Rattle.std.proofs.lemmas.Result.{on_err_weaker}
 use Rattle.record_text.specs.declared.operation.Operation.{Operation}
 use Rattle.report_text.specs.Status.{last_line}
 use Rattle.check_core.specs.Report.{certified_text, epoch_text, front_count}
-use Rattle.report_text.proofs.PassLemmas.{Passes-then, Passes-front, Passes-stop, on_err}
+use Rattle.report_text.proofs.PassLaws.{Passes-then, Passes-front, Passes-stop, on_err}
 use Rattle.check_core.proofs.ReportLemmas.{pointed, epochs_step, epochs_end}
 use Rattle.check_core.proofs.report.write_report.Goals as goal
 

@@ -3,8 +3,8 @@ use Rattle.std.proofs.Common.{rules, Bor, map, ap, ◌∙◌}
 use Rattle.std.proofs.lemmas.List.Sorted.{answers_always}
 use Rattle.record_text.specs.declared.element.Element.{Element}
 use Rattle.stamp_order.specs.declared.moment.Moment.{Moment}
-use Rattle.stamp_order.proofs.MapLemmas.{merged-map}
-use Rattle.stamp_order.proofs.MergedLemmas.{merged-from_stable}
+use Rattle.stamp_order.proofs.MapLaws.{merged-map}
+use Rattle.stamp_order.proofs.MergedLaws.{merged-from_stable}
 use Rattle.collision_exhibit.specs.Elements.{evict_moment}
 use Rattle.collision_exhibit.proofs.elements.in_order.Goals as goal
 

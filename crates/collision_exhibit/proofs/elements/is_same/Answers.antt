@@ -1,5 +1,5 @@
 use Rattle.std.proofs.Common.{◌≡◌, Bool, true, false, not, ◌&&◌, refl, ◌∙◌}
-use Rattle.record_text.proofs.SameTestLemmas.{tells_same_value}
+use Rattle.record_text.proofs.SameTestLaws.{tells_same_value}
 use Rattle.std.proofs.lemmas.Bool.{eq-eqb, true≢false, false≢true}
 use Rattle.collision_exhibit.proofs.elements.is_same.Goals as goal
 

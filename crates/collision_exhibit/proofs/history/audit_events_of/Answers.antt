@@ -2,7 +2,7 @@
 use Rattle.std.proofs.Common.{List, rules, map, ap, ◌∙◌}
 use Rattle.merkle_records.specs.Scheme.{scheme_of}
 use Rattle.std.proofs.lemmas.List.Sorted.{answers_always}
-use Rattle.stamp_order.proofs.MergedLemmas.{merged-from_stable}
+use Rattle.stamp_order.proofs.MergedLaws.{merged-from_stable}
 use Rattle.soundness.specs.History.{Event}
 use Rattle.soundness.specs.Certified.{all_events, order_of}
 use Rattle.soundness.specs.Sound.{histories_read}

@@ -1,4 +1,4 @@
-use Rattle.epoch_gather.proofs.VerdictLemmas.{lowest_missing-is}
+use Rattle.epoch_gather.proofs.VerdictLaws.{lowest_missing-is}
 use Rattle.epoch_gather.proofs.laws.missing_is_the_lowest.Goals as goal
 
 pub returns : goal.returns

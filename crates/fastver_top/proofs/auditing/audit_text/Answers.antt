@@ -1,5 +1,5 @@
 use Rattle.check_core.specs.Intake.{logged, logged_of}
-use Rattle.check_core.proofs.HeadlineLemmas.{headline}
+use Rattle.check_core.proofs.HeadlineLaws.{headline}
 use Rattle.fastver_top.proofs.AuditLemmas.{shown_collides, shown_left}
 use Rattle.fastver_top.proofs.auditing.audit_text.Goals as goal
 

@@ -1,5 +1,5 @@
 use Rattle.std.proofs.Common.{Result, Ok, Err, OnErr}
-use Rattle.report_text.proofs.PassLemmas.{on_err}
+use Rattle.report_text.proofs.PassLaws.{on_err}
 use Rattle.fv_outside.proofs.WrittenLaws.{GrowsByFront-more, GrowsByFront-then}
 use Rattle.fastver_top.proofs.auditing.write_audit.Goals as goal
 

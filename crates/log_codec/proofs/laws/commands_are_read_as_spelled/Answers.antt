@@ -1,7 +1,7 @@
 use Rattle.record_text.specs.Format.{short_keys}
-use Rattle.record_text.proofs.FieldLemmas.{wide64}
-use Rattle.log_codec.proofs.CommandLemmas.{command_begins, command_again}
-use Rattle.log_codec.proofs.LogLemmas.{AreBytes-from_all}
+use Rattle.record_text.proofs.FieldLaws.{wide64}
+use Rattle.log_codec.proofs.CommandLaws.{command_begins, command_again}
+use Rattle.log_codec.proofs.LogLaws.{AreBytes-from_all}
 use Rattle.log_codec.proofs.laws.commands_are_read_as_spelled.Goals as goal
 
 pub returns : goal.returns

@@ -1,4 +1,4 @@
-use Rattle.log_codec.proofs.LengthLemmas.{text_within, taken_within, cut_is_short}
+use Rattle.log_codec.proofs.LengthLaws.{text_within, taken_within, cut_is_short}
 use Rattle.log_codec.proofs.laws.commands_have_at_most_104_bytes.Goals as goal
 
 pub returns : goal.returns

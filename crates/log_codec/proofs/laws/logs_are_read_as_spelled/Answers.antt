@@ -1,6 +1,6 @@
 use Rattle.record_text.specs.Format.{short_keys}
-use Rattle.record_text.proofs.FieldLemmas.{wide64}
-use Rattle.log_codec.proofs.LogLemmas.{AreBytes-from_all, read_is_log, log_is_read, read_log-text}
+use Rattle.record_text.proofs.FieldLaws.{wide64}
+use Rattle.log_codec.proofs.LogLaws.{AreBytes-from_all, read_is_log, log_is_read, read_log-text}
 use Rattle.log_codec.proofs.laws.logs_are_read_as_spelled.Goals as goal
 
 pub returns : goal.returns

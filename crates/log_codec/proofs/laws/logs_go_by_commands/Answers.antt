@@ -1,5 +1,5 @@
 use Rattle.record_text.specs.Format.{short_keys}
-use Rattle.log_codec.proofs.LogLemmas.{read_log-empty, read_log-step, read_log-fault, log_up_to-read}
+use Rattle.log_codec.proofs.LogLaws.{read_log-empty, read_log-step, read_log-fault, log_up_to-read}
 use Rattle.log_codec.proofs.laws.logs_go_by_commands.Goals as goal
 
 pub returns : goal.returns

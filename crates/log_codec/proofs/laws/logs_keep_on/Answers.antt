@@ -1,5 +1,5 @@
 use Rattle.record_text.specs.Format.{short_keys}
-use Rattle.log_codec.proofs.LogLemmas.{read_log-more, read_log-whole, read_log-malformed}
+use Rattle.log_codec.proofs.LogLaws.{read_log-more, read_log-whole, read_log-malformed}
 use Rattle.log_codec.proofs.laws.logs_keep_on.Goals as goal
 
 pub returns : goal.returns

@@ -1,4 +1,4 @@
-use Rattle.merkle_records.proofs.KindLemmas.{node_side-with_side, node_side-with_other}
+use Rattle.merkle_records.proofs.KindLaws.{node_side-with_side, node_side-with_other}
 use Rattle.merkle_records.proofs.laws.one_pointer_changes.Goals as goal
 
 pub returns : goal.returns

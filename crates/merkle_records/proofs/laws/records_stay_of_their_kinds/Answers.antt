@@ -1,4 +1,4 @@
-use Rattle.merkle_records.proofs.KindLemmas.{IsOf-after_add, IsOf-after_evict, IsOf-after_defer}
+use Rattle.merkle_records.proofs.KindLaws.{IsOf-after_add, IsOf-after_evict, IsOf-after_defer}
 use Rattle.merkle_records.proofs.laws.records_stay_of_their_kinds.Goals as goal
 
 pub returns : goal.returns

@@ -1,5 +1,5 @@
 use Rattle.record_text.specs.Format.{short_keys}
-use Rattle.record_text.proofs.ValueTextLemmas.{initial_value-kind}
+use Rattle.record_text.proofs.ValueTextLaws.{initial_value-kind}
 use Rattle.record_text.proofs.laws.initial_values_are_of_their_paths.Goals as goal
 
 pub returns : goal.returns

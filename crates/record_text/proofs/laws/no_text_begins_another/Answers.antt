@@ -1,6 +1,6 @@
 use Rattle.record_text.specs.Format.{short_keys}
-use Rattle.record_text.proofs.FieldLemmas.{wide64}
-use Rattle.record_text.proofs.OneTextLemmas.{one_path, one_value, one_stamp, one_element}
+use Rattle.record_text.proofs.FieldLaws.{wide64}
+use Rattle.record_text.proofs.OneTextLaws.{one_path, one_value, one_stamp, one_element}
 use Rattle.record_text.proofs.laws.no_text_begins_another.Goals as goal
 
 pub returns : goal.returns

@@ -1,5 +1,5 @@
 use Rattle.record_text.specs.Format.{short_keys}
-use Rattle.record_text.proofs.KeepsOnLemmas.{keeps_on-path, keeps_on-value, keeps_on-stamp, keeps_on-element}
+use Rattle.record_text.proofs.KeepsOnLaws.{keeps_on-path, keeps_on-value, keeps_on-stamp, keeps_on-element}
 use Rattle.record_text.proofs.laws.readers_keep_on.Goals as goal
 
 pub returns : goal.returns

@@ -2,9 +2,9 @@ use Rattle.std.proofs.Common.{ap, sym, ◌∙◌, arith}
 use Rattle.record_text.specs.Format.{short_keys}
 use Rattle.record_text.specs.Reading.{element_at}
 use Rattle.record_text.specs.Texts.{element_text}
-use Rattle.record_text.proofs.FieldLemmas.{wide64}
-use Rattle.record_text.proofs.ElementTextLemmas.{element_begins, element_again}
-use Rattle.record_text.proofs.CountLemmas.{left_within, taken, only_from_read, only_from_fault}
+use Rattle.record_text.proofs.FieldLaws.{wide64}
+use Rattle.record_text.proofs.ElementTextLaws.{element_begins, element_again}
+use Rattle.record_text.proofs.CountLaws.{left_within, taken, only_from_read, only_from_fault}
 use Rattle.record_text.proofs.reading.read_element.Goals as goal
 
 pub overflow_sub-result : goal.overflow_sub-result

@@ -2,9 +2,9 @@ use Rattle.std.proofs.Common.{ap, sym, ◌∙◌, arith}
 use Rattle.record_text.specs.Format.{short_keys}
 use Rattle.record_text.specs.Reading.{path_at}
 use Rattle.record_text.specs.Texts.{path_text}
-use Rattle.record_text.proofs.FieldLemmas.{wide64}
-use Rattle.record_text.proofs.PathTextLemmas.{path_begins, path_again}
-use Rattle.record_text.proofs.CountLemmas.{left_within, taken, only_from_read, only_from_fault}
+use Rattle.record_text.proofs.FieldLaws.{wide64}
+use Rattle.record_text.proofs.PathTextLaws.{path_begins, path_again}
+use Rattle.record_text.proofs.CountLaws.{left_within, taken, only_from_read, only_from_fault}
 use Rattle.record_text.proofs.reading.read_path.Goals as goal
 
 pub overflow_sub-result : goal.overflow_sub-result

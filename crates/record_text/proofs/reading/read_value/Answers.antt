@@ -2,9 +2,9 @@ use Rattle.std.proofs.Common.{ap, sym, ◌∙◌, arith}
 use Rattle.record_text.specs.Format.{short_keys}
 use Rattle.record_text.specs.Reading.{value_at}
 use Rattle.record_text.specs.Texts.{value_text}
-use Rattle.record_text.proofs.FieldLemmas.{wide64}
-use Rattle.record_text.proofs.ValueTextLemmas.{value_begins, value_again, path_of_value}
-use Rattle.record_text.proofs.CountLemmas.{left_within, taken, only_from_read, only_from_fault}
+use Rattle.record_text.proofs.FieldLaws.{wide64}
+use Rattle.record_text.proofs.ValueTextLaws.{value_begins, value_again, path_of_value}
+use Rattle.record_text.proofs.CountLaws.{left_within, taken, only_from_read, only_from_fault}
 use Rattle.record_text.proofs.reading.read_value.Goals as goal
 
 pub overflow_sub-result : goal.overflow_sub-result

@@ -1,6 +1,6 @@
 use Rattle.std.proofs.Common.{◌∙◌, arith}
 use Rattle.report_text.specs.Exhibit.{element_line}
-use Rattle.report_text.proofs.PassLemmas.{Passes-then, Passes-stop, lines_step, on_err}
+use Rattle.report_text.proofs.PassLaws.{Passes-then, Passes-stop, lines_step, on_err}
 use Rattle.report_text.proofs.exhibit.write_elements.Goals as goal
 
 pub returns-in_err-write-clause-front : goal.returns-in_err-write-clause-front

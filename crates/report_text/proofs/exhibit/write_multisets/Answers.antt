@@ -2,7 +2,7 @@ use Rattle.std.proofs.Common.{ℕ, List, [], ◌∙◌, refl, append-nil}
 use Rattle.std.specs.List.{flat_map}
 use Rattle.std.proofs.lemmas.Result.{on_ok_weaker, on_err_weaker}
 use Rattle.report_text.specs.Exhibit.{multisets_line, evicted_line}
-use Rattle.report_text.proofs.PassLemmas.{Passes-empty, Passes-first, Passes-then, Passes-flush, Passes-front, Passes-stop, on_err}
+use Rattle.report_text.proofs.PassLaws.{Passes-empty, Passes-first, Passes-then, Passes-flush, Passes-front, Passes-stop, on_err}
 use Rattle.report_text.proofs.exhibit.write_multisets.Goals as goal
 
 pub returns-in_err-write-clause-front : goal.returns-in_err-write-clause-front

@@ -1,5 +1,5 @@
-use Rattle.soundness.proofs.SoundLemmas.{sound}
-use Rattle.soundness.proofs.WholeLemmas.{certified_sound}
+use Rattle.soundness.proofs.SoundLaws.{sound}
+use Rattle.soundness.proofs.WholeLaws.{certified_sound}
 use Rattle.soundness.proofs.laws.certified_is_serial_or_collides.Goals as goal
 
 pub returns : goal.returns

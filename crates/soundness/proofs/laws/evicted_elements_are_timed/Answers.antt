@@ -1,6 +1,6 @@
 use Rattle.merkle_records.specs.Scheme.{scheme_of}
 use Rattle.soundness.proofs.TimedLemmas.{log_timed}
-use Rattle.soundness.proofs.RisingLemmas.{log_own, log_rising}
+use Rattle.soundness.proofs.RisingLaws.{log_own, log_rising}
 use Rattle.soundness.proofs.laws.evicted_elements_are_timed.Goals as goal
 
 pub returns : goal.returns

@@ -1,4 +1,4 @@
-use Rattle.stamp_order.proofs.MergedLemmas.{merged-one}
+use Rattle.stamp_order.proofs.MergedLaws.{merged-one}
 use Rattle.stamp_order.proofs.laws.merged_order_is_one.Goals as goal
 
 pub returns : goal.returns

@@ -1,4 +1,4 @@
-use Rattle.stamp_order.proofs.MergedLemmas.{merged-filter, merged-epochs, merged-flat_map}
+use Rattle.stamp_order.proofs.MergedLaws.{merged-filter, merged-epochs, merged-flat_map}
 use Rattle.stamp_order.proofs.laws.merging_goes_by_parts.Goals as goal
 
 pub returns : goal.returns

@@ -1,4 +1,4 @@
-use Rattle.stamp_order.proofs.MergedLemmas.{merged-permutation, merged-sorts, sorted_from_IsMerged}
+use Rattle.stamp_order.proofs.MergedLaws.{merged-permutation, merged-sorts, sorted_from_IsMerged}
 use Rattle.stamp_order.proofs.laws.merging_sorts.Goals as goal
 
 pub returns : goal.returns

@@ -1,4 +1,4 @@
-use Rattle.stamp_order.proofs.MomentLemmas.{not_after-cmp}
+use Rattle.stamp_order.proofs.MomentLaws.{not_after-cmp}
 use Rattle.stamp_order.proofs.laws.moments_are_ordered.Goals as goal
 
 pub returns-clause-not_after : goal.returns-clause-not_after

@@ -3,7 +3,7 @@ use Rattle.std.proofs.Common.{rules, ap, ◌∙◌}
 use Rattle.std.proofs.lemmas.List.Sorted.{answers_always}
 use Rattle.stamp_order.specs.Merged.{merged}
 use Rattle.stamp_order.specs.Operations.{moment_of}
-use Rattle.stamp_order.proofs.MergedLemmas.{merged-from_stable}
+use Rattle.stamp_order.proofs.MergedLaws.{merged-from_stable}
 use Rattle.stamp_order.proofs.merging.merge.Goals as goal
 
 pub returns : goal.returns

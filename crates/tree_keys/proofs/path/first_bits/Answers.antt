@@ -1,4 +1,4 @@
-use Rattle.tree_keys.proofs.BitsLemmas.{first_below}
+use Rattle.tree_keys.proofs.BitsLaws.{first_below}
 use Rattle.tree_keys.proofs.path.first_bits.Goals as goal
 
 pub returns-else-front-eq0-clause-below : goal.returns-else-front-eq0-clause-below

@@ -1,7 +1,7 @@
 use Rattle.std.proofs.Common.{◌≡◌, ◌-◌, drop, None, sym, ◌∙◌, ap, subst, ℕ, arith}
 use Rattle.std.proofs.Math.Seq.{drop-length}
 use Rattle.verifier_cache.specs.Cache.{entry_of}
-use Rattle.verifier_cache.proofs.EntriesLemmas.{entry_of-drop, place_read}
+use Rattle.verifier_cache.proofs.EntriesLaws.{entry_of-drop, place_read}
 use Rattle.verifier_cache.proofs.cache.position.Goals as goal
 
 pub loop-i-init : goal.loop-i-init

@@ -1,5 +1,5 @@
-use Rattle.tree_keys.proofs.PathLemmas.{same_path-apart}
-use Rattle.verifier_cache.proofs.EntriesLemmas.{entry_of-changed, entry_of-changed_other, length-changed, AreDistinct-changed, changed-replaced}
+use Rattle.tree_keys.proofs.PathLaws.{same_path-apart}
+use Rattle.verifier_cache.proofs.EntriesLaws.{entry_of-changed, entry_of-changed_other, length-changed, AreDistinct-changed, changed-replaced}
 use Rattle.verifier_cache.proofs.laws.changing_keeps_the_others.Goals as goal
 
 pub returns : goal.returns

@@ -1,4 +1,4 @@
-use Rattle.verifier_cache.proofs.EntriesLemmas.{entry_of-append, AreDistinct-append}
+use Rattle.verifier_cache.proofs.EntriesLaws.{entry_of-append, AreDistinct-append}
 use Rattle.verifier_cache.proofs.laws.inserting_adds_one_entry.Goals as goal
 
 pub returns : goal.returns

@@ -1,5 +1,5 @@
-use Rattle.tree_keys.proofs.PathLemmas.{same_path-apart}
-use Rattle.verifier_cache.proofs.EntriesLemmas.{entry_of-without, entry_of-without_other, length-without_there, AreDistinct-without}
+use Rattle.tree_keys.proofs.PathLaws.{same_path-apart}
+use Rattle.verifier_cache.proofs.EntriesLaws.{entry_of-without, entry_of-without_other, length-without_there, AreDistinct-without}
 use Rattle.verifier_cache.proofs.laws.removing_takes_one_entry.Goals as goal
 
 pub returns : goal.returns

@@ -1,6 +1,6 @@
 use Rattle.std.proofs.Common.{refl}
-use Rattle.tree_keys.proofs.PathLemmas.{same_path-apart}
-use Rattle.verifier_cache.proofs.EntriesLemmas.{entry_of-replaced, entry_of-changed_other, absent-changed, AreDistinct-changed}
+use Rattle.tree_keys.proofs.PathLaws.{same_path-apart}
+use Rattle.verifier_cache.proofs.EntriesLaws.{entry_of-replaced, entry_of-changed_other, absent-changed, AreDistinct-changed}
 use Rattle.verifier_cache.proofs.laws.replacing_changes_one_entry.Goals as goal
 
 pub returns : goal.returns

@@ -1,4 +1,4 @@
-use Rattle.record_text.proofs.SameTestLemmas.{tells_same_value}
+use Rattle.record_text.proofs.SameTestLaws.{tells_same_value}
 use Rattle.verifier_commands.proofs.state.is_same_value.Goals as goal
 
 pub returns : goal.returns

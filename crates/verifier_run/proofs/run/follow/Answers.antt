@@ -1,6 +1,6 @@
 use Rattle.std.proofs.Common.{sym, ap, ◌∙◌, take, length, length-drop, arith}
 use Rattle.record_text.specs.Format.{short_keys}
-use Rattle.record_text.proofs.FieldLemmas.{wide64}
+use Rattle.record_text.proofs.FieldLaws.{wide64}
 use Rattle.log_codec.specs.Command.{command_at}
 use Rattle.merkle_records.specs.Scheme.{scheme_of}
 use Rattle.verifier_run.proofs.FollowLemmas.{more_taken, refused_there, malformed_there, cut_there, is_none_told, is_some_told}

@@ -1,6 +1,6 @@
 use Rattle.std.proofs.Common.{sym, ◌∙◌, ap}
 use Rattle.verifier_cache.specs.Cache.{Held, entry_of}
-use Rattle.verifier_cache.proofs.EntriesLemmas.{place_in, read_at_place}
+use Rattle.verifier_cache.proofs.EntriesLaws.{place_in, read_at_place}
 use Rattle.verifier_cache.proofs.cache.Cache.entry.Goals as goal
 
 pub returns-in-Some-clause-value : goal.returns-in-Some-clause-value

@@ -1,6 +1,6 @@
 use Rattle.std.proofs.Common.{◌<◌, length, IsNone, sym, subst, arith}
 use Rattle.verifier_cache.specs.Cache.{Held, entry_of}
-use Rattle.verifier_cache.proofs.EntriesLemmas.{IsHeld-append}
+use Rattle.verifier_cache.proofs.EntriesLaws.{IsHeld-append}
 use Rattle.verifier_cache.proofs.cache.Cache.insert_entry.Goals as goal
 
 pub invariant_of-self : goal.invariant_of-self

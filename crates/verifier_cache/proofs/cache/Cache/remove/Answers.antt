@@ -1,7 +1,7 @@
 use Rattle.std.proofs.Common.{◌≡◌, ◌∙◌, ap, subst, arith}
 use Rattle.std.specs.Option.{IfSome}
 use Rattle.verifier_cache.specs.Cache.{Held, entry_of, without}
-use Rattle.verifier_cache.proofs.EntriesLemmas.{place_in, value_at_place, without-place, IsHeld-remove}
+use Rattle.verifier_cache.proofs.EntriesLaws.{place_in, value_at_place, without-place, IsHeld-remove}
 use Rattle.verifier_cache.proofs.cache.Cache.remove.Goals as goal
 
 pub invariant_of-self : goal.invariant_of-self

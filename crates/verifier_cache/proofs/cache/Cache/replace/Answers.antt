@@ -1,7 +1,7 @@
 use Rattle.std.proofs.Common.{List, IsNone, refl, sym, ◌∙◌, ap, subst}
 use Rattle.verifier_cache.specs.declared.entry.Entry.{Entry}
 use Rattle.verifier_cache.specs.Cache.{Held, entry_of, replaced}
-use Rattle.verifier_cache.proofs.EntriesLemmas.{place_in, set_at_place, absent-changed, IsHeld-set}
+use Rattle.verifier_cache.proofs.EntriesLaws.{place_in, set_at_place, absent-changed, IsHeld-set}
 use Rattle.verifier_cache.proofs.cache.Cache.replace.Goals as goal
 
 pub invariant_of-self : goal.invariant_of-self

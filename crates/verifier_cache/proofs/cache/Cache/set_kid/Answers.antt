@@ -2,7 +2,7 @@ use Rattle.std.proofs.Common.{◌∙◌, ap}
 use Rattle.verifier_cache.specs.declared.entry.Entry.{Entry}
 use Rattle.verifier_cache.specs.Entry.{set_kid}
 use Rattle.verifier_cache.specs.Cache.{Held, changed}
-use Rattle.verifier_cache.proofs.EntriesLemmas.{place_in, path_at_place, set_at_place, IsHeld-set}
+use Rattle.verifier_cache.proofs.EntriesLaws.{place_in, path_at_place, set_at_place, IsHeld-set}
 use Rattle.verifier_cache.proofs.cache.Cache.set_kid.Goals as goal
 
 pub invariant_of-self : goal.invariant_of-self

@@ -4,7 +4,7 @@ use Rattle.verifier_cache.specs.declared.entry.Entry.{Entry}
 use Rattle.verifier_cache.specs.Entry.{with_value}
 use Rattle.verifier_cache.specs.Cache.{Held, entry_of}
 use Rattle.verifier_cache.specs.LendsValue.{with_value_at}
-use Rattle.verifier_cache.proofs.EntriesLemmas.{place_in, path_at_place, set_at_place, value_at_place, IsHeld-set}
+use Rattle.verifier_cache.proofs.EntriesLaws.{place_in, path_at_place, set_at_place, value_at_place, IsHeld-set}
 use Rattle.verifier_cache.proofs.cache.Cache.value_mut.Goals as goal
 
 pub invariant_of-self-lent : goal.invariant_of-self-lent

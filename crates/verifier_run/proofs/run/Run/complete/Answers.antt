@@ -1,6 +1,6 @@
 use Rattle.std.proofs.Common.{◌≡◌, ◌+◌, ◌-◌, List, [], ℕ, sym, ap, ◌∙◌, ◌++◌, length, take, length-append, length-take, arith}
 use Rattle.record_text.specs.Format.{short_keys}
-use Rattle.record_text.proofs.FieldLemmas.{wide64}
+use Rattle.record_text.proofs.FieldLaws.{wide64}
 use Rattle.log_codec.specs.Command.{command_at}
 use Rattle.merkle_records.specs.Scheme.{scheme_of}
 use Rattle.verifier_run.specs.Progress.{Progress, fed}

@@ -6,11 +6,11 @@ use Rattle.std.proofs.lemmas.Nat.{shr_split, shr_high, mod_low, pow_pos, shl_bel
 use Rattle.tree_keys.specs.Bits.{bits_of, number_of}
 use Rattle.tree_keys.specs.BitsLaws.{length-bits_of, number_back}
 use Rattle.tree_keys.specs.Path.{word_of, path_in_word, is_prefix}
-use Rattle.tree_keys.proofs.BitsLemmas.{bits_of-number_of, number_of-lt, first_below}
+use Rattle.tree_keys.proofs.BitsLaws.{bits_of-number_of, number_of-lt, first_below}
 use Rattle.record_text.specs.Format.{Format, path_bits}
 use Rattle.record_text.specs.Reading.{path_in, path_at, if_below, path_below_in, path_below_at}
 use Rattle.record_text.specs.Texts.{path_text}
-use Rattle.record_text.proofs.FieldLemmas.{AreBytes, AreBytes-rest, Begins, IsWide, field_begins, field_again}
+use Rattle.record_text.proofs.FieldLaws.{AreBytes, AreBytes-rest, Begins, IsWide, field_begins, field_again}
 
 -- ---- a path in a word
 

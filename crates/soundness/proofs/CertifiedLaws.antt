@@ -5,7 +5,7 @@ use Rattle.std.proofs.lemmas.Option.{none-some, same_Some}
 use Rattle.multiset_sum.specs.Tally.{Tally}
 use Rattle.merkle_records.specs.Scheme.{Scheme}
 use Rattle.record_text.specs.Same.{same_bytes}
-use Rattle.record_text.proofs.SameTestLemmas.{same_bytes-true}
+use Rattle.record_text.proofs.SameTestLaws.{same_bytes-true}
 use Rattle.soundness.specs.History.{Event}
 use Rattle.soundness.specs.Certified.{added_in, evicted_in, same_sum, is_balanced, balanced_from}
 use Rattle.soundness.specs.Permutation.{is_permutation}

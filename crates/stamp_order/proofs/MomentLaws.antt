@@ -13,7 +13,7 @@ use Rattle.lamport_clocks.specs.declared.stamp.Stamp.{Stamp}
 use Rattle.stamp_order.specs.declared.moment.Moment.{Moment}
 use Rattle.stamp_order.specs.Moment.{moment_cmp, is_before, not_after}
 use Rattle.stamp_order.specs.Merged.{comes_before}
-use Rattle.stamp_order.proofs.OneOrderLemmas.{untied}
+use Rattle.stamp_order.proofs.OneOrderLaws.{untied}
 
 pub stamp_cmp-total : IsTotalOrder stamp_cmp
 stamp_cmp-total = then_total (on_total (λ (s : Stamp). s.epoch) nat_cmp_total) (on_total (λ (s : Stamp). s.counter) nat_cmp_total)

@@ -16,12 +16,12 @@ use Rattle.record_text.specs.Format.{Format, path_bits, short_keys}
 use Rattle.record_text.specs.Value.{IsPointer, IsSide, IsBlob, IsOf}
 use Rattle.record_text.specs.Fields.{Parsed, ◌>>=◌, field}
 use Rattle.record_text.specs.Reading.{first_byte, byte_at, run_at, path_in, path_at, flag_in, count_in, blob_behind, blob_at, pointer_tag_in, if_below, path_below_in, path_below_at, pointer_behind, pointer_at, node_at, value_by, value_at, stamp_at, u16_at}
-use Rattle.record_text.proofs.FieldLemmas.{Ok-is, bind_ok, field_ok}
+use Rattle.record_text.proofs.FieldLaws.{Ok-is, bind_ok, field_ok}
 use Rattle.log_codec.specs.declared.command.Command.{Command}
 use Rattle.log_codec.specs.declared.command.Command.TheVariants.{AddM, EvictM, AddB, EvictB, EvictBM, Get, Put, NextEpoch}
 use Rattle.log_codec.specs.Command.{add_m_at, evict_m_at, add_b_at, evict_b_at, evict_bm_at, get_at, put_at, command_behind, command_at}
 use Rattle.log_codec.specs.Log.{log_behind, log_up_to, read_log}
-use Rattle.log_codec.proofs.StepLemmas.{then_at, two_at, then_ok}
+use Rattle.log_codec.proofs.StepLaws.{then_at, two_at, then_ok}
 use Rattle.soundness.specs.Typed.{IsTyped}
 
 -- ---- fields

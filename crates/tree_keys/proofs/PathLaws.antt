@@ -3,7 +3,7 @@ use Rattle.std.proofs.Common.{◌≡◌, ◌≢◌, ◌↔◌, IsTrue, ℕ, zero
 use Rattle.std.proofs.lemmas.Bool.{false≢true, eqb-true, eq-eqb}
 use Rattle.tree_keys.specs.Bits.{bits_of}
 use Rattle.tree_keys.specs.BitsLaws.{length-bits_of}
-use Rattle.tree_keys.proofs.BitsLemmas.{take-bits_of, bits_of-injective, first_below}
+use Rattle.tree_keys.proofs.BitsLaws.{take-bits_of, bits_of-injective, first_below}
 use Rattle.tree_keys.specs.Path.{side, common, is_prefix, same_path}
 
 -- nothing that isn't longer lies below

@@ -16,7 +16,7 @@ use Rattle.record_text.specs.declared.element.Element.{Element}
 use Rattle.log_codec.specs.declared.command.Command.{Command}
 use Rattle.log_codec.specs.declared.command.Command.TheVariants.{AddM, EvictM, AddB, EvictB, EvictBM, Get, Put, NextEpoch}
 use Rattle.merkle_records.specs.Merkle.{Digest}
-use Rattle.stamp_order.proofs.InOrderLemmas.{every-weaker, every-append}
+use Rattle.stamp_order.proofs.InOrderLaws.{every-weaker, every-append}
 use Rattle.verifier_cache.specs.Entry.{has_kid}
 use Rattle.verifier_cache.specs.Cache.{entry_of}
 use Rattle.verifier_commands.specs.declared.state.State.{State}
@@ -28,8 +28,8 @@ use Rattle.verifier_commands.specs.Transition.{Rules, Step, is_root, is_data, is
 use Rattle.soundness.specs.History.{Event, events_behind, events_from, machinery_under, rules_under, log_events}
 use Rattle.soundness.specs.Certified.{evicted_by}
 use Rattle.soundness.specs.Timed.{IsEarlier, evicted_among, IsRising}
-use Rattle.soundness.proofs.InvertLemmas.{need-ok, and_then-ok, timed-ok}
-use Rattle.soundness.proofs.HistoryLemmas.{Ticks, IsUpTo, IsTicking, ticks-up_to, log-ticks}
+use Rattle.soundness.proofs.InvertLaws.{need-ok, and_then-ok, timed-ok}
+use Rattle.soundness.proofs.HistoryLaws.{Ticks, IsUpTo, IsTicking, ticks-up_to, log-ticks}
 
 -- ---- whose they are
 

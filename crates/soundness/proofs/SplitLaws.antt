@@ -11,8 +11,8 @@ use Rattle.merkle_records.specs.Merkle.{Digest}
 use Rattle.stamp_order.specs.declared.moment.Moment.{Moment}
 use Rattle.stamp_order.specs.Moment.{is_before}
 use Rattle.stamp_order.specs.Merged.{comes_before, IsMerged, up_to}
-use Rattle.stamp_order.proofs.InOrderLemmas.{every-weaker}
-use Rattle.stamp_order.proofs.MomentLemmas.{is_before-epoch}
+use Rattle.stamp_order.proofs.InOrderLaws.{every-weaker}
+use Rattle.stamp_order.proofs.MomentLaws.{is_before-epoch}
 use Rattle.verifier_commands.specs.State.{opening}
 use Rattle.soundness.specs.History.{log_events, rules_under}
 use Rattle.soundness.specs.Certified.{event_moment}

@@ -18,11 +18,11 @@ use Rattle.verifier_commands.specs.Change.{Change, did_add_m, did_evict_m, did_a
 use Rattle.soundness.specs.History.{Event, histories_of}
 use Rattle.soundness.specs.Certified.{event_moment, operation_at, operations_by, operations_in, order_of, order_up_to, order_within, sealed_by_all, certified_count, certified_operations}
 use Rattle.soundness.specs.Sound.{IsSerialOrCollides}
-use Rattle.soundness.proofs.WholeLemmas.{order_part}
+use Rattle.soundness.proofs.WholeLaws.{order_part}
 use Rattle.soundness.specs.Typed.{IsTyped}
-use Rattle.soundness.proofs.CertifiedLemmas.{counted_balanced}
-use Rattle.soundness.proofs.SoundLemmas.{sound}
-use Rattle.soundness.proofs.TypedLemmas.{read_typed}
+use Rattle.soundness.proofs.CertifiedLaws.{counted_balanced}
+use Rattle.soundness.proofs.SoundLaws.{sound}
+use Rattle.soundness.proofs.TypedLaws.{read_typed}
 use Rattle.check_core.specs.Intake.{logged_of}
 use Rattle.check_core.specs.BundleReport.{histories_at}
 use Rattle.check_core.specs.Headline.{certified_exhibit, own_operations, KeepsEachLog, IsSoundAt, IsSound, IsShaSound}

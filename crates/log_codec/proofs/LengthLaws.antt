@@ -11,12 +11,12 @@ use Rattle.record_text.specs.declared.value.Value.TheVariants as values
 use Rattle.record_text.specs.Format.{short_keys, path_bits}
 use Rattle.record_text.specs.Fields.{Parsed, field, ranged}
 use Rattle.record_text.specs.Reading.{first_byte, byte_at, run_at, path_in, path_at, flag_in, count_in, blob_behind, blob_at, pointer_tag_in, path_below_in, path_below_at, pointer_behind, pointer_at, node_at, value_by, value_at, u16_at, u32_at, stamp_at}
-use Rattle.record_text.proofs.FieldLemmas.{field_ok, Ok-is, wide64}
+use Rattle.record_text.proofs.FieldLaws.{field_ok, Ok-is, wide64}
 use Rattle.log_codec.specs.declared.command.Command.{Command}
 use Rattle.log_codec.specs.declared.command.Command.TheVariants.{AddM, EvictM, AddB, EvictB, EvictBM, Get, Put, NextEpoch}
 use Rattle.log_codec.specs.Command.{add_m_at, evict_m_at, add_b_at, evict_b_at, evict_bm_at, get_at, put_at, command_behind, command_at, command_text, IsCommand}
-use Rattle.log_codec.proofs.CommandLemmas.{command_again}
-use Rattle.log_codec.proofs.StepLemmas.{then_at, then_ok, two_at, three_at, four_at}
+use Rattle.log_codec.proofs.CommandLaws.{command_again}
+use Rattle.log_codec.proofs.StepLaws.{then_at, then_ok, two_at, three_at, four_at}
 
 -- A reader takes at most n bytes, and has fewer where they are cut.
 record Spans {A : Type 0} (n : ℕ) (read : List ℕ → Parsed A) : Type 0 where

@@ -10,10 +10,10 @@ use Rattle.std.proofs.lemmas.Map.Keys.{IsDistinct-from_apart}
 use Rattle.stamp_order.specs.declared.moment.Moment.{Moment}
 use Rattle.stamp_order.specs.Moment.{moment_cmp, is_before}
 use Rattle.stamp_order.specs.Merged.{comes_before, merged, IsMerged, up_to, of_epoch, of_verifier}
-use Rattle.stamp_order.proofs.InOrderLemmas.{in_order-sorts, in_order-permutation, in_order-fixed, in_order-filter, in_order-keeps}
-use Rattle.stamp_order.proofs.OneOrderLemmas.{sorted_from_IsInOrder, IsInOrder-from_sorted, in_order-from_stable, in_order-from_permutation}
+use Rattle.stamp_order.proofs.InOrderLaws.{in_order-sorts, in_order-permutation, in_order-fixed, in_order-filter, in_order-keeps}
+use Rattle.stamp_order.proofs.OneOrderLaws.{sorted_from_IsInOrder, IsInOrder-from_sorted, in_order-from_stable, in_order-from_permutation}
 use Rattle.stamp_order.proofs.JoinLemmas.{in_order-split, in_order-flat_map}
-use Rattle.stamp_order.proofs.MomentLemmas.{is_before-order, comes_before-order, one_moment, is_before-epoch}
+use Rattle.stamp_order.proofs.MomentLaws.{is_before-order, comes_before-order, one_moment, is_before-epoch}
 
 module _ {X : Type 0} where
   -- two filters are one

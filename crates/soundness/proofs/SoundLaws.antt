@@ -6,15 +6,15 @@ use Rattle.std.proofs.lemmas.Bool.{leb-true}
 use Rattle.lamport_clocks.specs.declared.header.Header.{Header}
 use Rattle.record_text.specs.declared.element.Element.{Element}
 use Rattle.record_text.specs.Format.{short_keys}
-use Rattle.record_text.proofs.FieldLemmas.{wide64}
-use Rattle.record_text.proofs.OneTextLemmas.{one_value}
+use Rattle.record_text.proofs.FieldLaws.{wide64}
+use Rattle.record_text.proofs.OneTextLaws.{one_value}
 use Rattle.log_codec.specs.declared.command.Command.{Command}
 use Rattle.record_hash.specs.Functions.{DigestFunctions}
 use Rattle.merkle_records.specs.Merkle.{GivesDigests}
 use Rattle.merkle_records.specs.Scheme.{Scheme, scheme_of}
 use Rattle.stamp_order.specs.Serial.{none_everywhere}
 use Rattle.stamp_order.specs.Merged.{IsMerged, up_to}
-use Rattle.stamp_order.proofs.InOrderLemmas.{every-weaker}
+use Rattle.stamp_order.proofs.InOrderLaws.{every-weaker}
 use Rattle.soundness.specs.History.{Event, log_events, histories_of}
 use Rattle.soundness.specs.Certified.{operations_in, event_moment, order_of, order_up_to, order_within, added_in, evicted_in, sum_over}
 use Rattle.soundness.specs.Clash.{Strings, none_evicted, first_clash}
@@ -28,13 +28,13 @@ use Rattle.soundness.specs.Spot.{untouched, waiting}
 use Rattle.soundness.specs.World.{IsWaiting, opening_shown}
 use Rattle.soundness.proofs.JoinLemmas.{not_waiting}
 use Rattle.soundness.proofs.KnownLemmas.{HasOneText}
-use Rattle.soundness.proofs.PermutationLemmas.{count_permuted}
+use Rattle.soundness.proofs.PermutationLaws.{count_permuted}
 use Rattle.soundness.proofs.SerialLemmas.{run_keeps, Collides as CollidesAt, IsSound}
 use Rattle.soundness.proofs.ScheduleLemmas.{AreEven, scheduled}
-use Rattle.soundness.proofs.HistoryLemmas.{IsOfLog, log-merged, log-epochs}
+use Rattle.soundness.proofs.HistoryLaws.{IsOfLog, log-merged, log-epochs}
 use Rattle.soundness.proofs.OrderLemmas.{AreHistories, order_run, order_timed, order_sorted, order_splits}
 use Rattle.soundness.proofs.OpeningLemmas.{opening_spots, opening_world}
-use Rattle.soundness.proofs.CertifiedLemmas.{same_sum-true, even_where_none, uneven_where_some}
+use Rattle.soundness.proofs.CertifiedLaws.{same_sum-true, even_where_none, uneven_where_some}
 
 -- no two values of a path have one text
 pub one_text : HasOneText short_keys

@@ -18,8 +18,8 @@ use Rattle.merkle_records.specs.Merkle.{Digest}
 use Rattle.stamp_order.specs.declared.moment.Moment.{Moment}
 use Rattle.stamp_order.specs.Moment.{is_before}
 use Rattle.stamp_order.specs.Merged.{comes_before, merged, IsMerged}
-use Rattle.stamp_order.proofs.InOrderLemmas.{every-weaker}
-use Rattle.stamp_order.proofs.MergedLemmas.{merged-fixed}
+use Rattle.stamp_order.proofs.InOrderLaws.{every-weaker}
+use Rattle.stamp_order.proofs.MergedLaws.{merged-fixed}
 use Rattle.verifier_cache.specs.Entry.{has_kid}
 use Rattle.verifier_cache.specs.Cache.{entry_of}
 use Rattle.verifier_commands.specs.declared.state.State.{State}
@@ -30,7 +30,7 @@ use Rattle.record_text.specs.Same.{same_value}
 use Rattle.verifier_commands.specs.Transition.{Rules, Step, is_root, is_data, is_full, transition}
 use Rattle.soundness.specs.History.{Event, events_behind, events_from, machinery_under, rules_under, log_events}
 use Rattle.soundness.specs.Certified.{event_moment, order_of}
-use Rattle.soundness.proofs.InvertLemmas.{need-ok, and_then-ok, timed-ok}
+use Rattle.soundness.proofs.InvertLaws.{need-ok, and_then-ok, timed-ok}
 
 -- ---- how the clock moves
 

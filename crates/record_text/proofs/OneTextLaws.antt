@@ -14,11 +14,11 @@ use Rattle.record_text.specs.Element.{IsStamp, IsElement}
 use Rattle.record_text.specs.Fields.{Parsed, KeepsOn}
 use Rattle.record_text.specs.Reading.{path_at, blob_at, pointer_at, value_at, stamp_at, element_at}
 use Rattle.record_text.specs.Texts.{path_text, blob_text, pointer_text, value_text, stamp_text, element_text}
-use Rattle.record_text.proofs.FieldLemmas.{IsWide, Ok-is}
-use Rattle.record_text.proofs.PathTextLemmas.{path_again}
-use Rattle.record_text.proofs.ValueTextLemmas.{blob_again, IsUnder, IsUnder-root, pointer_again_under, value_again}
-use Rattle.record_text.proofs.ElementTextLemmas.{stamp_again, element_again}
-use Rattle.record_text.proofs.KeepsOnLemmas.{front_is_truncated, keeps_on-path, keeps_on-value, keeps_on-stamp, keeps_on-element}
+use Rattle.record_text.proofs.FieldLaws.{IsWide, Ok-is}
+use Rattle.record_text.proofs.PathTextLaws.{path_again}
+use Rattle.record_text.proofs.ValueTextLaws.{blob_again, IsUnder, IsUnder-root, pointer_again_under, value_again}
+use Rattle.record_text.proofs.ElementTextLaws.{stamp_again, element_again}
+use Rattle.record_text.proofs.KeepsOnLaws.{front_is_truncated, keeps_on-path, keeps_on-value, keeps_on-stamp, keeps_on-element}
 
 -- one reader that reads both tells that they are one
 pub one_from_again : {A : Type 0} (read : List ℕ → Parsed A) (s t x y : List ℕ) (a b : A) → read (s ++ x) ≡ Ok (a, x) → read (t ++ y) ≡ Ok (b, y) → s ++ x ≡ t ++ y → (a ≡ b) × (x ≡ y)

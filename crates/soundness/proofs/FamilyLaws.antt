@@ -3,7 +3,7 @@ use Rattle.std.proofs.Common.{◌≡◌, ◌≢◌, Bool, true, false, not, ◌|
 use Rattle.std.specs.Option.{option_map}
 use Rattle.std.proofs.lemmas.Bool.{false≢true, true≢false}
 use Rattle.tree_keys.specs.Path.{side, same_path}
-use Rattle.tree_keys.proofs.PathLemmas.{same_path-true}
+use Rattle.tree_keys.proofs.PathLaws.{same_path-true}
 use Rattle.step_words.specs.Steps.{test, need}
 use Rattle.record_text.specs.declared.value.Pointer.{Pointer}
 use Rattle.record_text.specs.declared.value.Node.{Node}
@@ -21,7 +21,7 @@ use Rattle.verifier_cache.specs.declared.entry.Entry.{Entry}
 use Rattle.verifier_cache.specs.Entry.{kid_of, set_kid, has_kid}
 use Rattle.verifier_commands.specs.declared.changes.Family.{Family}
 use Rattle.record_text.specs.Same.{same_value, same_bytes}
-use Rattle.record_text.proofs.SameTestLemmas.{same_value-true, same_bytes-true}
+use Rattle.record_text.proofs.SameTestLaws.{same_value-true, same_bytes-true}
 use Rattle.verifier_commands.specs.Changes.{node_of, above_on, above, leads_to, is_deferred, has_digest, leads_below, family_of, add_by, add_under, holds_wrong, left_by, evict_under, is_by_digest, defer_under}
 
 -- ---- tests in order, from their outcome back

@@ -2,8 +2,8 @@
 use Rattle.std.proofs.Common.{◌≡◌, ℕ, Bool, true, false, cond, List, Ok, Err, ap, ◌∙◌}
 use Rattle.record_text.specs.declared.reader.TextFault.TheVariants.{Malformed}
 use Rattle.record_text.specs.Fields.{Parsed, ◌>>=◌, KeepsOn}
-use Rattle.record_text.proofs.FieldLemmas.{bind_ok}
-use Rattle.record_text.proofs.KeepsOnLemmas.{keeps_on-nothing, keeps_on-then}
+use Rattle.record_text.proofs.FieldLaws.{bind_ok}
+use Rattle.record_text.proofs.KeepsOnLaws.{keeps_on-nothing, keeps_on-then}
 
 -- one reader after another, at the bytes that it left
 abbrev pub then_at : {A B : Type 0} → Parsed A → (A → List ℕ → Parsed B) → Parsed B

@@ -1,7 +1,7 @@
 -- A path that lies properly below another is another.
 use Rattle.std.proofs.Common.{◌≡◌, ◌≢◌, Bool, List, Some, None, sym, subst, arith}
 use Rattle.tree_keys.specs.Path.{side}
-use Rattle.tree_keys.proofs.PathLemmas.{side-short}
+use Rattle.tree_keys.proofs.PathLaws.{side-short}
 
 -- none lies below itself
 pub side-self : (p : List Bool) → side p p ≡ None

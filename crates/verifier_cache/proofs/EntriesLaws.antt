@@ -6,7 +6,7 @@ use Rattle.std.specs.List.{remove}
 use Rattle.std.proofs.lemmas.Bool.{false≢true}
 use Rattle.std.proofs.lemmas.List.Elements.{at_read}
 use Rattle.tree_keys.specs.Path.{same_path}
-use Rattle.tree_keys.proofs.PathLemmas.{same_path-self, same_path-true, same_path-apart}
+use Rattle.tree_keys.proofs.PathLaws.{same_path-self, same_path-true, same_path-apart}
 use Rattle.verifier_cache.specs.declared.entry.Entry.{Entry}
 use Rattle.record_text.specs.declared.value.Value.TheVariants as values
 use Rattle.verifier_cache.specs.declared.entry.Hold.TheVariants.{Root}

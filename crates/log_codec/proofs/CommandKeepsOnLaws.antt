@@ -4,13 +4,13 @@ use Rattle.record_text.specs.declared.reader.TextFault.TheVariants.{Malformed, T
 use Rattle.record_text.specs.Format.{Format}
 use Rattle.record_text.specs.Fields.{field, KeepsOn}
 use Rattle.record_text.specs.Reading.{first_byte, byte_at, path_at, value_at, stamp_at, u16_at}
-use Rattle.record_text.proofs.FieldLemmas.{field_ok}
-use Rattle.record_text.proofs.KeepsOnLemmas.{keeps_on-nothing, keeps_on-then, keeps_on-byte, keeps_on-path, keeps_on-value, keeps_on-stamp, keeps_on-u16, front_is_truncated}
+use Rattle.record_text.proofs.FieldLaws.{field_ok}
+use Rattle.record_text.proofs.KeepsOnLaws.{keeps_on-nothing, keeps_on-then, keeps_on-byte, keeps_on-path, keeps_on-value, keeps_on-stamp, keeps_on-u16, front_is_truncated}
 use Rattle.log_codec.specs.declared.command.Command.{Command}
 use Rattle.log_codec.specs.declared.command.Command.TheVariants.{AddM, EvictM, AddB, EvictB, EvictBM, Get, Put, NextEpoch}
 use Rattle.log_codec.specs.Command.{command_text, add_m_at, evict_m_at, add_b_at, evict_b_at, evict_bm_at, get_at, put_at, command_behind, command_at, IsCommand}
-use Rattle.log_codec.proofs.StepLemmas.{then_ok, keeps_on-if, keeps_on-malformed, keeps_on-two, keeps_on-three, keeps_on-four}
-use Rattle.log_codec.proofs.CommandLemmas.{IsWideFor, command_again}
+use Rattle.log_codec.proofs.StepLaws.{then_ok, keeps_on-if, keeps_on-malformed, keeps_on-two, keeps_on-three, keeps_on-four}
+use Rattle.log_codec.proofs.CommandLaws.{IsWideFor, command_again}
 
 keeps_on-behind : (format : Format) (tag : ℕ) → KeepsOn (λ bytes. command_behind format tag bytes)
 keeps_on-behind format tag =

@@ -11,8 +11,8 @@ use Rattle.record_text.specs.Value.{IsPointer, IsSide, IsBlob, IsOf, empty_node,
 use Rattle.record_text.specs.Fields.{Parsed, ◌>>=◌, field}
 use Rattle.record_text.specs.Reading.{run_at, flag_in, count_in, blob_behind, blob_at, pointer_tag_in, path_below_at, pointer_behind, pointer_at, node_at, value_by, value_at}
 use Rattle.record_text.specs.Texts.{path_text, blob_text, deferred_tag, pointer_text, value_text}
-use Rattle.record_text.proofs.FieldLemmas.{AreBytes, Begins, Begins-then, IsWide, bind_ok, Ok-is, field_begins, byte_field_begins, field_again}
-use Rattle.record_text.proofs.PathTextLemmas.{path_below_begins, path_below_again}
+use Rattle.record_text.proofs.FieldLaws.{AreBytes, Begins, Begins-then, IsWide, bind_ok, Ok-is, field_begins, byte_field_begins, field_again}
+use Rattle.record_text.proofs.PathTextLaws.{path_below_begins, path_below_again}
 
 -- ---- runs of bytes
 

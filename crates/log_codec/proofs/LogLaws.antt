@@ -8,12 +8,12 @@ use Rattle.record_text.specs.declared.reader.TextFault.{TextFault}
 use Rattle.record_text.specs.declared.reader.TextFault.TheVariants.{Malformed}
 use Rattle.record_text.specs.Format.{Format}
 use Rattle.record_text.specs.Fields.{Parsed}
-use Rattle.record_text.proofs.FieldLemmas.{AreBytes}
+use Rattle.record_text.proofs.FieldLaws.{AreBytes}
 use Rattle.log_codec.specs.declared.command.Command.{Command}
 use Rattle.log_codec.specs.Command.{command_text, command_at, IsCommand}
 use Rattle.log_codec.specs.Log.{LogEnd, whole, faulty, Log, log_text, with_command, with_commands, log_behind, log_up_to, read_log, IsLeft, IsLog}
-use Rattle.log_codec.proofs.CommandLemmas.{IsWideFor, command_begins, command_again}
-use Rattle.log_codec.proofs.CommandKeepsOn.{keeps_on-command, command_shorter}
+use Rattle.log_codec.proofs.CommandLaws.{IsWideFor, command_begins, command_again}
+use Rattle.log_codec.proofs.CommandKeepsOnLaws.{keeps_on-command, command_shorter}
 
 -- numbers of which each is below 256 are bytes
 pub AreBytes-from_all : (bytes : List ℕ) → All (λ byte. byte < 256) bytes → AreBytes bytes

@@ -3,7 +3,7 @@ use Rattle.std.proofs.Common.{◌≡◌, ℕ, ◌+◌, ◌-◌, ◌≤◌, List,
 use Rattle.std.proofs.lemmas.List.{take_at, length-append}
 use Rattle.record_text.specs.declared.reader.TextFault.{TextFault}
 use Rattle.record_text.specs.Fields.{Parsed}
-use Rattle.record_text.proofs.FieldLemmas.{Begins, Ok-is}
+use Rattle.record_text.proofs.FieldLaws.{Begins, Ok-is}
 
 -- the text and what is left are all of the bytes
 begun : (bytes text rest : List ℕ) → Begins bytes text rest → length bytes ≡ length text + length rest

@@ -11,15 +11,15 @@ use Rattle.record_text.specs.Element.{IsStamp}
 use Rattle.record_text.specs.Fields.{Parsed, field}
 use Rattle.record_text.specs.Reading.{first_byte, byte_at, path_at, value_at, stamp_at, u16_at}
 use Rattle.record_text.specs.Texts.{path_text, value_text, stamp_text}
-use Rattle.record_text.proofs.FieldLemmas.{AreBytes, Begins, IsWide, Ok-is, field_again, byte_field_begins}
-use Rattle.record_text.proofs.PathTextLemmas.{path_begins, path_again}
-use Rattle.record_text.proofs.ValueTextLemmas.{value_begins, value_again, path_of_value}
-use Rattle.record_text.proofs.ElementTextLemmas.{u16_begins, u16_again, stamp_begins, stamp_again}
-use Rattle.record_text.proofs.OneTextLemmas.{one_from_again}
+use Rattle.record_text.proofs.FieldLaws.{AreBytes, Begins, IsWide, Ok-is, field_again, byte_field_begins}
+use Rattle.record_text.proofs.PathTextLaws.{path_begins, path_again}
+use Rattle.record_text.proofs.ValueTextLaws.{value_begins, value_again, path_of_value}
+use Rattle.record_text.proofs.ElementTextLaws.{u16_begins, u16_again, stamp_begins, stamp_again}
+use Rattle.record_text.proofs.OneTextLaws.{one_from_again}
 use Rattle.log_codec.specs.declared.command.Command.{Command}
 use Rattle.log_codec.specs.declared.command.Command.TheVariants.{AddM, EvictM, AddB, EvictB, EvictBM, Get, Put, NextEpoch}
 use Rattle.log_codec.specs.Command.{command_text, add_m_at, evict_m_at, add_b_at, evict_b_at, evict_bm_at, get_at, put_at, command_behind, command_at, IsPath, IsCommand}
-use Rattle.log_codec.proofs.StepLemmas.{then_at, two_at, three_at, then_ok, then_again}
+use Rattle.log_codec.proofs.StepLaws.{then_at, two_at, three_at, then_ok, then_again}
 
 abbrev pub IsWideFor : Format → Type 0
 IsWideFor format = IsWide format.word (2 ^ path_bits format)

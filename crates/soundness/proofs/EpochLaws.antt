@@ -8,15 +8,15 @@ use Rattle.record_text.specs.declared.operation.Operation.{Operation}
 use Rattle.log_codec.specs.declared.command.Command.{Command}
 use Rattle.merkle_records.specs.Merkle.{Digest}
 use Rattle.stamp_order.specs.Merged.{comes_before, IsMerged}
-use Rattle.stamp_order.proofs.InOrderLemmas.{every-weaker, every-filter, every-append, every-in_order, IsInOrder-filter}
-use Rattle.stamp_order.proofs.MomentLemmas.{comes_before-order}
+use Rattle.stamp_order.proofs.InOrderLaws.{every-weaker, every-filter, every-append, every-in_order, IsInOrder-filter}
+use Rattle.stamp_order.proofs.MomentLaws.{comes_before-order}
 use Rattle.verifier_commands.specs.Change.{Change, did_add_m, did_evict_m, did_add_b, did_evict_b, did_evict_bm, did_get, did_put, did_next_epoch}
 use Rattle.soundness.specs.History.{Event, log_events, histories_from, histories_of}
 use Rattle.soundness.specs.Certified.{event_moment, all_events, order_of, order_up_to, operations_by, operations_in, operations_of, epochs_from, certified_count, order_within, certified_operations}
-use Rattle.soundness.proofs.HistoryLemmas.{IsOfLog, log-epochs}
-use Rattle.soundness.proofs.SplitLemmas.{epoch_not_before}
+use Rattle.soundness.proofs.HistoryLaws.{IsOfLog, log-epochs}
+use Rattle.soundness.proofs.SplitLaws.{epoch_not_before}
 use Rattle.soundness.proofs.OrderLemmas.{order_sorted}
-use Rattle.soundness.proofs.SoundLemmas.{all_within}
+use Rattle.soundness.proofs.SoundLaws.{all_within}
 
 -- ---- operations epoch by epoch
 

@@ -3,7 +3,7 @@ use Rattle.std.proofs.Common.{◌≡◌, ◌≢◌, ◌⊎◌, Bool, true, false
 use Rattle.std.proofs.lemmas.Bool.{false≢true}
 use Rattle.std.proofs.lemmas.Option.{none-some}
 use Rattle.tree_keys.specs.Path.{side, is_prefix}
-use Rattle.verifier_commands.proofs.BelowLemmas.{side-self}
+use Rattle.verifier_commands.proofs.BelowLaws.{side-self}
 
 pub is_prefix-self : (p : List Bool) → is_prefix p p ≡ true
 is_prefix-self [] = refl

@@ -14,12 +14,12 @@ use Rattle.soundness.specs.Exhibit.{exhibit_of}
 use Rattle.soundness.specs.Timed.{AreTimed}
 use Rattle.soundness.specs.Scheduled.{IsScheduled, ArePermuted}
 use Rattle.soundness.specs.Sound.{AreTyped, IsSerialOrCollides, commands_of, histories_read}
-use Rattle.soundness.proofs.PermutationLemmas.{count_permuted}
+use Rattle.soundness.proofs.PermutationLaws.{count_permuted}
 use Rattle.soundness.proofs.ScheduleLemmas.{AreEven, scheduled}
 use Rattle.soundness.proofs.OrderLemmas.{history_of, part_up_to, order_timed, order_sorted, order_splits}
-use Rattle.soundness.proofs.CertifiedLemmas.{counted_balanced}
-use Rattle.soundness.proofs.SoundLemmas.{are_histories, all_within, sound}
-use Rattle.soundness.proofs.TypedLemmas.{read_typed}
+use Rattle.soundness.proofs.CertifiedLaws.{counted_balanced}
+use Rattle.soundness.proofs.SoundLaws.{are_histories, all_within, sound}
+use Rattle.soundness.proofs.TypedLaws.{read_typed}
 
 -- ---- logs that are read from bytes
 

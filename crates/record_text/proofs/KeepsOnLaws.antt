@@ -9,7 +9,7 @@ use Rattle.record_text.specs.declared.value.Value.TheVariants as values
 use Rattle.record_text.specs.Format.{Format, path_bits}
 use Rattle.record_text.specs.Fields.{Parsed, ◌>>=◌, ranged, field, KeepsOn}
 use Rattle.record_text.specs.Reading.{first_byte, run_at, byte_at, flag_in, count_in, path_in, path_at, blob_behind, blob_at, pointer_tag_in, path_below_in, path_below_at, pointer_behind, pointer_at, node_at, value_by, value_at, u16_at, u32_at, stamp_at, element_at}
-use Rattle.record_text.proofs.FieldLemmas.{bind_ok, Ok-is, field_ok}
+use Rattle.record_text.proofs.FieldLaws.{bind_ok, Ok-is, field_ok}
 
 abbrev failed : {A : Type 0} → TextFault → Result A TextFault
 failed fault = Err fault

@@ -9,7 +9,7 @@ use Rattle.std.proofs.lemmas.List.Kept.{AllPairs-cons}
 use Rattle.std.proofs.lemmas.List.Sorted.{IsPermutation-sym, IsPermutation-trans, Contains-permutation, sorted_far}
 use Rattle.std.proofs.lemmas.Map.Keys.{IsDistinct-head, IsDistinct-tail, IsDistinct-IsPermutation}
 use Rattle.stamp_order.specs.InOrder.{in_order, IsInOrder}
-use Rattle.stamp_order.proofs.InOrderLemmas.{every-weaker, every-filter, in_order-sorts, in_order-keeps, in_order-permutation}
+use Rattle.stamp_order.proofs.InOrderLaws.{every-weaker, every-filter, in_order-sorts, in_order-keeps, in_order-permutation}
 
 module _ {X : Type 0} where
   abbrev first_of : X → List X → X

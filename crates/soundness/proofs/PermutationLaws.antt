@@ -4,12 +4,12 @@ use Rattle.std.specs.Option.{option_map}
 use Rattle.std.proofs.lemmas.Bool.{false≢true, eqb-true, eq-eqb, and_parts, and_from}
 use Rattle.std.proofs.lemmas.Option.{none-some, same_Some}
 use Rattle.tree_keys.specs.Path.{same_path}
-use Rattle.tree_keys.proofs.PathLemmas.{same_path-self, same_path-true}
+use Rattle.tree_keys.proofs.PathLaws.{same_path-self, same_path-true}
 use Rattle.lamport_clocks.specs.declared.stamp.Stamp.{Stamp}
 use Rattle.record_text.specs.declared.value.Value.{Value}
 use Rattle.record_text.specs.declared.element.Element.{Element}
 use Rattle.record_text.specs.Same.{same_value}
-use Rattle.record_text.proofs.SameTestLemmas.{same_value-true, same_value-self}
+use Rattle.record_text.proofs.SameTestLaws.{same_value-true, same_value-self}
 use Rattle.soundness.specs.Permutation.{same_stamp, same_element, count_of, without_one, permuted_behind, is_permutation}
 
 same_stamp-true : (s t : Stamp) → same_stamp s t ≡ true → s ≡ t
