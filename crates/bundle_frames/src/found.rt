@@ -1,3 +1,4 @@
+//! What a splitter finds in a piece of a bundle.
 use lamport_clocks::Header;
 
 /// What was found in a piece of a bundle.

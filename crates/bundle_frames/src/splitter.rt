@@ -1,13 +1,14 @@
+//! A bundle that comes in pieces, split into its header and its frames.
 ghost use Rattle.std.specs.Prelude.{◌≡◌, ℕ, ◌+◌, ◌^◌, ◌<◌, ◌≤◌, false, List, [], ◌++◌, length, take, drop, IfOk, if◌then◌else◌, IsTrue, IsSomeAnd};
 ghost use Rattle.std.specs.Vec.{vec_capacity};
 
 use crate::fields::{HEAD_BYTES, HEADER_BYTES};
 use crate::found::{Fed, Found};
 use crate::parts::{MOST_BYTES, read_on};
-use want_of_memory::Memory;
 use lamport_clocks::Header;
 use std::alloc::Global;
 use std::marker::Model;
+use want_of_memory::Memory;
 
 /// Reads a bundle that comes in pieces, however it is cut. Contracts see it as a `Progress`.
 ///

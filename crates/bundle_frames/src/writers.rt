@@ -1,3 +1,4 @@
+//! Writes the header and the frames of a bundle.
 ghost use Rattle.std.specs.Prelude.{◌≡◌, ◌≤◌, ◌++◌, length, OnOk, OnErr};
 ghost use Rattle.std.specs.Int.{w16, w32, to_be_bytes};
 ghost use Rattle.fv_outside.specs.Faults.{Counts};

@@ -1,7 +1,7 @@
 //! Why rows are no bundle.
 use fv_outside::Failed;
-use want_of_memory::Memory;
 use std::alloc::{AllocError, AllocFailed};
+use want_of_memory::Memory;
 
 /// Why rows are no bundle.
 #[derive(Debug, PartialEq, Eq, Drop)]

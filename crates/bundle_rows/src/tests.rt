@@ -60,7 +60,7 @@ bytes 0aff: 0a ff
 
 #[test]
 fn rows_have_their_bytes(rt: HostRuntime) -> Result<(), Fail> {
-    let mut count = 0;
+    assert_eq!(rt; COMMANDS.lines().count(), 11);
     for line in COMMANDS.lines() {
         let (row, bytes) = line.split_once(": ").ok_or("no bytes")?;
         let mut wanted = String::new(rt.alloc());
@@ -70,9 +70,7 @@ fn rows_have_their_bytes(rt: HostRuntime) -> Result<(), Fail> {
         let log = log_of(rt.alloc(), row)?;
         let digits = hex::encode(rt.alloc(), log.as_slice())?;
         assert_eq!(rt; digits, wanted, "{row}");
-        count = (count + 1).min(100);
     }
-    assert_eq!(rt; count, 11);
     Ok(())
 }
 

@@ -12,12 +12,12 @@ ghost use Rattle.check_core.specs.Judged.{CanBeJudged, judged, answer_of_runs};
 use crate::intake::Intake;
 use crate::judging::judge;
 use crate::report::{end_of, first_refused};
-use want_of_memory::Memory;
 use lamport_clocks::Header;
 use record_hash::Digests;
 use report_text::BundleEnd;
 use std::alloc::Global;
 use verifier_run::{Run, run_log};
+use want_of_memory::Memory;
 
 /// How many epochs of a bundle are certified, from the first on, and how its report ends.
 #[derive(Clone, Copy, Debug, PartialEq, Eq)]

@@ -5,10 +5,10 @@ ghost use Rattle.check_core.specs.RunReport.{parts_at};
 ghost use Rattle.check_core.specs.Judged.{judged, judged_from, first_parts, CanBeJudged};
 
 use epoch_gather::{Verdict, verdict};
-use want_of_memory::Memory;
 use multiset_sum::{Part, Sum};
 use std::alloc::{AllocError, Global};
 use verifier_run::Run;
+use want_of_memory::Memory;
 
 /// A sealed epoch whose sums differ.
 #[derive(Clone, Copy, Debug, PartialEq, Eq)]

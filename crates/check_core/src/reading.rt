@@ -13,9 +13,9 @@ use crate::intake::Intake;
 use crate::stops::ReadStop;
 use bundle_frames::{Found, Splitter};
 use fv_outside::{Failed, Source};
-use want_of_memory::Memory;
 use lamport_clocks::Header;
 use std::alloc::{AllocError, Global};
+use want_of_memory::Memory;
 
 /// The most bytes that are read at a time.
 pub const PIECE_BYTES: usize = 65_536;

@@ -11,13 +11,13 @@ ghost use Rattle.check_core.specs.Judged.{first_parts, last_epoch, operations_by
 
 use crate::judging::Judged;
 use fv_outside::{Failed, Sink};
-use want_of_memory::Memory;
 use multiset_sum::Part;
 use record_text::{Operation, Refusal};
 use report_text::{BundleEnd, Page, Status, epoch_line, last_line, operation_line};
 use stamp_order::Moment;
 use std::alloc::{AllocError, Global};
 use verifier_run::Run;
+use want_of_memory::Memory;
 
 /// A log that is refused: whose, the number of the refused command, and why.
 #[derive(Clone, Copy, Debug, PartialEq, Eq)]

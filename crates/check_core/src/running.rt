@@ -6,12 +6,12 @@ ghost use Rattle.verifier_commands.specs.Machine.{opening_machine};
 ghost use Rattle.verifier_run.specs.LogCourse.{log_course};
 ghost use Rattle.check_core.specs.RunReport.{courses_of};
 
-use want_of_memory::Memory;
 use lamport_clocks::Header;
 use record_hash::Digests;
 use std::alloc::{AllocError, Global};
 use std::thread::{Threads, map_indices};
 use verifier_run::{Run, run_log};
+use want_of_memory::Memory;
 
 /// Runs each log, in a thread of its own where one can be made.
 pub fn run_logs<R: Threads + Sync, D: Digests + Sync>(

@@ -93,36 +93,36 @@ uneven_in events epoch (suc count) =
 
 -- ---- clashes
 
--- a join clashes where its pointer led to the child, with what was taken out
-clash_known : (event : Event) (child : Entry) (taken : LastEvicted) (audited : List AuditEvent) (later : Option Strings) (known : Bool)
-    → clash_among short_keys taken audited ≡ later
-    → clash_among short_keys taken (map (audit_event_at event) (if known then audits.AddM child.path child.value ∷ [] else []) ++ audited)
-    ≡ option_or (clash_at short_keys taken known child) later
-clash_known event child taken audited later true behind =
-    ap (option_or (differing short_keys (taken child.path) child.value)) behind
-clash_known event child taken audited later false behind = behind
+-- a join clashes where its pointer led to the child, with what was last evicted out
+clash_known : (event : Event) (child : Entry) (last : LastEvicted) (audited : List AuditEvent) (later : Option Strings) (known : Bool)
+    → clash_among short_keys last audited ≡ later
+    → clash_among short_keys last (map (audit_event_at event) (if known then audits.AddM child.path child.value ∷ [] else []) ++ audited)
+    ≡ option_or (clash_at short_keys last known child) later
+clash_known event child last audited later true behind =
+    ap (option_or (differing short_keys (last child.path) child.value)) behind
+clash_known event child last audited later false behind = behind
 
 -- the audit events of an event and those behind it clash where the event and what is behind it do
-clash_at_event : (event : Event) (change : Change) (taken : LastEvicted) (audited : List AuditEvent) (changes : List Change)
+clash_at_event : (event : Event) (change : Change) (last : LastEvicted) (audited : List AuditEvent) (changes : List Change)
     → ((now : LastEvicted) → clash_among short_keys now audited ≡ first_clash short_keys now changes)
-    → clash_among short_keys taken (map (audit_event_at event) (audit_changes_by change) ++ audited) ≡ first_clash short_keys taken (change ∷ changes)
-clash_at_event event (did_add_m parent after child) taken audited changes behind =
-    clash_known event child taken audited (first_clash short_keys taken changes)
-    (is_known (above parent child.path) child.path) (behind taken)
-clash_at_event event (did_evict_m parent after child) taken audited changes behind = behind (last_evicted_after taken (did_evict_m parent after child))
-clash_at_event event (did_add_b child element) taken audited changes behind = behind taken
-clash_at_event event (did_evict_b child element) taken audited changes behind = behind taken
-clash_at_event event (did_evict_bm parent after child element) taken audited changes behind = behind taken
-clash_at_event event (did_get entry) taken audited changes behind = behind taken
-clash_at_event event (did_put before after) taken audited changes behind = behind taken
-clash_at_event event (did_next_epoch sealed) taken audited changes behind = behind taken
+    → clash_among short_keys last (map (audit_event_at event) (audit_changes_by change) ++ audited) ≡ first_clash short_keys last (change ∷ changes)
+clash_at_event event (did_add_m parent after child) last audited changes behind =
+    clash_known event child last audited (first_clash short_keys last changes)
+    (is_known (above parent child.path) child.path) (behind last)
+clash_at_event event (did_evict_m parent after child) last audited changes behind = behind (last_evicted_after last (did_evict_m parent after child))
+clash_at_event event (did_add_b child element) last audited changes behind = behind last
+clash_at_event event (did_evict_b child element) last audited changes behind = behind last
+clash_at_event event (did_evict_bm parent after child element) last audited changes behind = behind last
+clash_at_event event (did_get entry) last audited changes behind = behind last
+clash_at_event event (did_put before after) last audited changes behind = behind last
+clash_at_event event (did_next_epoch sealed) last audited changes behind = behind last
 
 -- The first clash.
-pub clash_in : (events : List Event) (taken : LastEvicted)
-    → clash_among short_keys taken (audit_events_in events) ≡ first_clash short_keys taken (map (λ event. event.change) events)
-clash_in [] taken = refl
-clash_in (event ∷ events) taken =
-    clash_at_event event event.change taken (audit_events_in events) (map (λ (event : Event). event.change) events) (clash_in events)
+pub clash_in : (events : List Event) (last : LastEvicted)
+    → clash_among short_keys last (audit_events_in events) ≡ first_clash short_keys last (map (λ event. event.change) events)
+clash_in [] last = refl
+clash_in (event ∷ events) last =
+    clash_at_event event event.change last (audit_events_in events) (map (λ (event : Event). event.change) events) (clash_in events)
 
 -- ---- the exhibit
 

@@ -60,7 +60,7 @@ module _ {R : Type 0} (seen : R → Value) where
   abbrev pub seen_in : List (ℕ × R) → Entries
   seen_in entries = map (λ entry. (entry.0, seen entry.1)) entries
 
-  -- what is found at the number of a path is what was taken of it
+  -- what is found at the number of a path is what was last evicted of it
   pub taken_found : (entries : List (ℕ × R)) (path : List Bool) (number : ℕ) (found : Option R) → number ≡ path_number path
       → found ≡ lookup (is_at (nat_cmp number)) entries → option_map seen found ≡ last_evicted_at (seen_in entries) path
   taken_found entries path number found is at =
@@ -71,7 +71,7 @@ module _ {R : Type 0} (seen : R → Value) where
   chosen value true kept = refl
   chosen value false kept = refl
 
-  -- entries that have a value more, at the number of a path, are what was taken and that value of the path
+  -- entries that have a value more, at the number of a path, are what was last evicted and that value of the path
   pub taken_put : (old new : List (ℕ × R)) (path : List Bool) (number : ℕ) (value : R) → length path ≤ 64 → number ≡ path_number path
       → ((n : ℕ) → lookup (is_at (nat_cmp n)) new ≡ cond (is_at (nat_cmp number) n) (Some value) (lookup (is_at (nat_cmp n)) old))
       → last_evicted_at (seen_in new) ≡ with_last_evicted (last_evicted_at (seen_in old)) path (seen value)

@@ -1,4 +1,4 @@
--- What was taken out, as a map over std's ordered map: a path by its number.
+-- What was last evicted, as a map over std's ordered map: a path by its number.
 use Rattle.std.specs.Prelude.{ℕ, ◌+◌, ◌*◌, ◌^◌, Bool, List, length}
 use Rattle.std.specs.Ordering.{nat_cmp}
 use Rattle.std.specs.Map.{lookup}
@@ -15,6 +15,6 @@ path_number path = length path * 2 ^ 64 + word_of 64 path
 abbrev pub Entries : Type 0
 Entries = List (ℕ × Value)
 
--- the entries as a function: what was taken of a path, by the path's number
+-- the entries as a function: what was last evicted of a path, by the path's number
 abbrev pub last_evicted_at : Entries → LastEvicted
 last_evicted_at entries = λ path. lookup (is_at (nat_cmp (path_number path))) entries

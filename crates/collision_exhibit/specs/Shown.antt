@@ -47,24 +47,24 @@ uneven_among audited epoch (suc count) =
 
 -- ---- records that came back by their digests
 
--- what was taken out, once this was done
+-- what was last evicted, once this was done
 abbrev pub last_evicted_by : LastEvicted → AuditChange → LastEvicted
-last_evicted_by taken (audits.AddM path value) = taken
-last_evicted_by taken (audits.EvictM path value) = with_last_evicted taken path value
-last_evicted_by taken (audits.AddB element) = taken
-last_evicted_by taken (audits.EvictB element) = taken
+last_evicted_by last (audits.AddM path value) = last
+last_evicted_by last (audits.EvictM path value) = with_last_evicted last path value
+last_evicted_by last (audits.AddB element) = last
+last_evicted_by last (audits.EvictB element) = last
 
 -- what went out and what came back for it, if their texts differ
 abbrev pub clash_by : Format → LastEvicted → AuditChange → Option Strings
-clash_by format taken (audits.AddM path value) = differing format (taken path) value
-clash_by format taken (audits.EvictM path value) = None
-clash_by format taken (audits.AddB element) = None
-clash_by format taken (audits.EvictB element) = None
+clash_by format last (audits.AddM path value) = differing format (last path) value
+clash_by format last (audits.EvictM path value) = None
+clash_by format last (audits.AddB element) = None
+clash_by format last (audits.EvictB element) = None
 
 -- the first clash among audit events
 abbrev pub clash_among : Format → LastEvicted → List AuditEvent → Option Strings
-clash_among format taken [] = None
-clash_among format taken (item ∷ audited) = option_or (clash_by format taken item.change) (clash_among format (last_evicted_by taken item.change) audited)
+clash_among format last [] = None
+clash_among format last (item ∷ audited) = option_or (clash_by format last item.change) (clash_among format (last_evicted_by last item.change) audited)
 
 -- the audit events of so many epochs from this one on
 abbrev pub audit_events_within : ℕ → ℕ → List AuditEvent → List AuditEvent

@@ -13,11 +13,11 @@ use crate::audit_event::AuditEvent;
 use crate::clash::first_clash;
 use crate::elements::{added_of, evicted_of, first_uneven};
 use crate::history::audit_events_of;
-use want_of_memory::Memory;
 use lamport_clocks::Header;
 use record_hash::Digests;
 use record_text::Exhibit;
 use std::alloc::Global;
+use want_of_memory::Memory;
 
 /// What an audit of logs shows, that of verifier 0 first, over so many epochs from the header's first on: the
 /// elements of the first epoch whose added ones are no permutation of its evicted ones; or else the texts of the
@@ -56,7 +56,12 @@ fn shown(alloc: Global, audited: &[AuditEvent], first: u32, epochs: u64) -> Resu
 }
 
 // The first clash among audit events in order of so many epochs from the first on, if there is one.
-fn strings(alloc: Global, audited: &[AuditEvent], first: u32, epochs: u64) -> Result<Exhibit, Memory>
+fn strings(
+    alloc: Global,
+    audited: &[AuditEvent],
+    first: u32,
+    epochs: u64,
+) -> Result<Exhibit, Memory>
     ensures exhibit { IfOk result (λ exhibit. exhibit ≡ shown_by audited.now None (clash_among short_keys none_evicted (audit_events_within first epochs audited.now))) }
 {
     match first_clash(alloc, audited, first, epochs)? {

@@ -7,11 +7,11 @@ ghost use Rattle.collision_exhibit.specs.Shown.{audit_events_within, clash_among
 ghost use Rattle.collision_exhibit.specs.LastEvicted.{last_evicted_at};
 ghost use Rattle.collision_exhibit.specs.Within.{is_within};
 
-use crate::audit_event::{AuditEvent, AuditChange};
+use crate::audit_event::{AuditChange, AuditEvent};
 use crate::last_evicted::LastEvictedValues;
-use want_of_memory::Memory;
 use record_text::{Value, ValueText};
 use std::alloc::Global;
+use want_of_memory::Memory;
 
 /// Two strings with one digest: what was evicted, and the other that was added for it.
 #[derive(Debug, Drop)]
@@ -30,12 +30,12 @@ pub(crate) fn first_clash(
 ) -> Result<Option<Clash>, Memory>
     ensures clash { IfOk result (λ found. option_map (λ c. (c.evicted, c.added)) found ≡ clash_among short_keys none_evicted (audit_events_within first epochs audited.now)) }
 {
-    let mut taken = LastEvictedValues::new(alloc);
+    let mut last = LastEvictedValues::new(alloc);
     for item in audited {
         if is_within(item, first, epochs) {
-            match clash_by(&taken, &item.change) {
+            match clash_by(&last, &item.change) {
                 Some(clash) => return Ok(Some(clash)),
-                None => keep_last(&mut taken, &item.change)?,
+                None => keep_last(&mut last, &item.change)?,
             }
         }
     }
@@ -51,11 +51,11 @@ fn is_within(item: &AuditEvent, first: u32, epochs: u64) -> bool
 }
 
 // What went out and what came back for it by this change, if their texts differ.
-fn clash_by(taken: &LastEvictedValues, change: &AuditChange) -> Option<Clash>
-    ensures value { option_map (λ c. (c.evicted, c.added)) result ≡ clash_by short_keys (last_evicted_at taken.now) change.now }
+fn clash_by(last: &LastEvictedValues, change: &AuditChange) -> Option<Clash>
+    ensures value { option_map (λ c. (c.evicted, c.added)) result ≡ clash_by short_keys (last_evicted_at last.now) change.now }
 {
     match change {
-        AuditChange::AddM(path, added) => match taken.get(path) {
+        AuditChange::AddM(path, added) => match last.get(path) {
             Some(evicted) => differing(evicted, added),
             None => None,
         },
@@ -77,12 +77,12 @@ fn differing(evicted: &Value, added: &Value) -> Option<Clash>
 }
 
 // Keeps what a change took out.
-fn keep_last<'a>(taken: &mut LastEvictedValues<'a>, change: &'a AuditChange) -> Result<(), Memory>
-    ensures ok { OnOk result (last_evicted_at taken.new ≡ last_evicted_by (last_evicted_at taken.old) change.now) }
-    ensures err { OnErr result (taken.new ≡ taken.old) }
+fn keep_last<'a>(last: &mut LastEvictedValues<'a>, change: &'a AuditChange) -> Result<(), Memory>
+    ensures ok { OnOk result (last_evicted_at last.new ≡ last_evicted_by (last_evicted_at last.old) change.now) }
+    ensures err { OnErr result (last.new ≡ last.old) }
 {
     match change {
-        AuditChange::EvictM(path, value) => taken.put(path, value),
+        AuditChange::EvictM(path, value) => last.put(path, value),
         _ => Ok(()),
     }
 }

@@ -1,5 +1,5 @@
 //! Clashes that were written out by hand.
-use crate::audit_event::{AuditEvent, AuditChange};
+use crate::audit_event::{AuditChange, AuditEvent};
 use crate::clash::first_clash;
 use lamport_clocks::Stamp;
 use record_text::{Blob, Element, Node, Pointer, Value, ValueText};
@@ -86,7 +86,11 @@ fn act_of(rt: &impl Abort, line: &Line) -> AuditEvent {
     }
 }
 
-fn audit_events_of(alloc: Global, rt: &impl Abort, lines: &[Line]) -> Result<Vec<AuditEvent>, AllocError> {
+fn audit_events_of(
+    alloc: Global,
+    rt: &impl Abort,
+    lines: &[Line],
+) -> Result<Vec<AuditEvent>, AllocError> {
     let mut audited = Vec::new(alloc);
     for line in lines {
         audited.push(act_of(rt, line))?;

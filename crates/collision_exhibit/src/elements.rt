@@ -10,11 +10,11 @@ ghost use Rattle.soundness.specs.Permutation.{same_stamp, same_element};
 ghost use Rattle.collision_exhibit.specs.Shown.{added_elements, evicted_elements, uneven_among};
 ghost use Rattle.collision_exhibit.specs.Elements.{HaveOwnStamps, evict_moment, is_within, within, parting};
 
-use crate::audit_event::{AuditEvent, AuditChange};
-use want_of_memory::Memory;
+use crate::audit_event::{AuditChange, AuditEvent};
 use record_text::{Element, Elements};
 use stamp_order::Moment;
 use std::alloc::Global;
+use want_of_memory::Memory;
 
 /// Of so many epochs from the first on, the first whose added elements are no permutation of its evicted ones.
 pub(crate) fn first_uneven(
@@ -32,14 +32,22 @@ pub(crate) fn first_uneven(
 }
 
 /// The elements of an epoch that were added, in order.
-pub(crate) fn added_of(alloc: Global, audited: &[AuditEvent], epoch: u32) -> Result<Elements, Memory>
+pub(crate) fn added_of(
+    alloc: Global,
+    audited: &[AuditEvent],
+    epoch: u32,
+) -> Result<Elements, Memory>
     ensures elements { IfOk result (λ e. e ≡ of_epoch epoch (added_elements audited.now)) }
 {
     copies(alloc, &came_within(alloc, audited, epoch, 1)?)
 }
 
 /// The elements of an epoch that were evicted, in order.
-pub(crate) fn evicted_of(alloc: Global, audited: &[AuditEvent], epoch: u32) -> Result<Elements, Memory>
+pub(crate) fn evicted_of(
+    alloc: Global,
+    audited: &[AuditEvent],
+    epoch: u32,
+) -> Result<Elements, Memory>
     ensures elements { IfOk result (λ e. e ≡ of_epoch epoch (evicted_elements audited.now)) }
 {
     copies(alloc, &went_within(alloc, audited, epoch, 1)?)

@@ -14,10 +14,9 @@ ghost use Rattle.soundness.specs.Sound.{histories_read};
 ghost use Rattle.collision_exhibit.specs.AuditEvent.{audit_events_in, audit_moment};
 ghost use Rattle.collision_exhibit.specs.Telling.{audit_event_then, audit_events_from, audit_events_if, audit_events_read};
 
-use crate::audit_event::{AuditEvent, AuditChange};
 use crate::audit_change::audit_change_of;
+use crate::audit_event::{AuditChange, AuditEvent};
 use crate::text_digests::TextDigests;
-use want_of_memory::Memory;
 use lamport_clocks::Header;
 use log_codec::{Command, Decoded, read};
 use record_hash::Digests;
@@ -25,6 +24,7 @@ use stamp_order::Moment;
 use std::alloc::Global;
 use std::marker::Model;
 use verifier_commands::Verifier;
+use want_of_memory::Memory;
 
 // A verifier whose audit events are told. Contracts see the verifier.
 #[derive(Drop)]
@@ -94,7 +94,11 @@ impl Teller {
 }
 
 // Appends a change of this moment, if there is one.
-fn keep(audited: &mut Vec<AuditEvent>, moment: Moment, change: Option<AuditChange>) -> Result<(), Memory>
+fn keep(
+    audited: &mut Vec<AuditEvent>,
+    moment: Moment,
+    change: Option<AuditChange>,
+) -> Result<(), Memory>
     ensures kept { OnOk result (audited.new.items ≡ audited.old.items ++ map (audit_event_then moment) (option_to_list change)) }
 {
     match change {

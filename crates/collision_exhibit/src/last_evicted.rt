@@ -4,12 +4,12 @@ ghost use Rattle.std.specs.Option.{option_map};
 ghost use Rattle.soundness.specs.Clash.{none_evicted, with_last_evicted};
 ghost use Rattle.collision_exhibit.specs.LastEvicted.{path_number, last_evicted_at};
 
-use want_of_memory::Memory;
 use record_text::Value;
 use std::alloc::Global;
 use std::collections::BTreeMap;
 use std::marker::Model;
 use tree_keys::Path;
+use want_of_memory::Memory;
 
 /// The value that was taken out last of each path, if one was. Contracts see the entries, and read them as a
 /// function from paths by `taken_at`.

@@ -8,12 +8,12 @@
 //! Begin with `audit_event.rt` and `specs/AuditEvent.antt`.
 #![tactic(auto)]
 
+mod audit_change;
 mod audit_event;
 mod auditing;
 mod clash;
 #[cfg(test)]
 mod clash_tests;
-mod audit_change;
 mod elements;
 #[cfg(test)]
 mod elements_tests;

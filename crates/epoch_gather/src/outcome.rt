@@ -1,3 +1,4 @@
+//! What is said of an epoch over all verifiers.
 use multiset_sum::Sum;
 
 /// What the parts of an epoch say of it.

@@ -1,3 +1,4 @@
+//! Which calls of an object in memory are to fail.
 ghost use Rattle.std.specs.Prelude.{◌≡◌, ◌≤◌, IfOk};
 ghost use Rattle.fv_outside.specs.Faults.{Rose};
 ghost use Rattle.fv_outside.specs.Calls.{no_calls, is_to_fail, answered, failing};

@@ -1,3 +1,4 @@
+//! A vault over files of the machine.
 ghost use Rattle.std.specs.Prelude.{◌≡◌, ◌<◌, ◌≤◌, true, None, length, IfOk, is_ok};
 ghost use Rattle.fv_outside.specs.Faults.{Counts, faults_after};
 ghost use Rattle.fv_outside.specs.FileVaultState.{new_file_vault, IsFresh};

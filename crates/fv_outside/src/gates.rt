@@ -1,3 +1,5 @@
+//! What a worker passes before each of its requests.
+
 /// What a worker passes before each of its requests. Its caller numbers them from 0.
 ///
 /// It may hold the worker back, and nothing else is known of it: a gate is how a test chooses

@@ -1,3 +1,4 @@
+//! What takes bytes, and a write of a whole text.
 ghost use Rattle.std.specs.Prelude.{◌≡◌, ℕ, ◌<◌, ◌≤◌, List, [], Option, None, length, IfOk, IfSome, OnOk, OnErr};
 ghost use Rattle.fv_outside.specs.Faults.{Counts};
 ghost use Rattle.fv_outside.specs.Written.{Grows, GrowsByFront, WriteGrows, IsNamed};

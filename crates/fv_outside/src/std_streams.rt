@@ -1,3 +1,4 @@
+//! The standard streams as a source and a sink.
 ghost use Rattle.std.specs.Prelude.{◌≡◌, ◌<◌, ◌≤◌, length, None, IfOk, IfSome};
 ghost use Rattle.std.specs.Io.{ReadsAtMost};
 ghost use Rattle.fv_outside.specs.Faults.{Counts, faults_after};

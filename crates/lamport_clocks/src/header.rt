@@ -1,3 +1,4 @@
+//! The numbers of a bundle's header, and their ranges.
 ghost use Rattle.std.specs.Prelude.{◌≡◌, ◌↔◌, IsTrue};
 
 // The fewest verifiers of a bundle.

@@ -15,7 +15,7 @@ mod stamp;
 pub use clock::{Clock, ClockFault};
 pub use header::Header;
 pub use laws::{
-    clock_keeps_its_bounds, clock_never_falls, receiving_passes_the_stamp, sending_sets_the_stamp,
-    stamps_are_ordered, advancing_seals,
+    advancing_seals, clock_keeps_its_bounds, clock_never_falls, receiving_passes_the_stamp,
+    sending_sets_the_stamp, stamps_are_ordered,
 };
 pub use stamp::Stamp;

@@ -1,3 +1,4 @@
+//! The eight commands of a log.
 use lamport_clocks::Stamp;
 use record_text::Value;
 use tree_keys::Path;

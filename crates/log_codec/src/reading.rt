@@ -1,3 +1,4 @@
+//! Reads the command at the front of a log.
 ghost use Rattle.std.specs.Prelude.{◌≡◌, ℕ, ◌<◌, ◌≤◌, List, ◌++◌, length, take, Ok};
 ghost use Rattle.record_text.specs.Format.{short_keys};
 ghost use Rattle.record_text.specs.Fields.{Takes};

@@ -1,3 +1,4 @@
+//! Writes commands as they stand in a log.
 ghost use Rattle.std.specs.Prelude.{◌≡◌, ◌∷◌, [], ◌++◌, ◌≤◌};
 ghost use Rattle.arrayvec.specs.ArrayVec.{array_vec_len};
 ghost use Rattle.record_text.specs.Format.{short_keys};

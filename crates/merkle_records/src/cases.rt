@@ -1,3 +1,5 @@
+//! Where a node's pointer leads, seen from a path below the node.
+
 /// Where a node's pointer leads, seen from a path below the node on that side.
 #[derive(Clone, Copy, Debug, PartialEq, Eq)]
 pub enum AddCase {

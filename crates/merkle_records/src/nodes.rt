@@ -1,3 +1,4 @@
+//! What an add, an evict and a deferral do to a node.
 ghost use Rattle.std.specs.Prelude.{◌≡◌, ◌≢◌, Bool, Some};
 ghost use Rattle.tree_keys.specs.Path.{side, IsBelow};
 ghost use Rattle.record_text.specs.Format.{short_keys};

@@ -1,3 +1,4 @@
+//! What a verifier hands in of an epoch that it sealed.
 use crate::sum::Sum;
 
 /// What one verifier hands in when it seals an epoch: the sums of the elements that were added and

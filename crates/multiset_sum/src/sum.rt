@@ -1,3 +1,4 @@
+//! The sum of a multiset of elements, lane by lane.
 ghost use Rattle.std.specs.Prelude.{◌≡◌, ◌+◌, ◌^◌, ◌<◌};
 ghost use Rattle.multiset_sum.specs.Tally.{IsTally};
 ghost use Rattle.multiset_sum.specs.Sum.{zero_sum, with_lanes, joined};

@@ -1,3 +1,4 @@
+//! Digests by SHA-256, lanes and tags by HMAC under a key.
 ghost use Rattle.std.specs.Prelude.{◌≡◌, ◌+◌, ◌≤◌, ◌∷◌, length};
 ghost use Rattle.record_hash.specs.Hmac.{key_block, hmac_of_block};
 ghost use Rattle.record_hash.specs.ShaDigests.{sha_functions, word_at, words_of};

@@ -1,3 +1,4 @@
+//! Digests that collide at will, for tests.
 ghost use Rattle.std.specs.Prelude.{◌≡◌};
 ghost use Rattle.record_hash.specs.ToyDigests.{toy_sum, toy_digest, toy_functions};
 

@@ -1,3 +1,4 @@
+//! Elements: what is evicted with a stamp and added back.
 use crate::value::Value;
 use lamport_clocks::Stamp;
 use tree_keys::Path;

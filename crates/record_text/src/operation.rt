@@ -1,3 +1,4 @@
+//! Gets and puts that were accepted.
 ghost use Rattle.std.specs.Prelude.{◌≡◌};
 
 use crate::value::Blob;

@@ -1,3 +1,4 @@
+//! A reader over bytes, field by field.
 ghost use Rattle.std.specs.Prelude.{◌≡◌, ℕ, ◌<◌, ◌≤◌, ◌∷◌, [], ◌++◌, length, Ok, Err, IfOk, IfErr, IfSome, IsTrue};
 ghost use Rattle.std.specs.Int.{w64, from_be_bytes};
 ghost use Rattle.record_text.specs.Format.{short_keys};

@@ -1,3 +1,4 @@
+//! Reads a path, a value or an element that bytes spell.
 ghost use Rattle.std.specs.Prelude.{◌≡◌, ℕ, ◌≤◌, Bool, List, ◌++◌, length, take, Ok, IfOk};
 ghost use Rattle.record_text.specs.declared.value.Value.{Value};
 ghost use Rattle.record_text.specs.declared.element.Element.{Element};

@@ -1,3 +1,4 @@
+//! Why a log is not read on.
 ghost use Rattle.std.specs.Prelude.{◌≡◌};
 
 /// Why a verifier refuses a command: the first test, in this order, that the command doesn't pass.

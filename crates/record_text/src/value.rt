@@ -1,3 +1,4 @@
+//! Values: data at a key, two pointers at a node.
 ghost use Rattle.std.specs.Prelude.{◌≡◌, ◌≤◌, ◌<◌, ◌↔◌, length, Option, Some, None, IsTrue, IfSome, IsNone};
 ghost use Rattle.std.specs.Option.{option_map};
 ghost use Rattle.record_text.specs.Format.{short_keys};

@@ -1,3 +1,4 @@
+//! A page of text, gathered before it is written to a sink.
 ghost use Rattle.std.specs.Prelude.{◌≡◌, ◌+◌, ◌≤◌, ◌++◌, [], length, nat_le, ◌-◌, OnOk, OnErr};
 ghost use Rattle.report_text.specs.Page.{Passes};
 ghost use Rattle.fv_outside.specs.Faults.{Counts};

@@ -80,14 +80,14 @@ kept_value format digest kept (cached verifier entry) is = absurd is
 kept_value format digest kept (merkle value) is = (value, refl, is)
 kept_value format digest kept (waiting element) is = absurd is
 
--- ---- what was taken, where a parent and a child that isn't kept by its digest change
+-- ---- what was last evicted, where a parent and a child that isn't kept by its digest change
 
-pub taken_pair : (taken : LastEvicted) (spots : Spots) (home : ℕ) (after : Entry) (k : List Bool) (spot : Spot) → after.path ≢ k → is_merkle spot ≡ false
-    → ((path : List Bool) (value : Value) → spots path ≡ merkle value → taken path ≡ Some value)
-    → (path : List Bool) (value : Value) → with_pair spots home after k spot path ≡ merkle value → taken path ≡ Some value
-taken_pair taken spots home after k spot apart not_merkle was path value is = go (this_or_other k path) (this_or_other after.path path)
+pub taken_pair : (last : LastEvicted) (spots : Spots) (home : ℕ) (after : Entry) (k : List Bool) (spot : Spot) → after.path ≢ k → is_merkle spot ≡ false
+    → ((path : List Bool) (value : Value) → spots path ≡ merkle value → last path ≡ Some value)
+    → (path : List Bool) (value : Value) → with_pair spots home after k spot path ≡ merkle value → last path ≡ Some value
+taken_pair last spots home after k spot apart not_merkle was path value is = go (this_or_other k path) (this_or_other after.path path)
   where
-    go : (k ≡ path) ⊎ (k ≢ path) → (after.path ≡ path) ⊎ (after.path ≢ path) → taken path ≡ Some value
+    go : (k ≡ path) ⊎ (k ≢ path) → (after.path ≡ path) ⊎ (after.path ≢ path) → last path ≡ Some value
     go (inl same) either =
         absurd (false≢true (sym not_merkle ∙ ap is_merkle (sym (with_spot_at (with_spot spots after.path (cached home after)) k spot)
         ∙ ap (with_pair spots home after k spot) same ∙ is)))
@@ -107,8 +107,8 @@ KeepsElsewhere k old new = (path : List Bool) (element : Element) → k ≢ path
 
 -- the world behind a step, where what waited at the old spots waits on, and nothing else waits
 abbrev pub WorldAfter : Format → Digest → AllShown → LastEvicted → Stored → Spots → Type 0
-WorldAfter format digest shown taken stored old =
-    (spots : Spots) × IsWorld format digest shown taken stored spots × KeepsWaiting old spots × KeepsWaiting spots old
+WorldAfter format digest shown last stored old =
+    (spots : Spots) × IsWorld format digest shown last stored spots × KeepsWaiting old spots × KeepsWaiting spots old
 
 abbrev pub is_waiting : Spot → Bool
 is_waiting untouched = false
@@ -150,9 +150,9 @@ none_since old new k spot at never elsewhere path element waits = go (this_or_ot
     go (inr away) = elsewhere path element away waits
 
 -- What all joins have in common.
-pub join_world : (format : Format) (digest : Digest) (shown : AllShown) (taken : LastEvicted) (stored : Stored) (spots : Spots) (home : ℕ) (next : Shown) (parent child : Entry)
+pub join_world : (format : Format) (digest : Digest) (shown : AllShown) (last : LastEvicted) (stored : Stored) (spots : Spots) (home : ℕ) (next : Shown) (parent child : Entry)
     → (on : Bool) (at now : Node) (pointer : Pointer)
-    → IsWorld format digest shown taken stored spots
+    → IsWorld format digest shown last stored spots
     → spots parent.path ≡ cached home parent → node_of parent.value ≡ Some at → side parent.path child.path ≡ Some on
     → ShowSame next (showing_both (shown home) (changed_parent parent now on true) child.path (Some child))
     → node_side now on ≡ Some pointer → pointer.path ≡ child.path → pointer.deferred ≡ false
@@ -162,14 +162,14 @@ pub join_world : (format : Format) (digest : Digest) (shown : AllShown) (taken :
     → ((other : ℕ) → cached_in other (spots child.path) ≡ None)
     → blob_of child.value ≡ blob_at (spots child.path)
     → ((element : Element) → spots child.path ≡ waiting element → ⊥)
-    → WorldAfter format digest (with_shown shown home next) taken stored spots
-join_world format digest shown taken stored spots home next parent child on at now pointer world was is_node below shows points to flag others kind child_kind hold fits hidden blob free = (
+    → WorldAfter format digest (with_shown shown home next) last stored spots
+join_world format digest shown last stored spots home next parent child on at now pointer world was is_node below shows points to flag others kind child_kind hold fits hidden blob free = (
   new,
-  world_pair format digest shown taken taken stored spots home next parent after child.path (cached home child) world tree was apart
+  world_pair format digest shown last last stored spots home next parent after child.path (cached home child) world tree was apart
       (subst (λ (e : Option Entry). ShowSame next (showing_both (shown home) after child.path e)) (sym (cached_here home child)) shows)
       (λ other away. cached_elsewhere home other child away ∙ sym (hidden other))
       (sym (node_blob parent.value at is_node)) blob
-      (taken_pair taken spots home after child.path (cached home child) apart refl world.was_taken),
+      (taken_pair last spots home after child.path (cached home child) apart refl world.was_evicted),
   pair_keeps spots home parent after child.path (cached home child) was free,
   none_since spots new child.path (cached home child)
       (with_spot_at (with_spot spots after.path (cached home after)) child.path (cached home child)) refl
@@ -203,10 +203,10 @@ pub record Joining (format : Format) (digest : Digest) (shown : AllShown) (spots
   pub shows : ShowSame next (showing_both (shown home) after child.path (Some child))
   pub added : IsAdded format digest parent child.path value (record { parent = after; child = child })
 
-pub joining : (format : Format) (digest : Digest) (shown : AllShown) (taken : LastEvicted) (stored : Stored) (spots : Spots) (home : ℕ) (next : Shown) (parent after child : Entry)
-    → IsWorld format digest shown taken stored spots → DidAddM format digest (shown home) next parent after child
+pub joining : (format : Format) (digest : Digest) (shown : AllShown) (last : LastEvicted) (stored : Stored) (spots : Spots) (home : ℕ) (next : Shown) (parent after child : Entry)
+    → IsWorld format digest shown last stored spots → DidAddM format digest (shown home) next parent after child
     → Joining format digest shown spots home next parent after child
-joining format digest shown taken stored spots home next parent after child world did = record {
+joining format digest shown last stored spots home next parent after child world did = record {
   value = did.value;
   kind = did.kind;
   was = spot_of_shown home (spots parent.path) parent (sym (world.shows home parent.path) ∙ did.had_parent);
@@ -248,14 +248,14 @@ split_untouched format digest shown spots home next parent after child tree j po
     (tree.cover parent.path child.path j.added.on (ap is_touched j.was) touched j.added.below)))
 
 -- Where the pointer led nowhere.
-pub join_empty : (format : Format) (digest : Digest) (shown : AllShown) (taken : LastEvicted) (stored : Stored) (spots : Spots) (home : ℕ) (next : Shown) (parent after child : Entry)
-    → GivesDigests digest → IsWorld format digest shown taken stored spots → (j : Joining format digest shown spots home next parent after child)
+pub join_empty : (format : Format) (digest : Digest) (shown : AllShown) (last : LastEvicted) (stored : Stored) (spots : Spots) (home : ℕ) (next : Shown) (parent after child : Entry)
+    → GivesDigests digest → IsWorld format digest shown last stored spots → (j : Joining format digest shown spots home next parent after child)
     → node_side j.added.at j.added.on ≡ None → j.value ≡ initial_value format child.path
     → after ≡ changed_parent parent (pointing format digest j.added.at j.added.on child.path j.value) j.added.on true
     → child ≡ new_entry child.path j.value M
-    → WorldAfter format digest (with_shown shown home next) taken stored spots
-join_empty format digest shown taken stored spots home next parent after child digests world j none initial after_is child_is =
-    join_world format digest shown taken stored spots home next parent child on at now (pointer_to format digest child.path j.value) world j.was j.added.is_node j.added.below
+    → WorldAfter format digest (with_shown shown home next) last stored spots
+join_empty format digest shown last stored spots home next parent after child digests world j none initial after_is child_is =
+    join_world format digest shown last stored spots home next parent child on at now (pointer_to format digest child.path j.value) world j.was j.added.is_node j.added.below
     (subst (λ (a : Entry). ShowSame next (showing_both (shown home) a child.path (Some child))) after_is j.shows)
     (pointer_set at on _) refl refl (λ which other. pointer_set_other at on which _ other)
     (IsOf-after_evict format digest parent.path child.path on at j.value digests j.added.below (parent_kind format digest spots home parent at world.tree j.was j.added.is_node) j.kind)
@@ -289,15 +289,15 @@ join_empty format digest shown taken stored spots home next parent after child d
     was_untouched = empty_untouched format digest shown spots home next parent after child world.tree j none
 
 -- Where the pointer led below the child.
-pub join_split : (format : Format) (digest : Digest) (shown : AllShown) (taken : LastEvicted) (stored : Stored) (spots : Spots) (home : ℕ) (next : Shown) (parent after child : Entry)
-    → GivesDigests digest → IsWorld format digest shown taken stored spots → (j : Joining format digest shown spots home next parent after child)
+pub join_split : (format : Format) (digest : Digest) (shown : AllShown) (last : LastEvicted) (stored : Stored) (spots : Spots) (home : ℕ) (next : Shown) (parent after child : Entry)
+    → GivesDigests digest → IsWorld format digest shown last stored spots → (j : Joining format digest shown spots home next parent after child)
     → (pointer : Pointer) → node_side j.added.at j.added.on ≡ Some pointer → (which : Bool) → side child.path pointer.path ≡ Some which
     → j.value ≡ initial_value format child.path
     → after ≡ changed_parent parent (pointing format digest j.added.at j.added.on child.path (initial_value format child.path)) j.added.on true
     → child ≡ set_kid (new_entry child.path (values.Node (with_side empty_node which (Some pointer))) M) which (kid_of parent j.added.on)
-    → WorldAfter format digest (with_shown shown home next) taken stored spots
-join_split format digest shown taken stored spots home next parent after child digests world j pointer there which further initial after_is child_is =
-    join_world format digest shown taken stored spots home next parent child on at now (pointer_to format digest child.path (initial_value format child.path)) world j.was j.added.is_node j.added.below
+    → WorldAfter format digest (with_shown shown home next) last stored spots
+join_split format digest shown last stored spots home next parent after child digests world j pointer there which further initial after_is child_is =
+    join_world format digest shown last stored spots home next parent child on at now (pointer_to format digest child.path (initial_value format child.path)) world j.was j.added.is_node j.added.below
     (subst (λ (a : Entry). ShowSame next (showing_both (shown home) a child.path (Some child))) after_is j.shows)
     (pointer_set at on _) refl refl (λ side other. pointer_set_other at on side _ other)
     (IsOf-after_evict format digest parent.path child.path on at (initial_value format child.path) digests j.added.below

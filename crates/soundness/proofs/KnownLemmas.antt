@@ -65,15 +65,15 @@ known format digest spots home parent path value on at pointer tree was is_node 
         (tree.link parent.path on pointer (parent_pointer spots home parent at on was is_node ∙ there))))
 
 -- Where the pointer leads to the child, which comes back with the value that it left with.
-join_same : (format : Format) (digest : Digest) (shown : AllShown) (taken : LastEvicted) (stored : Stored) (spots : Spots) (home : ℕ) (next : Shown) (parent after child : Entry)
-    → IsWorld format digest shown taken stored spots → (j : Joining format digest shown spots home next parent after child)
+join_same : (format : Format) (digest : Digest) (shown : AllShown) (last : LastEvicted) (stored : Stored) (spots : Spots) (home : ℕ) (next : Shown) (parent after child : Entry)
+    → IsWorld format digest shown last stored spots → (j : Joining format digest shown spots home next parent after child)
     → (pointer : Pointer) → node_side j.added.at j.added.on ≡ Some pointer → pointer.path ≡ child.path → pointer.deferred ≡ false
     → spots child.path ≡ merkle j.value
     → after ≡ changed_parent parent j.added.at j.added.on true
     → child ≡ new_entry child.path j.value M
-    → WorldAfter format digest (with_shown shown home next) taken stored spots
-join_same format digest shown taken stored spots home next parent after child world j pointer there to flag was_kept after_is child_is =
-    join_world format digest shown taken stored spots home next parent child on at at pointer world j.was j.added.is_node j.added.below
+    → WorldAfter format digest (with_shown shown home next) last stored spots
+join_same format digest shown last stored spots home next parent after child world j pointer there to flag was_kept after_is child_is =
+    join_world format digest shown last stored spots home next parent child on at at pointer world j.was j.added.is_node j.added.below
     (subst (λ (a : Entry). ShowSame next (showing_both (shown home) a child.path (Some child))) after_is j.shows)
     there to flag (λ which other. refl)
     (parent_kind format digest spots home parent at world.tree j.was j.added.is_node)
@@ -107,12 +107,12 @@ join_same format digest shown taken stored spots home next parent after child wo
 -- ---- what an add shows
 
 -- a join shows no clash where the pointer did not lead to the child
-clash_where : (format : Format) (taken : LastEvicted) (parent child : Entry) (after : Entry) (on : Bool) (at : Node)
+clash_where : (format : Format) (last : LastEvicted) (parent child : Entry) (after : Entry) (on : Bool) (at : Node)
     → side parent.path child.path ≡ Some on → node_of parent.value ≡ Some at
-    → clash_of format taken (did_add_m parent after child) ≡ clash_at format taken (leads_to (node_side at on) child.path) child
-clash_where format taken parent child after on at below is_node =
-    ap (λ (s : Option Bool). clash_at format taken (is_known (above_on s (node_of parent.value)) child.path) child) below
-    ∙ ap (λ (o : Option Node). clash_at format taken (is_known (above_on (Some on) o) child.path) child) is_node
+    → clash_of format last (did_add_m parent after child) ≡ clash_at format last (leads_to (node_side at on) child.path) child
+clash_where format last parent child after on at below is_node =
+    ap (λ (s : Option Bool). clash_at format last (is_known (above_on s (node_of parent.value)) child.path) child) below
+    ∙ ap (λ (o : Option Node). clash_at format last (is_known (above_on (Some on) o) child.path) child) is_node
 
 -- two texts that are one or differ
 differing_cases : (format : Format) (old new : Value)
@@ -130,15 +130,15 @@ differing_cases format old new = go (same_bytes (value_text format old) (value_t
     )
 
 -- what a join shows where the pointer leads to the child
-known_shows : (format : Format) (digest : Digest) (shown : AllShown) (taken : LastEvicted) (stored : Stored) (spots : Spots) (home : ℕ) (next : Shown) (parent after child : Entry)
-    → IsWorld format digest shown taken stored spots → (j : Joining format digest shown spots home next parent after child)
+known_shows : (format : Format) (digest : Digest) (shown : AllShown) (last : LastEvicted) (stored : Stored) (spots : Spots) (home : ℕ) (next : Shown) (parent after child : Entry)
+    → IsWorld format digest shown last stored spots → (j : Joining format digest shown spots home next parent after child)
     → (pointer : Pointer) → node_side j.added.at j.added.on ≡ Some pointer → pointer.path ≡ child.path
     → (k : Known format digest spots child.path j.value) → child ≡ new_entry child.path j.value M
-    → clash_of format taken (did_add_m parent after child) ≡ differing format (Some k.kept) j.value
-known_shows format digest shown taken stored spots home next parent after child world j pointer there to k child_is =
-    clash_where format taken parent child after j.added.on j.added.at j.added.below j.added.is_node
-    ∙ ap (λ (b : Bool). clash_at format taken b child) leads
-    ∙ ap (λ (o : Option Value). differing format o child.value) (world.was_taken child.path k.kept k.at)
+    → clash_of format last (did_add_m parent after child) ≡ differing format (Some k.kept) j.value
+known_shows format digest shown last stored spots home next parent after child world j pointer there to k child_is =
+    clash_where format last parent child after j.added.on j.added.at j.added.below j.added.is_node
+    ∙ ap (λ (b : Bool). clash_at format last b child) leads
+    ∙ ap (λ (o : Option Value). differing format o child.value) (world.was_evicted child.path k.kept k.at)
     ∙ ap (λ (e : Entry). differing format (Some k.kept) e.value) child_is
   where
     leads : leads_to (node_side j.added.at j.added.on) child.path ≡ true
@@ -148,29 +148,29 @@ known_shows format digest shown taken stored spots home next parent after child 
 
 -- a change shows two strings with one digest
 abbrev pub Clashes : Format → Digest → LastEvicted → Change → Type 0
-Clashes format digest taken change = (strings : Strings) × (clash_of format taken change ≡ Some strings) × IsCollision digest strings
+Clashes format digest last change = (strings : Strings) × (clash_of format last change ≡ Some strings) × IsCollision digest strings
 
 -- a change shows nothing, and a world stands behind it
 abbrev pub Passes : Format → Digest → AllShown → LastEvicted → LastEvicted → Stored → Spots → Change → Type 0
-Passes format digest shown taken now_taken stored old change = (clash_of format taken change ≡ None) × WorldAfter format digest shown now_taken stored old
+Passes format digest shown last now_taken stored old change = (clash_of format last change ≡ None) × WorldAfter format digest shown now_taken stored old
 
 -- A join shows two strings with one digest, or it shows nothing and keeps the world.
-pub join_step : (format : Format) (digest : Digest) (shown : AllShown) (taken : LastEvicted) (stored : Stored) (spots : Spots) (home : ℕ) (next : Shown) (parent after child : Entry)
-    → HasOneText format → GivesDigests digest → IsWorld format digest shown taken stored spots → DidAddM format digest (shown home) next parent after child
-    → Clashes format digest taken (did_add_m parent after child) ⊎ Passes format digest (with_shown shown home next) taken taken stored spots (did_add_m parent after child)
-join_step format digest shown taken stored spots home next parent after child one digests world did = go j.added.how
+pub join_step : (format : Format) (digest : Digest) (shown : AllShown) (last : LastEvicted) (stored : Stored) (spots : Spots) (home : ℕ) (next : Shown) (parent after child : Entry)
+    → HasOneText format → GivesDigests digest → IsWorld format digest shown last stored spots → DidAddM format digest (shown home) next parent after child
+    → Clashes format digest last (did_add_m parent after child) ⊎ Passes format digest (with_shown shown home next) last last stored spots (did_add_m parent after child)
+join_step format digest shown last stored spots home next parent after child one digests world did = go j.added.how
   where
     j : Joining format digest shown spots home next parent after child
-    j = joining format digest shown taken stored spots home next parent after child world did
+    j = joining format digest shown last stored spots home next parent after child world did
 
-    clash_is : clash_of format taken (did_add_m parent after child) ≡ clash_at format taken (leads_to (node_side j.added.at j.added.on) child.path) child
-    clash_is = clash_where format taken parent child after j.added.on j.added.at j.added.below j.added.is_node
+    clash_is : clash_of format last (did_add_m parent after child) ≡ clash_at format last (leads_to (node_side j.added.at j.added.on) child.path) child
+    clash_is = clash_where format last parent child after j.added.on j.added.at j.added.below j.added.is_node
 
     Outcome : Type 0
-    Outcome = Clashes format digest taken (did_add_m parent after child) ⊎ Passes format digest (with_shown shown home next) taken taken stored spots (did_add_m parent after child)
+    Outcome = Clashes format digest last (did_add_m parent after child) ⊎ Passes format digest (with_shown shown home next) last last stored spots (did_add_m parent after child)
 
-    no_clash : leads_to (node_side j.added.at j.added.on) child.path ≡ false → clash_of format taken (did_add_m parent after child) ≡ None
-    no_clash apart = clash_is ∙ ap (λ (b : Bool). clash_at format taken b child) apart
+    no_clash : leads_to (node_side j.added.at j.added.on) child.path ≡ false → clash_of format last (did_add_m parent after child) ≡ None
+    no_clash apart = clash_is ∙ ap (λ (b : Bool). clash_at format last b child) apart
 
     -- the pointer leads to the child
     back : (pointer : Pointer) → node_side j.added.at j.added.on ≡ Some pointer → pointer.path ≡ child.path → pointer.deferred ≡ false
@@ -178,15 +178,15 @@ join_step format digest shown taken stored spots home next parent after child on
         → after ≡ changed_parent parent j.added.at j.added.on true → child ≡ new_entry child.path j.value M → Outcome
     back pointer there to flag k after_is child_is = by (differing_cases format k.kept j.value)
       where
-        shows : clash_of format taken (did_add_m parent after child) ≡ differing format (Some k.kept) j.value
-        shows = known_shows format digest shown taken stored spots home next parent after child world j pointer there to k child_is
+        shows : clash_of format last (did_add_m parent after child) ≡ differing format (Some k.kept) j.value
+        shows = known_shows format digest shown last stored spots home next parent after child world j pointer there to k child_is
 
         by : ((value_text format k.kept ≡ value_text format j.value) × (differing format (Some k.kept) j.value ≡ None))
             ⊎ ((value_text format k.kept ≢ value_text format j.value) × (differing format (Some k.kept) j.value ≡ Some (value_text format k.kept, value_text format j.value)))
             → Outcome
         by (inl same) = inr (
           shows ∙ same.1,
-          join_same format digest shown taken stored spots home next parent after child world j pointer there to flag
+          join_same format digest shown last stored spots home next parent after child world j pointer there to flag
               (k.at ∙ ap merkle (one child.path k.kept j.value k.kind j.kind same.0)) after_is child_is,
         )
         by (inr apart) = inl ((value_text format k.kept, value_text format j.value), shows ∙ apart.1, record { differ = apart.0; same = k.same })
@@ -194,7 +194,7 @@ join_step format digest shown taken stored spots home next parent after child on
     go : IsAdd format digest parent child.path j.value j.added.on j.added.at (record { parent = after; child = child }) → Outcome
     go (on_empty none initial family) = inr (
       no_clash (ap (λ (o : Option Pointer). leads_to o child.path) none),
-      join_empty format digest shown taken stored spots home next parent after child digests world j none initial
+      join_empty format digest shown last stored spots home next parent after child digests world j none initial
           (ap (λ (f : Family). f.parent) family) (ap (λ (f : Family). f.child) family),
     )
     go (on_same pointer there to flag keeps no_kid family) =
@@ -203,25 +203,25 @@ join_step format digest shown taken stored spots home next parent after child on
         (ap (λ (f : Family). f.parent) family) (ap (λ (f : Family). f.child) family)
     go (on_split pointer there which further initial family) = inr (
       no_clash (ap (λ (o : Option Pointer). leads_to o child.path) there ∙ same_path-apart pointer.path child.path (λ same. above_apart child.path pointer.path which further (sym same))),
-      join_split format digest shown taken stored spots home next parent after child digests world j pointer there which further initial
+      join_split format digest shown last stored spots home next parent after child digests world j pointer there which further initial
           (ap (λ (f : Family). f.parent) family) (ap (λ (f : Family). f.child) family),
     )
 
 -- A join that shows nothing finds its path untouched, or kept by its digest with the value that it brings.
-pub join_takes : (format : Format) (digest : Digest) (shown : AllShown) (taken : LastEvicted) (stored : Stored) (spots : Spots) (home : ℕ) (next : Shown) (parent after child : Entry)
-    → HasOneText format → IsWorld format digest shown taken stored spots → DidAddM format digest (shown home) next parent after child
-    → clash_of format taken (did_add_m parent after child) ≡ None
+pub join_takes : (format : Format) (digest : Digest) (shown : AllShown) (last : LastEvicted) (stored : Stored) (spots : Spots) (home : ℕ) (next : Shown) (parent after child : Entry)
+    → HasOneText format → IsWorld format digest shown last stored spots → DidAddM format digest (shown home) next parent after child
+    → clash_of format last (did_add_m parent after child) ≡ None
     → (spots child.path ≡ untouched) ⊎ (spots child.path ≡ merkle child.value)
-join_takes format digest shown taken stored spots home next parent after child one world did free = go j.added.how
+join_takes format digest shown last stored spots home next parent after child one world did free = go j.added.how
   where
     j : Joining format digest shown spots home next parent after child
-    j = joining format digest shown taken stored spots home next parent after child world did
+    j = joining format digest shown last stored spots home next parent after child world did
 
     Found : Type 0
     Found = (spots child.path ≡ untouched) ⊎ (spots child.path ≡ merkle child.value)
 
     back : (k : Known format digest spots child.path j.value) → child ≡ new_entry child.path j.value M
-        → clash_of format taken (did_add_m parent after child) ≡ differing format (Some k.kept) j.value → Found
+        → clash_of format last (did_add_m parent after child) ≡ differing format (Some k.kept) j.value → Found
     back k child_is shows = by (differing_cases format k.kept j.value)
       where
         by : ((value_text format k.kept ≡ value_text format j.value) × (differing format (Some k.kept) j.value ≡ None))
@@ -236,6 +236,6 @@ join_takes format digest shown taken stored spots home next parent after child o
     go (on_same pointer there to flag keeps no_kid family) =
         let k = known format digest spots home parent child.path j.value j.added.on j.added.at pointer world.tree j.was j.added.is_node there to flag keeps no_kid in
         let child_is = ap (λ (f : Family). f.child) family in
-        back k child_is (known_shows format digest shown taken stored spots home next parent after child world j pointer there to k child_is)
+        back k child_is (known_shows format digest shown last stored spots home next parent after child world j pointer there to k child_is)
     go (on_split pointer there which further initial family) =
         inl (split_untouched format digest shown spots home next parent after child world.tree j pointer there which further)

@@ -34,15 +34,15 @@ pub record IsOut (child : Entry) (spot : Spot) : Type 0 where
 
 -- the world behind a step that left a record at this spot, where nothing else waits that didn't
 abbrev pub LeftAt : Format → Digest → AllShown → LastEvicted → Stored → Spots → List Bool → Spot → Type 0
-LeftAt format digest shown taken stored old path spot =
-    (spots : Spots) × IsWorld format digest shown taken stored spots × KeepsWaiting old spots × (spots path ≡ spot)
+LeftAt format digest shown last stored old path spot =
+    (spots : Spots) × IsWorld format digest shown last stored spots × KeepsWaiting old spots × (spots path ≡ spot)
     × KeepsElsewhere path spots old
 
 -- What an evict and a deferral have in common: the parent's node changes, its kid bit is cleared, and its pointer
 -- leads where the child is now.
-leave_world : (format : Format) (digest : Digest) (shown : AllShown) (taken now_taken : LastEvicted) (stored : Stored) (spots : Spots) (home : ℕ) (next : Shown) (parent child after : Entry)
+leave_world : (format : Format) (digest : Digest) (shown : AllShown) (last now_taken : LastEvicted) (stored : Stored) (spots : Spots) (home : ℕ) (next : Shown) (parent child after : Entry)
     → (changed : Node → Bool → Pointer → Node) (spot : Spot) (pointer : Pointer)
-    → IsWorld format digest shown taken stored spots
+    → IsWorld format digest shown last stored spots
     → (left : IsLeft parent child after changed)
     → shown home parent.path ≡ Some parent → shown home child.path ≡ Some child
     → ShowSame next (showing_both (shown home) after child.path None)
@@ -53,9 +53,9 @@ leave_world : (format : Format) (digest : Digest) (shown : AllShown) (taken now_
     → LeadsBy format digest pointer.deferred None pointer.digest spot
     → ((path : List Bool) (value : Value) → with_pair spots home (changed_parent parent (changed left.at left.on left.pointer) left.on false) child.path spot path ≡ merkle value → now_taken path ≡ Some value)
     → LeftAt format digest (with_shown shown home next) now_taken stored spots child.path spot
-leave_world format digest shown taken now_taken stored spots home next parent child after changed spot pointer world left had_parent had_child shows out child_kind points to others kind leads taken_is = (
+leave_world format digest shown last now_taken stored spots home next parent child after changed spot pointer world left had_parent had_child shows out child_kind points to others kind leads taken_is = (
   new,
-  world_pair format digest shown taken now_taken stored spots home next parent now_parent child.path spot world tree was apart
+  world_pair format digest shown last now_taken stored spots home next parent now_parent child.path spot world tree was apart
       (subst (λ (e : Option Entry). ShowSame next (showing_both (shown home) now_parent child.path e)) (sym (out.hidden home))
       (subst (λ (a : Entry). ShowSame next (showing_both (shown home) a child.path None)) left.after_is shows))
       (λ other away. out.hidden other ∙ sym (ap (cached_in other) was_child ∙ cached_elsewhere home other child away))
@@ -108,11 +108,11 @@ leave_world format digest shown taken now_taken stored spots home next parent ch
 child_kind : (format : Format) (digest : Digest) (spots : Spots) (home : ℕ) (child : Entry) → IsTree format digest spots → spots child.path ≡ cached home child → IsOf format child.path child.value
 child_kind format digest spots home child tree was = (subst (IsKind format child.path) was (tree.kind child.path)).1
 
--- what was taken, once an evictM took the child's value
-taken_now : (taken : LastEvicted) (spots : Spots) (home : ℕ) (after : Entry) (k : List Bool) (kept : Value) → after.path ≢ k
-    → ((path : List Bool) (value : Value) → spots path ≡ merkle value → taken path ≡ Some value)
-    → (path : List Bool) (value : Value) → with_pair spots home after k (merkle kept) path ≡ merkle value → with_last_evicted taken k kept path ≡ Some value
-taken_now taken spots home after k kept apart was path value is = go (this_or_other k path) (this_or_other after.path path)
+-- what was last evicted, once an evictM took the child's value
+taken_now : (last : LastEvicted) (spots : Spots) (home : ℕ) (after : Entry) (k : List Bool) (kept : Value) → after.path ≢ k
+    → ((path : List Bool) (value : Value) → spots path ≡ merkle value → last path ≡ Some value)
+    → (path : List Bool) (value : Value) → with_pair spots home after k (merkle kept) path ≡ merkle value → with_last_evicted last k kept path ≡ Some value
+taken_now last spots home after k kept apart was path value is = go (this_or_other k path) (this_or_other after.path path)
   where
     value_or : Value → Spot → Value
     value_or other untouched = other
@@ -120,22 +120,22 @@ taken_now taken spots home after k kept apart was path value is = go (this_or_ot
     value_or other (merkle held) = held
     value_or other (waiting element) = other
 
-    go : (k ≡ path) ⊎ (k ≢ path) → (after.path ≡ path) ⊎ (after.path ≢ path) → with_last_evicted taken k kept path ≡ Some value
+    go : (k ≡ path) ⊎ (k ≢ path) → (after.path ≡ path) ⊎ (after.path ≢ path) → with_last_evicted last k kept path ≡ Some value
     go (inl same) either =
-        ap (λ (b : Bool). if b then Some kept else taken path) (sym (ap (same_path k) same) ∙ same_path-self k)
+        ap (λ (b : Bool). if b then Some kept else last path) (sym (ap (same_path k) same) ∙ same_path-self k)
         ∙ ap Some (ap (value_or kept) (sym (with_spot_at (with_spot spots after.path (cached home after)) k (merkle kept))
         ∙ ap (with_pair spots home after k (merkle kept)) same ∙ is))
     go (inr further) (inl same) =
         absurd (false≢true (ap is_merkle (sym (with_pair_parent spots home after k (merkle kept) apart) ∙ ap (with_pair spots home after k (merkle kept)) same ∙ is)))
     go (inr further) (inr away) =
-        ap (λ (b : Bool). if b then Some kept else taken path) (same_path-apart k path further)
+        ap (λ (b : Bool). if b then Some kept else last path) (same_path-apart k path further)
         ∙ was path value (sym (with_pair_other spots home after k path (merkle kept) away further) ∙ is)
 
 -- A child is evicted into its parent.
-pub leave_step : (format : Format) (digest : Digest) (shown : AllShown) (taken : LastEvicted) (stored : Stored) (spots : Spots) (home : ℕ) (next : Shown) (parent after child : Entry)
-    → GivesDigests digest → IsWorld format digest shown taken stored spots → DidEvictM format digest (shown home) next parent after child
-    → WorldAfter format digest (with_shown shown home next) (with_last_evicted taken child.path child.value) stored spots
-leave_step format digest shown taken stored spots home next parent after child digests world did =
+pub leave_step : (format : Format) (digest : Digest) (shown : AllShown) (last : LastEvicted) (stored : Stored) (spots : Spots) (home : ℕ) (next : Shown) (parent after child : Entry)
+    → GivesDigests digest → IsWorld format digest shown last stored spots → DidEvictM format digest (shown home) next parent after child
+    → WorldAfter format digest (with_shown shown home next) (with_last_evicted last child.path child.value) stored spots
+leave_step format digest shown last stored spots home next parent after child digests world did =
     (out.0, out.1, out.2, none_since spots out.0 child.path (merkle child.value) out.3 refl out.4)
   where
     left : IsLeft parent child after (evicted_into format digest child)
@@ -146,24 +146,24 @@ leave_step format digest shown taken stored spots home next parent after child d
         child_kind format digest spots home child world.tree
         (spot_of_shown home (spots child.path) child (sym (world.shows home child.path) ∙ did.had_child))
 
-    out : LeftAt format digest (with_shown shown home next) (with_last_evicted taken child.path child.value) stored spots child.path (merkle child.value)
-    out = leave_world format digest shown taken (with_last_evicted taken child.path child.value) stored spots home next parent child after (evicted_into format digest child)
+    out : LeftAt format digest (with_shown shown home next) (with_last_evicted last child.path child.value) stored spots child.path (merkle child.value)
+    out = leave_world format digest shown last (with_last_evicted last child.path child.value) stored spots home next parent child after (evicted_into format digest child)
         (merkle child.value) (pointer_to format digest child.path child.value) world left did.had_parent did.had_child did.shown
         (record { value = refl; touched = refl; homeless = λ which. refl; hidden = λ home. refl })
         of_kind
         (pointer_set left.at left.on _) refl (λ which other. pointer_set_other left.at left.on which _ other)
         (λ above. IsOf-after_evict format digest parent.path child.path left.on left.at child.value digests left.below above of_kind)
         refl
-        (taken_now taken spots home (changed_parent parent (evicted_into format digest child left.at left.on left.pointer) left.on false) child.path child.value
-        (above_apart parent.path child.path left.on left.below) world.was_taken)
+        (taken_now last spots home (changed_parent parent (evicted_into format digest child left.at left.on left.pointer) left.on false) child.path child.value
+        (above_apart parent.path child.path left.on left.below) world.was_evicted)
 
 -- A child is evicted out of its parent with an element.
-pub defer_step : (format : Format) (digest : Digest) (shown : AllShown) (taken : LastEvicted) (stored : Stored) (spots : Spots) (home : ℕ) (next : Shown) (parent after child : Entry) (element : Element)
-    → IsWorld format digest shown taken stored spots → DidEvictBM (shown home) next parent after child element
-    → LeftAt format digest (with_shown shown home next) taken stored spots element.path (waiting element)
-defer_step format digest shown taken stored spots home next parent after child element world did =
-    subst (λ (i : List Bool). LeftAt format digest (with_shown shown home next) taken stored spots i (waiting element)) (sym did.path)
-    (leave_world format digest shown taken taken stored spots home next parent child after deferred_in
+pub defer_step : (format : Format) (digest : Digest) (shown : AllShown) (last : LastEvicted) (stored : Stored) (spots : Spots) (home : ℕ) (next : Shown) (parent after child : Entry) (element : Element)
+    → IsWorld format digest shown last stored spots → DidEvictBM (shown home) next parent after child element
+    → LeftAt format digest (with_shown shown home next) last stored spots element.path (waiting element)
+defer_step format digest shown last stored spots home next parent after child element world did =
+    subst (λ (i : List Bool). LeftAt format digest (with_shown shown home next) last stored spots i (waiting element)) (sym did.path)
+    (leave_world format digest shown last last stored spots home next parent child after deferred_in
     (waiting element) (deferred_pointer left.pointer) world left did.had_parent did.had_child did.shown
     (record { value = ap Some did.value; touched = refl; homeless = λ which. refl; hidden = λ home. refl })
     (did.path, subst (IsOf format child.path) (sym did.value) of_kind)
@@ -171,8 +171,8 @@ defer_step format digest shown taken stored spots home next parent after child e
     (λ above. subst (λ (o : Option Pointer). IsOf format parent.path (values.Node (with_side left.at left.on (option_map deferred_pointer o)))) left.points
     (IsOf-after_defer format parent.path left.on left.at above))
     tt
-    (taken_pair taken spots home (changed_parent parent (deferred_in left.at left.on left.pointer) left.on false) child.path (waiting element)
-    (above_apart parent.path child.path left.on left.below) refl world.was_taken))
+    (taken_pair last spots home (changed_parent parent (deferred_in left.at left.on left.pointer) left.on false) child.path (waiting element)
+    (above_apart parent.path child.path left.on left.below) refl world.was_evicted))
   where
     left : IsLeft parent child after deferred_in
     left = deferred_how parent child after did.deferred

@@ -29,5 +29,5 @@ pub mod RisingLaws
 pub mod WholeLaws
 pub mod EpochLaws
 mod DistinctLemmas
-mod PlaceLemmas
+mod SpotLemmas
 mod PendingLemmas

@@ -43,7 +43,7 @@ opening_tree digest = record { kind = kind; link = link; cover = cover }
     cover (bit ∷ path) [] on touched below is = absurd (none-some on is)
 
 pub opening_world : (digest : Digest) (header : Header) → IsWorld short_keys digest (opening_shown header) none_evicted none_everywhere opening_spots
-opening_world digest header = record { tree = opening_tree digest; shows = shows; was_taken = was_taken; holds = holds }
+opening_world digest header = record { tree = opening_tree digest; shows = shows; was_evicted = was_evicted; holds = holds }
   where
     root_shown : (path : List Bool) → showing (λ other. None) [] (Some root_entry) path ≡ cached_in 0 (opening_spots path)
     root_shown [] = refl
@@ -66,9 +66,9 @@ opening_world digest header = record { tree = opening_tree digest; shows = shows
     is_merkle (merkle value) = true
     is_merkle (waiting element) = false
 
-    was_taken : (path : List Bool) (value : Value) → opening_spots path ≡ merkle value → none_evicted path ≡ Some value
-    was_taken [] value is = absurd (false≢true (ap is_merkle is))
-    was_taken (bit ∷ path) value is = absurd (false≢true (ap is_merkle is))
+    was_evicted : (path : List Bool) (value : Value) → opening_spots path ≡ merkle value → none_evicted path ≡ Some value
+    was_evicted [] value is = absurd (false≢true (ap is_merkle is))
+    was_evicted (bit ∷ path) value is = absurd (false≢true (ap is_merkle is))
 
     holds : (path : List Bool) → length path ≡ path_bits short_keys → blob_at (opening_spots path) ≡ none_everywhere (number_of path)
     holds [] wide = refl

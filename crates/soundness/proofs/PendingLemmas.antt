@@ -30,7 +30,7 @@ use Rattle.soundness.proofs.SoundLaws.{all_within}
 use Rattle.soundness.proofs.WholeLaws.{order_scheduled}
 use Rattle.soundness.proofs.EpochLaws.{order_from_first}
 use Rattle.soundness.proofs.DistinctLemmas.{order_once}
-use Rattle.soundness.proofs.PlaceLemmas.{one_spot}
+use Rattle.soundness.proofs.SpotLemmas.{one_spot}
 
 -- ---- what waits behind events
 

@@ -126,15 +126,15 @@ waits_once_out element pending rest out =
     subst (λ (n : ℕ). 1 ≤ n) (sym (count_without element element pending rest out ∙ ap (λ (b : Bool). one_more b (count_of element rest)) (same_element-self element))) (omega arith)
 
 -- an element that waits is of its path
-pub waits_own : (format : Format) (digest : Digest) (shown : AllShown) (taken : LastEvicted) (stored : Stored) (spots : Spots) → IsWorld format digest shown taken stored spots
+pub waits_own : (format : Format) (digest : Digest) (shown : AllShown) (last : LastEvicted) (stored : Stored) (spots : Spots) → IsWorld format digest shown last stored spots
     → (path : List Bool) (x : Element) → spots path ≡ waiting x → x.path ≡ path
-waits_own format digest shown taken stored spots world path x there = (subst (IsKind format path) there (world.tree.kind path)).0
+waits_own format digest shown last stored spots world path x there = (subst (IsKind format path) there (world.tree.kind path)).0
 
 -- a record that goes with an element stood in the cache, so it didn't wait
-pub free_at : (format : Format) (digest : Digest) (shown : AllShown) (taken : LastEvicted) (stored : Stored) (spots : Spots) (home : ℕ) (child : Entry) (element : Element)
-    → IsWorld format digest shown taken stored spots → shown home child.path ≡ Some child → element.path ≡ child.path
+pub free_at : (format : Format) (digest : Digest) (shown : AllShown) (last : LastEvicted) (stored : Stored) (spots : Spots) (home : ℕ) (child : Entry) (element : Element)
+    → IsWorld format digest shown last stored spots → shown home child.path ≡ Some child → element.path ≡ child.path
     → (x : Element) → spots element.path ≡ waiting x → ⊥
-free_at format digest shown taken stored spots home child element world had path x there =
+free_at format digest shown last stored spots home child element world had path x there =
     not_waiting (spots element.path) (cached home child) x
     (ap spots path ∙ spot_of_shown home (spots child.path) child (sym (world.shows home child.path) ∙ had)) refl there
 
@@ -142,30 +142,30 @@ free_at format digest shown taken stored spots home child element world had path
 
 -- the first clash is a collision
 abbrev pub Collides : Format → Digest → LastEvicted → List Event → Type 0
-Collides format digest taken events =
-    (strings : Strings) × (first_clash format taken (map (λ (event : Event). event.change) events) ≡ Some strings) × IsCollision digest strings
+Collides format digest last events =
+    (strings : Strings) × (first_clash format last (map (λ (event : Event). event.change) events) ≡ Some strings) × IsCollision digest strings
 
 -- there is no clash, and the operations are serial
 abbrev pub IsSound : Format → LastEvicted → Stored → List Event → Type 0
-IsSound format taken stored events =
-    (first_clash format taken (map (λ (event : Event). event.change) events) ≡ None) × IsSerialFrom stored (operations_in events)
+IsSound format last stored events =
+    (first_clash format last (map (λ (event : Event). event.change) events) ≡ None) × IsSerialFrom stored (operations_in events)
 
 -- behind a change that shows no clash
 abbrev CollidesBehind : Format → Digest → LastEvicted → Change → List Event → Type 0
-CollidesBehind format digest taken change events =
-    (strings : Strings) × (option_or (clash_of format taken change) (first_clash format (last_evicted_after taken change) (map (λ (event : Event). event.change) events)) ≡ Some strings) × IsCollision digest strings
+CollidesBehind format digest last change events =
+    (strings : Strings) × (option_or (clash_of format last change) (first_clash format (last_evicted_after last change) (map (λ (event : Event). event.change) events)) ≡ Some strings) × IsCollision digest strings
 
 abbrev IsFree : Format → LastEvicted → Change → List Event → Type 0
-IsFree format taken change events =
-    option_or (clash_of format taken change) (first_clash format (last_evicted_after taken change) (map (λ (event : Event). event.change) events)) ≡ None
+IsFree format last change events =
+    option_or (clash_of format last change) (first_clash format (last_evicted_after last change) (map (λ (event : Event). event.change) events)) ≡ None
 
-pub run_keeps : (format : Format) (digest : Digest) → HasOneText format → GivesDigests digest → (events : List Event) (shown : AllShown) (taken : LastEvicted) (stored : Stored) (spots : Spots) (pending : List Element)
-    → IsWorld format digest shown taken stored spots → IsWaiting spots pending → IsRun format digest shown events → IsScheduled pending events
-    → Collides format digest taken events ⊎ IsSound format taken stored events
-run_keeps format digest one digests [] shown taken stored spots pending world waits run scheduled = inr (refl, tt)
-run_keeps format digest one digests (event ∷ events) shown taken stored spots pending world waits run scheduled =
-    go (λ taken stored spots pending world waits scheduled.
-    run_keeps format digest one digests events (with_shown shown event.verifier run.0) taken stored spots pending world waits run.2 scheduled)
+pub run_keeps : (format : Format) (digest : Digest) → HasOneText format → GivesDigests digest → (events : List Event) (shown : AllShown) (last : LastEvicted) (stored : Stored) (spots : Spots) (pending : List Element)
+    → IsWorld format digest shown last stored spots → IsWaiting spots pending → IsRun format digest shown events → IsScheduled pending events
+    → Collides format digest last events ⊎ IsSound format last stored events
+run_keeps format digest one digests [] shown last stored spots pending world waits run scheduled = inr (refl, tt)
+run_keeps format digest one digests (event ∷ events) shown last stored spots pending world waits run scheduled =
+    go (λ last stored spots pending world waits scheduled.
+    run_keeps format digest one digests events (with_shown shown event.verifier run.0) last stored spots pending world waits run.2 scheduled)
     event.change run.1 scheduled
   where
     next_shown : AllShown
@@ -173,77 +173,77 @@ run_keeps format digest one digests (event ∷ events) shown taken stored spots 
 
     Further : Type 0
     Further =
-        (taken : LastEvicted) (stored : Stored) (spots : Spots) (pending : List Element)
-        → IsWorld format digest next_shown taken stored spots → IsWaiting spots pending → IsScheduled pending events
-        → Collides format digest taken events ⊎ IsSound format taken stored events
+        (last : LastEvicted) (stored : Stored) (spots : Spots) (pending : List Element)
+        → IsWorld format digest next_shown last stored spots → IsWaiting spots pending → IsScheduled pending events
+        → Collides format digest last events ⊎ IsSound format last stored events
 
     Behind : Change → Type 0
-    Behind change = CollidesBehind format digest taken change events ⊎ (IsFree format taken change events × IsSerialFrom stored (operations_in (record event { change = change } ∷ events)))
+    Behind change = CollidesBehind format digest last change events ⊎ (IsFree format last change events × IsSerialFrom stored (operations_in (record event { change = change } ∷ events)))
 
     -- what holds behind a change without clash and operation
-    plain : (change : Change) → clash_of format taken change ≡ None
+    plain : (change : Change) → clash_of format last change ≡ None
         → (IsSerialFrom stored (operations_in events) → IsSerialFrom stored (operations_in (record event { change = change } ∷ events)))
-        → Collides format digest (last_evicted_after taken change) events ⊎ IsSound format (last_evicted_after taken change) stored events → Behind change
+        → Collides format digest (last_evicted_after last change) events ⊎ IsSound format (last_evicted_after last change) stored events → Behind change
     plain change free same (inl collides) = inl (collides.0, first collides.1, collides.2)
       where
-        first : {x : Option Strings} → first_clash format (last_evicted_after taken change) (map (λ (event : Event). event.change) events) ≡ x
-            → option_or (clash_of format taken change) (first_clash format (last_evicted_after taken change) (map (λ (event : Event). event.change) events)) ≡ x
-        first is = ap (λ (o : Option Strings). option_or o (first_clash format (last_evicted_after taken change) (map (λ (event : Event). event.change) events))) free ∙ is
+        first : {x : Option Strings} → first_clash format (last_evicted_after last change) (map (λ (event : Event). event.change) events) ≡ x
+            → option_or (clash_of format last change) (first_clash format (last_evicted_after last change) (map (λ (event : Event). event.change) events)) ≡ x
+        first is = ap (λ (o : Option Strings). option_or o (first_clash format (last_evicted_after last change) (map (λ (event : Event). event.change) events))) free ∙ is
     plain change free same (inr sound) = inr (
-      ap (λ (o : Option Strings). option_or o (first_clash format (last_evicted_after taken change) (map (λ (event : Event). event.change) events))) free ∙ sound.0,
+      ap (λ (o : Option Strings). option_or o (first_clash format (last_evicted_after last change) (map (λ (event : Event). event.change) events))) free ∙ sound.0,
       same sound.1,
     )
 
     joined : Further → (parent after child : Entry) → IsScheduled pending events
-        → Clashes format digest taken (did_add_m parent after child) ⊎ Passes format digest next_shown taken taken stored spots (did_add_m parent after child)
+        → Clashes format digest last (did_add_m parent after child) ⊎ Passes format digest next_shown last last stored spots (did_add_m parent after child)
         → Behind (did_add_m parent after child)
     joined further parent after child scheduled (inl clashes) = inl (
       clashes.0,
-      ap (λ (o : Option Strings). option_or o (first_clash format taken (map (λ (event : Event). event.change) events))) clashes.1,
+      ap (λ (o : Option Strings). option_or o (first_clash format last (map (λ (event : Event). event.change) events))) clashes.1,
       clashes.2,
     )
     joined further parent after child scheduled (inr passes) =
         let world_then = passes.1 in
         plain (did_add_m parent after child) passes.0 (λ serial. serial)
-        (further taken stored world_then.0 pending world_then.1 (wait_on spots world_then.0 pending world_then.2 world_then.3 waits) scheduled)
+        (further last stored world_then.0 pending world_then.1 (wait_on spots world_then.0 pending world_then.2 world_then.3 waits) scheduled)
 
-    went : Further → (change : Change) (element : Element) → clash_of format taken change ≡ None → last_evicted_after taken change ≡ taken
+    went : Further → (change : Change) (element : Element) → clash_of format last change ≡ None → last_evicted_after last change ≡ last
         → (IsSerialFrom stored (operations_in events) → IsSerialFrom stored (operations_in (record event { change = change } ∷ events)))
         → ((x : Element) → spots element.path ≡ waiting x → ⊥)
-        → LeftAt format digest next_shown taken stored spots element.path (waiting element) → IsScheduled (element ∷ pending) events → Behind change
+        → LeftAt format digest next_shown last stored spots element.path (waiting element) → IsScheduled (element ∷ pending) events → Behind change
     went further change element none same quiet free left scheduled =
         plain change none quiet
         (subst (λ (t : LastEvicted). Collides format digest t events ⊎ IsSound format t stored events) (sym same)
-        (further taken stored left.0 (element ∷ pending) left.1 (wait_more spots left.0 pending element left.2 left.3 left.4 free waits) scheduled))
+        (further last stored left.0 (element ∷ pending) left.1 (wait_more spots left.0 pending element left.2 left.3 left.4 free waits) scheduled))
 
     go : Further → (change : Change) → HasDone format digest (shown event.verifier) run.0 change → IsScheduledBy pending change (λ after. IsScheduled after events) → Behind change
     go further (did_add_m parent after child) did scheduled =
-        joined further parent after child scheduled (join_step format digest shown taken stored spots event.verifier run.0 parent after child one digests world did)
+        joined further parent after child scheduled (join_step format digest shown last stored spots event.verifier run.0 parent after child one digests world did)
     go further (did_evict_m parent after child) did scheduled =
-        let world_then = leave_step format digest shown taken stored spots event.verifier run.0 parent after child digests world did in
+        let world_then = leave_step format digest shown last stored spots event.verifier run.0 parent after child digests world did in
         plain (did_evict_m parent after child) refl (λ serial. serial)
-        (further (last_evicted_after taken (did_evict_m parent after child)) stored world_then.0 pending world_then.1 (wait_on spots world_then.0 pending world_then.2 world_then.3 waits) scheduled)
+        (further (last_evicted_after last (did_evict_m parent after child)) stored world_then.0 pending world_then.1 (wait_on spots world_then.0 pending world_then.2 world_then.3 waits) scheduled)
     go further (did_add_b child element) did scheduled =
-        let back = come_step format digest shown taken stored spots event.verifier run.0 child element world did (waits.each element (waits_once_out element pending scheduled.0 scheduled.1)) in
+        let back = come_step format digest shown last stored spots event.verifier run.0 child element world did (waits.each element (waits_once_out element pending scheduled.0 scheduled.1)) in
         plain (did_add_b child element) refl (λ serial. serial)
-        (further taken stored back.0 scheduled.0 back.1 (wait_less spots back.0 pending scheduled.0 element scheduled.1 back.2 back.3 (waits_own format digest shown taken stored spots world) waits) scheduled.2)
+        (further last stored back.0 scheduled.0 back.1 (wait_less spots back.0 pending scheduled.0 element scheduled.1 back.2 back.3 (waits_own format digest shown last stored spots world) waits) scheduled.2)
     go further (did_evict_b child element) did scheduled =
-        went further (did_evict_b child element) element refl refl (λ serial. serial) (free_at format digest shown taken stored spots event.verifier child element world did.had_child did.path)
-        (go_step format digest shown taken stored spots event.verifier run.0 child element world did) scheduled
+        went further (did_evict_b child element) element refl refl (λ serial. serial) (free_at format digest shown last stored spots event.verifier child element world did.had_child did.path)
+        (go_step format digest shown last stored spots event.verifier run.0 child element world did) scheduled
     go further (did_evict_bm parent after child element) did scheduled =
-        went further (did_evict_bm parent after child element) element refl refl (λ serial. serial) (free_at format digest shown taken stored spots event.verifier child element world did.had_child did.path)
-        (defer_step format digest shown taken stored spots event.verifier run.0 parent after child element world did) scheduled
+        went further (did_evict_bm parent after child element) element refl refl (λ serial. serial) (free_at format digest shown last stored spots event.verifier child element world did.had_child did.path)
+        (defer_step format digest shown last stored spots event.verifier run.0 parent after child element world did) scheduled
     go further (did_get entry) did scheduled =
         plain (did_get entry) refl
-        (λ serial. (λ get. read_value format digest shown taken stored spots event.verifier run.0 entry world did, serial))
-        (further taken stored spots pending (same_step format digest shown taken stored spots event.verifier run.0 world did.shown) waits scheduled)
+        (λ serial. (λ get. read_value format digest shown last stored spots event.verifier run.0 entry world did, serial))
+        (further last stored spots pending (same_step format digest shown last stored spots event.verifier run.0 world did.shown) waits scheduled)
     go further (did_put before after) did scheduled =
-        let world_then = write_step format digest shown taken stored spots event.verifier run.0 before after world did in
-        written (further taken (update eqb stored (number_of after.path) (blob_of after.value)) world_then.0 pending world_then.1 (wait_on spots world_then.0 pending world_then.2 world_then.3 waits) scheduled)
+        let world_then = write_step format digest shown last stored spots event.verifier run.0 before after world did in
+        written (further last (update eqb stored (number_of after.path) (blob_of after.value)) world_then.0 pending world_then.1 (wait_on spots world_then.0 pending world_then.2 world_then.3 waits) scheduled)
       where
-        written : Collides format digest taken events ⊎ IsSound format taken (update eqb stored (number_of after.path) (blob_of after.value)) events → Behind (did_put before after)
+        written : Collides format digest last events ⊎ IsSound format last (update eqb stored (number_of after.path) (blob_of after.value)) events → Behind (did_put before after)
         written (inl collides) = inl collides
         written (inr sound) = inr (sound.0, (λ get. absurd (true≢false get), sound.1))
     go further (did_next_epoch sealed) did scheduled =
         plain (did_next_epoch sealed) refl (λ serial. serial)
-        (further taken stored spots pending (same_step format digest shown taken stored spots event.verifier run.0 world did) waits scheduled)
+        (further last stored spots pending (same_step format digest shown last stored spots event.verifier run.0 world did) waits scheduled)

@@ -30,12 +30,12 @@ use Rattle.soundness.proofs.LeaveLemmas.{LeftAt}
 -- ---- what one moved record leaves as it was
 
 -- nothing came to be kept by its digest
-taken_one : (taken : LastEvicted) (spots : Spots) (k : List Bool) (spot : Spot) → is_merkle spot ≡ false
-    → ((path : List Bool) (value : Value) → spots path ≡ merkle value → taken path ≡ Some value)
-    → (path : List Bool) (value : Value) → with_spot spots k spot path ≡ merkle value → taken path ≡ Some value
-taken_one taken spots k spot not_merkle was path value is = go (this_or_other k path)
+taken_one : (last : LastEvicted) (spots : Spots) (k : List Bool) (spot : Spot) → is_merkle spot ≡ false
+    → ((path : List Bool) (value : Value) → spots path ≡ merkle value → last path ≡ Some value)
+    → (path : List Bool) (value : Value) → with_spot spots k spot path ≡ merkle value → last path ≡ Some value
+taken_one last spots k spot not_merkle was path value is = go (this_or_other k path)
   where
-    go : (k ≡ path) ⊎ (k ≢ path) → taken path ≡ Some value
+    go : (k ≡ path) ⊎ (k ≢ path) → last path ≡ Some value
     go (inl same) = absurd (false≢true (sym not_merkle ∙ ap is_merkle (sym (with_spot_at spots k spot) ∙ ap (with_spot spots k spot) same ∙ is)))
     go (inr away) = was path value (sym (with_spot_other spots k path spot away) ∙ is)
 
@@ -72,22 +72,22 @@ not_both hold is_b is_m = true≢false (ap by_element (sym is_b ∙ is_m))
 
 -- the world behind a step that took the record of a path back, where what waited elsewhere waits on, and nothing else
 abbrev pub TookBack : Format → Digest → AllShown → LastEvicted → Stored → Spots → List Bool → Type 0
-TookBack format digest shown taken stored old k =
-    (spots : Spots) × IsWorld format digest shown taken stored spots × KeepsElsewhere k old spots
+TookBack format digest shown last stored old k =
+    (spots : Spots) × IsWorld format digest shown last stored spots × KeepsElsewhere k old spots
     × ((path : List Bool) (element : Element) → spots path ≡ waiting element → (k ≢ path) × (old path ≡ waiting element))
 
 -- A record comes in with the element that it waits with.
-pub come_step : (format : Format) (digest : Digest) (shown : AllShown) (taken : LastEvicted) (stored : Stored) (spots : Spots) (home : ℕ) (next : Shown) (child : Entry) (element : Element)
-    → IsWorld format digest shown taken stored spots → DidAddB format (shown home) next child element
+pub come_step : (format : Format) (digest : Digest) (shown : AllShown) (last : LastEvicted) (stored : Stored) (spots : Spots) (home : ℕ) (next : Shown) (child : Entry) (element : Element)
+    → IsWorld format digest shown last stored spots → DidAddB format (shown home) next child element
     → spots element.path ≡ waiting element
-    → TookBack format digest (with_shown shown home next) taken stored spots element.path
-come_step format digest shown taken stored spots home next child element world did waits = (
+    → TookBack format digest (with_shown shown home next) last stored spots element.path
+come_step format digest shown last stored spots home next child element world did waits = (
   with_spot spots k (cached home child),
-  world_one format digest shown taken taken stored stored spots home next k (cached home child) world
+  world_one format digest shown last last stored stored spots home next k (cached home child) world
       (one_moves format digest spots (with_spot spots k (cached home child)) k (cached home child) moves world.tree)
       (subst (λ (e : Option Entry). ShowSame next (showing_of e)) (sym (cached_here home child)) did.shown)
       (λ other away. cached_elsewhere home other child away ∙ ap (cached_in other) (sym was))
-      (taken_one taken spots k (cached home child) refl world.was_taken)
+      (taken_one last spots k (cached home child) refl world.was_evicted)
       (holds_one format stored spots k (cached home child) (ap blob_of value_is ∙ ap blob_at (sym was)) world.holds),
   λ path other apart there. with_spot_other spots k path (cached home child) (λ same. apart (sym path_is ∙ same)) ∙ there,
   λ path other there. (
@@ -136,17 +136,17 @@ come_step format digest shown taken stored spots home next child element world d
         led false (Some other) kept leads = absurd leads
 
 -- A record goes out with an element.
-pub go_step : (format : Format) (digest : Digest) (shown : AllShown) (taken : LastEvicted) (stored : Stored) (spots : Spots) (home : ℕ) (next : Shown) (child : Entry) (element : Element)
-    → IsWorld format digest shown taken stored spots → DidEvictB (shown home) next child element
-    → LeftAt format digest (with_shown shown home next) taken stored spots element.path (waiting element)
-go_step format digest shown taken stored spots home next child element world did =
-    subst (λ (i : List Bool). LeftAt format digest (with_shown shown home next) taken stored spots i (waiting element)) (sym did.path) (
+pub go_step : (format : Format) (digest : Digest) (shown : AllShown) (last : LastEvicted) (stored : Stored) (spots : Spots) (home : ℕ) (next : Shown) (child : Entry) (element : Element)
+    → IsWorld format digest shown last stored spots → DidEvictB (shown home) next child element
+    → LeftAt format digest (with_shown shown home next) last stored spots element.path (waiting element)
+go_step format digest shown last stored spots home next child element world did =
+    subst (λ (i : List Bool). LeftAt format digest (with_shown shown home next) last stored spots i (waiting element)) (sym did.path) (
       with_spot spots child.path (waiting element),
-      world_one format digest shown taken taken stored stored spots home next child.path (waiting element) world
+      world_one format digest shown last last stored stored spots home next child.path (waiting element) world
           (one_moves format digest spots (with_spot spots child.path (waiting element)) child.path (waiting element) moves world.tree)
           did.shown
           (λ other away. sym (ap (cached_in other) was ∙ cached_elsewhere home other child away))
-          (taken_one taken spots child.path (waiting element) refl world.was_taken)
+          (taken_one last spots child.path (waiting element) refl world.was_evicted)
           (holds_one format stored spots child.path (waiting element) (ap blob_of did.value ∙ ap blob_at (sym was)) world.holds),
       keeps_one spots child.path (waiting element) (λ other waits. not_waiting (spots child.path) (cached home child) other was refl waits),
       with_spot_at spots child.path (waiting element),
@@ -176,11 +176,11 @@ go_step format digest shown taken stored spots home next child element world did
 -- ---- read and written
 
 -- Caches that show the same have the same world.
-pub same_step : (format : Format) (digest : Digest) (shown : AllShown) (taken : LastEvicted) (stored : Stored) (spots : Spots) (home : ℕ) (next : Shown)
-    → IsWorld format digest shown taken stored spots → ShowSame next (shown home)
-    → IsWorld format digest (with_shown shown home next) taken stored spots
-same_step format digest shown taken stored spots home next world same =
-    record { tree = world.tree; shows = shows; was_taken = world.was_taken; holds = world.holds }
+pub same_step : (format : Format) (digest : Digest) (shown : AllShown) (last : LastEvicted) (stored : Stored) (spots : Spots) (home : ℕ) (next : Shown)
+    → IsWorld format digest shown last stored spots → ShowSame next (shown home)
+    → IsWorld format digest (with_shown shown home next) last stored spots
+same_step format digest shown last stored spots home next world same =
+    record { tree = world.tree; shows = shows; was_evicted = world.was_evicted; holds = world.holds }
   where
     shows : (other : ℕ) (path : List Bool) → with_shown shown home next other path ≡ cached_in other (spots path)
     shows other path = go (cases_eq other home)
@@ -192,10 +192,10 @@ same_step format digest shown taken stored spots home next world same =
         go (inr apart) = ap (λ (b : Bool). (if b then next else shown other) path) (ne_eqb other home apart) ∙ world.shows other path
 
 -- What is read is the plain map's.
-pub read_value : (format : Format) (digest : Digest) (shown : AllShown) (taken : LastEvicted) (stored : Stored) (spots : Spots) (home : ℕ) (next : Shown) (entry : Entry)
-    → IsWorld format digest shown taken stored spots → DidGet format (shown home) next entry
+pub read_value : (format : Format) (digest : Digest) (shown : AllShown) (last : LastEvicted) (stored : Stored) (spots : Spots) (home : ℕ) (next : Shown) (entry : Entry)
+    → IsWorld format digest shown last stored spots → DidGet format (shown home) next entry
     → blob_of entry.value ≡ stored (number_of entry.path)
-read_value format digest shown taken stored spots home next entry world did =
+read_value format digest shown last stored spots home next entry world did =
     ap blob_at (sym (spot_of_shown home (spots entry.path) entry (sym (world.shows home entry.path) ∙ did.had))) ∙ world.holds entry.path did.at_data
 
 -- a data path's value has no pointers
@@ -209,17 +209,17 @@ one_number p q wide same =
     sym (bits_of-number_of p) ∙ ap (λ (n : ℕ). bits_of n (number_of p)) wide ∙ ap (bits_of (length q)) same ∙ bits_of-number_of q
 
 -- A data value is written, in the cache and in the plain map.
-pub write_step : (format : Format) (digest : Digest) (shown : AllShown) (taken : LastEvicted) (stored : Stored) (spots : Spots) (home : ℕ) (next : Shown) (before after : Entry)
-    → IsWorld format digest shown taken stored spots → DidPut format (shown home) next before after
-    → WorldAfter format digest (with_shown shown home next) taken (update eqb stored (number_of after.path) (blob_of after.value)) spots
-write_step format digest shown taken stored spots home next before after world did =
-    subst (λ (a : Entry). WorldAfter format digest (with_shown shown home next) taken (update eqb stored (number_of a.path) (blob_of a.value)) spots) (sym did.wrote) (
+pub write_step : (format : Format) (digest : Digest) (shown : AllShown) (last : LastEvicted) (stored : Stored) (spots : Spots) (home : ℕ) (next : Shown) (before after : Entry)
+    → IsWorld format digest shown last stored spots → DidPut format (shown home) next before after
+    → WorldAfter format digest (with_shown shown home next) last (update eqb stored (number_of after.path) (blob_of after.value)) spots
+write_step format digest shown last stored spots home next before after world did =
+    subst (λ (a : Entry). WorldAfter format digest (with_shown shown home next) last (update eqb stored (number_of a.path) (blob_of a.value)) spots) (sym did.wrote) (
       with_spot spots before.path spot,
-      world_one format digest shown taken taken stored (update eqb stored (number_of before.path) (blob_of did.value)) spots home next before.path spot world
+      world_one format digest shown last last stored (update eqb stored (number_of before.path) (blob_of did.value)) spots home next before.path spot world
           (one_moves format digest spots (with_spot spots before.path spot) before.path spot moves world.tree)
           (subst (λ (e : Option Entry). ShowSame next (showing (shown home) before.path e)) (ap Some did.wrote ∙ sym (cached_here home now)) did.shown)
           (λ other away. cached_elsewhere home other now away ∙ sym (ap (cached_in other) was ∙ cached_elsewhere home other before away))
-          (taken_one taken spots before.path spot refl world.was_taken)
+          (taken_one last spots before.path spot refl world.was_evicted)
           holds,
       keeps_one spots before.path spot (λ other waits. not_waiting (spots before.path) (cached home before) other was refl waits),
       none_since spots (with_spot spots before.path spot) before.path spot (with_spot_at spots before.path spot) refl

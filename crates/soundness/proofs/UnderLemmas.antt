@@ -113,7 +113,7 @@ pub fits_split : (format : Format) (digest : Digest) (old : Spots) (p k : List B
     → pointer_at spot side_below ≡ Some pointer → ((which : Bool) → which ≢ side_below → pointer_at spot which ≡ None)
     → home_of spot side_below ≡ home_of (old p) on
     → FitsUnder format digest old p k on spot
-fits_split format digest old p k on spot pointer side_below tree points below further taken bare home = record {
+fits_split format digest old p k on spot pointer side_below tree points below further last bare home = record {
   between = λ j there under. is_prefix-trans k pointer.path j (prefix_of_side k pointer.path side_below further) (covered j there under);
   child_link = link;
   child_cover = λ which j there under. covers which j there under (side-prefix k pointer.path j side_below further (covered j there (side-trans p k j on which below under)));
@@ -141,7 +141,7 @@ fits_split format digest old p k on spot pointer side_below tree points below fu
       where
         go : (which ≡ side_below) ⊎ (which ≢ side_below) → Leads format digest (home_of spot which) q (old q.path)
         go (inl same) =
-            let is_it : pointer ≡ q = same_Some pointer q (sym taken ∙ ap (pointer_at spot) (sym same) ∙ is) in
+            let is_it : pointer ≡ q = same_Some pointer q (sym last ∙ ap (pointer_at spot) (sym same) ∙ is) in
             subst (λ (r : Pointer). Leads format digest (home_of spot which) r (old r.path)) is_it
             (subst (λ (h : Option ℕ). Leads format digest h pointer (old pointer.path)) (sym home ∙ ap (home_of spot) (sym same)) (tree.link p on pointer points))
         go (inr other) = absurd (none-some q (sym (bare which other) ∙ is))
@@ -150,4 +150,4 @@ fits_split format digest old p k on spot pointer side_below tree points below fu
     covers which j there under by =
         let same : side_below ≡ which = same_Some side_below which (sym by ∙ under) in
         subst (λ (w : Bool). Covers (pointer_at spot w) j) same
-        (subst (λ (o : Option Pointer). Covers o j) (sym taken) (covered j there (side-trans p k j on which below under)))
+        (subst (λ (o : Option Pointer). Covers o j) (sym last) (covered j there (side-trans p k j on which below under)))

@@ -66,16 +66,16 @@ shown_cases shown home next other path entry here elsewhere = go (cases_eq other
 -- ---- the world, once one record moves
 
 -- The record of a path moves, in or out of this verifier's cache or within it, and its data value stays or is written.
-pub world_one : (format : Format) (digest : Digest) (shown : AllShown) (taken now_taken : LastEvicted) (stored now_stored : Stored) (spots : Spots) (home : ℕ) (next : Shown) (k : List Bool) (spot : Spot)
-    → IsWorld format digest shown taken stored spots
+pub world_one : (format : Format) (digest : Digest) (shown : AllShown) (last now_taken : LastEvicted) (stored now_stored : Stored) (spots : Spots) (home : ℕ) (next : Shown) (k : List Bool) (spot : Spot)
+    → IsWorld format digest shown last stored spots
     → IsTree format digest (with_spot spots k spot)
     → ShowSame next (showing (shown home) k (cached_in home spot))
     → ((other : ℕ) → other ≢ home → cached_in other spot ≡ cached_in other (spots k))
     → ((path : List Bool) (value : Value) → with_spot spots k spot path ≡ merkle value → now_taken path ≡ Some value)
     → ((path : List Bool) → length path ≡ path_bits format → blob_at (with_spot spots k spot path) ≡ now_stored (number_of path))
     → IsWorld format digest (with_shown shown home next) now_taken now_stored (with_spot spots k spot)
-world_one format digest shown taken now_taken stored now_stored spots home next k spot world tree shows others taken_is holds =
-    record { tree = tree; shows = all_show; was_taken = taken_is; holds = holds }
+world_one format digest shown last now_taken stored now_stored spots home next k spot world tree shows others taken_is holds =
+    record { tree = tree; shows = all_show; was_evicted = taken_is; holds = holds }
   where
     all_show : (other : ℕ) (path : List Bool) → with_shown shown home next other path ≡ cached_in other (with_spot spots k spot path)
     all_show other path = go (this_or_other k path)
@@ -107,8 +107,8 @@ with_pair_other spots home after k j spot apart further =
     ∙ with_spot_other spots after.path j (cached home after) apart
 
 -- A parent in this verifier's cache and its child change, and keep their data values.
-pub world_pair : (format : Format) (digest : Digest) (shown : AllShown) (taken now_taken : LastEvicted) (stored : Stored) (spots : Spots) (home : ℕ) (next : Shown) (before after : Entry) (k : List Bool) (spot : Spot)
-    → IsWorld format digest shown taken stored spots
+pub world_pair : (format : Format) (digest : Digest) (shown : AllShown) (last now_taken : LastEvicted) (stored : Stored) (spots : Spots) (home : ℕ) (next : Shown) (before after : Entry) (k : List Bool) (spot : Spot)
+    → IsWorld format digest shown last stored spots
     → IsTree format digest (with_pair spots home after k spot)
     → spots after.path ≡ cached home before → after.path ≢ k
     → ShowSame next (showing_both (shown home) after k (cached_in home spot))
@@ -116,8 +116,8 @@ pub world_pair : (format : Format) (digest : Digest) (shown : AllShown) (taken n
     → blob_of after.value ≡ blob_of before.value → blob_at spot ≡ blob_at (spots k)
     → ((path : List Bool) (value : Value) → with_pair spots home after k spot path ≡ merkle value → now_taken path ≡ Some value)
     → IsWorld format digest (with_shown shown home next) now_taken stored (with_pair spots home after k spot)
-world_pair format digest shown taken now_taken stored spots home next before after k spot world tree was apart shows others same_blob child_blob taken_is =
-    record { tree = tree; shows = all_show; was_taken = taken_is; holds = holds }
+world_pair format digest shown last now_taken stored spots home next before after k spot world tree was apart shows others same_blob child_blob taken_is =
+    record { tree = tree; shows = all_show; was_evicted = taken_is; holds = holds }
   where
     new : Spots
     new = with_pair spots home after k spot

@@ -20,20 +20,20 @@ LastEvicted = List Bool → Option Value
 abbrev pub none_evicted : LastEvicted
 none_evicted = λ path. None
 
--- what was taken, once an evictM took this value of this path
+-- what was last evicted, once an evictM took this value out of this path
 abbrev pub with_last_evicted : LastEvicted → List Bool → Value → LastEvicted
-with_last_evicted taken path value = λ other. if same_path path other then Some value else taken other
+with_last_evicted last path value = λ other. if same_path path other then Some value else last other
 
--- what was taken, once this was done
+-- what was last evicted, once this was done
 abbrev pub last_evicted_after : LastEvicted → Change → LastEvicted
-last_evicted_after taken (did_add_m parent after child) = taken
-last_evicted_after taken (did_evict_m parent after child) = with_last_evicted taken child.path child.value
-last_evicted_after taken (did_add_b child element) = taken
-last_evicted_after taken (did_evict_b child element) = taken
-last_evicted_after taken (did_evict_bm parent after child element) = taken
-last_evicted_after taken (did_get entry) = taken
-last_evicted_after taken (did_put before after) = taken
-last_evicted_after taken (did_next_epoch sealed) = taken
+last_evicted_after last (did_add_m parent after child) = last
+last_evicted_after last (did_evict_m parent after child) = with_last_evicted last child.path child.value
+last_evicted_after last (did_add_b child element) = last
+last_evicted_after last (did_evict_b child element) = last
+last_evicted_after last (did_evict_bm parent after child element) = last
+last_evicted_after last (did_get entry) = last
+last_evicted_after last (did_put before after) = last
+last_evicted_after last (did_next_epoch sealed) = last
 
 -- the parent's pointer already led to the path
 abbrev pub is_known : Option Parent → List Bool → Bool
@@ -55,21 +55,21 @@ differing format (Some evicted) added =
 -- what an addM shows: the child came in where the parent's pointer led to it, with another value than the last
 -- evictM took out
 abbrev pub clash_at : Format → LastEvicted → Bool → Entry → Option Strings
-clash_at format taken false child = None
-clash_at format taken true child = differing format (taken child.path) child.value
+clash_at format last false child = None
+clash_at format last true child = differing format (last child.path) child.value
 
 abbrev pub clash_of : Format → LastEvicted → Change → Option Strings
-clash_of format taken (did_add_m parent after child) = clash_at format taken (is_known (above parent child.path) child.path) child
-clash_of format taken (did_evict_m parent after child) = None
-clash_of format taken (did_add_b child element) = None
-clash_of format taken (did_evict_b child element) = None
-clash_of format taken (did_evict_bm parent after child element) = None
-clash_of format taken (did_get entry) = None
-clash_of format taken (did_put before after) = None
-clash_of format taken (did_next_epoch sealed) = None
+clash_of format last (did_add_m parent after child) = clash_at format last (is_known (above parent child.path) child.path) child
+clash_of format last (did_evict_m parent after child) = None
+clash_of format last (did_add_b child element) = None
+clash_of format last (did_evict_b child element) = None
+clash_of format last (did_evict_bm parent after child element) = None
+clash_of format last (did_get entry) = None
+clash_of format last (did_put before after) = None
+clash_of format last (did_next_epoch sealed) = None
 
 -- The first clash among what was done.
 abbrev pub first_clash : Format → LastEvicted → List Change → Option Strings
-first_clash format taken [] = None
-first_clash format taken (change ∷ changes) =
-    option_or (clash_of format taken change) (first_clash format (last_evicted_after taken change) changes)
+first_clash format last [] = None
+first_clash format last (change ∷ changes) =
+    option_or (clash_of format last change) (first_clash format (last_evicted_after last change) changes)

@@ -1,4 +1,4 @@
--- All caches together, what was taken and the plain map, and the spots that agree with them; and what events leave.
+-- All caches together, what was last evicted and the plain map, and the spots that agree with them; and what events leave.
 use Rattle.std.specs.Prelude.{◌≡◌, ◌⊎◌, ℕ, ◌≤◌, ◌==◌, Bool, List, [], ◌∷◌, map, length, Option, Some, None, if◌then◌else◌}
 use Rattle.std.specs.Option.{unwrap_or}
 use Rattle.tree_keys.specs.Bits.{number_of}
@@ -53,13 +53,13 @@ with_shown shown home next = λ other. if other == home then next else shown oth
 abbrev pub Stored : Type 0
 Stored = ℕ → Option (List ℕ)
 
--- The spots are a tree, the caches show them, a record that is kept by its digest was taken by an evictM, and the
+-- The spots are a tree, the caches show them, a record that is kept by its digest is what an evictM took out, and the
 -- data values are those of the plain map.
-pub record IsWorld (format : Format) (digest : Digest) (shown : AllShown) (taken : LastEvicted) (stored : Stored)
+pub record IsWorld (format : Format) (digest : Digest) (shown : AllShown) (last : LastEvicted) (stored : Stored)
     (spots : Spots) : Type 0 where
   pub tree : IsTree format digest spots
   pub shows : (home : ℕ) (path : List Bool) → shown home path ≡ cached_in home (spots path)
-  pub was_taken : (path : List Bool) (value : Value) → spots path ≡ merkle value → taken path ≡ Some value
+  pub was_evicted : (path : List Bool) (value : Value) → spots path ≡ merkle value → last path ≡ Some value
   pub holds : (path : List Bool) → length path ≡ path_bits format → blob_at (spots path) ≡ stored (number_of path)
 
 -- The elements that were evicted and not added back each wait at the spot of their path, none twice, and no others do.
@@ -95,10 +95,10 @@ shown_behind shown (event ∷ events) =
 abbrev pub changes_in : List Event → List Change
 changes_in events = map (λ event. event.change) events
 
--- what was taken, once all this was done
+-- what was last evicted, once all this was done
 abbrev pub last_evicted_behind : LastEvicted → List Change → LastEvicted
-last_evicted_behind taken [] = taken
-last_evicted_behind taken (change ∷ changes) = last_evicted_behind (last_evicted_after taken change) changes
+last_evicted_behind last [] = last
+last_evicted_behind last (change ∷ changes) = last_evicted_behind (last_evicted_after last change) changes
 
 -- the elements that wait, once this was done
 abbrev pub pending_after : List Element → Change → List Element
@@ -129,7 +129,7 @@ stored_behind stored (operation ∷ operations) = stored_behind (map_after opera
 
 -- ---- the spots behind events
 
--- The spots agree with what the caches show behind these events, what was taken by them, and their plain map; and
+-- The spots agree with what the caches show behind these events, what was last evicted by them, and their plain map; and
 -- just what was evicted and not added back waits.
 pub record IsBehind (digest : Digest) (header : Header) (events : List Event) (spots : Spots) : Type 0 where
   pub world : IsWorld (format_of header) digest (shown_behind (opening_shown header) events)
@@ -143,15 +143,15 @@ HaveSpots digest header events = (spots : Spots) × IsBehind digest header event
 -- a child joins where nothing was, or with the value that its digest keeps and the last evictM took; an element comes
 -- where it waits, and its record comes in with its value
 abbrev pub TakesWhatIsThere : LastEvicted → Spots → Change → Type 0
-TakesWhatIsThere taken spots (did_add_m parent after child) =
-    (spots child.path ≡ untouched) ⊎ ((spots child.path ≡ merkle child.value) × (taken child.path ≡ Some child.value))
-TakesWhatIsThere taken spots (did_add_b child element) = (spots child.path ≡ waiting element) × (child.value ≡ element.value)
-TakesWhatIsThere taken spots (did_evict_m parent after child) = Unit {0}
-TakesWhatIsThere taken spots (did_evict_b child element) = Unit {0}
-TakesWhatIsThere taken spots (did_evict_bm parent after child element) = Unit {0}
-TakesWhatIsThere taken spots (did_get entry) = Unit {0}
-TakesWhatIsThere taken spots (did_put before after) = Unit {0}
-TakesWhatIsThere taken spots (did_next_epoch sealed) = Unit {0}
+TakesWhatIsThere last spots (did_add_m parent after child) =
+    (spots child.path ≡ untouched) ⊎ ((spots child.path ≡ merkle child.value) × (last child.path ≡ Some child.value))
+TakesWhatIsThere last spots (did_add_b child element) = (spots child.path ≡ waiting element) × (child.value ≡ element.value)
+TakesWhatIsThere last spots (did_evict_m parent after child) = Unit {0}
+TakesWhatIsThere last spots (did_evict_b child element) = Unit {0}
+TakesWhatIsThere last spots (did_evict_bm parent after child element) = Unit {0}
+TakesWhatIsThere last spots (did_get entry) = Unit {0}
+TakesWhatIsThere last spots (did_put before after) = Unit {0}
+TakesWhatIsThere last spots (did_next_epoch sealed) = Unit {0}
 
 -- each path has one spot behind these events, and the next change takes what is there
 abbrev pub TakesFromSpots : Digest → Header → List Event → Change → Type 0

@@ -1,3 +1,4 @@
+//! When an operation was done: the clock, the verifier, and the number in its log.
 ghost use Rattle.std.specs.Prelude.{◌≡◌};
 ghost use Rattle.stamp_order.specs.Operations.{moment_of};
 

@@ -5,10 +5,10 @@ ghost use Rattle.std.specs.List.{flat_map};
 use crate::rows::{bytes_of, field, same, same_bytes};
 use bundle_frames::{Fed, Found, Splitter, WholeBundle, read_pieces, write_frame, write_header};
 use fv_outside::{Failed, MemorySink};
-use want_of_memory::Memory;
 use lamport_clocks::Header;
 use std::alloc::Global;
 use std::test::Fail;
+use want_of_memory::Memory;
 
 // What a host of one verifier and two shards writes for an empty script: a header, and two frames.
 const SETUP: &str = "

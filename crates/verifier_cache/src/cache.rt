@@ -1,3 +1,4 @@
+//! The bounded cache of a verifier.
 ghost use Rattle.std.specs.Prelude.{◌≡◌, ℕ, ◌+◌, ◌<◌, ◌≤◌, ◌==◌, ◌↔◌, nat_le, Bool, List, [], ◌∷◌, ◌++◌, length, Some, None, IsTrue, IsSome, IsNone, IfSome, IfNone, IfOk};
 ghost use Rattle.std.specs.Option.{option_map, option_copied};
 ghost use Rattle.std.specs.Borrow.{sem};
@@ -6,11 +7,11 @@ ghost use Rattle.verifier_cache.specs.Entry.{kid_of, set_kid, new_entry};
 ghost use Rattle.verifier_cache.specs.Cache.{Held, IsHeld, entry_of, without, changed, replaced, AreDistinct, IsIndexOf};
 
 use crate::entry::{Entry, Hold};
-use want_of_memory::Memory;
 use record_text::Value;
 use std::alloc::Global;
 use std::marker::Model;
 use tree_keys::Path;
+use want_of_memory::Memory;
 
 /// The records that a verifier holds at one time: no path twice, and no more than there is room for.
 #[derive(Debug, Drop)]

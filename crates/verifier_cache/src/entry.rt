@@ -1,3 +1,4 @@
+//! What a cache keeps of a record.
 ghost use Rattle.std.specs.Prelude.{◌≡◌};
 ghost use Rattle.verifier_cache.specs.Entry.{kid_of, set_kid, has_kid, new_entry};
 

@@ -1,3 +1,4 @@
+//! What a step hands up of an accepted command.
 use multiset_sum::Part;
 use record_text::Operation;
 

@@ -1,3 +1,4 @@
+//! The sums of the present epoch and of the one before.
 ghost use Rattle.std.specs.Prelude.{◌≡◌, ◌+◌, ◌<◌, ◌^◌};
 ghost use Rattle.record_text.specs.Format.{short_keys};
 ghost use Rattle.merkle_records.specs.Scheme.{Scheme};

@@ -1,3 +1,4 @@
+//! A verifier: its state and its sums, stepped command by command.
 ghost use Rattle.std.specs.Prelude.{◌≡◌, ◌<◌, ◌^◌, IfOk};
 ghost use Rattle.step_words.specs.Follows.{Follows};
 ghost use Rattle.lamport_clocks.specs.Header.{IsHeader};
@@ -13,7 +14,6 @@ use crate::effect::Effect;
 use crate::outcome::Outcome;
 use crate::state::State;
 use crate::sums::Sums;
-use want_of_memory::Memory;
 use lamport_clocks::{Clock, Header, Stamp};
 use log_codec::Command;
 use multiset_sum::Part;
@@ -23,6 +23,7 @@ use std::alloc::Global;
 use std::marker::Model;
 use tree_keys::Path;
 use verifier_cache::{Cache, Hold};
+use want_of_memory::Memory;
 
 /// One verifier: contracts see it as a `Machine`.
 #[derive(Drop)]

@@ -9,7 +9,6 @@ ghost use Rattle.verifier_run.specs.LogCourse.{log_course};
 
 use crate::tracer::Tracer;
 use arrayvec::ArrayVec;
-use want_of_memory::Memory;
 use lamport_clocks::Header;
 use log_codec::{Decoded, LONGEST_COMMAND_TEXT, read};
 use multiset_sum::Part;
@@ -17,6 +16,7 @@ use record_hash::Digests;
 use record_text::{Operation, Refusal};
 use std::alloc::Global;
 use std::marker::Model;
+use want_of_memory::Memory;
 
 /// Want of memory in the middle of a piece: so many of its bytes are done, and the rest can be fed again.
 #[derive(Clone, Copy, Debug, PartialEq, Eq)]

@@ -8,7 +8,6 @@ ghost use Rattle.verifier_commands.specs.Machine.{opening_machine};
 ghost use Rattle.verifier_run.specs.Trace.{operation_in, part_in};
 ghost use Rattle.verifier_run.specs.Course.{Course, opening_course, refuse, after_command};
 
-use want_of_memory::Memory;
 use lamport_clocks::Header;
 use log_codec::Command;
 use multiset_sum::Part;
@@ -17,6 +16,7 @@ use record_text::{Operation, Refusal};
 use std::alloc::Global;
 use std::marker::Model;
 use verifier_commands::{Effect, Verifier};
+use want_of_memory::Memory;
 
 /// A verifier, and the course of its commands. The two lists are all that grows.
 #[derive(Drop)]

@@ -2,13 +2,13 @@
 ghost use Rattle.std.specs.Prelude.{◌≡◌, ◌<◌, ◌^◌, length};
 ghost use Rattle.lamport_clocks.specs.Header.{IsHeader};
 
-use want_of_memory::Memory;
 use lamport_clocks::{Header, Stamp};
 use record_hash::{ShaDigests, ToyDigests};
 use record_text::{Blob, Operation, Refusal};
 use std::alloc::Global;
 use std::test::Fail;
 use verifier_run::{Run, run_log};
+use want_of_memory::Memory;
 
 // One verifier, from epoch 0 on.
 fn header() -> Header

@@ -2,7 +2,6 @@ use Rattle.std.proofs.Common.{subst, ap, ◌∙◌, arith}
 use Rattle.merkle_records.specs.Scheme.{scheme_of}
 use Rattle.check_core.specs.Logs.{log_count}
 use Rattle.check_core.proofs.MeaningLemmas.{logs_counted}
-
 use Rattle.check_core.specs.Answer.{Ends}
 use Rattle.check_core.specs.Intake.{logs_in}
 use Rattle.check_core.proofs.ManyLemmas.{verdict-many}

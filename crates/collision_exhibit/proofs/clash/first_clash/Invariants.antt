@@ -7,4 +7,4 @@ use Rattle.collision_exhibit.proofs.clash.first_clash.Given as goal
 
 abbrev pub invariant-loop-item : goal.invariant-loop-item
 invariant-loop-item l =
-    clash_among short_keys (last_evicted_at l.taken) (audit_events_within l.first l.epochs (drop l.item-index l.audited)) ≡ clash_among short_keys none_evicted (audit_events_within l.first l.epochs l.audited)
+    clash_among short_keys (last_evicted_at l.last) (audit_events_within l.first l.epochs (drop l.item-index l.audited)) ≡ clash_among short_keys none_evicted (audit_events_within l.first l.epochs l.audited)

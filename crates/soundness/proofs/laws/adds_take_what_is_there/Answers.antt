@@ -1,4 +1,4 @@
-use Rattle.soundness.proofs.PlaceLemmas.{takes_next}
+use Rattle.soundness.proofs.SpotLemmas.{takes_next}
 use Rattle.soundness.proofs.laws.adds_take_what_is_there.Goals as goal
 
 pub returns : goal.returns

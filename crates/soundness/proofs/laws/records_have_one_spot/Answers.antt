@@ -1,4 +1,4 @@
-use Rattle.soundness.proofs.PlaceLemmas.{one_spot}
+use Rattle.soundness.proofs.SpotLemmas.{one_spot}
 use Rattle.soundness.proofs.laws.records_have_one_spot.Goals as goal
 
 pub returns : goal.returns

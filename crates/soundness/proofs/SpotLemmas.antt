@@ -89,15 +89,15 @@ no_first None later none = (refl, none)
 no_first (Some strings) later none = absurd (none-some strings (sym none))
 
 -- where a front and the event behind it show no clash
-no_clash_front : (format : Format) (taken : LastEvicted) (front : List Event) (event : Event)
-    → first_clash format taken (changes_in (front ++ event ∷ [])) ≡ None
-    → (first_clash format taken (changes_in front) ≡ None)
-    × (clash_of format (last_evicted_behind taken (changes_in front)) event.change ≡ None)
-no_clash_front format taken [] event free = (refl, (no_first (clash_of format taken event.change) None free).0)
-no_clash_front format taken (first ∷ front) event free =
-    let behind = last_evicted_after taken first.change in
+no_clash_front : (format : Format) (last : LastEvicted) (front : List Event) (event : Event)
+    → first_clash format last (changes_in (front ++ event ∷ [])) ≡ None
+    → (first_clash format last (changes_in front) ≡ None)
+    × (clash_of format (last_evicted_behind last (changes_in front)) event.change ≡ None)
+no_clash_front format last [] event free = (refl, (no_first (clash_of format last event.change) None free).0)
+no_clash_front format last (first ∷ front) event free =
+    let behind = last_evicted_after last first.change in
     let parts =
-    no_first (clash_of format taken first.change) (first_clash format behind (changes_in (front ++ event ∷ []))) free in
+    no_first (clash_of format last first.change) (first_clash format behind (changes_in (front ++ event ∷ []))) free in
     let later = no_clash_front format behind front event parts.1 in
     (ap (λ (o : Option Strings). option_or o (first_clash format behind (changes_in front))) parts.0 ∙ later.0, later.1)
 
@@ -105,30 +105,30 @@ no_clash_front format taken (first ∷ front) event free =
 
 -- a world behind a step in which these wait, of whom this holds
 abbrev Moved : Format → Digest → AllShown → LastEvicted → Stored → List Element → (List Element → Type 0) → Type 0
-Moved format digest shown taken stored pending behind =
-    (spots : Spots) × IsWorld format digest shown taken stored spots × IsWaiting spots pending × behind pending
+Moved format digest shown last stored pending behind =
+    (spots : Spots) × IsWorld format digest shown last stored spots × IsWaiting spots pending × behind pending
 
 module _ (format : Format) (digest : Digest) (one : HasOneText format) where
-  -- A step that shows no clash keeps the world, and its change tells what was taken and stored, and what waits.
-  moved : GivesDigests digest → (event : Event) (shown : AllShown) (next : Shown) (taken : LastEvicted) (stored : Stored)
+  -- A step that shows no clash keeps the world, and its change tells what was last evicted and stored, and what waits.
+  moved : GivesDigests digest → (event : Event) (shown : AllShown) (next : Shown) (last : LastEvicted) (stored : Stored)
       (spots : Spots) (pending : List Element) (behind : List Element → Type 0)
-      → IsWorld format digest shown taken stored spots → IsWaiting spots pending
+      → IsWorld format digest shown last stored spots → IsWaiting spots pending
       → (change : Change) → HasDone format digest (shown event.verifier) next change
-      → IsScheduledBy pending change behind → clash_of format taken change ≡ None
-      → Moved format digest (with_shown shown event.verifier next) (last_evicted_after taken change)
+      → IsScheduledBy pending change behind → clash_of format last change ≡ None
+      → Moved format digest (with_shown shown event.verifier next) (last_evicted_after last change)
       (stored_behind stored (operations_by event change)) (pending_after pending change) behind
-  moved digests event shown next taken stored spots pending behind world waits = go
+  moved digests event shown next last stored spots pending behind world waits = go
     where
       home : ℕ
       home = event.verifier
 
       After : LastEvicted → Stored → List Element → Type 0
-      After taken stored pending = Moved format digest (with_shown shown home next) taken stored pending behind
+      After last stored pending = Moved format digest (with_shown shown home next) last stored pending behind
 
-      joined : (parent after child : Entry) → behind pending → clash_of format taken (did_add_m parent after child) ≡ None
-          → Clashes format digest taken (did_add_m parent after child)
-          ⊎ Passes format digest (with_shown shown home next) taken taken stored spots (did_add_m parent after child)
-          → After taken stored pending
+      joined : (parent after child : Entry) → behind pending → clash_of format last (did_add_m parent after child) ≡ None
+          → Clashes format digest last (did_add_m parent after child)
+          ⊎ Passes format digest (with_shown shown home next) last last stored spots (did_add_m parent after child)
+          → After last stored pending
       joined parent after child scheduled free (inl clashes) = absurd (none-some clashes.0 (sym free ∙ clashes.1))
       joined parent after child scheduled free (inr passes) =
           let now = passes.1 in
@@ -136,62 +136,62 @@ module _ (format : Format) (digest : Digest) (one : HasOneText format) where
 
       went : (child : Entry) (element : Element) → shown home child.path ≡ Some child → element.path ≡ child.path
           → behind (element ∷ pending)
-          → LeftAt format digest (with_shown shown home next) taken stored spots element.path (waiting element)
-          → After taken stored (element ∷ pending)
+          → LeftAt format digest (with_shown shown home next) last stored spots element.path (waiting element)
+          → After last stored (element ∷ pending)
       went child element had path scheduled left =
-          let free = free_at format digest shown taken stored spots home child element world had path in
+          let free = free_at format digest shown last stored spots home child element world had path in
           (left.0, left.1, wait_more spots left.0 pending element left.2 left.3 left.4 free waits, scheduled)
 
       go : (change : Change) → HasDone format digest (shown home) next change → IsScheduledBy pending change behind
-          → clash_of format taken change ≡ None
-          → After (last_evicted_after taken change) (stored_behind stored (operations_by event change)) (pending_after pending change)
+          → clash_of format last change ≡ None
+          → After (last_evicted_after last change) (stored_behind stored (operations_by event change)) (pending_after pending change)
       go (did_add_m parent after child) did scheduled free =
           joined parent after child scheduled free
-          (join_step format digest shown taken stored spots home next parent after child one digests world did)
+          (join_step format digest shown last stored spots home next parent after child one digests world did)
       go (did_evict_m parent after child) did scheduled free =
-          let now = leave_step format digest shown taken stored spots home next parent after child digests world did in
+          let now = leave_step format digest shown last stored spots home next parent after child digests world did in
           (now.0, now.1, wait_on spots now.0 pending now.2 now.3 waits, scheduled)
       go (did_add_b child element) did scheduled free =
           let there = waits.each element (waits_once_out element pending scheduled.0 scheduled.1) in
-          let back = come_step format digest shown taken stored spots home next child element world did there in
+          let back = come_step format digest shown last stored spots home next child element world did there in
           let left = wait_less spots back.0 pending scheduled.0 element scheduled.1 back.2 back.3
-          (waits_own format digest shown taken stored spots world) waits in
+          (waits_own format digest shown last stored spots world) waits in
           let out = ap (λ (rest : Option (List Element)). unwrap_or rest pending) scheduled.1 in
-          subst (After taken stored) (sym out) (back.0, back.1, left, scheduled.2)
+          subst (After last stored) (sym out) (back.0, back.1, left, scheduled.2)
       go (did_evict_b child element) did scheduled free =
           went child element did.had_child did.path scheduled
-          (go_step format digest shown taken stored spots home next child element world did)
+          (go_step format digest shown last stored spots home next child element world did)
       go (did_evict_bm parent after child element) did scheduled free =
           went child element did.had_child did.path scheduled
-          (defer_step format digest shown taken stored spots home next parent after child element world did)
+          (defer_step format digest shown last stored spots home next parent after child element world did)
       go (did_get entry) did scheduled free =
-          let same = same_step format digest shown taken stored spots home next world did.shown in
+          let same = same_step format digest shown last stored spots home next world did.shown in
           (spots, same, waits, scheduled)
       go (did_put before after) did scheduled free =
-          let now = write_step format digest shown taken stored spots home next before after world did in
+          let now = write_step format digest shown last stored spots home next before after world did in
           (now.0, now.1, wait_on spots now.0 pending now.2 now.3 waits, scheduled)
       go (did_next_epoch sealed) did scheduled free =
-          (spots, same_step format digest shown taken stored spots home next world did, waits, scheduled)
+          (spots, same_step format digest shown last stored spots home next world did, waits, scheduled)
 
   -- And it takes what is there.
-  takes_there : (home : ℕ) (shown : AllShown) (next : Shown) (taken : LastEvicted) (stored : Stored) (spots : Spots)
+  takes_there : (home : ℕ) (shown : AllShown) (next : Shown) (last : LastEvicted) (stored : Stored) (spots : Spots)
       (pending : List Element) (behind : List Element → Type 0)
-      → IsWorld format digest shown taken stored spots → IsWaiting spots pending
+      → IsWorld format digest shown last stored spots → IsWaiting spots pending
       → (change : Change) → HasDone format digest (shown home) next change → IsScheduledBy pending change behind
-      → clash_of format taken change ≡ None
-      → TakesWhatIsThere taken spots change
-  takes_there home shown next taken stored spots pending behind world waits = go
+      → clash_of format last change ≡ None
+      → TakesWhatIsThere last spots change
+  takes_there home shown next last stored spots pending behind world waits = go
     where
       joined : (parent after child : Entry) → (spots child.path ≡ untouched) ⊎ (spots child.path ≡ merkle child.value)
-          → TakesWhatIsThere taken spots (did_add_m parent after child)
+          → TakesWhatIsThere last spots (did_add_m parent after child)
       joined parent after child (inl is) = inl is
-      joined parent after child (inr is) = inr (is, world.was_taken child.path child.value is)
+      joined parent after child (inr is) = inr (is, world.was_evicted child.path child.value is)
 
       go : (change : Change) → HasDone format digest (shown home) next change → IsScheduledBy pending change behind
-          → clash_of format taken change ≡ None → TakesWhatIsThere taken spots change
+          → clash_of format last change ≡ None → TakesWhatIsThere last spots change
       go (did_add_m parent after child) did scheduled free =
           joined parent after child
-          (join_takes format digest shown taken stored spots home next parent after child one world did free)
+          (join_takes format digest shown last stored spots home next parent after child one world did free)
       go (did_evict_m parent after child) did scheduled free = tt
       go (did_add_b child element) did scheduled free =
           let there = waits.each element (waits_once_out element pending scheduled.0 scheduled.1) in
@@ -206,24 +206,24 @@ module _ (format : Format) (digest : Digest) (one : HasOneText format) where
 
 -- What stands behind a front: a world whose caches show what is told and in which these wait, and the events that go
 -- on from there.
-record Stand (format : Format) (digest : Digest) (told : AllShown) (taken : LastEvicted) (stored : Stored)
+record Stand (format : Format) (digest : Digest) (told : AllShown) (last : LastEvicted) (stored : Stored)
     (pending : List Element) (back : List Event) : Type 0 where
   shown : AllShown
   same : AllShowSame shown told
   spots : Spots
-  world : IsWorld format digest shown taken stored spots
+  world : IsWorld format digest shown last stored spots
   waits : IsWaiting spots pending
   run : IsRun format digest shown back
   scheduled : IsScheduled pending back
 
 -- the world of a stand, by what is told
-world_told : (format : Format) (digest : Digest) (told : AllShown) (taken : LastEvicted) (stored : Stored)
-    (pending : List Element) (back : List Event) (stand : Stand format digest told taken stored pending back)
-    → IsWorld format digest told taken stored stand.spots
-world_told format digest told taken stored pending back stand = record {
+world_told : (format : Format) (digest : Digest) (told : AllShown) (last : LastEvicted) (stored : Stored)
+    (pending : List Element) (back : List Event) (stand : Stand format digest told last stored pending back)
+    → IsWorld format digest told last stored stand.spots
+world_told format digest told last stored pending back stand = record {
   tree = stand.world.tree;
   shows = λ home path. sym (stand.same home path) ∙ stand.world.shows home path;
-  was_taken = stand.world.was_taken;
+  was_evicted = stand.world.was_evicted;
   holds = stand.world.holds;
 }
 
@@ -233,12 +233,12 @@ told_behind told event = with_shown told event.verifier (shown_after (told event
 
 module _ (format : Format) (digest : Digest) (one : HasOneText format) (digests : GivesDigests digest) where
   -- One event on.
-  stand_on : (event : Event) (back : List Event) (told : AllShown) (taken : LastEvicted) (stored : Stored)
+  stand_on : (event : Event) (back : List Event) (told : AllShown) (last : LastEvicted) (stored : Stored)
       (pending : List Element)
-      → Stand format digest told taken stored pending (event ∷ back) → clash_of format taken event.change ≡ None
-      → Stand format digest (told_behind told event) (last_evicted_after taken event.change)
+      → Stand format digest told last stored pending (event ∷ back) → clash_of format last event.change ≡ None
+      → Stand format digest (told_behind told event) (last_evicted_after last event.change)
       (stored_behind stored (operations_by event event.change)) (pending_after pending event.change) back
-  stand_on event back told taken stored pending stand free = record {
+  stand_on event back told last stored pending stand free = record {
     shown = with_shown stand.shown event.verifier next;
     same = with_same stand.shown told event.verifier next (shown_after (told event.verifier) event.change) stand.same
         (did_shown format digest (stand.shown event.verifier) (told event.verifier) next (stand.same event.verifier)
@@ -253,38 +253,38 @@ module _ (format : Format) (digest : Digest) (one : HasOneText format) (digests 
       next : Shown
       next = stand.run.0
 
-      now : Moved format digest (with_shown stand.shown event.verifier next) (last_evicted_after taken event.change)
+      now : Moved format digest (with_shown stand.shown event.verifier next) (last_evicted_after last event.change)
           (stored_behind stored (operations_by event event.change)) (pending_after pending event.change)
           (λ after. IsScheduled after back)
       now =
-          moved format digest one digests event stand.shown next taken stored stand.spots pending
+          moved format digest one digests event stand.shown next last stored stand.spots pending
           (λ after. IsScheduled after back) stand.world stand.waits event.change stand.run.1 stand.scheduled free
 
   -- A whole front on, where it shows no clash.
-  stand_behind : (front back : List Event) (told : AllShown) (taken : LastEvicted) (stored : Stored) (pending : List Element)
-      → Stand format digest told taken stored pending (front ++ back) → first_clash format taken (changes_in front) ≡ None
-      → Stand format digest (shown_behind told front) (last_evicted_behind taken (changes_in front))
+  stand_behind : (front back : List Event) (told : AllShown) (last : LastEvicted) (stored : Stored) (pending : List Element)
+      → Stand format digest told last stored pending (front ++ back) → first_clash format last (changes_in front) ≡ None
+      → Stand format digest (shown_behind told front) (last_evicted_behind last (changes_in front))
       (stored_behind stored (operations_in front)) (pending_behind pending (changes_in front)) back
-  stand_behind [] back told taken stored pending stand free = stand
-  stand_behind (event ∷ front) back told taken stored pending stand free =
+  stand_behind [] back told last stored pending stand free = stand
+  stand_behind (event ∷ front) back told last stored pending stand free =
       subst (λ (s : Stored).
       Stand format digest (shown_behind now front) (last_evicted_behind now_taken (changes_in front)) s
       (pending_behind now_pending (changes_in front)) back)
       (sym (stored_behind-append stored (operations_by event event.change) (operations_in front)))
       (stand_behind front back now now_taken (stored_behind stored (operations_by event event.change)) now_pending
-      (stand_on event (front ++ back) told taken stored pending stand parts.0) parts.1)
+      (stand_on event (front ++ back) told last stored pending stand parts.0) parts.1)
     where
       now : AllShown
       now = told_behind told event
 
       now_taken : LastEvicted
-      now_taken = last_evicted_after taken event.change
+      now_taken = last_evicted_after last event.change
 
       now_pending : List Element
       now_pending = pending_after pending event.change
 
-      parts : (clash_of format taken event.change ≡ None) × (first_clash format now_taken (changes_in front) ≡ None)
-      parts = no_first (clash_of format taken event.change) (first_clash format now_taken (changes_in front)) free
+      parts : (clash_of format last event.change ≡ None) × (first_clash format now_taken (changes_in front) ≡ None)
+      parts = no_first (clash_of format last event.change) (first_clash format now_taken (changes_in front)) free
 
 -- ---- the laws
 
