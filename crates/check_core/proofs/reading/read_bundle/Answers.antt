@@ -1,6 +1,6 @@
 use Rattle.std.proofs.Common.{◌≡◌, Err, is_ok, true≢false, arith, refl, sym, ap, map}
 use Rattle.bundle_frames.specs.Progress.{Progress, position}
-use Rattle.check_core.specs.declared.intake.Stop.TheVariants.{InputLimit}
+use Rattle.check_core.specs.declared.stops.ReadStop.TheVariants.{InputLimit}
 use Rattle.check_core.specs.Intake.{behind_at}
 use Rattle.check_core.proofs.TookLemmas.{TookJust-none, TookJust-then, TookAtMost-then}
 use Rattle.check_core.proofs.MeaningLemmas.{Means-start, Means-then, Means-end, logs_counted}
