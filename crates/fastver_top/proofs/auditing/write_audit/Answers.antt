@@ -12,4 +12,4 @@ pub returns-in_err-write_exhibit-clause-front : goal.returns-in_err-write_exhibi
 returns-in_err-write_exhibit-clause-front g c = on_err c.from_residual.result (GrowsByFront-more _ _ _ _ c.in_err-write_exhibit.ensures.front)
 
 pub returns-clause-front : goal.returns-clause-front
-returns-clause-front g c = err_then c.write_last.result (GrowsByFront-then _ _ _ _ _ c.in_ok-write_exhibit.ensures.whole) c.write_last.ensures.front
+returns-clause-front g c = err_then c.write_last.result (GrowsByFront-then _ _ _ _ _ c.in_ok-write_exhibit.ensures.whole) (rw c.status.ensures.value at c.write_last.ensures.front)

@@ -3,7 +3,7 @@ use Rattle.record_hash.specs.ShaDigests.{sha_functions}
 use Rattle.program_words.specs.declared.words.Asked.{Asked}
 use Rattle.program_words.specs.declared.words.Asked.TheVariants.{Check, Audit}
 use Rattle.bundle_frames.specs.Extent.{reading_end}
-use Rattle.report_text.specs.Answer.{AnswersTo}
+use Rattle.report_text.specs.Answer.{Reading, Writing, AnswersTo}
 use Rattle.check_core.specs.Answer.{check_answer}
 use Rattle.fastver_top.specs.Auditing.{audit_answer}
 use Rattle.fastver_top.specs.Answers.{answer_to}
@@ -14,14 +14,38 @@ use Rattle.fastver_top.proofs.top.fastver.Goals as goal
 
 pub returns-in-Ok-Check-clause-answers : goal.returns-in-Ok-Check-clause-answers
 returns-in-Ok-Check-clause-answers g c = λ asked known.
+    let read : Reading = record {
+      left = g.S.Source.left c.args.source.now;
+      left_after = g.S.Source.left c.check.new.source;
+      faults = g.S.Source.faults c.args.source.now;
+      faults_after = g.S.Source.faults c.check.new.source;
+    } in
+    let wrote : Writing = record {
+      held = g.O.Sink.held c.args.out.now;
+      held_after = g.O.Sink.held c.check.new.out;
+      faults = g.O.Sink.faults c.args.out.now;
+      faults_after = g.O.Sink.faults c.check.new.out;
+    } in
     let own = asked_is _ asked (Check c.in-Ok-Check.key) c.in-Ok-Check.field-0 known c.in-Ok-Check.ensures.asked c.in-Ok-Check.field-0-is in
-    subst (λ (a : Asked). AnswersTo (answer_to a) reading_end (2 ^ 40) c.check.result _ _ c.args.out.now c.check.new.out) own
-    (subst (λ (block : List ℕ). AnswersTo (check_answer (sha_functions block)) reading_end (2 ^ 40) c.check.result _ _ c.args.out.now c.check.new.out)
+    subst (λ (a : Asked). AnswersTo (answer_to a) reading_end (2 ^ 40) c.check.result read wrote c.args.out.now c.check.new.out) own
+    (subst (λ (block : List ℕ). AnswersTo (check_answer (sha_functions block)) reading_end (2 ^ 40) c.check.result read wrote c.args.out.now c.check.new.out)
     c.digests_under.ensures.value c.check.ensures.answers)
 
 pub returns-in-Ok-Audit-clause-answers : goal.returns-in-Ok-Audit-clause-answers
 returns-in-Ok-Audit-clause-answers g c = λ asked known.
+    let read : Reading = record {
+      left = g.S.Source.left c.args.source.now;
+      left_after = g.S.Source.left c.audit_text.new.source;
+      faults = g.S.Source.faults c.args.source.now;
+      faults_after = g.S.Source.faults c.audit_text.new.source;
+    } in
+    let wrote : Writing = record {
+      held = g.O.Sink.held c.args.out.now;
+      held_after = g.O.Sink.held c.audit_text.new.out;
+      faults = g.O.Sink.faults c.args.out.now;
+      faults_after = g.O.Sink.faults c.audit_text.new.out;
+    } in
     let own = asked_is _ asked (Audit c.in-Ok-Audit.key) c.in-Ok-Audit.field-0 known c.in-Ok-Audit.ensures.asked c.in-Ok-Audit.field-0-is in
-    subst (λ (a : Asked). AnswersTo (answer_to a) reading_end (2 ^ 40) c.audit_text.result _ _ c.args.out.now c.audit_text.new.out) own
-    (subst (λ (block : List ℕ). AnswersTo (audit_answer (sha_functions block)) reading_end (2 ^ 40) c.audit_text.result _ _ c.args.out.now c.audit_text.new.out)
+    subst (λ (a : Asked). AnswersTo (answer_to a) reading_end (2 ^ 40) c.audit_text.result read wrote c.args.out.now c.audit_text.new.out) own
+    (subst (λ (block : List ℕ). AnswersTo (audit_answer (sha_functions block)) reading_end (2 ^ 40) c.audit_text.result read wrote c.args.out.now c.audit_text.new.out)
     c.digests_under-in-Ok-Audit.ensures.value c.audit_text.ensures.answers)
