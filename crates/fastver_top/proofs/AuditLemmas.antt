@@ -23,7 +23,7 @@ use Rattle.check_core.specs.Answer.{certified_at}
 use Rattle.check_core.specs.Headline.{exhibit_at, CollidesAt, IsSoundAt}
 use Rattle.fastver_top.specs.declared.audit_end.AuditEnd.{AuditEnd}
 use Rattle.fastver_top.specs.declared.audit_end.AuditEnd.TheVariants as ends
-use Rattle.fastver_top.specs.Auditing.{audit_end, audit_end_status, ExhibitCollides}
+use Rattle.fastver_top.specs.Auditing.{audit_end_status, ExhibitCollides}
 
 -- ---- what was read
 
@@ -47,12 +47,6 @@ pub exhibit_none : (functions : DigestFunctions) (found : Option Header) (logs :
 exhibit_none functions found logs is = sym (ap (λ (o : Option Header). exhibit_at functions o logs) is)
 
 -- ---- what is shown
-
--- where an audit ends with an exhibit there is one
-pub end_shown : (exhibit : Exhibit) (end : BundleEnd) → audit_end exhibit end ≡ ends.Exhibit → exhibit ≢ Clean
-end_shown Clean end is = λ same. cc
-end_shown (Strings evicted added) end is = λ same. cc
-end_shown (Multisets epoch added evicted) end is = λ same. cc
 
 -- no report of a bundle ends as an exhibit does
 bundle_not_shown : (end : BundleEnd) → status_of end ≡ statuses.Exhibit → ⊥
