@@ -10,7 +10,6 @@ use Rattle.lamport_clocks.specs.Reading.{Reading}
 use Rattle.lamport_clocks.specs.Clock.{received, sent, advanced}
 use Rattle.lamport_clocks.proofs.ClockLaws.{received-ok, received-epoch, open_epochs, sent-ok, sent-at, advanced-at}
 use Rattle.record_text.specs.declared.element.Element.{Element}
-use Rattle.record_text.specs.Texts.{element_text}
 use Rattle.multiset_sum.specs.Tally.{Tally}
 use Rattle.multiset_sum.specs.Sum.{zero_sum, with_lanes, sum_of}
 use Rattle.multiset_sum.proofs.SumLaws.{with_lanes-sum_of}
@@ -18,7 +17,7 @@ use Rattle.verifier_commands.specs.declared.sums.Sums.{Sums}
 use Rattle.verifier_commands.specs.Change.{Change, did_add_m, did_evict_m, did_add_b, did_evict_b, did_evict_bm, did_get, did_put, did_next_epoch}
 use Rattle.verifier_commands.specs.Outcome.{outcome_of}
 use Rattle.verifier_commands.specs.Sums.{zero_sums, add_to, evict_to, advanced_sums, sums_after}
-use Rattle.verifier_commands.specs.Machine.{Machine, rules_for}
+use Rattle.verifier_commands.specs.Machine.{Machine}
 use Rattle.soundness.specs.Certified.{added_by, evicted_by, of_epoch, sum_over}
 use Rattle.soundness.proofs.HistoryLaws.{Ticks}
 

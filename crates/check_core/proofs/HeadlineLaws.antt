@@ -1,5 +1,5 @@
 -- The headline holds of any bytes.
-use Rattle.std.proofs.Common.{◌≡◌, ℕ, ◌==◌, Bool, true, false, List, [], ◌∷◌, map, Option, Some, None, IfSome, refl, inl, if◌then◌else◌, zero, suc, ◌+◌, ◌++◌, get_or, ◌∙◌, ap}
+use Rattle.std.proofs.Common.{◌≡◌, ℕ, ◌==◌, Bool, true, false, List, [], ◌∷◌, map, Option, Some, None, IfSome, refl, if◌then◌else◌, zero, suc, ◌+◌, ◌++◌, get_or, ◌∙◌, ap}
 use Rattle.std.specs.List.{AllByRecursion}
 use Rattle.std.proofs.lemmas.List.Elements.{filter-append}
 use Rattle.log_codec.specs.declared.command.Command.{Command}

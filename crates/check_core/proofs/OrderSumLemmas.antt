@@ -6,7 +6,6 @@ use Rattle.std.proofs.lemmas.Grind.{flat_map-append}
 use Rattle.std.proofs.lemmas.List.{map-append}
 use Rattle.std.proofs.lemmas.List.Elements.{filter-append}
 use Rattle.record_text.specs.declared.element.Element.{Element}
-use Rattle.record_text.specs.Texts.{element_text}
 use Rattle.multiset_sum.specs.Tally.{Tally}
 use Rattle.multiset_sum.specs.Sum.{joined, sum_of}
 use Rattle.multiset_sum.proofs.SumLaws.{joined-sum_of, joined-comm, joined-assoc}

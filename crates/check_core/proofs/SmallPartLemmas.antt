@@ -20,7 +20,7 @@ use Rattle.verifier_commands.specs.declared.sums.Sums.{Sums}
 use Rattle.verifier_commands.specs.Change.{Change, did_add_m, did_evict_m, did_add_b, did_evict_b, did_evict_bm, did_get, did_put, did_next_epoch}
 use Rattle.verifier_commands.specs.Outcome.{outcome_of}
 use Rattle.verifier_commands.specs.Sums.{add_to, evict_to, advanced_sums, sums_after}
-use Rattle.verifier_commands.specs.Transition.{Rules, Step, transition}
+use Rattle.verifier_commands.specs.Transition.{Step, transition}
 use Rattle.verifier_commands.specs.Machine.{Machine, AreBounded, CountsAdd, opening_machine, effect_of, rules_for}
 use Rattle.verifier_commands.proofs.BoundLaws.{bounded_add, bounded_evict, bounded_turn}
 use Rattle.multiset_sum.specs.Sum.{with_lanes}

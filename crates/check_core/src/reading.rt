@@ -1,7 +1,6 @@
 //! A source, read to its end or to the first bad frame, and the logs joined.
-ghost use Rattle.std.specs.Prelude.{◌≡◌, ◌≢◌, ℕ, ◌+◌, ◌-◌, ◌^◌, ◌<◌, ◌≤◌, List, [], ◌++◌, length, map, drop, unwrap_or, true, false, take, Some, None, IfOk, IfSome, IsNone, OnOk, OnErr, Err, vec_len};
+ghost use Rattle.std.specs.Prelude.{◌≡◌, ◌≢◌, ℕ, ◌+◌, ◌-◌, ◌^◌, ◌<◌, ◌≤◌, List, [], ◌++◌, length, map, drop, unwrap_or, true, false, Some, None, IfOk, IfSome, IsNone, OnOk, OnErr, Err, vec_len};
 ghost use Rattle.fv_outside.specs.Faults.{Counts, Rose};
-ghost use Rattle.bundle_frames.specs.Bundle.{bundle_of};
 ghost use Rattle.bundle_frames.specs.Progress.{position, rest_of};
 ghost use Rattle.bundle_frames.specs.Extent.{end_behind, reading_end, IsDue};
 ghost use Rattle.lamport_clocks.specs.Header.{IsHeader};

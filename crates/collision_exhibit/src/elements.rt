@@ -3,10 +3,10 @@
 //! No verifier evicts two elements with one stamp. So the elements of all epochs that are looked at are sorted once,
 //! by stamp and verifier, those that were added and those that were evicted, and compared place by place: where
 //! they part, the lower of the two epochs is the first uneven one. That is near linear, whatever the logs are.
-ghost use Rattle.std.specs.Prelude.{◌≡◌, map, min, IfOk, IsTrue, ◌↔◌};
+ghost use Rattle.std.specs.Prelude.{◌≡◌, map, min, IfOk};
 ghost use Rattle.stamp_order.specs.Merged.{merged};
 ghost use Rattle.soundness.specs.Certified.{of_epoch};
-ghost use Rattle.soundness.specs.Permutation.{same_stamp, same_element};
+ghost use Rattle.soundness.specs.Permutation.{same_element};
 ghost use Rattle.collision_exhibit.specs.Shown.{added_elements, evicted_elements, uneven_among};
 ghost use Rattle.collision_exhibit.specs.Elements.{HaveOwnStamps, evict_moment, is_within, within, parting};
 

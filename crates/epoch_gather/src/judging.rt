@@ -1,5 +1,5 @@
 //! Whether the parts of an epoch are all there and balance.
-ghost use Rattle.std.specs.Prelude.{◌≡◌, ◌<◌, ◌≤◌, ◌^◌, not, All};
+ghost use Rattle.std.specs.Prelude.{◌≡◌, ◌<◌, ◌≤◌, ◌^◌, All};
 ghost use Rattle.std.specs.List.{IsDistinct};
 ghost use Rattle.epoch_gather.specs.Parts.{is_same_part, of_epoch, has_part, lowest_missing, total};
 ghost use Rattle.epoch_gather.specs.Verdict.{verdict_of};

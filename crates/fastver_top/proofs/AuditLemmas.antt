@@ -3,7 +3,7 @@ use Rattle.std.proofs.Common.{◌≡◌, ◌≢◌, ℕ, List, [], ◌∷◌, ma
 use Rattle.record_hash.specs.Functions.{DigestFunctions}
 use Rattle.lamport_clocks.specs.declared.header.Header.{Header}
 use Rattle.record_text.specs.declared.exhibit.Exhibit.{Exhibit}
-use Rattle.record_text.specs.declared.exhibit.Exhibit.TheVariants.{Clean, Strings, Multisets}
+use Rattle.record_text.specs.declared.exhibit.Exhibit.TheVariants.{Clean}
 use Rattle.record_text.specs.Format.{short_keys}
 use Rattle.record_text.specs.declared.operation.Operation.{Operation}
 use Rattle.report_text.specs.declared.ending.BundleEnd.{BundleEnd}

@@ -1,8 +1,8 @@
 //! A sink in memory that never fails.
-ghost use Rattle.std.specs.Prelude.{◌≡◌, ℕ, ◌+◌, ◌<◌, ◌≤◌, ◌++◌, true, length, take, Ok, IfOk, OnOk, OnErr};
+ghost use Rattle.std.specs.Prelude.{◌≡◌, ◌<◌, ◌≤◌, true, length, take, Ok, IfOk};
 ghost use Rattle.std.specs.Option.{option_copied};
 ghost use Rattle.fv_outside.specs.Faults.{Counts};
-ghost use Rattle.fv_outside.specs.Written.{WriteGrows, IsNamed};
+ghost use Rattle.fv_outside.specs.Written.{WriteGrows};
 ghost use Rattle.fv_outside.specs.SureSinkState.{new_sure_sink, sure_count, held_after, after_sure_write, new_sure_vault, IsUnused};
 
 use crate::errors::Failed;

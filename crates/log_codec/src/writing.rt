@@ -2,7 +2,7 @@
 ghost use Rattle.std.specs.Prelude.{◌≡◌, ◌∷◌, [], ◌++◌, ◌≤◌};
 ghost use Rattle.arrayvec.specs.ArrayVec.{array_vec_len};
 ghost use Rattle.record_text.specs.Format.{short_keys};
-ghost use Rattle.record_text.specs.Texts.{path_text, value_text, stamp_text};
+ghost use Rattle.record_text.specs.Texts.{path_text, value_text};
 ghost use Rattle.log_codec.specs.Command.{command_text};
 
 use crate::command::Command;

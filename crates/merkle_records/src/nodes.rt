@@ -2,7 +2,7 @@
 ghost use Rattle.std.specs.Prelude.{◌≡◌, ◌≢◌, Bool, Some};
 ghost use Rattle.tree_keys.specs.Path.{side, IsBelow};
 ghost use Rattle.record_text.specs.Format.{short_keys};
-ghost use Rattle.record_text.specs.Value.{IsOf, node_side};
+ghost use Rattle.record_text.specs.Value.{node_side};
 ghost use Rattle.record_text.specs.Texts.{value_text};
 ghost use Rattle.merkle_records.specs.Merkle.{case_of, IsAdded, taken_over, after_add, after_evict, after_defer, pointer_to};
 ghost use Rattle.merkle_records.specs.declared.cases.AddCase.TheVariants.{Foreign};

@@ -1,5 +1,5 @@
 -- What a call answers that reads a source and writes to a sink: a text, and the status with which it ends.
-use Rattle.std.specs.Prelude.{◌≡◌, ◌≢◌, ℕ, ◌+◌, ◌<◌, List, Option, IfSome}
+use Rattle.std.specs.Prelude.{◌≡◌, ◌≢◌, ℕ, ◌+◌, List, Option, IfSome}
 use Rattle.fv_outside.specs.Consumed.{TookAtMost, TookJust, TookToEnd, StopsAtEnd, EndsBehind}
 use Rattle.fv_outside.specs.Faults.{Rose}
 use Rattle.fv_outside.specs.Written.{Grows, GrowsByFront}

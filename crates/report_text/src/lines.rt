@@ -1,5 +1,5 @@
 //! The lines of a report, each made whole before it is written.
-ghost use Rattle.std.specs.Prelude.{◌≡◌, ◌+◌, ◌≤◌, ◌*◌, ◌++◌, length, codes, Some, None, OnOk, OnErr};
+ghost use Rattle.std.specs.Prelude.{◌≡◌, ◌+◌, ◌≤◌, ◌++◌, Some, None, OnOk, OnErr};
 ghost use Rattle.fv_outside.specs.Faults.{Counts};
 ghost use Rattle.fv_outside.specs.Written.{Grows, GrowsByFront};
 ghost use Rattle.arrayvec.specs.ArrayVec.{array_vec_len};

@@ -12,7 +12,6 @@ use Rattle.lamport_clocks.specs.Stamp.{stamp_cmp, IsLater}
 use Rattle.lamport_clocks.proofs.StampLaws.{IsLater-cmp}
 use Rattle.record_text.specs.declared.element.Element.{Element}
 use Rattle.log_codec.specs.declared.command.Command.{Command}
-use Rattle.merkle_records.specs.Merkle.{Digest}
 use Rattle.stamp_order.specs.Merged.{comes_before, of_verifier}
 use Rattle.stamp_order.proofs.InOrderLaws.{every-weaker, every-append, every-in_order}
 use Rattle.soundness.specs.History.{Event, log_events, histories_from, histories_of}

@@ -6,7 +6,6 @@ use Rattle.std.proofs.lemmas.Bool.{ne_eqb, eqb-true, eqb-false}
 use Rattle.lamport_clocks.specs.declared.header.Header.{Header}
 use Rattle.record_text.specs.declared.operation.Operation.{Operation}
 use Rattle.log_codec.specs.declared.command.Command.{Command}
-use Rattle.merkle_records.specs.Merkle.{Digest}
 use Rattle.stamp_order.specs.Merged.{comes_before, IsMerged}
 use Rattle.stamp_order.proofs.InOrderLaws.{every-weaker, every-filter, every-append, every-in_order, IsInOrder-filter}
 use Rattle.stamp_order.proofs.MomentLaws.{comes_before-order}

@@ -14,7 +14,6 @@ use Rattle.step_words.proofs.StepLaws.{test-ok}
 use Rattle.lamport_clocks.proofs.ClockLaws.{received-later, received-bounds, sent-later, sent-bounds, advanced-later, advanced-bounds}
 use Rattle.log_codec.specs.declared.command.Command.{Command}
 use Rattle.log_codec.specs.declared.command.Command.TheVariants.{AddM, EvictM, AddB, EvictB, EvictBM, Get, Put, NextEpoch}
-use Rattle.merkle_records.specs.Merkle.{Digest}
 use Rattle.stamp_order.specs.declared.moment.Moment.{Moment}
 use Rattle.stamp_order.specs.Moment.{is_before}
 use Rattle.stamp_order.specs.Merged.{comes_before, merged, IsMerged}

@@ -7,7 +7,6 @@ use Rattle.std.proofs.lemmas.List.Elements.{filter-append}
 use Rattle.lamport_clocks.specs.declared.header.Header.{Header}
 use Rattle.log_codec.specs.declared.command.Command.{Command}
 use Rattle.soundness.specs.Typed.{IsTyped}
-use Rattle.merkle_records.specs.Merkle.{Digest}
 use Rattle.stamp_order.specs.Merged.{comes_before, IsMerged, up_to, of_verifier}
 use Rattle.stamp_order.proofs.InOrderLaws.{every-weaker, every-append, every-in_order}
 use Rattle.stamp_order.proofs.MergedLaws.{merged-sorts, merged-of_verifier}

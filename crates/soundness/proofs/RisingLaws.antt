@@ -15,7 +15,6 @@ use Rattle.lamport_clocks.proofs.ClockLaws.{sent-above, sent-at}
 use Rattle.record_text.specs.declared.element.Element.{Element}
 use Rattle.log_codec.specs.declared.command.Command.{Command}
 use Rattle.log_codec.specs.declared.command.Command.TheVariants.{AddM, EvictM, AddB, EvictB, EvictBM, Get, Put, NextEpoch}
-use Rattle.merkle_records.specs.Merkle.{Digest}
 use Rattle.stamp_order.proofs.InOrderLaws.{every-weaker, every-append}
 use Rattle.verifier_cache.specs.Entry.{has_kid}
 use Rattle.verifier_cache.specs.Cache.{entry_of}

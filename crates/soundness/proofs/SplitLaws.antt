@@ -7,7 +7,6 @@ use Rattle.std.proofs.lemmas.Bool.Decides.{nat_tests}
 use Rattle.lamport_clocks.specs.declared.header.Header.{Header}
 use Rattle.log_codec.specs.declared.command.Command.{Command}
 use Rattle.soundness.specs.Typed.{IsTyped}
-use Rattle.merkle_records.specs.Merkle.{Digest}
 use Rattle.stamp_order.specs.declared.moment.Moment.{Moment}
 use Rattle.stamp_order.specs.Moment.{is_before}
 use Rattle.stamp_order.specs.Merged.{comes_before, IsMerged, up_to}

@@ -10,7 +10,6 @@ use Rattle.lamport_clocks.proofs.StampLaws.{IsLater-cmp}
 use Rattle.lamport_clocks.proofs.ClockLaws.{open_epochs, received-ok, received-above, sent-at}
 use Rattle.record_text.specs.declared.element.Element.{Element}
 use Rattle.log_codec.specs.declared.command.Command.{Command}
-use Rattle.merkle_records.specs.Merkle.{Digest}
 use Rattle.verifier_commands.specs.State.{opening}
 use Rattle.verifier_commands.specs.Change.{Change, did_add_m, did_evict_m, did_add_b, did_evict_b, did_evict_bm, did_get, did_put, did_next_epoch}
 use Rattle.soundness.specs.History.{Event, log_events}

@@ -1,5 +1,5 @@
 -- What makes an exhibit a collision.
-use Rattle.std.specs.Prelude.{◌≡◌, ◌≢◌, ℕ, false, List}
+use Rattle.std.specs.Prelude.{◌≡◌, ◌≢◌, false}
 use Rattle.record_text.specs.declared.exhibit.Exhibit.{Exhibit}
 use Rattle.record_text.specs.declared.exhibit.Exhibit.TheVariants as exhibits
 use Rattle.merkle_records.specs.Merkle.{Digest}

@@ -1,5 +1,5 @@
 //! Paths of 0 to 64 bits, and how they lie to each other.
-ghost use Rattle.std.specs.Prelude.{◌≡◌, ℕ, ◌+◌, ◌-◌, ◌*◌, ◌/◌, ◌%◌, ◌^◌, ◌<◌, ◌≤◌, ◌==◌, ◌≢◌, ◌↔◌, min, true, Bool, List, [], ◌∷◌, ◌++◌, length, take, slice_get, IsTrue, IsSome, IfSome, IfNone, Some, None};
+ghost use Rattle.std.specs.Prelude.{◌≡◌, ◌+◌, ◌-◌, ◌*◌, ◌/◌, ◌%◌, ◌^◌, ◌<◌, ◌≤◌, ◌==◌, ◌≢◌, ◌↔◌, min, Bool, List, [], ◌∷◌, ◌++◌, length, take, slice_get, IsTrue, IfSome, IfNone, Some, None};
 ghost use Rattle.tree_keys.specs.Bits.{bits_of, bit_value, number_of};
 ghost use Rattle.tree_keys.specs.Path.{side, IsBelow, is_prefix, same_path, common, word_of, path_in_word};
 

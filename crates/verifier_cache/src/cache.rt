@@ -1,10 +1,10 @@
 //! The bounded cache of a verifier.
-ghost use Rattle.std.specs.Prelude.{◌≡◌, ℕ, ◌+◌, ◌<◌, ◌≤◌, ◌==◌, ◌↔◌, nat_le, Bool, List, [], ◌∷◌, ◌++◌, length, Some, None, IsTrue, IsSome, IsNone, IfSome, IfNone, IfOk};
+ghost use Rattle.std.specs.Prelude.{◌≡◌, ◌+◌, ◌<◌, ◌≤◌, nat_le, Bool, List, [], ◌∷◌, ◌++◌, length, Some, None, IsSome, IsNone, IfSome, IfNone, IfOk};
 ghost use Rattle.std.specs.Option.{option_map, option_copied};
 ghost use Rattle.std.specs.Borrow.{sem};
 ghost use Rattle.verifier_cache.specs.LendsValue.{LendsValue};
 ghost use Rattle.verifier_cache.specs.Entry.{kid_of, set_kid, new_entry};
-ghost use Rattle.verifier_cache.specs.Cache.{Held, IsHeld, entry_of, without, changed, replaced, AreDistinct, IsIndexOf};
+ghost use Rattle.verifier_cache.specs.Cache.{Held, IsHeld, entry_of, without, changed, replaced, IsIndexOf};
 
 use crate::entry::{Entry, Hold};
 use record_text::Value;

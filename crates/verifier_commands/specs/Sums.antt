@@ -1,6 +1,6 @@
 -- The sums that a verifier keeps: of the elements that it added and evicted in its clock's epoch and in the
 -- one before (Blum et al. 1994: what was written and what was read of an epoch are one multiset).
-use Rattle.std.specs.Prelude.{ℕ, ◌==◌, List, if◌then◌else◌}
+use Rattle.std.specs.Prelude.{ℕ, ◌==◌, if◌then◌else◌}
 use Rattle.record_text.specs.declared.element.Element.{Element}
 use Rattle.multiset_sum.specs.Sum.{zero_sum, with_lanes}
 use Rattle.verifier_commands.specs.declared.sums.Sums.{Sums}

@@ -1,8 +1,8 @@
 //! Each command by its kind, and what its outcome answers.
-ghost use Rattle.std.specs.Prelude.{◌≡◌, IfOk, Option, List, ℕ, Some, None};
+ghost use Rattle.std.specs.Prelude.{IfOk};
 ghost use Rattle.step_words.specs.Follows.{Follows};
 ghost use Rattle.merkle_records.specs.Scheme.{scheme_of};
-ghost use Rattle.verifier_commands.specs.Transition.{Rules, transition};
+ghost use Rattle.verifier_commands.specs.Transition.{transition};
 ghost use Rattle.verifier_commands.specs.Outcome.{told};
 ghost use Rattle.verifier_commands.specs.Machine.{ClockMoves};
 

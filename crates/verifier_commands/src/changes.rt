@@ -1,11 +1,9 @@
 //! What the commands that go by digests do to a parent and a child.
-ghost use Rattle.std.specs.Prelude.{◌≡◌, ℕ, Bool, true, Some, Ok, Err, IfSome, IsSome, IfOk, ◌≢◌};
+ghost use Rattle.std.specs.Prelude.{◌≡◌, true, Some, Ok, Err, IfSome, IsSome, IfOk, ◌≢◌};
 ghost use Rattle.tree_keys.specs.Path.{side};
 ghost use Rattle.record_text.specs.Format.{short_keys};
-ghost use Rattle.record_text.specs.Texts.{value_text};
 ghost use Rattle.record_text.specs.Value.{node_side};
-ghost use Rattle.record_text.specs.Same.{same_bytes};
-ghost use Rattle.verifier_commands.specs.Changes.{above, add_by, add_under, evict_under, defer_under, leads_to, is_deferred, has_digest, leads_below, holds_wrong, family_of, left_by, set_kid_on, with_node, is_by_digest, IsFirst};
+ghost use Rattle.verifier_commands.specs.Changes.{above, add_by, add_under, evict_under, defer_under, leads_to, is_deferred, has_digest, leads_below, holds_wrong, left_by, with_node, is_by_digest, IsFirst};
 ghost use Rattle.verifier_cache.specs.Entry.{set_kid};
 ghost use Rattle.merkle_records.specs.declared.cases.AddCase.TheVariants.{Same};
 ghost use Rattle.merkle_records.specs.Merkle.{case_of, after_add};

@@ -5,10 +5,8 @@ ghost use Rattle.lamport_clocks.specs.Header.{IsHeader};
 ghost use Rattle.record_text.specs.Format.{format_of};
 ghost use Rattle.log_codec.specs.Command.{IsCommand};
 ghost use Rattle.merkle_records.specs.Scheme.{scheme_of};
-ghost use Rattle.verifier_commands.specs.Transition.{transition};
-ghost use Rattle.verifier_commands.specs.Outcome.{told};
 ghost use Rattle.verifier_commands.specs.State.{opening};
-ghost use Rattle.verifier_commands.specs.Machine.{Machine, ClockMoves, opening_machine, stepped, rules_for, effect_of};
+ghost use Rattle.verifier_commands.specs.Machine.{Machine, opening_machine, stepped, effect_of};
 
 use crate::effect::Effect;
 use crate::outcome::Outcome;

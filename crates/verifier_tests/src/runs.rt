@@ -1,5 +1,5 @@
 //! Logs that were written out by hand, from the table of tags and fields.
-ghost use Rattle.std.specs.Prelude.{◌≡◌, ◌<◌, ◌^◌, length};
+ghost use Rattle.std.specs.Prelude.{◌≡◌, ◌<◌};
 ghost use Rattle.lamport_clocks.specs.Header.{IsHeader};
 
 use lamport_clocks::{Header, Stamp};

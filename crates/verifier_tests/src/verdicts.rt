@@ -1,5 +1,5 @@
 //! Verdicts on parts that were added up by hand.
-ghost use Rattle.std.specs.Prelude.{◌↔◌, ◌≡◌, ◌<◌, ◌≤◌, ◌^◌, IsTrue, false};
+ghost use Rattle.std.specs.Prelude.{◌↔◌, ◌≡◌, ◌<◌, ◌^◌, IsTrue};
 ghost use Rattle.epoch_gather.specs.Parts.{is_same_place};
 
 use crate::rows::{field, same};

@@ -11,7 +11,6 @@ use Rattle.check_core.proofs.MeaningLemmas.{logs_counted}
 use Rattle.check_core.proofs.ManyLemmas.{verdict-many, count-many}
 use Rattle.check_core.proofs.AnswerLemmas.{with_header}
 use Rattle.check_core.proofs.concluding.conclude.Goals as goal
-use Rattle.check_core.proofs.concluding.conclude.Goals.{In-Some}
 
 -- there is a log of each verifier
 pub returns-in-Some-clause-certified : goal.returns-in-Some-clause-certified

@@ -1,4 +1,4 @@
-use Rattle.std.proofs.Common.{◌≡◌, ◌^◌, ℕ, List, subst}
+use Rattle.std.proofs.Common.{◌^◌, ℕ, List, subst}
 use Rattle.record_hash.specs.ShaDigests.{sha_functions}
 use Rattle.program_words.specs.declared.words.Asked.{Asked}
 use Rattle.program_words.specs.declared.words.Asked.TheVariants.{Check, Audit}
