@@ -1,6 +1,6 @@
 //! Verdicts on parts that were added up by hand.
 ghost use Rattle.std.specs.Prelude.{◌↔◌, ◌≡◌, ◌<◌, ◌^◌, IsTrue};
-ghost use Rattle.epoch_gather.specs.Parts.{is_same_place};
+ghost use Rattle.epoch_gather.specs.Parts.{is_same_part};
 
 use crate::rows::{field, same};
 use epoch_gather::{Verdict, verdict};
@@ -72,8 +72,8 @@ fn is_fit(part: &Part, verifiers: u16) -> bool
     part.verifier < verifiers && (part.added.count() < 1 << 25 && part.evicted.count() < 1 << 25)
 }
 
-fn is_same_place(part: &Part, other: &Part) -> bool
-    ensures value { result ≡ is_same_place part.now other.now }
+fn is_same_part(part: &Part, other: &Part) -> bool
+    ensures value { result ≡ is_same_part part.now other.now }
 {
     part.verifier == other.verifier && part.epoch == other.epoch
 }
@@ -87,7 +87,7 @@ fn verdict_on(parts: &[Part; 3], verifiers: u16, epoch: u32) -> Option<Verdict> 
     if !is_fit(a, verifiers) || !is_fit(b, verifiers) || !is_fit(c, verifiers) {
         return None;
     }
-    if is_same_place(a, b) || is_same_place(a, c) || is_same_place(b, c) {
+    if is_same_part(a, b) || is_same_part(a, c) || is_same_part(b, c) {
         return None;
     }
     Some(verdict(parts, verifiers, epoch))

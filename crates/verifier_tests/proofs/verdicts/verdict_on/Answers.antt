@@ -1,12 +1,12 @@
 use Rattle.std.proofs.Common.{◌≡◌, false, List, [], ◌∷◌, length, get_or, rules, arith}
 use Rattle.std.specs.List.{IsDistinct}
 use Rattle.multiset_sum.specs.declared.part.Part.{Part}
-use Rattle.epoch_gather.specs.Parts.{is_same_place}
+use Rattle.epoch_gather.specs.Parts.{is_same_part}
 use Rattle.verifier_tests.proofs.verdicts.verdict_on.Goals as goal
 
 -- three parts of which no two are of one place
 all_apart : (parts : List Part) (a b c : Part) → length parts ≡ 3 → a ≡ get_or parts 0 a → b ≡ get_or parts 1 b → c ≡ get_or parts 2 c
-    → is_same_place a b ≡ false → is_same_place a c ≡ false → is_same_place b c ≡ false → IsDistinct is_same_place parts
+    → is_same_part a b ≡ false → is_same_part a c ≡ false → is_same_part b c ≡ false → IsDistinct is_same_part parts
 unfolding IsDistinct
 all_apart (p ∷ q ∷ r ∷ []) a b c long first second third ab ac bc =
     ((rw (← first, ← second) ab, (rw (← first, ← third) ac, tt)), ((rw (← second, ← third) bc, tt), (tt, tt)))
