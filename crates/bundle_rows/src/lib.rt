@@ -14,7 +14,7 @@
 //! | `addM 5 6162 root`, `evictM 5 root` | an add and an evict by the tree: path, value, parent |
 //! | `addB 5 6162 0.1 v2`, `evictB 5 0.1` | an add and an evict by a stamp: path, value, epoch and counter, verifier |
 //! | `evictBM 5 root 0.1` | a deferred evict: path, parent, stamp |
-//! | `get 5 6162`, `put 5 none`, `next` | a get, a put, the turn to the next epoch |
+//! | `get 5 6162`, `put 5 none`, `next` | a get, a put, the step to the next epoch |
 //! | `bytes 09` | these bytes in the log |
 //! | `raw 00ff` | these bytes of the bundle, behind the frames so far |
 //!

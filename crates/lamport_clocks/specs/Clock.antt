@@ -1,4 +1,4 @@
--- The clock of a verifier: Lamport's rules for sending and receiving (1978), and the turn to the next epoch.
+-- The clock of a verifier: Lamport's rules for sending and receiving (1978), and the step to the next epoch.
 use Rattle.std.specs.Prelude.{ℕ, ◌+◌, ◌-◌, max, Bool, not, ◌==◌, ◌&&◌, ◌||◌, nat_lt, nat_le, if◌then◌else◌, Option, Some, None, Result, Ok}
 use Rattle.lamport_clocks.specs.declared.stamp.Stamp.{Stamp}
 use Rattle.lamport_clocks.specs.declared.clock.ClockFault.{ClockFault}

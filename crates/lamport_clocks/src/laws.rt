@@ -60,7 +60,7 @@ pub fn sending_sets_the_stamp()
         → sent clock t ≡ Ok after → t.epoch ≡ clock.at.epoch }
 {}
 
-/// A turn seals the epoch two before the one that it begins, if that is one from the first on. No stamp
+/// A step to the next epoch seals the epoch two before the one that it begins, if that is one from the first on. No stamp
 /// of a sealed epoch is taken any more.
 pub fn advancing_seals()
     ensures sealed { (clock after : Reading) (sealed : Option ℕ) → advanced clock ≡ Ok (sealed, after)

@@ -45,6 +45,6 @@ pub enum Command {
         path: Path,
         value: Value,
     },
-    /// Turns to the next epoch.
+    /// The step to the next epoch.
     NextEpoch,
 }

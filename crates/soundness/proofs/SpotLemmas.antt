@@ -324,7 +324,7 @@ module _ (functions : DigestFunctions) (header : Header) (logs : List (List Comm
   placed front back stand =
       record { world = world_told short_keys functions.digest _ _ _ _ back stand; waits = stand.waits }
 
-  -- Each path has one place.
+  -- Each path has one spot.
   pub one_spot : (front back : List Event) → GivesDigests functions.digest → AreTyped short_keys logs
       → ArePermuted header.first last (order_of (histories_of (scheme_of functions header) header logs))
       → order_up_to last (histories_of (scheme_of functions header) header logs) ≡ front ++ back

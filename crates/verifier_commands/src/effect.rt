@@ -9,8 +9,8 @@ pub enum Effect {
     Plain,
     /// A get or a put.
     Did(Operation),
-    /// The epoch turned, and none is sealed yet.
+    /// The next epoch began, and none is sealed yet.
     Opened,
-    /// The epoch turned, and the one before is sealed with these sums.
+    /// The next epoch began, and the one before is sealed with these sums.
     Sealed(Part),
 }

@@ -23,7 +23,7 @@ fn header() -> Header
     }
 }
 
-// A record is added, put, evicted, added again and got, and the epoch turns twice.
+// A record is added, put, evicted, added again and got, and the next epoch begins twice.
 const PUT_AND_GOT: &str = "
 01 400000000000000005 00 000000000000000000
 07 400000000000000005 01026162

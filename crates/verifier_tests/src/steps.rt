@@ -1,4 +1,4 @@
-//! Verifiers that only turn their epochs; logs of every command are tested as bytes, by the crates above.
+//! Verifiers that only go to their next epochs; logs of every command are tested as bytes, by the crates above.
 ghost use Rattle.std.specs.Prelude.{◌≡◌, ◌<◌, IfOk};
 
 use lamport_clocks::{Header, Stamp};
