@@ -36,6 +36,3 @@ pub use bundles::{bundle_of, log_of};
 pub use cases::{Case, cases_of};
 pub use commands::command_of;
 pub use fault::RowFault;
-
-#[cfg(test)]
-mod tests;

@@ -11,8 +11,8 @@ use std::marker::Model;
 use tree_keys::Path;
 use want_of_memory::Memory;
 
-/// The value that was taken out last of each path, if one was. Contracts see the entries, and read them as a
-/// function from paths by `taken_at`.
+/// The value with which each path was last evicted, if it was. Contracts see the entries, and read them as a
+/// function from paths by `last_evicted_at`.
 #[derive(Drop)]
 pub(crate) struct LastEvictedValues<'a> {
     values: BTreeMap<u128, &'a Value>,
@@ -28,7 +28,7 @@ impl<'a> Model for LastEvictedValues<'a> {
 }
 
 impl<'a> LastEvictedValues<'a> {
-    /// Nothing was taken. It takes memory from `alloc` as it grows.
+    /// Nothing was evicted. It takes memory from `alloc` as it grows.
     pub(crate) fn new(alloc: Global) -> Self
         ensures none { last_evicted_at result ≡ none_evicted }
     {
@@ -37,7 +37,7 @@ impl<'a> LastEvictedValues<'a> {
         }
     }
 
-    /// A value was taken out of this path. For want of memory all is as before.
+    /// A path was evicted with this value. For want of memory all is as before.
     pub(crate) fn put(&mut self, path: &Path, value: &'a Value) -> Result<(), Memory>
         ensures ok { OnOk result (last_evicted_at self.new ≡ with_last_evicted (last_evicted_at self.old) path.now value.now) }
         ensures err { OnErr result (self.new ≡ self.old) }
@@ -46,7 +46,7 @@ impl<'a> LastEvictedValues<'a> {
         Ok(())
     }
 
-    /// What was taken out of a path last.
+    /// The value with which a path was last evicted.
     pub(crate) fn get(&self, path: &Path) -> Option<&'a Value>
         ensures value { option_map (λ value. value.now) result ≡ last_evicted_at self.now path.now }
     {

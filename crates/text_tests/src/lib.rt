@@ -2,12 +2,14 @@
 //!
 //! A crate with tests is proved twice, so tests have a crate of their own for each layer. There is one file
 //! for each crate that is tested: `records` for `record_text`, `commands` for `log_codec`, `bundles` for
-//! `bundle_frames`, `reports` for `report_text` and `words` for `program_words`. A table is one text, a row a
+//! `bundle_frames`, `reports` for `report_text`, `words` for `program_words`, and `bundles_as_rows` for `bundle_rows`. A table is one text, a row a
 //! line, which is read as the test runs, and bytes stand in it as hexadecimal digits: begin at `rows`.
 #![tactic(auto)]
 
 #[cfg(test)]
 mod bundles;
+#[cfg(test)]
+mod bundles_as_rows;
 #[cfg(test)]
 mod commands;
 #[cfg(test)]

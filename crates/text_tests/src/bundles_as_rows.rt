@@ -1,5 +1,5 @@
 //! Rows of each form, and the bytes that they must be.
-use crate::{Case, RowFault, bundle_of, cases_of, log_of};
+use bundle_rows::{Case, RowFault, bundle_of, cases_of, log_of};
 use std::test::Fail;
 
 // Rows of each form of a bundle, with their bytes.
