@@ -1,7 +1,7 @@
 -- Logs that lie in memory: no bytes at first, and one with bytes more.
 use Rattle.std.proofs.Common.{◌≡◌, ℕ, zero, suc, ◌<◌, Bool, true, false, List, [], ◌∷◌, ◌++◌, length, map, slice_index_or, slice_set, Result, Ok, Err, OnOk, is_ok, refl, sym, ◌∙◌, ap, arith, if◌then◌else◌}
 use Rattle.std.proofs.lemmas.Bool.{false≢true}
-use Rattle.check_core.specs.Logs.{empty_logs, appended}
+use Rattle.bundle_report.specs.Logs.{empty_logs, appended}
 
 -- one log of no bytes more
 pub empty_logs_more : (count : ℕ) → empty_logs count ++ [] ∷ [] ≡ empty_logs (suc count)

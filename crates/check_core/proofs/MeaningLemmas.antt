@@ -9,8 +9,9 @@ use Rattle.bundle_frames.specs.declared.found.Found.{Found}
 use Rattle.bundle_frames.specs.declared.found.Found.TheVariants.{Head, Frame, Bad}
 use Rattle.bundle_frames.specs.Finds.{FindsIn, found_then, progress_after}
 use Rattle.bundle_frames.specs.Progress.{Progress, start, meaning_at, rest_of}
-use Rattle.check_core.specs.Logs.{log_count, empty_logs, joined_from, appended, logs_so_far}
-use Rattle.check_core.specs.Intake.{Means, behind, behind_at, logged_of}
+use Rattle.bundle_report.specs.Logs.{log_count, empty_logs, joined_from, appended, logs_so_far}
+use Rattle.bundle_report.specs.Logged.{behind, logged_of}
+use Rattle.check_core.specs.Intake.{Means, behind_at}
 
 -- ---- logs and frames
 

@@ -8,9 +8,9 @@ use Rattle.verifier_commands.specs.Machine.{opening_machine}
 use Rattle.verifier_run.specs.Course.{Course}
 use Rattle.verifier_run.specs.LogCourse.{log_course}
 use Rattle.lamport_clocks.specs.Header.{IsHeader}
-use Rattle.check_core.specs.RunReport.{courses_from, courses_of, parts_at}
-use Rattle.check_core.specs.Judged.{CanBeJudged}
-use Rattle.check_core.proofs.ManyLemmas.{can_be_judged, courses-length}
+use Rattle.bundle_report.specs.RunReport.{courses_from, courses_of, parts_at}
+use Rattle.bundle_report.specs.Judged.{CanBeJudged}
+use Rattle.bundle_report.proofs.CertifyLaws.{can_be_judged, courses-length}
 
 -- each of these is the course of the log with its number
 abbrev pub AreCoursesOf : Scheme → Header → ℕ → List Course → List (List ℕ) → Type 0

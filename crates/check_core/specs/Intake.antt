@@ -1,21 +1,8 @@
 -- The logs of a bundle, as they come.
-use Rattle.std.specs.Prelude.{◌≡◌, ℕ, List, [], map, ⊤, Option, Some, None}
-use Rattle.lamport_clocks.specs.declared.header.Header.{Header}
-use Rattle.bundle_frames.specs.Bundle.{Bundle, bundle_of}
+use Rattle.std.specs.Prelude.{◌≡◌, ℕ, List, map, ⊤, Option, Some, None}
 use Rattle.bundle_frames.specs.Progress.{Progress, rest_of}
+use Rattle.bundle_report.specs.Logged.{Logged, behind}
 use Rattle.check_core.specs.declared.intake.Intake.{Intake}
-use Rattle.check_core.specs.Logs.{joined_from, logs_so_far}
-
--- the header if it is good, the log of each verifier, and the offset of what is bad, if anything is
-pub record Logged : Type 0 where
-  pub header : Option Header
-  pub logs : List (List ℕ)
-  pub bad : Option ℕ
-
--- logs of which so much was read, and what is left of their bundle behind it
-abbrev pub behind : Option Header → List (List ℕ) → Bundle → Logged
-behind header logs bundle =
-    record { header = bundle.header; logs = joined_from 0 (logs_so_far header logs bundle.header) bundle.frames; bad = bundle.bad }
 
 -- the bytes of logs that lie in memory
 abbrev pub logs_in : Intake → List (List ℕ)
@@ -34,7 +21,3 @@ Means (Some bytes) (Some rest) before after = before bytes ≡ after rest
 -- logs so far, and what is left of their bundle at a splitter that has come so far
 abbrev pub behind_at : List (List ℕ) → Progress → List ℕ → Logged
 behind_at logs progress left = behind progress.header logs (rest_of progress left)
-
--- what bytes mean as a bundle, by its header, the log of each verifier, and what is bad
-abbrev pub logged_of : List ℕ → Logged
-logged_of bytes = behind None [] (bundle_of bytes)

@@ -4,16 +4,9 @@ use Rattle.report_text.specs.declared.status.Status.{Status}
 use Rattle.report_text.specs.declared.status.Status.TheVariants as statuses
 use Rattle.check_core.specs.declared.stops.ReadStop.{ReadStop}
 use Rattle.check_core.specs.declared.stops.ReadStop.TheVariants as reads
-use Rattle.check_core.specs.declared.stops.ReportStop.{ReportStop}
-use Rattle.check_core.specs.declared.stops.ReportStop.TheVariants as writes
 
 -- where its reading stops so, with so many bytes as its limit
 abbrev pub reading_stopped : ℕ → ReadStop → Status
 reading_stopped limit reads.Memory = statuses.Memory
 reading_stopped limit reads.ReadFault = statuses.ReadFault
 reading_stopped limit reads.InputLimit = statuses.InputLimit limit
-
--- where its report stops so
-abbrev pub writing_stopped : ReportStop → Status
-writing_stopped writes.Memory = statuses.Memory
-writing_stopped writes.WriteFault = statuses.WriteFault

@@ -8,21 +8,19 @@ ghost use Rattle.bundle_frames.specs.Extent.{reading_end};
 ghost use Rattle.report_text.specs.Answer.{AnswersTo};
 ghost use Rattle.check_core.specs.Intake.{logs_in, logged};
 ghost use Rattle.check_core.specs.Outcomes.{IsCheckStatus};
-ghost use Rattle.check_core.specs.Headline.{IsSound};
-ghost use Rattle.check_core.specs.Answer.{check_answer, answer_by, Ends};
-ghost use Rattle.check_core.specs.Report.{answer_with};
-ghost use Rattle.check_core.specs.RunReport.{courses_of, parts_at};
-ghost use Rattle.check_core.specs.Judged.{CanBeJudged, answer_of_runs};
+ghost use Rattle.bundle_report.specs.Headline.{IsSound};
+ghost use Rattle.bundle_report.specs.Answer.{check_answer, answer_by, Ends};
+ghost use Rattle.bundle_report.specs.Report.{answer_with};
+ghost use Rattle.bundle_report.specs.RunReport.{courses_of, parts_at};
+ghost use Rattle.bundle_report.specs.Judged.{CanBeJudged, answer_of_runs};
 
 use crate::intake::Intake;
-use crate::judging::judge;
-use crate::laws::digests_have_32_bytes;
 use crate::reading::read_bundle;
-use crate::report::{
-    certified_parts, end_of, first_refused, last_epoch, operations_up_to, write_report,
-};
 use crate::running::run_logs;
-use crate::stops::ReportStop;
+use bundle_report::{ReportStop, digests_have_32_bytes};
+use certified_epochs::{
+    certified_parts, end_of, first_refused, judge, last_epoch, operations_up_to, write_report,
+};
 use fv_outside::{Sink, Source};
 use lamport_clocks::Header;
 use multiset_sum::Part;
@@ -117,15 +115,9 @@ fn report_runs<O: Sink>(
     ensures unwritten { result ≡ Err ReportStop.Memory → out.new ≡ out.old }
     ensures write_fault { result ≡ Err ReportStop.WriteFault → Rose (O.faults out.old) (O.faults out.new) }
 {
-    let judged = match judge(alloc, runs) {
-        Ok(judged) => judged,
-        Err(_) => return Err(ReportStop::Memory),
-    };
+    let judged = judge(alloc, runs)?;
     let certified = certified_parts(runs, judged.count);
-    let operations = match operations_up_to(alloc, runs, last_epoch(certified)) {
-        Ok(operations) => operations,
-        Err(_) => return Err(ReportStop::Memory),
-    };
+    let operations = operations_up_to(alloc, runs, last_epoch(certified))?;
     let end = end_of(&judged, first_refused(runs), bad);
     written(certified, &operations, end, out)
 }

@@ -4,14 +4,12 @@ ghost use Rattle.merkle_records.specs.Scheme.{scheme_of};
 ghost use Rattle.lamport_clocks.specs.Header.{IsHeader};
 ghost use Rattle.check_core.specs.Intake.{logs_in, logged};
 ghost use Rattle.report_text.specs.Ending.{status_of};
-ghost use Rattle.merkle_records.specs.Scheme.{scheme_of};
-ghost use Rattle.check_core.specs.Answer.{certified_at, answer_by};
-ghost use Rattle.check_core.specs.RunReport.{courses_of, parts_at};
-ghost use Rattle.check_core.specs.Judged.{CanBeJudged, judged, answer_of_runs};
+ghost use Rattle.bundle_report.specs.Answer.{certified_at, answer_by};
+ghost use Rattle.bundle_report.specs.RunReport.{courses_of, parts_at};
+ghost use Rattle.bundle_report.specs.Judged.{CanBeJudged, judged, answer_of_runs};
 
 use crate::intake::Intake;
-use crate::judging::judge;
-use crate::report::{end_of, first_refused};
+use certified_epochs::{end_of, first_refused, judge};
 use lamport_clocks::Header;
 use record_hash::Digests;
 use report_text::BundleEnd;
@@ -69,6 +67,7 @@ fn conclude_runs(alloc: Global, runs: &[Run], bad: Option<u64>) -> Result<Conclu
     ensures certified { IfOk result (λ found. found.certified ≡ (judged (length runs.now) (map (λ run. run.course) runs.now)).count) }
     ensures end { IfOk result (λ found. status_of found.end ≡ (answer_of_runs (map (λ run. run.course) runs.now) bad).status) }
 {
+    // No `?` here: Rattle's borrow checker can't build its part of the proof with one.
     let judged = match judge(alloc, runs) {
         Ok(judged) => judged,
         Err(_) => return Err(Memory),

@@ -2,7 +2,7 @@
 ghost use Rattle.std.specs.Prelude.{◌≡◌, vec_len};
 ghost use Rattle.std.specs.Option.{ForSome};
 ghost use Rattle.lamport_clocks.specs.Header.{IsHeader};
-ghost use Rattle.check_core.specs.Logs.{log_count};
+ghost use Rattle.bundle_report.specs.Logs.{log_count};
 
 use lamport_clocks::Header;
 

@@ -4,8 +4,9 @@ ghost use Rattle.fv_outside.specs.Faults.{Counts, Rose};
 ghost use Rattle.bundle_frames.specs.Progress.{position, rest_of};
 ghost use Rattle.bundle_frames.specs.Extent.{end_behind, reading_end, IsDue};
 ghost use Rattle.lamport_clocks.specs.Header.{IsHeader};
-ghost use Rattle.check_core.specs.Logs.{empty_logs, appended};
-ghost use Rattle.check_core.specs.Intake.{behind_at, logs_in, logged, logged_of, Means};
+ghost use Rattle.bundle_report.specs.Logs.{empty_logs, appended};
+ghost use Rattle.bundle_report.specs.Logged.{logged_of};
+ghost use Rattle.check_core.specs.Intake.{behind_at, logs_in, logged, Means};
 ghost use Rattle.fv_outside.specs.Consumed.{EndsBehind, ReadsOn, StopsAtEnd, TookAtLeast, TookAtMost, TookJust, TookToEnd};
 
 use crate::intake::Intake;

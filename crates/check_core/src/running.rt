@@ -4,7 +4,7 @@ ghost use Rattle.merkle_records.specs.Scheme.{scheme_of};
 ghost use Rattle.lamport_clocks.specs.Header.{IsHeader};
 ghost use Rattle.verifier_commands.specs.Machine.{opening_machine};
 ghost use Rattle.verifier_run.specs.LogCourse.{log_course};
-ghost use Rattle.check_core.specs.RunReport.{courses_of};
+ghost use Rattle.bundle_report.specs.RunReport.{courses_of};
 
 use lamport_clocks::Header;
 use record_hash::Digests;

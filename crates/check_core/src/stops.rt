@@ -1,6 +1,6 @@
-//! Why a check stops before its end, and the status that it then answers.
+//! Why reading stops before a bundle's end, and the status that then comes.
 ghost use Rattle.std.specs.Prelude.{◌≡◌};
-ghost use Rattle.check_core.specs.Stops.{reading_stopped, writing_stopped};
+ghost use Rattle.check_core.specs.Stops.{reading_stopped};
 
 use report_text::Status;
 use std::alloc::AllocError;
@@ -47,26 +47,5 @@ impl From<AllocError> for ReadStop {
 
     fn from(_: AllocError) -> ReadStop {
         ReadStop::Memory
-    }
-}
-
-/// Why what was read was not reported to its end.
-#[derive(Clone, Copy, Debug, PartialEq, Eq)]
-pub enum ReportStop {
-    /// Want of memory.
-    Memory,
-    /// The sink failed.
-    WriteFault,
-}
-
-impl ReportStop {
-    /// The status of a call that stops so.
-    pub fn status(&self) -> Status
-        ensures value { result ≡ writing_stopped self.now }
-    {
-        match self {
-            ReportStop::Memory => Status::Memory,
-            ReportStop::WriteFault => Status::WriteFault,
-        }
     }
 }

@@ -1,7 +1,7 @@
 -- What was asked is what the words ask for, and the headline of whatever a source has.
 use Rattle.std.proofs.Common.{◌≡◌, ℕ, List, Option, Some, None, IfSome, sym, ◌∙◌, ap}
 use Rattle.program_words.specs.declared.words.Asked.{Asked}
-use Rattle.check_core.proofs.HeadlineLaws.{sha_headline, of_left}
+use Rattle.bundle_report.proofs.HeadlineLaws.{sha_headline, of_left}
 use Rattle.fastver_top.specs.Answers.{asked_key, IsSoundFor}
 
 abbrev inside : Asked → Option Asked → Asked

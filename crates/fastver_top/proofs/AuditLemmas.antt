@@ -17,10 +17,10 @@ use Rattle.soundness.specs.Collision.{Collides}
 use Rattle.soundness.specs.Exhibit.{exhibit_of}
 use Rattle.soundness.specs.Sound.{commands_of, histories_read, IsSerialOrCollides}
 use Rattle.merkle_records.specs.Scheme.{Scheme, scheme_of}
-use Rattle.check_core.specs.BundleReport.{histories_at}
-use Rattle.check_core.specs.Intake.{Logged, logged_of}
-use Rattle.check_core.specs.Answer.{certified_at}
-use Rattle.check_core.specs.Headline.{exhibit_at, CollidesAt, IsSoundAt}
+use Rattle.bundle_report.specs.BundleReport.{histories_at}
+use Rattle.bundle_report.specs.Logged.{Logged, logged_of}
+use Rattle.bundle_report.specs.Answer.{certified_at}
+use Rattle.bundle_report.specs.Headline.{exhibit_at, CollidesAt, IsSoundAt}
 use Rattle.fastver_top.specs.declared.audit_end.AuditEnd.{AuditEnd}
 use Rattle.fastver_top.specs.declared.audit_end.AuditEnd.TheVariants as ends
 use Rattle.fastver_top.specs.Auditing.{audit_end_status, ExhibitCollides}

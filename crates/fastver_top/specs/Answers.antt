@@ -7,8 +7,8 @@ use Rattle.report_text.specs.declared.status.Status.{Status}
 use Rattle.report_text.specs.declared.status.Status.TheVariants as statuses
 use Rattle.report_text.specs.Answer.{Answer}
 use Rattle.check_core.specs.Outcomes.{IsCheckStatus}
-use Rattle.check_core.specs.Answer.{sha_check_answer}
-use Rattle.check_core.specs.Headline.{IsShaSound}
+use Rattle.bundle_report.specs.Answer.{sha_check_answer}
+use Rattle.bundle_report.specs.Headline.{IsShaSound}
 use Rattle.fastver_top.specs.Auditing.{sha_audit_answer, ExhibitCollides}
 
 -- the key that was given

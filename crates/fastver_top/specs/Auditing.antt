@@ -11,11 +11,11 @@ use Rattle.report_text.specs.Ending.{status_of}
 use Rattle.report_text.specs.Answer.{Answer}
 use Rattle.report_text.specs.Exhibit.{exhibit_text}
 use Rattle.report_text.specs.Status.{last_line}
-use Rattle.check_core.specs.Intake.{Logged, logged_of}
-use Rattle.check_core.specs.Answer.{certified_at, answer_by}
+use Rattle.bundle_report.specs.Logged.{Logged, logged_of}
+use Rattle.bundle_report.specs.Answer.{certified_at, answer_by}
 use Rattle.fastver_top.specs.declared.audit_end.AuditEnd.{AuditEnd}
 use Rattle.fastver_top.specs.declared.audit_end.AuditEnd.TheVariants as ends
-use Rattle.check_core.specs.Headline.{exhibit_at, CollidesAt}
+use Rattle.bundle_report.specs.Headline.{exhibit_at, CollidesAt}
 
 -- the status of an audit: `exhibit` where there is something to exhibit, and else how the check ends
 abbrev pub audit_status : Exhibit → Status → Status

@@ -8,13 +8,14 @@ ghost use Rattle.report_text.specs.Answer.{AnswersTo};
 ghost use Rattle.report_text.specs.Exhibit.{exhibit_text};
 ghost use Rattle.report_text.specs.Status.{last_line};
 ghost use Rattle.check_core.specs.Intake.{logs_in, logged};
-ghost use Rattle.check_core.specs.Answer.{certified_at, EndsAs};
-ghost use Rattle.check_core.specs.Headline.{exhibit_at};
+ghost use Rattle.bundle_report.specs.Answer.{certified_at, EndsAs};
+ghost use Rattle.bundle_report.specs.Headline.{exhibit_at};
 ghost use Rattle.fastver_top.specs.Auditing.{audit_end, audit_end_status, audit_of, audit_answer_by, audit_answer, ExhibitCollides};
 ghost use Rattle.fastver_top.specs.Answers.{IsAuditStatus};
 
 use crate::audit_end::AuditEnd;
-use check_core::{Conclusion, Intake, ReportStop, conclude, digests_have_32_bytes, read_bundle};
+use bundle_report::{ReportStop, digests_have_32_bytes};
+use check_core::{Conclusion, Intake, conclude, read_bundle};
 use collision_exhibit::audit;
 use fv_outside::{Failed, Sink, Source};
 use record_hash::Digests;
@@ -67,14 +68,8 @@ fn audit_intake<D: Digests, O: Sink>(
     ensures unwritten { result ≡ Err ReportStop.Memory → out.new ≡ out.old }
     ensures write_fault { result ≡ Err ReportStop.WriteFault → Rose (O.faults out.old) (O.faults out.new) }
 {
-    let found = match conclude(alloc, d, intake) {
-        Ok(found) => found,
-        Err(_) => return Err(ReportStop::Memory),
-    };
-    let exhibit = match exhibit_in(alloc, d, intake, found.certified) {
-        Ok(exhibit) => exhibit,
-        Err(_) => return Err(ReportStop::Memory),
-    };
+    let found = conclude(alloc, d, intake)?;
+    let exhibit = exhibit_in(alloc, d, intake, found.certified)?;
     written(&exhibit, &found, out)
 }
 

@@ -1,5 +1,5 @@
-use Rattle.check_core.specs.Headline.{IsSound}
-use Rattle.check_core.proofs.HeadlineLaws.{headline, of_left}
+use Rattle.bundle_report.specs.Headline.{IsSound}
+use Rattle.bundle_report.proofs.HeadlineLaws.{headline, of_left}
 use Rattle.check_core.proofs.checking.check.Goals as goal
 
 pub returns-in-Ok-clause-headline : goal.returns-in-Ok-clause-headline

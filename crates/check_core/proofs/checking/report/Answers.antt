@@ -1,11 +1,11 @@
 use Rattle.std.proofs.Common.{subst, ap, ◌∙◌, arith}
 use Rattle.merkle_records.specs.Scheme.{scheme_of}
-use Rattle.check_core.specs.Logs.{log_count}
+use Rattle.bundle_report.specs.Logs.{log_count}
 use Rattle.check_core.proofs.MeaningLemmas.{logs_counted}
-use Rattle.check_core.specs.Answer.{Ends}
+use Rattle.bundle_report.specs.Answer.{Ends}
 use Rattle.check_core.specs.Intake.{logs_in}
-use Rattle.check_core.proofs.ManyLemmas.{verdict-many}
-use Rattle.check_core.proofs.AnswerLemmas.{with_header, no_header}
+use Rattle.bundle_report.proofs.CertifyLaws.{verdict-many}
+use Rattle.bundle_report.proofs.AnswerLaws.{with_header, no_header}
 use Rattle.check_core.proofs.checking.report.Goals as goal
 
 pub returns-in-None-clause-ends : goal.returns-in-None-clause-ends

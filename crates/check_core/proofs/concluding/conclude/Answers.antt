@@ -3,13 +3,13 @@ use Rattle.merkle_records.specs.Scheme.{scheme_of}
 use Rattle.lamport_clocks.specs.declared.header.Header.{Header}
 use Rattle.report_text.specs.declared.status.Status.{Status}
 use Rattle.report_text.specs.Ending.{status_of}
-use Rattle.check_core.specs.Logs.{log_count}
+use Rattle.bundle_report.specs.Logs.{log_count}
 use Rattle.check_core.specs.Intake.{logs_in}
-use Rattle.check_core.specs.Answer.{certified_at}
+use Rattle.bundle_report.specs.Answer.{certified_at}
 use Rattle.report_text.specs.Answer.{Answer}
 use Rattle.check_core.proofs.MeaningLemmas.{logs_counted}
-use Rattle.check_core.proofs.ManyLemmas.{verdict-many, count-many}
-use Rattle.check_core.proofs.AnswerLemmas.{with_header}
+use Rattle.bundle_report.proofs.CertifyLaws.{verdict-many, count-many}
+use Rattle.bundle_report.proofs.AnswerLaws.{with_header}
 use Rattle.check_core.proofs.concluding.conclude.Goals as goal
 
 -- there is a log of each verifier

@@ -1,6 +1,6 @@
 use Rattle.std.proofs.Common.{◌≡◌, ◌++◌, map, drop}
 use Rattle.merkle_records.specs.Scheme.{scheme_of}
-use Rattle.check_core.specs.RunReport.{courses_from, courses_of}
+use Rattle.bundle_report.specs.RunReport.{courses_from, courses_of}
 use Rattle.check_core.proofs.concluding.run_in_turn.Given as goal
 
 -- the courses so far and those of the logs that are left are the courses of all logs

@@ -1,6 +1,6 @@
 use Rattle.std.proofs.Common.{ℕ, List, [], map, sym, ◌∙◌, ap, arith}
 use Rattle.check_core.specs.Intake.{logs_in}
-use Rattle.check_core.specs.Logs.{log_count, appended}
+use Rattle.bundle_report.specs.Logs.{log_count, appended}
 use Rattle.check_core.proofs.MeaningLemmas.{found_bad, found_head, found_its_frame, logs_counted}
 use Rattle.check_core.proofs.ExtentLemmas.{extent_fed, over_fed, extent_bad}
 use Rattle.check_core.proofs.reading.feed_once.Goals as goal

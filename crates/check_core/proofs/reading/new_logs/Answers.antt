@@ -1,5 +1,5 @@
 use Rattle.std.proofs.Common.{ℕ, ◌+◌, ◌∙◌, ap, map, arith}
-use Rattle.check_core.specs.Logs.{empty_logs}
+use Rattle.bundle_report.specs.Logs.{empty_logs}
 use Rattle.check_core.proofs.LogLemmas.{new_log}
 use Rattle.check_core.proofs.reading.new_logs.Goals as goal
 

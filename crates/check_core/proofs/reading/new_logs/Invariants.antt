@@ -1,5 +1,5 @@
 use Rattle.std.proofs.Common.{◌≡◌, map, vec_len}
-use Rattle.check_core.specs.Logs.{empty_logs}
+use Rattle.bundle_report.specs.Logs.{empty_logs}
 use Rattle.check_core.proofs.reading.new_logs.Given as goal
 
 -- as many logs as were counted, none with bytes

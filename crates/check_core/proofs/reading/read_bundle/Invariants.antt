@@ -1,7 +1,8 @@
 use Rattle.std.proofs.Common.{◌≡◌, ◌-◌, ◌≤◌, vec_len}
 use Rattle.bundle_frames.specs.Progress.{position}
 use Rattle.bundle_frames.specs.Extent.{end_behind, reading_end, IsDue}
-use Rattle.check_core.specs.Intake.{Means, behind_at, logs_in, logged_of}
+use Rattle.bundle_report.specs.Logged.{logged_of}
+use Rattle.check_core.specs.Intake.{Means, behind_at, logs_in}
 use Rattle.fv_outside.specs.Consumed.{StopsAtEnd, TookJust}
 use Rattle.check_core.proofs.reading.read_bundle.Given as goal
 

@@ -1,6 +1,7 @@
 use Rattle.std.proofs.Common.{Ok, ap, sym, ◌∙◌}
-use Rattle.check_core.specs.Intake.{logged, logged_of}
-use Rattle.check_core.proofs.HeadlineLaws.{headline}
+use Rattle.bundle_report.specs.Logged.{logged_of}
+use Rattle.check_core.specs.Intake.{logged}
+use Rattle.bundle_report.proofs.HeadlineLaws.{headline}
 use Rattle.fastver_top.proofs.AuditLemmas.{shown_collides, shown_left, status_shown}
 use Rattle.fastver_top.proofs.auditing.audit_text.Goals as goal
 

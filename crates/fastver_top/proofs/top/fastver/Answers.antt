@@ -4,7 +4,7 @@ use Rattle.program_words.specs.declared.words.Asked.{Asked}
 use Rattle.program_words.specs.declared.words.Asked.TheVariants.{Check, Audit}
 use Rattle.bundle_frames.specs.Extent.{reading_end}
 use Rattle.report_text.specs.Answer.{Reading, Writing, AnswersTo}
-use Rattle.check_core.specs.Answer.{check_answer}
+use Rattle.bundle_report.specs.Answer.{check_answer}
 use Rattle.fastver_top.specs.Auditing.{audit_answer}
 use Rattle.fastver_top.specs.Answers.{answer_to}
 use Rattle.fastver_top.proofs.AnswerLemmas.{asked_is}

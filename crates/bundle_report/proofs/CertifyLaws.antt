@@ -1,0 +1,319 @@
+-- What the runs of all verifiers come to is the verdict by their logs, and their parts can be judged.
+use Rattle.std.proofs.Common.{◌≡◌, ℕ, zero, suc, ◌+◌, ◌-◌, ◌<◌, ◌≤◌, List, [], ◌∷◌, ◌++◌, length, map, take, drop, slice_get, Option, Some, None, refl, sym, ◌∙◌, ap, subst, add-zero, arith}
+use Rattle.merkle_records.specs.Scheme.{Scheme}
+use Rattle.std.specs.Option.{option_map, option_or}
+use Rattle.lamport_clocks.specs.declared.header.Header.{Header}
+use Rattle.lamport_clocks.specs.Header.{IsHeader}
+use Rattle.record_text.specs.declared.operation.Operation.{Operation}
+use Rattle.record_text.specs.declared.refusal.Refusal.{Refusal}
+use Rattle.log_codec.specs.Log.{Log, read_log}
+use Rattle.multiset_sum.specs.declared.part.Part.{Part}
+use Rattle.epoch_gather.specs.declared.outcome.Verdict.{Verdict}
+use Rattle.epoch_gather.specs.declared.outcome.Verdict.TheVariants.{Balanced, Unbalanced, Missing}
+use Rattle.epoch_gather.specs.Verdict.{verdict_of}
+use Rattle.verifier_run.specs.Course.{Course}
+use Rattle.report_text.specs.declared.ending.BundleEnd.{BundleEnd}
+use Rattle.report_text.specs.declared.ending.BundleEnd.TheVariants as ends
+use Rattle.report_text.specs.Status.{last_line}
+use Rattle.report_text.specs.Ending.{status_of}
+use Rattle.soundness.specs.History.{Event, log_events}
+use Rattle.soundness.specs.Certified.{order_of, sealed_count, sealed_by_all, balanced_from, epochs_from, certified_count}
+use Rattle.bundle_report.specs.declared.judged.Judged.{Judged}
+use Rattle.bundle_report.specs.Answer.{answer_on}
+use Rattle.report_text.specs.Answer.{Answer}
+use Rattle.bundle_report.specs.Report.{front_count, epoch_text, certified_text}
+use Rattle.bundle_report.specs.BundleReport.{refused_end, done_or_bad, end_or, end_of, report_of_logs, histories_in}
+use Rattle.bundle_report.specs.RunReport.{courses_from, courses_of, parts_at, operations_among, operations_within, first_refused, epochs_text}
+use Rattle.bundle_report.specs.Judged.{judged_by, judged_from, judged, CanBeJudged, first_parts, last_epoch, operations_by, refused_log_by, refused_log, end_by, answer_judged, answer_of_runs}
+use Rattle.bundle_report.proofs.PartLemmas.{part_of, log-parts}
+use Rattle.bundle_report.proofs.EpochPartLemmas.{parts-numbers, parts-once, parts-counts}
+use Rattle.bundle_report.proofs.EpochVerdictLemmas.{epoch_verdict}
+use Rattle.bundle_report.proofs.RunReportLemmas.{told_from}
+use Rattle.bundle_report.proofs.RunTextLemmas.{exit-whole, report_by_courses}
+use Rattle.bundle_report.proofs.CertifiedCountLemmas.{counted_from, counted-start, counted-balanced, counted-unbalanced, counted-missing, ends-unbalanced, ends-missing}
+
+-- ---- the parts of epochs one after another
+
+module _ (scheme : Scheme) (number : ℕ) (events : List Event) where
+  -- the parts of so many epochs from this one on
+  abbrev parts_in : ℕ → ℕ → List Part
+  parts_in epoch count = map (part_of scheme number events) (epochs_from epoch count)
+
+  -- those of the first of them
+  take-parts : (count many epoch : ℕ) → count ≤ many → take count (parts_in epoch many) ≡ parts_in epoch count
+  take-parts zero many epoch within = refl
+  take-parts (suc count) zero epoch within = absurd (omega (arith, within))
+  take-parts (suc count) (suc many) epoch within =
+      ap (λ (parts : List Part). part_of scheme number events epoch ∷ parts)
+      (take-parts count many (suc epoch) (omega (arith, within)))
+
+  -- there are so many
+  parts-length : (count epoch : ℕ) → length (parts_in epoch count) ≡ count
+  parts-length zero epoch = refl
+  parts-length (suc count) epoch = ap suc (parts-length count (suc epoch))
+
+  -- the part at a place
+  part_there : (place count epoch : ℕ) → place < count
+      → slice_get (parts_in epoch count) place ≡ Some (part_of scheme number events (epoch + place))
+  part_there place zero epoch below = absurd (omega (arith, below))
+  part_there zero (suc count) epoch below =
+      let same : epoch ≡ epoch + 0 = omega arith in
+      ap (λ (e : ℕ). Some (part_of scheme number events e)) same
+  part_there (suc place) (suc count) epoch below =
+      let same : suc epoch + place ≡ epoch + suc place = omega arith in
+      part_there place count (suc epoch) (omega (arith, below))
+      ∙ ap (λ (e : ℕ). Some (part_of scheme number events e)) same
+
+  -- the epoch of the last
+  last-part : (count epoch : ℕ) → last_epoch (parts_in epoch (suc count)) ≡ Some (epoch + count)
+  last-part count epoch =
+      let last : length (parts_in epoch (suc count)) - 1 ≡ count =
+      omega (arith, parts-length (suc count) epoch) in
+      ap (λ (place : ℕ). option_map (λ (part : Part). part.epoch) (slice_get (parts_in epoch (suc count)) place)) last
+      ∙ ap (option_map (λ (part : Part). part.epoch)) (part_there count (suc count) epoch (omega arith))
+
+  -- The operations up to it are those of so many epochs.
+  operations-parts : (count epoch : ℕ) (courses : List Course)
+      → operations_by (last_epoch (parts_in epoch count)) courses
+      ≡ operations_within epoch count (operations_among courses)
+  operations-parts zero epoch courses = refl
+  operations-parts (suc count) epoch courses =
+      ap (λ (last : Option ℕ). operations_by last courses) (last-part count epoch)
+
+  -- The lines of the parts are those of their epochs.
+  text-epochs : (count epoch : ℕ) (ops : List Operation)
+      → certified_text (parts_in epoch count) ops ≡ epochs_text epoch count ops
+  text-epochs zero epoch ops = refl
+  text-epochs (suc count) epoch ops =
+      ap (λ (text : List ℕ). epoch_text epoch (take (front_count epoch ops) ops) ++ text)
+      (text-epochs count (suc epoch) (drop (front_count epoch ops) ops))
+
+-- ---- the first refused log
+
+-- How it ends where no epoch is unbalanced: with the status of the first refused course, if there is one.
+ends-even : (count number : ℕ) (courses : List Course) (bad : Option ℕ)
+    → end_by count None (refused_log number courses) bad
+    ≡ end_or (first_refused number courses) (done_or_bad count bad)
+ends-even count number [] None = refl
+ends-even count number [] (Some offset) = refl
+ends-even count number (course ∷ courses) bad = go course.refused (ends-even count (suc number) courses bad)
+  where
+    go : (refused : Option (ℕ × Refusal))
+        → end_by count None (refused_log (suc number) courses) bad
+        ≡ end_or (first_refused (suc number) courses) (done_or_bad count bad)
+        → end_by count None (refused_log_by number refused (refused_log (suc number) courses)) bad
+        ≡ end_or (option_or (option_map (refused_end number) refused) (first_refused (suc number) courses))
+        (done_or_bad count bad)
+    go None further = further
+    go (Some refused) further = refl
+
+-- ---- the courses
+
+-- there is a course of each log
+pub courses-length : (scheme : Scheme) (header : Header) (number : ℕ) (logs : List (List ℕ))
+    → length (courses_from scheme header number logs) ≡ length logs
+courses-length scheme header number [] = refl
+courses-length scheme header number (log ∷ logs) =
+    ap suc (courses-length scheme header (suc number) logs)
+
+-- The parts of the runs can be judged.
+pub can_be_judged : (scheme : Scheme) (header : Header) (logs : List (List ℕ)) → IsHeader header
+    → length logs ≡ header.verifiers
+    → (index : ℕ) → CanBeJudged (length (courses_of scheme header logs))
+    (parts_at index (courses_of scheme header logs))
+can_be_judged scheme header logs good whole index =
+    let courses = courses_of scheme header logs in
+    subst (λ (verifiers : ℕ). CanBeJudged verifiers (parts_at index courses))
+    (sym (courses-length scheme header 0 logs ∙ whole))
+    (record {
+      numbers = parts-numbers scheme header index logs whole;
+      once = parts-once scheme header index logs;
+      counts = parts-counts scheme header index logs good;
+    })
+
+-- all histories have sealed no more epochs than the first
+sealed_first : (history : List Event) (histories : List (List Event))
+    → sealed_by_all (history ∷ histories) ≤ sealed_count history
+sealed_first history [] = omega arith
+sealed_first history (other ∷ histories) = omega arith
+
+-- the first course is judged
+judged-first : (verifiers : ℕ) (courses : List Course)
+    → judged verifiers courses ≡ judged_from verifiers 0 (first_parts courses) courses
+judged-first verifiers [] = refl
+judged-first verifiers (course ∷ courses) = refl
+
+-- ---- epoch after epoch
+
+module _ (scheme : Scheme) (header : Header) (logs : List (List ℕ)) where
+  -- the logs that were read
+  abbrev read : List Log
+  read = map (read_log scheme.format) logs
+
+  abbrev histories : List (List Event)
+  histories = histories_in scheme header read
+
+  abbrev courses : List Course
+  courses = courses_of scheme header logs
+
+  -- how many epochs are certified
+  abbrev certified : ℕ
+  certified = certified_count scheme header.first histories
+
+  -- how the report ends
+  abbrev exit : Option ℕ → BundleEnd
+  exit bad = end_of scheme header read histories bad
+
+  -- What was judged of so many epochs, behind those that are known to be balanced, is what the histories say.
+  abbrev IsJudged : Option ℕ → ℕ → ℕ → Judged → Type 0
+  IsJudged bad done many more =
+      (done + more.count ≡ certified)
+      × (end_by (done + more.count) more.unbalanced (refused_log 0 courses) bad ≡ exit bad)
+      × (more.count ≤ many)
+
+  -- behind all that are sealed nothing is counted
+  counted-past : (done : ℕ) → sealed_by_all histories ≤ done → counted_from scheme header logs done ≡ done
+  counted-past done past =
+      let none : sealed_by_all histories - done ≡ 0 = omega (arith, past) in
+      ap (λ (n : ℕ). done + balanced_from scheme (order_of histories) (header.first + done) n) none ∙ add-zero done
+
+  module _ (whole : length logs ≡ header.verifiers) (some : 1 ≤ header.verifiers) (bad : Option ℕ) where
+    -- an epoch by its verdict, and those behind it
+    judged-epoch : (done many epoch : ℕ) → epoch ≡ header.first + done
+        → counted_from scheme header logs done ≡ certified
+        → (ruling : Verdict) → epoch_verdict scheme header logs done ≡ ruling → (more : Judged)
+        → (counted_from scheme header logs (suc done) ≡ certified → IsJudged bad (suc done) many more)
+        → IsJudged bad done (suc many) (judged_by epoch ruling more)
+    judged-epoch done many epoch at count Balanced is more further =
+        let next : suc done ≡ done + 1 = omega arith in
+        let behind = further (ap (counted_from scheme header logs) next
+        ∙ counted-balanced scheme header logs whole some done is ∙ count) in
+        let same : suc done + more.count ≡ done + suc more.count = omega arith in (
+          sym same ∙ behind.0,
+          ap (λ (n : ℕ). end_by n more.unbalanced (refused_log 0 courses) bad) (sym same) ∙ behind.1,
+          omega (arith, behind.2),
+        )
+    judged-epoch done many epoch at count (Unbalanced added evicted) is more further = (
+      add-zero done ∙ sym (counted-unbalanced scheme header logs whole some done added evicted is) ∙ count,
+      ap (λ (e : ℕ). ends.Unbalanced e added evicted) at
+          ∙ ends-unbalanced scheme header logs whole some done bad added evicted count is,
+      omega arith,
+    )
+    judged-epoch done many epoch at count (Missing verifier) is more further = (
+      add-zero done ∙ sym (counted-missing scheme header logs whole some done verifier is) ∙ count,
+      ends-even (done + 0) 0 courses bad
+          ∙ ap (λ (n : ℕ). end_or (first_refused 0 courses) (done_or_bad n bad)) (add-zero done)
+          ∙ ends-missing scheme header logs whole some done bad verifier count is,
+      omega arith,
+    )
+
+    -- So many epochs, where all that are sealed by all are among them and those before.
+    judged-epochs : (number : ℕ) (events : List Event) (many done epoch : ℕ) → epoch ≡ header.first + done
+        → sealed_by_all histories ≤ done + many
+        → counted_from scheme header logs done ≡ certified
+        → IsJudged bad done many
+        (judged_from header.verifiers done (parts_in scheme number events epoch many) courses)
+    judged-epochs number events zero done epoch at past count =
+        let own : done ≡ certified = sym (counted-past done (omega (arith, past))) ∙ count in
+        let same : done + 0 ≡ certified = add-zero done ∙ own in (
+          same,
+          ends-even (done + 0) 0 courses bad
+              ∙ exit-whole scheme header logs bad (done + 0) same (omega (arith, past)),
+          omega arith,
+        )
+    judged-epochs number events (suc many) done epoch at past count =
+        let next : suc epoch ≡ header.first + suc done = omega (arith, at) in
+        judged-epoch done many epoch at count
+        (verdict_of header.verifiers epoch (parts_at done courses))
+        (ap (λ (e : ℕ). verdict_of header.verifiers e (parts_at done courses)) (sym at))
+        (judged_from header.verifiers (suc done) (parts_in scheme number events (suc epoch) many) courses)
+        (λ counted. judged-epochs number events many (suc done) (suc epoch) next (omega (arith, past)) counted)
+
+    -- ---- the verdict
+
+    -- an answer by its text and end
+    abbrev answer_told : List ℕ → BundleEnd → Answer
+    answer_told text end = record { text = text; status = status_of end }
+
+    -- What was judged, where the first course has the parts of so many epochs.
+    verdict-judged : (number : ℕ) (events : List Event) (many : ℕ) (found : Judged)
+        → first_parts courses ≡ parts_in scheme number events header.first many
+        → IsJudged bad 0 many found
+        → answer_judged found courses bad ≡ answer_on scheme header read bad
+    verdict-judged number events many found first is =
+        let count = found.count in
+        let ends = end_by count found.unbalanced (refused_log 0 courses) bad in
+        let parts : take count (first_parts courses) ≡ parts_in scheme number events header.first count =
+        ap (take count) first ∙ take-parts scheme number events count many header.first is.2 in
+        let own = operations_within header.first count (operations_among courses) in
+        let same : count ≡ 0 + count = omega arith in
+        let counted = same ∙ is.0 in
+        let ended : ends ≡ exit bad =
+        ap (λ (n : ℕ). end_by n found.unbalanced (refused_log 0 courses) bad) same ∙ is.1 in
+        ap (λ (ps : List Part). answer_told
+        (certified_text ps (operations_by (last_epoch ps) courses) ++ last_line (status_of ends)) ends) parts
+        ∙ ap (λ (ops : List Operation). answer_told
+        (certified_text (parts_in scheme number events header.first count) ops ++ last_line (status_of ends)) ends)
+        (operations-parts scheme number events count header.first courses)
+        ∙ ap (λ (text : List ℕ). answer_told (text ++ last_line (status_of ends)) ends)
+        (text-epochs scheme number events count header.first own)
+        ∙ ap (λ (text : List ℕ). answer_told text ends)
+        (report_by_courses scheme header logs bad count own ends counted refl ended)
+        ∙ ap (answer_told (report_of_logs scheme header read histories bad)) ended
+
+-- ---- of all verifiers
+
+module _ (scheme : Scheme) (header : Header) (log : List ℕ) (logs : List (List ℕ)) (good : IsHeader header) (whole : length (log ∷ logs) ≡ header.verifiers) where
+  -- what the logs come to
+  abbrev all_courses : List Course
+  all_courses = courses_of scheme header (log ∷ logs)
+
+  -- the history of the first log
+  abbrev first_events : List Event
+  first_events = log_events scheme header 0 (read_log scheme.format log).commands
+
+  -- its parts
+  abbrev its_parts : List Part
+  its_parts = parts_in scheme 0 first_events header.first (sealed_count first_events)
+
+  -- what is judged, by its parts
+  abbrev found : Judged
+  found = judged_from header.verifiers 0 its_parts all_courses
+
+  its-parts : first_parts all_courses ≡ its_parts
+  its-parts = log-parts scheme header 0 (read_log scheme.format log).commands
+
+  judged-found : judged (length all_courses) all_courses ≡ found
+  judged-found =
+      ap (λ (verifiers : ℕ). judged verifiers all_courses) (courses-length scheme header 0 (log ∷ logs) ∙ whole)
+      ∙ judged-first header.verifiers all_courses
+      ∙ ap (λ (parts : List Part). judged_from header.verifiers 0 parts all_courses) its-parts
+
+  found-judged : (bad : Option ℕ) → IsJudged scheme header (log ∷ logs) bad 0 (sealed_count first_events) found
+  found-judged bad =
+      judged-epochs scheme header (log ∷ logs) whole good.some_verifiers bad 0 first_events (sealed_count first_events) 0 header.first
+      (sym (add-zero header.first))
+      (omega (arith, sealed_first first_events (told_from scheme header 1 logs)))
+      (counted-start scheme header (log ∷ logs))
+
+-- What the runs of all verifiers come to is the verdict by their logs.
+pub verdict-many : (scheme : Scheme) (header : Header) (logs : List (List ℕ)) (bad : Option ℕ)
+    → IsHeader header → length logs ≡ header.verifiers
+    → answer_of_runs (courses_of scheme header logs) bad
+    ≡ answer_on scheme header (map (read_log scheme.format) logs) bad
+verdict-many scheme header [] bad good whole = absurd (omega (arith, whole, good.some_verifiers))
+verdict-many scheme header (log ∷ logs) bad good whole =
+    ap (λ (j : Judged). answer_judged j (courses_of scheme header (log ∷ logs)) bad) (judged-found scheme header log logs good whole)
+    ∙ verdict-judged scheme header (log ∷ logs) whole good.some_verifiers bad 0
+    (first_events scheme header log logs good whole) (sealed_count (first_events scheme header log logs good whole)) (found scheme header log logs good whole)
+    (its-parts scheme header log logs good whole) (found-judged scheme header log logs good whole bad)
+
+-- As many epochs are certified as are judged to be balanced.
+pub count-many : (scheme : Scheme) (header : Header) (logs : List (List ℕ)) → IsHeader header → length logs ≡ header.verifiers
+    → (judged (length (courses_of scheme header logs)) (courses_of scheme header logs)).count
+    ≡ certified_count scheme header.first (histories_in scheme header (map (read_log scheme.format) logs))
+count-many scheme header [] good whole = absurd (omega (arith, whole, good.some_verifiers))
+count-many scheme header (log ∷ logs) good whole =
+    let counted : 0 + (found scheme header log logs good whole).count ≡ (found scheme header log logs good whole).count = omega arith in
+    ap (λ (j : Judged). j.count) (judged-found scheme header log logs good whole)
+    ∙ sym counted ∙ (found-judged scheme header log logs good whole None).0

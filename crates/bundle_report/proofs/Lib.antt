@@ -1,0 +1,16 @@
+-- That a run comes to what its history says, what is certified, and the headline.
+mod HistoryRunLemmas
+mod CountedLemmas
+mod SealedLemmas
+mod PartLemmas
+mod EpochTextLemmas
+mod RunReportLemmas
+mod RunTextLemmas
+mod SmallPartLemmas
+mod OrderSumLemmas
+mod EpochPartLemmas
+mod EpochVerdictLemmas
+mod CertifiedCountLemmas
+pub mod CertifyLaws
+pub mod AnswerLaws
+pub mod HeadlineLaws

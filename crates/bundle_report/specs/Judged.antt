@@ -1,0 +1,94 @@
+-- Which epochs are certified, with which operations, and how the report ends, as all runs tell it.
+use Rattle.std.specs.Prelude.{ℕ, suc, ◌-◌, ◌<◌, slice_get, ◌^◌, List, [], ◌∷◌, length, take, Option, Some, None, All}
+use Rattle.std.specs.List.{IsDistinct}
+use Rattle.std.specs.Option.{option_map}
+use Rattle.multiset_sum.specs.declared.part.Part.{Part}
+use Rattle.epoch_gather.specs.declared.outcome.Verdict.{Verdict}
+use Rattle.epoch_gather.specs.declared.outcome.Verdict.TheVariants as verdicts
+use Rattle.epoch_gather.specs.Parts.{is_same_part}
+use Rattle.epoch_gather.specs.Verdict.{verdict_of}
+use Rattle.record_text.specs.declared.operation.Operation.{Operation}
+use Rattle.record_text.specs.declared.refusal.Refusal.{Refusal}
+use Rattle.stamp_order.specs.Operations.{merged_up_to}
+use Rattle.verifier_run.specs.Course.{Course}
+use Rattle.report_text.specs.declared.ending.BundleEnd.{BundleEnd}
+use Rattle.report_text.specs.declared.ending.BundleEnd.TheVariants.{Done, BadBundle, Refused, Unbalanced}
+use Rattle.bundle_report.specs.declared.judged.Judged.{Judged}
+use Rattle.bundle_report.specs.declared.judged.Uneven.{Uneven}
+use Rattle.bundle_report.specs.declared.refused_log.RefusedLog.{RefusedLog}
+use Rattle.report_text.specs.Ending.{status_of}
+use Rattle.report_text.specs.Answer.{Answer}
+use Rattle.bundle_report.specs.Report.{answer_with}
+use Rattle.bundle_report.specs.RunReport.{parts_at, operations_among}
+
+-- no epoch more
+abbrev pub none_judged : Judged
+none_judged = record { count = 0; unbalanced = None }
+
+-- an epoch with this verdict, and what comes behind it where it is balanced
+abbrev pub judged_by : ℕ → Verdict → Judged → Judged
+judged_by epoch verdicts.Balanced more = record { count = suc more.count; unbalanced = more.unbalanced }
+judged_by epoch (verdicts.Unbalanced added evicted) more =
+    record { count = 0; unbalanced = Some (record { epoch = epoch; added = added; evicted = evicted }) }
+judged_by epoch (verdicts.Missing verifier) more = none_judged
+
+-- the epochs of these parts of one course, which stand there from this index on
+abbrev pub judged_from : ℕ → ℕ → List Part → List Course → Judged
+judged_from verifiers index [] courses = none_judged
+judged_from verifiers index (part ∷ parts) courses =
+    judged_by part.epoch (verdict_of verifiers part.epoch (parts_at index courses)) (judged_from verifiers (suc index) parts courses)
+
+-- the epochs of all courses, by those that the first has sealed
+abbrev pub judged : ℕ → List Course → Judged
+judged verifiers [] = none_judged
+judged verifiers (course ∷ courses) = judged_from verifiers 0 course.parts (course ∷ courses)
+
+-- parts of one epoch of which a verdict can be given: at most one of each verifier, with counts that can be added up
+pub record CanBeJudged (verifiers : ℕ) (parts : List Part) : Type 0 where
+  pub numbers : All (λ part. part.verifier < verifiers) parts
+  pub once : IsDistinct is_same_part parts
+  pub counts : All (λ part. (part.added.count < 2 ^ 25) × (part.evicted.count < 2 ^ 25)) parts
+
+-- ---- the report
+
+-- the parts of the sealed epochs of the first course
+abbrev pub first_parts : List Course → List Part
+first_parts [] = []
+first_parts (course ∷ courses) = course.parts
+
+-- the epoch of the last part, if there is one
+abbrev pub last_epoch : List Part → Option ℕ
+last_epoch parts = option_map (λ part. part.epoch) (slice_get parts (length parts - 1))
+
+-- the operations of all courses up to an epoch, in the one order
+abbrev pub operations_by : Option ℕ → List Course → List Operation
+operations_by None courses = []
+operations_by (Some epoch) courses = merged_up_to epoch (operations_among courses)
+
+-- a course that is refused so, or the one that is found behind it
+abbrev pub refused_log_by : ℕ → Option (ℕ × Refusal) → Option RefusedLog → Option RefusedLog
+refused_log_by number None more = more
+refused_log_by number (Some refused) more = Some (record { verifier = number; index = refused.0; refusal = refused.1 })
+
+-- the first course that is refused, if one is, where the first course is of the verifier of this number
+abbrev pub refused_log : ℕ → List Course → Option RefusedLog
+refused_log number [] = None
+refused_log number (course ∷ courses) = refused_log_by number course.refused (refused_log (suc number) courses)
+
+-- how the report ends: an epoch whose sums differ goes before a refused log, and that before what is bad
+abbrev pub end_by : ℕ → Option Uneven → Option RefusedLog → Option ℕ → BundleEnd
+end_by count (Some uneven) refused bad = Unbalanced uneven.epoch uneven.added uneven.evicted
+end_by count None (Some log) bad = Refused log.verifier log.index log.refusal
+end_by count None None (Some offset) = BadBundle offset
+end_by count None None None = Done count
+
+-- of what was judged
+abbrev pub answer_judged : Judged → List Course → Option ℕ → Answer
+answer_judged judged courses bad =
+    answer_with (take judged.count (first_parts courses))
+    (operations_by (last_epoch (take judged.count (first_parts courses))) courses)
+    (status_of (end_by judged.count judged.unbalanced (refused_log 0 courses) bad))
+
+-- of what all logs came to, in a bundle in which so much is bad
+abbrev pub answer_of_runs : List Course → Option ℕ → Answer
+answer_of_runs courses bad = answer_judged (judged (length courses) courses) courses bad

@@ -1,0 +1,20 @@
+-- What bytes mean as a bundle: its header, the log of each verifier, and what is bad.
+use Rattle.std.specs.Prelude.{ℕ, List, [], Option, None}
+use Rattle.lamport_clocks.specs.declared.header.Header.{Header}
+use Rattle.bundle_frames.specs.Bundle.{Bundle, bundle_of}
+use Rattle.bundle_report.specs.Logs.{joined_from, logs_so_far}
+
+-- the header if it is good, the log of each verifier, and the offset of what is bad, if anything is
+pub record Logged : Type 0 where
+  pub header : Option Header
+  pub logs : List (List ℕ)
+  pub bad : Option ℕ
+
+-- logs of which so much was read, and what is left of their bundle behind it
+abbrev pub behind : Option Header → List (List ℕ) → Bundle → Logged
+behind header logs bundle =
+    record { header = bundle.header; logs = joined_from 0 (logs_so_far header logs bundle.header) bundle.frames; bad = bundle.bad }
+
+-- what bytes mean as a bundle, by its header, the log of each verifier, and what is bad
+abbrev pub logged_of : List ℕ → Logged
+logged_of bytes = behind None [] (bundle_of bytes)

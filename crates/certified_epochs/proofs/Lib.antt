@@ -1,0 +1,2 @@
+-- The lines of certified epochs, one part after another.
+mod ReportLemmas
