@@ -31,10 +31,10 @@ use Rattle.bundle_report.proofs.EpochPartLemmas.{part_told, parts_told, parts-to
 
 module _ (index : ℕ) where
   -- each of the histories has sealed the epoch with this number
-  abbrev AllSeal : List (List Event) → Type 0
+  abbrev pub AllSeal : List (List Event) → Type 0
   AllSeal histories = AllByRecursion (λ events. index < sealed_count events) histories
 
-  all_seal : (histories : List (List Event)) → index < sealed_by_all histories → AllSeal histories
+  pub all_seal : (histories : List (List Event)) → index < sealed_by_all histories → AllSeal histories
   all_seal [] below = tt
   all_seal (history ∷ []) below = (below, tt)
   all_seal (history ∷ other ∷ histories) below =

@@ -12,5 +12,9 @@ mod EpochPartLemmas
 mod EpochVerdictLemmas
 mod CertifiedCountLemmas
 pub mod CertifyLaws
+pub mod LeftLaws
+mod MoreLaws
+pub mod SoFarLaws
+pub mod LinesLaws
 pub mod AnswerLaws
 pub mod HeadlineLaws

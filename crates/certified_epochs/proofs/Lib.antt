@@ -1,2 +1,2 @@
--- The lines of certified epochs, one part after another.
-mod ReportLemmas
+-- What one turn of certifying tells.
+mod TurnLemmas

@@ -1,2 +1,3 @@
 -- What the clauses on certified epochs cite.
+pub mod Turn
 pub use Rattle.bundle_report.specs

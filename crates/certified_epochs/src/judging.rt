@@ -4,6 +4,7 @@ ghost use Rattle.std.specs.Option.{option_to_list};
 ghost use Rattle.bundle_report.specs.RunReport.{parts_at};
 ghost use Rattle.bundle_report.specs.Judged.{judged, judged_from, first_parts, CanBeJudged};
 
+use crate::fed_run::FedRun;
 use bundle_report::{Judged, Uneven};
 use epoch_gather::{Verdict, verdict};
 use multiset_sum::{Part, Sum};
@@ -12,14 +13,14 @@ use verifier_run::Run;
 use want_of_memory::Memory;
 
 /// Judges epoch by epoch, from the first on, up to the first that is not certified.
-pub fn judge(alloc: Global, runs: &[Run]) -> Result<Judged, Memory>
+pub fn judge(alloc: Global, runs: &[FedRun]) -> Result<Judged, Memory>
     requires few { length runs.now ≤ 64 }
-    requires parts { (index : ℕ) → CanBeJudged (length runs.now) (parts_at index (map (λ run. run.course) runs.now)) }
-    ensures judged { IfOk result (λ found. found ≡ judged (length runs.now) (map (λ run. run.course) runs.now)) }
-    ensures within { IfOk result (λ found. found.count ≤ length (first_parts (map (λ run. run.course) runs.now))) }
+    requires parts { (index : ℕ) → CanBeJudged (length runs.now) (parts_at index (map (λ fed. fed.run.course) runs.now)) }
+    ensures judged { IfOk result (λ found. found ≡ judged (length runs.now) (map (λ fed. fed.run.course) runs.now)) }
+    ensures within { IfOk result (λ found. found.count ≤ length (first_parts (map (λ fed. fed.run.course) runs.now))) }
 {
     match runs.first() {
-        Some(first) => judge_parts(alloc, first.parts(), runs),
+        Some(first) => judge_parts(alloc, first.run.parts(), runs),
         None => Ok(Judged {
             count: 0,
             unbalanced: None,
@@ -28,10 +29,10 @@ pub fn judge(alloc: Global, runs: &[Run]) -> Result<Judged, Memory>
 }
 
 // Judges the epochs of the parts that one run has handed in.
-fn judge_parts(alloc: Global, parts: &[Part], runs: &[Run]) -> Result<Judged, Memory>
+fn judge_parts(alloc: Global, parts: &[Part], runs: &[FedRun]) -> Result<Judged, Memory>
     requires few { length runs.now ≤ 64 }
-    requires parts { (index : ℕ) → CanBeJudged (length runs.now) (parts_at index (map (λ run. run.course) runs.now)) }
-    ensures judged { IfOk result (λ found. found ≡ judged_from (length runs.now) 0 parts.now (map (λ run. run.course) runs.now)) }
+    requires parts { (index : ℕ) → CanBeJudged (length runs.now) (parts_at index (map (λ fed. fed.run.course) runs.now)) }
+    ensures judged { IfOk result (λ found. found ≡ judged_from (length runs.now) 0 parts.now (map (λ fed. fed.run.course) runs.now)) }
     ensures within { IfOk result (λ found. found.count ≤ length parts.now) }
 {
     let verifiers = runs.len() as u16;
@@ -71,19 +72,19 @@ fn stopped(count: usize, epoch: u32, added: Sum, evicted: Sum) -> Judged
     }
 }
 
-// What was handed in of one sealed epoch, by its number from the first epoch on, in place of what was gathered.
-fn gather(gathered: &mut Vec<Part>, index: usize, runs: &[Run]) -> Result<(), AllocError>
-    ensures parts { OnOk result (gathered.new.items ≡ parts_at index (map (λ run. run.course) runs.now)) }
+/// What was handed in of one sealed epoch, by its place among those that each run has, in place of what was gathered.
+pub(crate) fn gather(gathered: &mut Vec<Part>, index: usize, runs: &[FedRun]) -> Result<(), AllocError>
+    ensures parts { OnOk result (gathered.new.items ≡ parts_at index (map (λ fed. fed.run.course) runs.now)) }
 {
     gathered.clear();
-    for run in runs {
-        append_part(gathered, index, run)?;
+    for fed in runs {
+        append_part(gathered, index, &fed.run)?;
     }
     Ok(())
 }
 
-// Appends what a run has handed in of this epoch, if it has sealed it.
-fn append_part(gathered: &mut Vec<Part>, index: usize, run: &Run) -> Result<(), AllocError>
+/// Appends what a run has handed in of an epoch, by its place among those that it has, if it is there.
+pub(crate) fn append_part(gathered: &mut Vec<Part>, index: usize, run: &Run) -> Result<(), AllocError>
     ensures items { OnOk result (gathered.new.items
         ≡ gathered.old.items ++ option_to_list (slice_get run.now.course.parts index)) }
 {

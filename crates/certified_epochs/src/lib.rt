@@ -4,10 +4,13 @@
 //! `bundle_report`, which says what a report is. Begin with `judging.rt`.
 #![tactic(auto)]
 
+mod certifier;
+mod ending;
+mod fed_run;
 mod judging;
-mod report;
+mod lines;
 
+pub use certifier::Certifier;
+pub use ending::{end_of, first_refused};
+pub use fed_run::FedRun;
 pub use judging::judge;
-pub use report::{
-    certified_parts, end_of, first_refused, last_epoch, operations_up_to, write_report,
-};

@@ -3,7 +3,7 @@ use Rattle.bundle_report.specs.RunReport.{parts_at}
 use Rattle.certified_epochs.proofs.judging.gather.Given as goal
 
 -- what was gathered, and with what the runs that are left have handed in it is all
-abbrev pub invariant-loop-run : goal.invariant-loop-run
-invariant-loop-run l =
-    l.gathered.items ++ parts_at l.index (map (λ run. run.course) (drop l.run-index l.runs))
-    ≡ parts_at l.index (map (λ run. run.course) l.runs)
+abbrev pub invariant-loop-fed : goal.invariant-loop-fed
+invariant-loop-fed l =
+    l.gathered.items ++ parts_at l.index (map (λ fed. fed.run.course) (drop l.fed-index l.runs))
+    ≡ parts_at l.index (map (λ fed. fed.run.course) l.runs)

@@ -10,5 +10,5 @@ behind count more = record { count = count + more.count; unbalanced = more.unbal
 -- the epochs so far are certified, and those that are left come behind them
 abbrev pub invariant-loop-count : goal.invariant-loop-count
 invariant-loop-count l =
-    judged_from (length l.runs) 0 l.parts (map (λ run. run.course) l.runs)
-    ≡ behind l.count (judged_from (length l.runs) l.count (drop l.count l.parts) (map (λ run. run.course) l.runs))
+    judged_from (length l.runs) 0 l.parts (map (λ fed. fed.run.course) l.runs)
+    ≡ behind l.count (judged_from (length l.runs) l.count (drop l.count l.parts) (map (λ fed. fed.run.course) l.runs))

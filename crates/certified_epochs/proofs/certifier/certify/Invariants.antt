@@ -1,0 +1,32 @@
+use Rattle.std.proofs.Common.{◌≡◌, ℕ, ◌+◌, ◌-◌, ◌≤◌, List, [], length, map, None}
+use Rattle.lamport_clocks.specs.declared.header.Header.{Header}
+use Rattle.merkle_records.specs.Scheme.{Scheme}
+use Rattle.report_text.specs.Page.{Passes}
+use Rattle.bundle_report.specs.RunReport.{courses_of}
+use Rattle.bundle_report.specs.SoFar.{HaveTaken, HaveLogs, lines_from}
+use Rattle.certified_epochs.specs.Turn.{AreFed, parts_left}
+use Rattle.certified_epochs.proofs.certifier.certify.Given as goal
+
+-- so many epochs are certified, and their lines are written or wait on the page
+abbrev pub invariant-epochs : goal.invariant-epochs
+invariant-epochs g l = record {
+  text : List ℕ;
+  passes : Passes (g.O.Sink.held l.fn.out) [] text (g.O.Sink.held l.out) l.page;
+  even : l.self.unbalanced ≡ None;
+  logs : HaveLogs l.self (map (λ fed. fed.run) l.runs);
+  taken : (scheme : Scheme) (header : Header) (logs : List (List ℕ))
+      → HaveTaken scheme header logs l.fn.self (map (λ fed. fed.run) l.fn.runs)
+      → HaveTaken scheme header logs l.self (map (λ fed. fed.run) l.runs);
+  lines : (scheme : Scheme) (header : Header) (logs : List (List ℕ))
+      → HaveTaken scheme header logs l.fn.self (map (λ fed. fed.run) l.fn.runs)
+      → text ≡ lines_from (courses_of scheme header logs) (header.first + l.fn.self.count) (l.self.count - l.fn.self.count);
+  counted : l.fn.self.count ≤ l.self.count;
+  fed_before : AreFed l.fn.runs;
+  fed : AreFed l.runs;
+  few : length l.runs ≤ 64;
+  len : length l.runs ≡ length l.fn.runs;
+  faults : g.O.Sink.faults l.fn.out ≤ g.O.Sink.faults l.out;
+}
+
+abbrev pub decreases-epochs : goal.decreases-epochs
+decreases-epochs g l = parts_left l.runs

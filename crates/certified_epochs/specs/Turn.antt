@@ -1,0 +1,64 @@
+-- One turn of certifying: the next epoch of runs that certified epochs were taken out of.
+use Rattle.std.specs.Prelude.{◌≡◌, ℕ, suc, Bool, true, false, List, [], ◌∷◌, length, map, slice_get, Option, Some, None, All}
+use Rattle.std.specs.List.{AllByRecursion}
+use Rattle.std.specs.Option.{option_map}
+use Rattle.epoch_gather.specs.declared.outcome.Verdict.{Verdict}
+use Rattle.epoch_gather.specs.declared.outcome.Verdict.TheVariants as verdicts
+use Rattle.epoch_gather.specs.Verdict.{verdict_of}
+use Rattle.stamp_order.specs.Operations.{merged_up_to}
+use Rattle.verifier_run.specs.Course.{Course}
+use Rattle.verifier_run.specs.Progress.{Progress}
+use Rattle.verifier_run.specs.Taken.{left_of}
+use Rattle.bundle_report.specs.declared.judged.Judged.{Judged}
+use Rattle.bundle_report.specs.BundleReport.{epoch_text}
+use Rattle.bundle_report.specs.RunReport.{parts_at, operations_among}
+use Rattle.bundle_report.specs.Judged.{first_parts}
+use Rattle.certified_epochs.specs.declared.fed_run.FedRun.{FedRun}
+
+-- no run was starved
+abbrev pub AreFed : List FedRun → Type 0
+AreFed runs = AllByRecursion (λ fed. fed.is_starved ≡ false) runs
+
+-- the courses of runs
+abbrev pub courses_in : List Progress → List Course
+courses_in runs = map (λ run. run.course) runs
+
+-- the epoch of the first part that the first run still has
+abbrev pub next_epoch : List Progress → Option ℕ
+next_epoch runs = option_map (λ part. part.epoch) (slice_get (first_parts (courses_in runs)) 0)
+
+-- how many parts the first run still has
+abbrev pub parts_left : List FedRun → ℕ
+parts_left runs = length (first_parts (courses_in (map (λ fed. fed.run) runs)))
+
+-- whether there is more, what is judged, the runs, and the lines
+pub record Turned : Type 0 where
+  pub more : Bool
+  pub judged : Judged
+  pub runs : List Progress
+  pub text : List ℕ
+
+-- nothing changes
+abbrev pub no_turn : Judged → List Progress → Turned
+no_turn judged runs = record { more = false; judged = judged; runs = runs; text = [] }
+
+-- the next epoch by its verdict: a balanced one is counted, written and taken out of the runs
+abbrev pub turn_by : Judged → List Progress → ℕ → Verdict → Turned
+turn_by judged runs epoch verdicts.Balanced = record {
+  more = true;
+  judged = record judged { count = suc judged.count };
+  runs = map (left_of epoch) runs;
+  text = epoch_text epoch (merged_up_to epoch (operations_among (courses_in runs)));
+}
+turn_by judged runs epoch (verdicts.Unbalanced added evicted) =
+    no_turn (record judged { unbalanced = Some (record { epoch = epoch; added = added; evicted = evicted }) }) runs
+turn_by judged runs epoch (verdicts.Missing verifier) = no_turn judged runs
+
+-- the next epoch, if the first run has sealed one
+abbrev pub turn_at : Judged → List Progress → Option ℕ → Turned
+turn_at judged runs None = no_turn judged runs
+turn_at judged runs (Some epoch) = turn_by judged runs epoch (verdict_of (length runs) epoch (parts_at 0 (courses_in runs)))
+
+-- One turn, where no epoch is unbalanced so far.
+abbrev pub turn : Judged → List Progress → Turned
+turn judged runs = turn_at judged runs (next_epoch runs)

@@ -1,0 +1,270 @@
+//! Certifying epoch by epoch, as the logs come.
+ghost use Rattle.std.specs.Prelude.{◌≡◌, ◌≢◌, ◌+◌, ◌-◌, ◌<◌, ◌≤◌, ◌++◌, ℕ, List, map, length, slice_get, true, false, IfOk, OnOk, OnErr, Ok, Err, None, Some};
+ghost use Rattle.fv_outside.specs.Faults.{Counts, Rose};
+ghost use Rattle.fv_outside.specs.Written.{Grows, GrowsByFront};
+ghost use Rattle.lamport_clocks.specs.declared.header.Header.{Header};
+ghost use Rattle.merkle_records.specs.Scheme.{Scheme};
+ghost use Rattle.report_text.specs.Page.{Passes};
+ghost use Rattle.bundle_report.specs.RunReport.{courses_of, parts_at};
+ghost use Rattle.bundle_report.specs.Judged.{judged};
+ghost use Rattle.log_codec.specs.Log.{read_log};
+ghost use Rattle.report_text.specs.Ending.{status_of};
+ghost use Rattle.report_text.specs.Status.{last_line};
+ghost use Rattle.bundle_report.specs.BundleReport.{histories_at, end_of};
+ghost use Rattle.bundle_report.specs.SoFar.{HaveTaken, HaveLogs, lines_from, runs_ended};
+ghost use Rattle.bundle_report.specs.Judged.{none_judged, CanBeJudged};
+ghost use Rattle.stamp_order.specs.Merged.{up_to};
+ghost use Rattle.stamp_order.specs.Operations.{moment_of, merged_up_to};
+ghost use Rattle.verifier_run.specs.Taken.{left_of};
+ghost use Rattle.bundle_report.specs.RunReport.{operations_among};
+ghost use Rattle.certified_epochs.specs.Turn.{AreFed, next_epoch, parts_left, turn};
+
+use crate::ending::{end_of, first_refused};
+use crate::fed_run::FedRun;
+use crate::judging::gather;
+use crate::lines::write_epoch_lines;
+use bundle_report::{Judged, ReportStop, Uneven};
+use epoch_gather::{Verdict, verdict};
+use fv_outside::Sink;
+use multiset_sum::Part;
+use record_text::Operation;
+use report_text::{BundleEnd, Page, write_last};
+use stamp_order::Moment;
+use std::alloc::Global;
+use std::marker::Model;
+use want_of_memory::Memory;
+
+/// How many epochs the runs of all verifiers have certified so far, and the next one where its sums differ. Nothing is
+/// kept of an epoch once its lines are written. Contracts see what is judged.
+#[derive(Drop)]
+pub struct Certifier {
+    judged: Judged,
+    // Room for what is looked at of one epoch, used again for the next.
+    parts: Vec<Part>,
+    operations: Vec<Operation>,
+}
+
+impl Model for Certifier {
+    ghost use Rattle.bundle_report.specs.declared.judged.Judged.{Judged};
+
+    ghost Value = { Judged };
+
+    ghost view = { λ c. c.judged };
+}
+
+impl Certifier {
+    /// Before the first epoch.
+    pub fn new(alloc: Global) -> Self
+        ensures none { result ≡ none_judged }
+    {
+        Certifier {
+            judged: Judged {
+                count: 0,
+                unbalanced: None,
+            },
+            parts: Vec::new(alloc),
+            operations: Vec::new(alloc),
+        }
+    }
+
+    /// How many epochs are certified, and the next one where all verifiers have sealed it and its sums differ.
+    pub fn judged(&self) -> &Judged
+        ensures value { result.now ≡ self.now }
+    {
+        &self.judged
+    }
+
+    /// Writes the lines of all epochs that the runs now certify and that are not written yet, and takes what they have of
+    /// these epochs out of the runs. Where a run is starved that is want of memory, and nothing is written.
+    ///
+    /// After want of memory or where the sink failed it holds a front of these lines, and the certifier is of no more use.
+    pub fn certify<O: Sink>(&mut self, runs: &mut [FedRun], out: &mut O) -> Result<(), ReportStop>
+        requires few { length runs.old ≤ 64 }
+        requires logs { AreFed runs.old → HaveLogs self.old (map (λ fed. fed.run) runs.old) }
+
+        // Of all logs that the runs have taken so far: what they certify is counted and written.
+        ensures judged { (scheme : Scheme) (header : Header) (logs : List (List ℕ))
+            → HaveTaken scheme header logs self.old (map (λ fed. fed.run) runs.old)
+            → OnOk result (self.new ≡ judged header.verifiers (courses_of scheme header logs)) }
+        ensures taken { (scheme : Scheme) (header : Header) (logs : List (List ℕ))
+            → HaveTaken scheme header logs self.old (map (λ fed. fed.run) runs.old)
+            → OnOk result (HaveTaken scheme header logs self.new (map (λ fed. fed.run) runs.new)) }
+        ensures lines { (scheme : Scheme) (header : Header) (logs : List (List ℕ))
+            → HaveTaken scheme header logs self.old (map (λ fed. fed.run) runs.old)
+            → OnOk result (Grows (O.held out.old) (O.held out.new)
+            (lines_from (courses_of scheme header logs) (header.first + self.old.count) (self.new.count - self.old.count))) }
+
+        // Where it stops, the sink took a front of the lines of what they certify.
+        ensures front { (scheme : Scheme) (header : Header) (logs : List (List ℕ))
+            → HaveTaken scheme header logs self.old (map (λ fed. fed.run) runs.old)
+            → OnErr result (GrowsByFront (O.held out.old) (O.held out.new)
+            (lines_from (courses_of scheme header logs) (header.first + self.old.count)
+            ((judged header.verifiers (courses_of scheme header logs)).count - self.old.count))) }
+
+        // With an answer, no run was starved.
+        ensures fed { OnOk result (AreFed runs.old × AreFed runs.new) }
+        ensures len { length runs.new ≡ length runs.old }
+        ensures write_fault { result ≡ Err ReportStop.WriteFault → Rose (O.faults out.old) (O.faults out.new) }
+        ensures never_falls { O.faults out.old ≤ O.faults out.new }
+    {
+        if any_starved(runs) {
+            return Err(ReportStop::Memory);
+        }
+        if self.judged.unbalanced.is_some() {
+            return Ok(());
+        }
+        let mut page = Page::new();
+        'epochs: loop {
+            if !self.certify_next(runs, &mut page, out)? {
+                break;
+            }
+        }
+        match page.flush(out) {
+            Ok(()) => Ok(()),
+            Err(_) => Err(ReportStop::WriteFault),
+        }
+    }
+
+    /// Ends the logs, and writes the last line of the report, where so much of the bundle is bad. All that the runs certify
+    /// is to be written before.
+    pub fn finish<O: Sink>(
+        &self,
+        runs: &mut [FedRun],
+        bad: Option<u64>,
+        out: &mut O,
+    ) -> Result<BundleEnd, ReportStop>
+        requires few { length runs.old ≤ 64 }
+
+        // Of all logs that the runs have taken, where all that these certify is counted: how their report ends.
+        ensures end { (scheme : Scheme) (header : Header) (logs : List (List ℕ))
+            → HaveTaken scheme header logs self.now (map (λ fed. fed.run) runs.old)
+            → self.now ≡ judged header.verifiers (courses_of scheme header logs)
+            → IfOk result (λ end. end ≡ end_of scheme header (map (read_log scheme.format) logs) (histories_at scheme header logs) bad) }
+        ensures line { IfOk result (λ end. Grows (O.held out.old) (O.held out.new) (last_line (status_of end))) }
+        ensures front { (scheme : Scheme) (header : Header) (logs : List (List ℕ))
+            → HaveTaken scheme header logs self.now (map (λ fed. fed.run) runs.old)
+            → self.now ≡ judged header.verifiers (courses_of scheme header logs)
+            → OnErr result (GrowsByFront (O.held out.old) (O.held out.new)
+            (last_line (status_of (end_of scheme header (map (read_log scheme.format) logs) (histories_at scheme header logs) bad)))) }
+        ensures write_fault { OnErr result (Rose (O.faults out.old) (O.faults out.new)) }
+        ensures stop { result ≢ Err ReportStop.Memory }
+        ensures never_falls { O.faults out.old ≤ O.faults out.new }
+    {
+        end_all(runs);
+        let end = end_of(&self.judged, first_refused(runs), bad);
+        match write_last(&end.status(), out) {
+            Ok(()) => Ok(end),
+            Err(_) => Err(ReportStop::WriteFault),
+        }
+    }
+
+    // Writes the lines of the next epoch, if it is certified, and answers whether it is.
+    fn certify_next<O: Sink>(
+        &mut self,
+        runs: &mut [FedRun],
+        page: &mut Page,
+        out: &mut O,
+    ) -> Result<bool, ReportStop>
+        requires few { length runs.old ≤ 64 }
+        requires even { self.old.unbalanced ≡ None }
+        requires parts { CanBeJudged (length runs.old) (parts_at 0 (map (λ fed. fed.run.course) runs.old)) }
+        ensures turned { IfOk result (λ more. turn self.old (map (λ fed. fed.run) runs.old)
+            ≡ record { more = more; judged = self.new; runs = map (λ fed. fed.run) runs.new; text = (turn self.old (map (λ fed. fed.run) runs.old)).text }) }
+        ensures text { OnOk result (Passes (O.held out.old) page.old (turn self.old (map (λ fed. fed.run) runs.old)).text (O.held out.new) page.new) }
+        ensures front { OnErr result (GrowsByFront (O.held out.old) (O.held out.new) (page.old ++ (turn self.old (map (λ fed. fed.run) runs.old)).text)) }
+        ensures fed { AreFed runs.old → AreFed runs.new }
+        ensures less { result ≡ Ok true → parts_left runs.new < parts_left runs.old }
+        ensures len { length runs.new ≡ length runs.old }
+        ensures write_fault { result ≡ Err ReportStop.WriteFault → Rose (O.faults out.old) (O.faults out.new) }
+        ensures never_falls { O.faults out.old ≤ O.faults out.new }
+    {
+        let Some(epoch) = next_epoch(runs) else {
+            return Ok(false);
+        };
+        gather(&mut self.parts, 0, runs)?;
+        match verdict(&self.parts, runs.len() as u16, epoch) {
+            Verdict::Balanced => {}
+            Verdict::Unbalanced(added, evicted) => {
+                self.judged.unbalanced = Some(Uneven {
+                    epoch,
+                    added,
+                    evicted,
+                });
+                return Ok(false);
+            }
+            Verdict::Missing(_) => return Ok(false),
+        }
+        take(&mut self.operations, runs, epoch)?;
+        if write_epoch_lines(epoch, &self.operations, page, out).is_err() {
+            return Err(ReportStop::WriteFault);
+        }
+        self.judged.count += 1;
+        Ok(true)
+    }
+}
+
+// Takes the operations up to an epoch out of all runs, in place of those that are there, and puts them in the one order.
+fn take(operations: &mut Vec<Operation>, runs: &mut [FedRun], epoch: u32) -> Result<(), Memory>
+    ensures operations { OnOk result (operations.new.items ≡ merged_up_to epoch (operations_among (map (λ fed. fed.run.course) runs.old))) }
+    ensures left { OnOk result (map (λ fed. fed.run) runs.new ≡ map (λ fed. left_of epoch fed.run) runs.old) }
+    ensures len { length runs.new ≡ length runs.old }
+    ensures fed { AreFed runs.old → AreFed runs.new }
+{
+    operations.clear();
+    take_all(operations, runs, epoch)?;
+    operations.sort_by_key(Moment::of)?;
+    Ok(())
+}
+
+// Takes the operations up to an epoch out of all runs, one run after another.
+fn take_all(
+    operations: &mut Vec<Operation>,
+    runs: &mut [FedRun],
+    epoch: u32,
+) -> Result<(), Memory>
+    ensures operations { OnOk result (operations.new.items
+        ≡ operations.old.items ++ up_to moment_of epoch (operations_among (map (λ fed. fed.run.course) runs.old))) }
+    ensures left { OnOk result (map (λ fed. fed.run) runs.new ≡ map (λ fed. left_of epoch fed.run) runs.old) }
+    ensures len { length runs.new ≡ length runs.old }
+    ensures fed { AreFed runs.old → AreFed runs.new }
+{
+    for index in 0..runs.len() {
+        runs[index].run.take_into(epoch, operations)?;
+    }
+    Ok(())
+}
+
+// The epoch of the first part that the first run still has.
+fn next_epoch(runs: &[FedRun]) -> Option<u32>
+    ensures value { result ≡ next_epoch (map (λ fed. fed.run) runs.now) }
+{
+    match runs.first() {
+        Some(fed) => match fed.run.parts().first() {
+            Some(part) => Some(part.epoch),
+            None => None,
+        },
+        None => None,
+    }
+}
+
+// Whether memory was wanting for any run.
+fn any_starved(runs: &[FedRun]) -> bool
+    ensures value { result ≡ false → AreFed runs.now }
+{
+    for fed in runs {
+        if fed.is_starved {
+            return true;
+        }
+    }
+    false
+}
+
+// Ends each log.
+fn end_all(runs: &mut [FedRun])
+    ensures ended { map (λ fed. fed.run) runs.new ≡ runs_ended (map (λ fed. fed.run) runs.old) }
+    ensures len { length runs.new ≡ length runs.old }
+{
+    for index in 0..runs.len() {
+        runs[index].run.end();
+    }
+}
