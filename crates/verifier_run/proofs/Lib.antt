@@ -3,3 +3,7 @@ mod CourseLemmas
 mod TraceLemmas
 mod FollowLemmas
 mod PieceLemmas
+mod OrderLemmas
+mod HandOutLemmas
+mod TakenLemmas
+pub mod RunLaws
