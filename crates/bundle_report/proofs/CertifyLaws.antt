@@ -18,7 +18,7 @@ use Rattle.soundness.specs.Certified.{order_of, sealed_count, sealed_by_all, bal
 use Rattle.bundle_report.specs.declared.judged.Judged.{Judged}
 use Rattle.bundle_report.specs.BundleReport.{refused_end, done_or_bad, end_or, end_of, histories_in}
 use Rattle.bundle_report.specs.RunReport.{courses_from, courses_of, parts_at, first_refused}
-use Rattle.bundle_report.specs.Judged.{judged_by, judged_from, judged, CanBeJudged, first_parts, refused_log_by, refused_log, end_by}
+use Rattle.bundle_report.specs.Judged.{judged_by, judged_from, judged, CanBeJudged, first_parts, refused_log_by, refused_log, end_by, end_of_runs}
 use Rattle.bundle_report.proofs.PartLemmas.{part_of, log-parts}
 use Rattle.bundle_report.proofs.EpochPartLemmas.{parts-numbers, parts-once, parts-counts}
 use Rattle.bundle_report.proofs.EpochVerdictLemmas.{epoch_verdict}

@@ -151,17 +151,17 @@ next_epoch last (op ∷ ops) = go (nat_lt last op.stamp.epoch) refl (next_epoch 
 from_epoch : (first high : ℕ) (ops : List Operation) → NeverFalls operation_epoch first high ops
     → up_to moment_of first ops ≡ of_epoch moment_of first ops
 from_epoch first high [] is = refl
-from_epoch first high (op ∷ ops) is = go (nat_le op.stamp.epoch first) refl
+from_epoch first high (op ∷ ops) is =
+    go (nat_le op.stamp.epoch first) refl
+    (from_epoch first high ops (never_falls-from operation_epoch first op.stamp.epoch high ops is.0 is.1))
   where
-    rest : up_to moment_of first ops ≡ of_epoch moment_of first ops
-    rest = from_epoch first high ops (never_falls-from operation_epoch first op.stamp.epoch high ops is.0 is.1)
-
     go : (b : Bool) → nat_le op.stamp.epoch first ≡ b
+        → up_to moment_of first ops ≡ of_epoch moment_of first ops
         → cond b (op ∷ up_to moment_of first ops) (up_to moment_of first ops) ≡ of_epoch moment_of first (op ∷ ops)
-    go true within =
+    go true within rest =
         let own : op.stamp.epoch ≡ first = grind (arith, nat_tests, is.0) in
         ap (λ (os : List Operation). op ∷ os) rest ∙ sym (cond-true (op.stamp.epoch == first) _ _ (eq-eqb _ _ own))
-    go false beyond =
+    go false beyond rest =
         let above : first < op.stamp.epoch = grind (arith, nat_tests) in
         rest ∙ sym (cond-false (op.stamp.epoch == first) _ _ (ne_eqb _ _ (λ same. absurd (omega (arith, above, same)))))
 

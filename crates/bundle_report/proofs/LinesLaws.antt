@@ -1,5 +1,5 @@
 -- The lines that runs tell of the certified epochs are those of the report.
-use Rattle.std.proofs.Common.{◌≡◌, ℕ, zero, suc, ◌+◌, ◌<◌, ◌≤◌, ◌==◌, List, ◌++◌, map, refl, sym, ◌∙◌, ap, append-nil, append_assoc, arith}
+use Rattle.std.proofs.Common.{◌≡◌, ℕ, zero, suc, ◌+◌, ◌<◌, ◌≤◌, ◌==◌, List, ◌++◌, map, refl, sym, ◌∙◌, ap, append-nil, append_assoc, arith, ◌∷◌, []}
 use Rattle.std.specs.List.{flat_map}
 use Rattle.std.proofs.lemmas.Grind.{flat_map-append}
 use Rattle.lamport_clocks.specs.declared.header.Header.{Header}
@@ -15,7 +15,7 @@ use Rattle.soundness.specs.Certified.{event_moment, all_events, order_of, order_
 use Rattle.bundle_report.specs.BundleReport.{epoch_text}
 use Rattle.bundle_report.specs.BundleReport.{epoch_lines, histories_in}
 use Rattle.bundle_report.specs.RunReport.{courses_of, operations_among}
-use Rattle.bundle_report.specs.SoFar.{epoch_operations, lines_from}
+use Rattle.bundle_report.specs.SoFar.{epoch_operations, lines_told, lines_from}
 use Rattle.bundle_report.proofs.EpochTextLemmas.{operations-within}
 use Rattle.bundle_report.proofs.RunReportLemmas.{block_moment, operations-among}
 

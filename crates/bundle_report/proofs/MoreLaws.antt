@@ -57,7 +57,7 @@ module _ (scheme : Scheme) (header : Header) where
   long-sealed index number (log ∷ logs) all =
       (omega (arith, parts-count number log, all.0), long-sealed index (suc number) logs all.1)
 
-  long-none : (number : ℕ) (logs : List (List ℕ)) → AreLong 0 number logs
+  pub long-none : (number : ℕ) (logs : List (List ℕ)) → AreLong 0 number logs
   long-none number [] = tt
   long-none number (log ∷ logs) = (omega arith, long-none (suc number) logs)
 
@@ -129,22 +129,27 @@ took-left scheme header number count log [] within =
     ap (λ (bytes : List ℕ). left_from header.first count (run_of scheme header number bytes)) (sym (append-nil log))
 took-left scheme header number count log (frame ∷ frames) within =
     go (frame.verifier == number) refl
+    (took-left scheme header number count (log ++ frame.body) frames (long_stays scheme header number log frame.body count within))
+    (took-left scheme header number count log frames within)
   where
     run : Progress
     run = left_from header.first count (run_of scheme header number log)
 
     go : (b : Bool) → (frame.verifier == number) ≡ b
+        → took scheme number (left_from header.first count (run_of scheme header number (log ++ frame.body))) frames
+        ≡ left_from header.first count (run_of scheme header number ((log ++ frame.body) ++ log_of number frames))
+        → took scheme number run frames ≡ left_from header.first count (run_of scheme header number (log ++ log_of number frames))
         → took scheme number (if b then fed scheme run frame.body else run) frames
         ≡ left_from header.first count (run_of scheme header number (log ++ ((if frame.verifier == number then frame.body else []) ++ log_of number frames)))
-    go true own =
+    go true own mine others =
         ap (λ (r : Progress). took scheme number r frames) (left_stays scheme header number log frame.body count within)
-        ∙ took-left scheme header number count (log ++ frame.body) frames (long_stays scheme header number log frame.body count within)
+        ∙ mine
         ∙ ap (λ (bytes : List ℕ). left_from header.first count (run_of scheme header number bytes))
         (append_assoc log frame.body (log_of number frames))
         ∙ ap (λ (b : Bool). left_from header.first count (run_of scheme header number (log ++ ((if b then frame.body else []) ++ log_of number frames))))
         (sym own)
-    go false other =
-        took-left scheme header number count log frames within
+    go false other mine others =
+        others
         ∙ ap (λ (b : Bool). left_from header.first count (run_of scheme header number (log ++ ((if b then frame.body else []) ++ log_of number frames))))
         (sym other)
 

@@ -113,31 +113,6 @@ impl Tracer {
         }
         Ok(())
     }
-
-    /// Appends the operations of epochs up to this one to others, and keeps none of these and no part of these epochs.
-    /// For want of memory nothing of it is done.
-    pub(crate) fn take_into(
-        &mut self,
-        through: u32,
-        into: &mut Vec<Operation>,
-    ) -> Result<(), Memory>
-        ensures taken { OnOk result (into.new.items ≡ into.old.items ++ taken_by through self.old) }
-        ensures left { OnOk result (self.new ≡ left_behind through self.old) }
-        ensures err { OnErr result (self.new ≡ self.old) }
-        ensures err_into { OnErr result (into.new.items ≡ into.old.items) }
-
-        // The rest is as it was, either way.
-        ensures machine { self.new.machine ≡ self.old.machine }
-        ensures refused { self.new.refused ≡ self.old.refused }
-    {
-        let operations = operations_through(self.operations.as_slice(), through);
-        into.reserve(operations)?;
-        append(into, &self.operations.as_slice()[..operations]);
-        let parts = parts_through(self.parts.as_slice(), through);
-        self.operations.pass(operations);
-        self.parts.pass(parts);
-        Ok(())
-    }
 }
 
 // Appends what an effect hands out, for which there is room.
