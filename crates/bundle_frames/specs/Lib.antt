@@ -6,3 +6,5 @@ pub mod Finds
 pub mod Unfinished
 pub mod Splitter
 pub mod WholeBundle
+pub mod Reading
+pub mod Reader
