@@ -4,6 +4,7 @@ pub mod Progress
 pub mod Extent
 pub mod Finds
 pub mod Unfinished
+pub mod FrameBuffer
 pub mod Splitter
 pub mod WholeBundle
 pub mod Reading

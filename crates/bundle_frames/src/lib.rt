@@ -11,6 +11,7 @@
 mod coming;
 mod fields;
 mod found;
+mod frame_buffer;
 mod laws;
 mod parts;
 mod reader;
@@ -20,6 +21,7 @@ mod writers;
 
 pub use coming::{Next, SourceStop};
 pub use found::{Fed, Found};
+pub use frame_buffer::FrameBuffer;
 pub use laws::{
     bundles_are_read_back, bytes_bound_the_frames, frames_are_read_back, headers_are_read_back,
 };

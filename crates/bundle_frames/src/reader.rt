@@ -6,6 +6,7 @@ ghost use Rattle.fv_outside.specs.Faults.{Counts, Rose};
 
 use crate::coming::{Next, SourceStop};
 use crate::found::Found;
+use crate::frame_buffer::FrameBuffer;
 use crate::splitter::Splitter;
 use fv_outside::{Failed, Source};
 use lamport_clocks::Header;
@@ -221,6 +222,15 @@ impl BundleReader {
         ensures value { result.now ≡ self.now.progress.body }
     {
         self.splitter.body()
+    }
+
+    /// Hands the frame that came last over to a buffer, for what that held: no byte is copied. Where none came
+    /// last, the buffer holds nothing then.
+    pub fn hand_over(&mut self, frame: &mut FrameBuffer)
+        ensures body { frame.new ≡ self.old.progress.body }
+        ensures rest { self.new ≡ record self.old { progress = record self.old.progress { body = [] } } }
+    {
+        self.splitter.hand_over(frame);
     }
 
     /// The offset of the header or frame that is bad, or that is cut if the bundle ends here.
