@@ -3,5 +3,8 @@ pub mod FrontLaws
 pub mod BundleLaws
 pub mod PartLaws
 pub mod FindsLaws
+pub mod ReadingLaws
+mod ExtentLemmas
+mod ReaderLemmas
 mod TextLemmas
 mod SpelledLemmas

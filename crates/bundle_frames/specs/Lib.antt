@@ -4,5 +4,8 @@ pub mod Progress
 pub mod Extent
 pub mod Finds
 pub mod Unfinished
+pub mod FrameBuffer
 pub mod Splitter
 pub mod WholeBundle
+pub mod Reading
+pub mod Reader

@@ -4,6 +4,7 @@ ghost use Rattle.std.specs.Vec.{vec_capacity};
 
 use crate::fields::{HEAD_BYTES, HEADER_BYTES};
 use crate::found::{Fed, Found};
+use crate::frame_buffer::FrameBuffer;
 use crate::parts::{MOST_BYTES, read_on};
 use lamport_clocks::Header;
 use std::alloc::Global;
@@ -125,6 +126,20 @@ impl Splitter {
             &self.buffer[HEAD_BYTES..]
         } else {
             &[]
+        }
+    }
+
+    /// Hands the frame that was found last over to a buffer, and takes that buffer's bytes for its own: none
+    /// are copied. Where none was found, the buffer holds nothing then.
+    pub fn hand_over(&mut self, frame: &mut FrameBuffer)
+        ensures body { frame.new ≡ self.old.body }
+        ensures rest { self.new ≡ record self.old { body = [] } }
+    {
+        if self.is_whole {
+            frame.take(&mut self.buffer);
+            self.is_whole = false;
+        } else {
+            frame.clear();
         }
     }
 
