@@ -1,7 +1,8 @@
 -- Lists in the order of their epochs: one behind another, and their fronts.
 use Rattle.std.proofs.Common.{◌≡◌, ℕ, zero, suc, ◌+◌, ◌<◌, ◌≤◌, nat_le, nat_lt, Bool, true, false, cond, List, [], ◌∷◌, ◌++◌, length, take, drop, refl, sym, ap, subst, ◌∙◌, arith}
-use Rattle.std.specs.Prelude.{filter}
+use Rattle.std.specs.Prelude.{filter, take_while}
 use Rattle.std.specs.List.{prefix_len}
+use Rattle.std.proofs.lemmas.List.Folds.{length-prefix_len}
 use Rattle.std.proofs.lemmas.Bool.{cond-true, cond-false}
 use Rattle.std.proofs.lemmas.Bool.Decides.{nat_tests}
 use Rattle.multiset_sum.specs.declared.part.Part.{Part}
@@ -60,6 +61,13 @@ module _ {X : Type 0} (epoch : X → ℕ) where
   abbrev pub front_of : ℕ → List X → ℕ
   front_of through xs = prefix_len (λ x. nat_le (epoch x) through) xs
 
+  -- the number of those that a test took from the front
+  pub counted : (through n : ℕ) (seen xs : List X) → n ≡ length (take_while (λ x. nat_le (epoch x) through) seen) → seen ≡ xs → n ≡ front_of through xs
+  counted through n seen xs is same =
+      is
+      ∙ (ap (λ (ys : List X). length (take_while (λ x. nat_le (epoch x) through) ys)) same
+      ∙ length-prefix_len (λ x. nat_le (epoch x) through) xs)
+
   -- all are behind an epoch
   pub all_after : (through low high : ℕ) (xs : List X) → through < low → NeverFalls epoch low high xs → after_of through xs ≡ xs
   all_after through low high [] past is = refl
@@ -113,11 +121,10 @@ one_of_each-append from mid next (part ∷ parts) more is later = (is.0, one_of_
 -- so they never fall
 pub one_of_each-never_falls : (from next : ℕ) (parts : List Part) → OneOfEach from next parts → NeverFalls part_epoch from next parts
 one_of_each-never_falls from next [] is = omega arith
-one_of_each-never_falls from next (part ∷ parts) is =
-    (
-      omega (arith, is.0),
-      never_falls-from part_epoch part.epoch (suc from) next parts (omega (arith, is.0)) (one_of_each-never_falls (suc from) next parts is.1),
-    )
+one_of_each-never_falls from next (part ∷ parts) is = (
+  omega (arith, is.0),
+  never_falls-from part_epoch part.epoch (suc from) next parts (omega (arith, is.0)) (one_of_each-never_falls (suc from) next parts is.1),
+)
 
 -- there are as many as epochs
 pub one_of_each-count : (from next : ℕ) (parts : List Part) → OneOfEach from next parts → next ≡ from + length parts

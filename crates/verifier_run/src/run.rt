@@ -170,6 +170,28 @@ impl Run {
     {
         self.tracer.operations()
     }
+
+    /// Takes the gets and puts of epochs up to this one, in order. They are kept no longer, nor are the parts of these
+    /// epochs: `ops` and `parts` answer those of later ones. All else stays, and a log goes on as it would have.
+    pub fn take(&mut self, through: u32) -> Result<Vec<Operation>, Memory>
+        ensures operations { IfOk result (λ taken. taken.items ≡ taken_by through self.old.course) }
+        ensures left { OnOk result (self.new ≡ left_of through self.old) }
+        ensures memory { OnErr result (self.new ≡ self.old) }
+    {
+        let mut taken = Vec::new(self.tracer.allocator());
+        self.take_into(through, &mut taken)?;
+        Ok(taken)
+    }
+
+    /// The same, appended to others. For want of memory nothing is taken, and these are as they were.
+    pub fn take_into(&mut self, through: u32, into: &mut Vec<Operation>) -> Result<(), Memory>
+        ensures operations { OnOk result (into.new.items ≡ into.old.items ++ taken_by through self.old.course) }
+        ensures left { OnOk result (self.new ≡ left_of through self.old) }
+        ensures memory { OnErr result (self.new ≡ self.old) }
+        ensures memory_into { OnErr result (into.new.items ≡ into.old.items) }
+    {
+        self.tracer.take_into(through, into)
+    }
 }
 
 // Takes the commands that are whole, up to the first that is refused, and answers where the one that is cut

@@ -1,5 +1,5 @@
 //! A verifier and what its commands have come to, command by command.
-ghost use Rattle.std.specs.Prelude.{◌≡◌, ◌+◌, ◌<◌, ◌≤◌, ◌^◌, ◌++◌, length, vec_len, vec_capacity, take_while, nat_le, IfOk, OnOk, OnErr};
+ghost use Rattle.std.specs.Prelude.{◌≡◌, ◌+◌, ◌<◌, ◌≤◌, ◌^◌, ◌++◌, length, take, vec_len, vec_capacity, take_while, nat_le, IfOk, OnOk, OnErr};
 ghost use Rattle.lamport_clocks.specs.Header.{IsHeader};
 ghost use Rattle.record_text.specs.Format.{format_of};
 ghost use Rattle.log_codec.specs.Command.{IsCommand};
@@ -113,6 +113,31 @@ impl Tracer {
         }
         Ok(())
     }
+
+    /// Appends the operations of epochs up to this one to others, and keeps none of these and no part of these epochs.
+    /// For want of memory nothing of it is done.
+    pub(crate) fn take_into(
+        &mut self,
+        through: u32,
+        into: &mut Vec<Operation>,
+    ) -> Result<(), Memory>
+        ensures taken { OnOk result (into.new.items ≡ into.old.items ++ taken_by through self.old) }
+        ensures left { OnOk result (self.new ≡ left_behind through self.old) }
+        ensures err { OnErr result (self.new ≡ self.old) }
+        ensures err_into { OnErr result (into.new.items ≡ into.old.items) }
+
+        // The rest is as it was, either way.
+        ensures machine { self.new.machine ≡ self.old.machine }
+        ensures refused { self.new.refused ≡ self.old.refused }
+    {
+        let operations = operations_through(self.operations.as_slice(), through);
+        into.reserve(operations)?;
+        append(into, front(self.operations.as_slice(), operations));
+        let parts = parts_through(self.parts.as_slice(), through);
+        self.operations.pass(operations);
+        self.parts.pass(parts);
+        Ok(())
+    }
 }
 
 // Appends what an effect hands out, for which there is room.
@@ -145,7 +170,18 @@ fn parts_through(parts: &[Part], through: u32) -> usize
     ensures value { result ≡ length (take_while (λ part. nat_le part.epoch through) parts.now) }
     ensures within { result ≤ length parts.now }
 {
-    parts.iter().take_while(|part| part.epoch <= through).count()
+    parts
+        .iter()
+        .take_while(|part| part.epoch <= through)
+        .count()
+}
+
+// The first so many operations.
+fn front(operations: &[Operation], len: usize) -> &[Operation]
+    requires within { len ≤ length operations.now }
+    ensures value { result.now ≡ take len operations.now }
+{
+    &operations[..len]
 }
 
 // Appends operations for which there is room.
