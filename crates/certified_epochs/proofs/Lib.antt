@@ -1,2 +1,3 @@
--- What one turn of certifying tells.
+-- What one turn of certifying tells, and runs one after another.
+mod FedLemmas
 mod TurnLemmas

@@ -7,7 +7,7 @@ use Rattle.epoch_gather.specs.declared.outcome.Verdict.TheVariants as verdicts
 use Rattle.epoch_gather.specs.Verdict.{verdict_of}
 use Rattle.stamp_order.specs.Operations.{merged_up_to}
 use Rattle.verifier_run.specs.Course.{Course}
-use Rattle.verifier_run.specs.Progress.{Progress}
+use Rattle.verifier_run.specs.Progress.{Progress, ended}
 use Rattle.verifier_run.specs.Taken.{left_of}
 use Rattle.bundle_report.specs.declared.judged.Judged.{Judged}
 use Rattle.bundle_report.specs.BundleReport.{epoch_text}
@@ -18,6 +18,14 @@ use Rattle.certified_epochs.specs.declared.fed_run.FedRun.{FedRun}
 -- no run was starved
 abbrev pub AreFed : List FedRun → Type 0
 AreFed runs = AllByRecursion (λ fed. fed.is_starved ≡ false) runs
+
+-- a run at the end of its log
+abbrev pub ended_fed : FedRun → FedRun
+ended_fed fed = record fed { run = ended fed.run }
+
+-- a run without what it has up to an epoch
+abbrev pub left_fed : ℕ → FedRun → FedRun
+left_fed epoch fed = record fed { run = left_of epoch fed.run }
 
 -- the courses of runs
 abbrev pub courses_in : List Progress → List Course

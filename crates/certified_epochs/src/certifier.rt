@@ -13,7 +13,7 @@ ghost use Rattle.report_text.specs.Status.{last_line};
 ghost use Rattle.bundle_report.specs.BundleReport.{histories_at, end_of};
 ghost use Rattle.bundle_report.specs.SoFar.{HaveTaken, HaveLogs, lines_from, runs_ended};
 ghost use Rattle.bundle_report.specs.Judged.{none_judged, CanBeJudged};
-ghost use Rattle.stamp_order.specs.Merged.{up_to};
+ghost use Rattle.stamp_order.specs.Merged.{merged, up_to};
 ghost use Rattle.stamp_order.specs.Operations.{moment_of, merged_up_to};
 ghost use Rattle.verifier_run.specs.Taken.{left_of};
 ghost use Rattle.bundle_report.specs.RunReport.{operations_among};
@@ -212,6 +212,13 @@ fn take(operations: &mut Vec<Operation>, runs: &mut [FedRun], epoch: u32) -> Res
 {
     operations.clear();
     take_all(operations, runs, epoch)?;
+    put_in_order(operations)
+}
+
+// Puts operations in the order of their moments; those of one moment stay as they stood.
+fn put_in_order(operations: &mut Vec<Operation>) -> Result<(), Memory>
+    ensures order { OnOk result (operations.new.items ≡ merged moment_of operations.old.items) }
+{
     operations.sort_by_key(Moment::of)?;
     Ok(())
 }
@@ -228,8 +235,8 @@ fn take_all(
     ensures len { length runs.new ≡ length runs.old }
     ensures fed { AreFed runs.old → AreFed runs.new }
 {
-    for index in 0..runs.len() {
-        runs[index].run.take_into(epoch, operations)?;
+    for fed in runs.iter_mut() {
+        fed.run.take_into(epoch, operations)?;
     }
     Ok(())
 }
@@ -264,7 +271,7 @@ fn end_all(runs: &mut [FedRun])
     ensures ended { map (λ fed. fed.run) runs.new ≡ runs_ended (map (λ fed. fed.run) runs.old) }
     ensures len { length runs.new ≡ length runs.old }
 {
-    for index in 0..runs.len() {
-        runs[index].run.end();
+    for fed in runs.iter_mut() {
+        fed.run.end();
     }
 }

@@ -1,4 +1,4 @@
-use Rattle.std.proofs.Common.{◌≡◌, ◌≤◌, ℕ, List, ◌++◌, map, drop}
+use Rattle.std.proofs.Common.{◌≡◌, ◌≤◌, ℕ, List, ◌++◌, drop}
 use Rattle.std.specs.List.{flat_map}
 use Rattle.report_text.specs.Page.{Passes}
 use Rattle.report_text.specs.Lines.{operation_line}

@@ -5,7 +5,7 @@ use Rattle.report_text.specs.Page.{Passes}
 use Rattle.bundle_report.specs.RunReport.{courses_of}
 use Rattle.bundle_report.specs.SoFar.{HaveTaken, HaveLogs, lines_from}
 use Rattle.certified_epochs.specs.Turn.{AreFed, parts_left}
-use Rattle.certified_epochs.proofs.certifier.certify.Given as goal
+use Rattle.certified_epochs.proofs.certifier.Certifier.certify.Given as goal
 
 -- so many epochs are certified, and their lines are written or wait on the page
 abbrev pub invariant-epochs : goal.invariant-epochs
