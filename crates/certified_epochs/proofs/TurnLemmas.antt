@@ -1,8 +1,9 @@
 -- What one turn of certifying tells of the logs that the runs have taken.
-use Rattle.std.proofs.Common.{◌≡◌, ◌⊎◌, ℕ, suc, ◌+◌, ◌-◌, ◌<◌, ◌≤◌, Bool, true, false, List, [], ◌∷◌, length, map, drop, slice_get, Option, Some, None, inl, inr, refl, sym, ◌∙◌, ap, subst, arith}
-use Rattle.std.specs.Prelude.{IfSome}
+use Rattle.std.proofs.Common.{◌≡◌, ◌⊎◌, ℕ, suc, ◌+◌, ◌-◌, ◌<◌, ◌≤◌, Bool, true, false, List, [], ◌∷◌, length, map, drop, slice_get, Option, Some, None, inl, inr, refl, sym, ◌∙◌, ap, subst, arith, filter, cond}
+use Rattle.std.specs.Prelude.{IfSome, nat_lt}
 use Rattle.std.specs.Option.{option_map}
-use Rattle.std.proofs.lemmas.Bool.{cases_lt}
+use Rattle.std.proofs.lemmas.Bool.Decides.{nat_tests}
+use Rattle.std.proofs.lemmas.Bool.{cases_lt, cond-false}
 use Rattle.lamport_clocks.specs.declared.header.Header.{Header}
 use Rattle.merkle_records.specs.Scheme.{Scheme}
 use Rattle.multiset_sum.specs.declared.part.Part.{Part}
@@ -19,12 +20,13 @@ use Rattle.bundle_report.specs.declared.judged.Judged.{Judged}
 use Rattle.bundle_report.specs.declared.judged.Uneven.{Uneven}
 use Rattle.bundle_report.specs.BundleReport.{epoch_text}
 use Rattle.bundle_report.specs.RunReport.{courses_of, parts_at, operations_among}
-use Rattle.bundle_report.specs.Judged.{judged, judged_by, CanBeJudged}
+use Rattle.bundle_report.specs.Judged.{judged, judged_by, CanBeJudged, first_parts}
 use Rattle.bundle_report.specs.SoFar.{lines_told, runs_from, verdict_at, IsUneven, HaveTaken, HaveLogs}
 use Rattle.bundle_report.proofs.CertifyLaws.{can_be_judged, courses-length}
 use Rattle.bundle_report.proofs.LeftLaws.{run_of, left-parts, next-parts, next-operations, runs-length, runs-more}
 use Rattle.bundle_report.proofs.SoFarLaws.{behind, next-tells, uneven-judged}
-use Rattle.certified_epochs.specs.Turn.{courses_in, next_epoch, Turned, turn_by, turn_at, turn}
+use Rattle.certified_epochs.specs.declared.fed_run.FedRun.{FedRun}
+use Rattle.certified_epochs.specs.Turn.{courses_in, next_epoch, parts_left, Turned, no_turn, turn_by, turn_at, turn}
 
 -- ---- what a turn tells
 
@@ -178,3 +180,130 @@ next-judged so_far runs have =
     (subst (λ (n : ℕ). CanBeJudged n (parts_at so_far.count (courses_of scheme header logs)))
     (courses-length scheme header 0 logs ∙ sym (runs-length scheme header so_far.count 0 logs))
     (can_be_judged scheme header logs taken.header_good taken.whole so_far.count)))
+
+-- ---- the turn that the code makes
+
+-- the courses of runs that are fed
+abbrev pub fed_courses : List FedRun → List Course
+fed_courses runs = map (λ fed. fed.run.course) runs
+
+abbrev pub runs_of : List FedRun → List Progress
+runs_of runs = map (λ fed. fed.run) runs
+
+courses_same : (runs : List FedRun) → courses_in (runs_of runs) ≡ fed_courses runs
+courses_same [] = refl
+courses_same (fed ∷ runs) = ap (λ (courses : List Course). fed.run.course ∷ courses) (courses_same runs)
+
+left_same : (epoch : ℕ) (runs : List FedRun) → map (left_of epoch) (runs_of runs) ≡ map (λ fed. left_of epoch fed.run) runs
+left_same epoch [] = refl
+left_same epoch (fed ∷ runs) = ap (λ (rs : List Progress). left_of epoch fed.run ∷ rs) (left_same epoch runs)
+
+runs_many : (runs : List FedRun) → length (runs_of runs) ≡ length runs
+runs_many [] = refl
+runs_many (fed ∷ runs) = ap suc (runs_many runs)
+
+-- The parts of the next epoch can be judged.
+pub fed-judged : (so_far : Judged) (runs : List FedRun) → HaveLogs so_far (runs_of runs) → CanBeJudged (length runs) (parts_at 0 (fed_courses runs))
+fed-judged so_far runs have =
+    subst (λ (n : ℕ). CanBeJudged n (parts_at 0 (fed_courses runs))) (runs_many runs)
+    (subst (λ (courses : List Course). CanBeJudged (length (runs_of runs)) (parts_at 0 courses)) (courses_same runs)
+    (next-judged so_far (runs_of runs) have))
+
+-- a turn with its text
+pub with_text : (t : Turned) (more : Bool) (now : Judged) (runs : List Progress) (text : List ℕ)
+    → t ≡ record { more = more; judged = now; runs = runs; text = text } → t ≡ record { more = more; judged = now; runs = runs; text = t.text }
+with_text t more now runs text is =
+    is ∙ ap (λ (line : List ℕ). record { more = more; judged = now; runs = runs; text = line }) (sym (ap (λ (u : Turned). u.text) is))
+
+module _ (so_far : Judged) (runs : List FedRun) (found : Option ℕ) (epoch : ℕ) (parts : List Part) (verdict : Verdict)
+    (is : found ≡ Some epoch) (next : found ≡ next_epoch (runs_of runs)) (gathered : parts ≡ parts_at 0 (fed_courses runs))
+    (judged_is : verdict ≡ verdict_of (length runs) epoch parts) where
+  -- by the verdict that was found
+  pub turn-is : turn so_far (runs_of runs) ≡ turn_by so_far (runs_of runs) epoch verdict
+  turn-is =
+      ap (turn_at so_far (runs_of runs)) (sym next ∙ is)
+      ∙ ap (turn_by so_far (runs_of runs) epoch)
+      (ap (λ (n : ℕ). verdict_of n epoch (parts_at 0 (courses_in (runs_of runs)))) (runs_many runs)
+      ∙ ap (λ (courses : List Course). verdict_of (length runs) epoch (parts_at 0 courses)) (courses_same runs)
+      ∙ ap (verdict_of (length runs) epoch) (sym gathered)
+      ∙ sym judged_is)
+
+  -- a balanced one
+  pub turn-balanced : (left : List Progress) (operations : List Operation) → verdict ≡ Balanced
+      → left ≡ map (λ fed. left_of epoch fed.run) runs → operations ≡ merged_up_to epoch (operations_among (fed_courses runs))
+      → turn so_far (runs_of runs)
+      ≡ record { more = true; judged = record so_far { count = suc so_far.count }; runs = left; text = epoch_text epoch operations }
+  turn-balanced left operations balanced left_is ops_are =
+      turn-is ∙ ap (turn_by so_far (runs_of runs) epoch) balanced
+      ∙ ap (λ (rs : List Progress). record {
+        more = true; judged = record so_far { count = suc so_far.count }; runs = rs;
+        text = epoch_text epoch (merged_up_to epoch (operations_among (courses_in (runs_of runs)))) })
+      (left_same epoch runs ∙ sym left_is)
+      ∙ ap (λ (ops : List Operation). record {
+        more = true; judged = record so_far { count = suc so_far.count }; runs = left; text = epoch_text epoch ops })
+      (ap (λ (courses : List Course). merged_up_to epoch (operations_among courses)) (courses_same runs) ∙ sym ops_are)
+
+-- where there is no next epoch
+pub turn-none : (so_far : Judged) (runs : List Progress) (found : Option ℕ) → found ≡ None → found ≡ next_epoch runs
+    → turn so_far runs ≡ no_turn so_far runs
+turn-none so_far runs found is next = ap (turn_at so_far runs) (sym next ∙ is)
+
+-- ---- an end comes
+
+-- no more are left of what is filtered
+filtered : (epoch : ℕ) (parts : List Part) → length (filter (λ part. nat_lt epoch part.epoch) parts) ≤ length parts
+filtered epoch [] = omega arith
+filtered epoch (part ∷ parts) = go (nat_lt epoch part.epoch) (filtered epoch parts)
+  where
+    go : (b : Bool) → length (filter (λ p. nat_lt epoch p.epoch) parts) ≤ length parts
+        → length (cond b (part ∷ filter (λ p. nat_lt epoch p.epoch) parts) (filter (λ p. nat_lt epoch p.epoch) parts)) ≤ suc (length parts)
+    go true less = omega arith
+    go false less = omega arith
+
+-- The first run has fewer parts left once the epoch of the first is taken.
+pub less-left : (epoch : ℕ) (old new : List FedRun) (found : Option ℕ) → found ≡ Some epoch → found ≡ next_epoch (runs_of old)
+    → runs_of new ≡ map (λ fed. left_of epoch fed.run) old → parts_left new < parts_left old
+less-left epoch [] new found is next left = absurd (cc)
+less-left epoch (fed ∷ old) new found is next left =
+    go fed.run.course.parts refl
+  where
+    go : (parts : List Part) → fed.run.course.parts ≡ parts → parts_left new < length fed.run.course.parts
+    go [] none =
+        let absent = ap (λ (ps : List Part). option_map (λ (p : Part). p.epoch) (slice_get ps 0)) none in
+        absurd (cc)
+    go (part ∷ parts) some =
+        let there = ap (λ (ps : List Part). option_map (λ (p : Part). p.epoch) (slice_get ps 0)) some in
+        let own : part.epoch ≡ epoch = cc in
+        let dropped : nat_lt epoch part.epoch ≡ false = grind (arith, nat_tests, own) in
+        let rest = filtered epoch parts in
+        let new_parts : parts_left new ≡ length (filter (λ (p : Part). nat_lt epoch p.epoch) (part ∷ parts)) =
+        ap (λ (rs : List Progress). length (first_parts (courses_in rs))) left
+        ∙ ap (λ (ps : List Part). length (filter (λ (p : Part). nat_lt epoch p.epoch) ps)) some in
+        let fewer : length (filter (λ (p : Part). nat_lt epoch p.epoch) (part ∷ parts)) ≡ length (filter (λ (p : Part). nat_lt epoch p.epoch) parts) =
+        ap length (cond-false (nat_lt epoch part.epoch) _ _ dropped) in
+        omega (arith, new_parts, fewer, rest, ap length some)
+
+-- The epoch of the next part is as many behind the first as are counted.
+next_count : (scheme : Scheme) (header : Header) (logs : List (List ℕ)) (so_far : Judged) (runs : List Progress) (epoch : ℕ)
+    → HaveTaken scheme header logs so_far runs → so_far.unbalanced ≡ None → next_epoch runs ≡ Some epoch → so_far.count ≤ epoch
+next_count scheme header [] so_far runs epoch taken even is = absurd (omega (arith, taken.whole, taken.header_good.some_verifiers))
+next_count scheme header (log ∷ logs) so_far runs epoch taken even is =
+    go (drop so_far.count (run_of scheme header 0 log).course.parts) refl
+  where
+    at : next_epoch runs ≡ option_map (λ part. part.epoch) (slice_get (drop so_far.count (run_of scheme header 0 log).course.parts) 0)
+    at = epoch_is scheme header log logs so_far runs taken even
+
+    go : (parts : List Part) → drop so_far.count (run_of scheme header 0 log).course.parts ≡ parts → so_far.count ≤ epoch
+    go [] none =
+        let absent = at ∙ ap (λ (ps : List Part). option_map (λ (p : Part). p.epoch) (slice_get ps 0)) none in
+        absurd (cc)
+    go (part ∷ parts) some =
+        let there = at ∙ ap (λ (ps : List Part). option_map (λ (p : Part). p.epoch) (slice_get ps 0)) some in
+        let own : part.epoch ≡ epoch = cc in
+        let next = next-tells scheme header log logs so_far runs taken (part ∷ parts) some in
+        omega (arith, own, next.0)
+
+pub count-small : (so_far : Judged) (runs : List FedRun) (found : Option ℕ) (epoch : ℕ) → HaveLogs so_far (runs_of runs)
+    → so_far.unbalanced ≡ None → found ≡ Some epoch → found ≡ next_epoch (runs_of runs) → so_far.count ≤ epoch
+count-small so_far runs found epoch have even is next =
+    next_count have.0 have.1 have.2 so_far (runs_of runs) epoch have.3 even (sym next ∙ is)

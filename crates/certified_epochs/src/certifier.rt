@@ -12,7 +12,7 @@ ghost use Rattle.report_text.specs.Ending.{status_of};
 ghost use Rattle.report_text.specs.Status.{last_line};
 ghost use Rattle.bundle_report.specs.BundleReport.{histories_at, end_of};
 ghost use Rattle.bundle_report.specs.SoFar.{HaveTaken, HaveLogs, lines_from, runs_ended};
-ghost use Rattle.bundle_report.specs.Judged.{none_judged, CanBeJudged};
+ghost use Rattle.bundle_report.specs.Judged.{none_judged};
 ghost use Rattle.stamp_order.specs.Merged.{merged, up_to};
 ghost use Rattle.stamp_order.specs.Operations.{moment_of, merged_up_to};
 ghost use Rattle.verifier_run.specs.Taken.{left_of};
@@ -167,7 +167,7 @@ impl Certifier {
     ) -> Result<bool, ReportStop>
         requires few { length runs.old ≤ 64 }
         requires even { self.old.unbalanced ≡ None }
-        requires parts { CanBeJudged (length runs.old) (parts_at 0 (map (λ fed. fed.run.course) runs.old)) }
+        requires logs { HaveLogs self.old (map (λ fed. fed.run) runs.old) }
         ensures turned { IfOk result (λ more. turn self.old (map (λ fed. fed.run) runs.old)
             ≡ record { more = more; judged = self.new; runs = map (λ fed. fed.run) runs.new; text = (turn self.old (map (λ fed. fed.run) runs.old)).text }) }
         ensures text { OnOk result (Passes (O.held out.old) page.old (turn self.old (map (λ fed. fed.run) runs.old)).text (O.held out.new) page.new) }
