@@ -12,7 +12,7 @@ use Rattle.stamp_order.proofs.MergedLaws.{merged-filter, merged-flat_map}
 use Rattle.verifier_run.specs.Course.{Course}
 use Rattle.soundness.specs.History.{Event}
 use Rattle.soundness.specs.Certified.{event_moment, all_events, order_of, order_within, operations_by, operations_in, operations_of, epochs_from}
-use Rattle.bundle_report.specs.BundleReport.{epoch_text}
+use Rattle.bundle_report.specs.Report.{epoch_text}
 use Rattle.bundle_report.specs.BundleReport.{epoch_lines, histories_in}
 use Rattle.bundle_report.specs.RunReport.{courses_of, operations_among}
 use Rattle.bundle_report.specs.SoFar.{epoch_operations, lines_told, lines_from}

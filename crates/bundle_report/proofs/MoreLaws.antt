@@ -20,7 +20,7 @@ use Rattle.verifier_run.proofs.RunLaws.{fed_joined, fed_goes_on, fed_left, clock
 use Rattle.soundness.specs.History.{log_events}
 use Rattle.soundness.specs.Certified.{sealed_count, epochs_from}
 use Rattle.bundle_report.specs.Logs.{joined_from}
-use Rattle.bundle_report.specs.BundleReport.{epoch_text}
+use Rattle.bundle_report.specs.Report.{epoch_text}
 use Rattle.bundle_report.specs.RunReport.{courses_from, courses_of, parts_at, operations_among}
 use Rattle.bundle_report.specs.SoFar.{lines_told, lines_from, left_from, runs_from, took, runs_behind}
 use Rattle.bundle_report.proofs.PartLemmas.{part_of, log-parts}

@@ -18,13 +18,10 @@ use Rattle.soundness.specs.Certified.{order_of, operations_of, added_in, evicted
 
 -- ---- the lines
 
--- the lines of an epoch with these operations: how many they are, and then a line for each
-abbrev pub epoch_text : ℕ → List Operation → List ℕ
-epoch_text epoch operations = epoch_line epoch (length operations) ++ flat_map operation_line operations
-
--- the lines of an epoch, of operations among which its own are
+-- the lines of an epoch: how many operations it has, and then these
 abbrev pub epoch_lines : List Operation → ℕ → List ℕ
-epoch_lines operations epoch = epoch_text epoch (operations_of epoch operations)
+epoch_lines operations epoch =
+    epoch_line epoch (length (operations_of epoch operations)) ++ flat_map operation_line (operations_of epoch operations)
 
 -- ---- how it ends
 
@@ -69,16 +66,11 @@ end_of scheme header logs histories bad =
     then unbalanced_end scheme (order_of histories) (header.first + certified)
     else end_or (refused_among scheme header 0 logs) (done_or_bad certified bad)
 
--- the lines of the certified epochs
-abbrev pub certified_lines : Scheme → Header → List (List Event) → List ℕ
-certified_lines scheme header histories =
-    flat_map (epoch_lines (certified_operations scheme header.first histories))
-    (epochs_from header.first (certified_count scheme header.first histories))
-
 -- The report: the lines of each certified epoch, and the last line.
 abbrev pub report_of_logs : Scheme → Header → List Log → List (List Event) → Option ℕ → List ℕ
 report_of_logs scheme header logs histories bad =
-    certified_lines scheme header histories
+    flat_map (epoch_lines (certified_operations scheme header.first histories))
+    (epochs_from header.first (certified_count scheme header.first histories))
     ++ last_line (status_of (end_of scheme header logs histories bad))
 
 -- the histories of logs that were read

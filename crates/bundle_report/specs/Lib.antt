@@ -5,6 +5,7 @@ pub mod BundleReport
 pub mod Stops
 pub mod Answer
 pub mod Headline
+pub mod Report
 pub mod RunReport
 pub mod Judged
 pub mod SoFar

@@ -17,7 +17,7 @@ use Rattle.verifier_run.specs.Progress.{Progress, opening_progress, fed, ended}
 use Rattle.soundness.specs.Certified.{epochs_from}
 use Rattle.bundle_report.specs.declared.judged.Judged.{Judged}
 use Rattle.bundle_report.specs.declared.judged.Uneven.{Uneven}
-use Rattle.bundle_report.specs.BundleReport.{epoch_text}
+use Rattle.bundle_report.specs.Report.{epoch_text}
 use Rattle.bundle_report.specs.RunReport.{courses_of, parts_at, operations_among}
 
 -- ---- the lines of an epoch

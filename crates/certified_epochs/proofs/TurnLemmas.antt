@@ -18,7 +18,7 @@ use Rattle.verifier_run.specs.Progress.{Progress}
 use Rattle.verifier_run.specs.Taken.{left_of}
 use Rattle.bundle_report.specs.declared.judged.Judged.{Judged}
 use Rattle.bundle_report.specs.declared.judged.Uneven.{Uneven}
-use Rattle.bundle_report.specs.BundleReport.{epoch_text}
+use Rattle.bundle_report.specs.Report.{epoch_text}
 use Rattle.bundle_report.specs.RunReport.{courses_of, parts_at, operations_among}
 use Rattle.bundle_report.specs.Judged.{judged, judged_by, CanBeJudged, first_parts}
 use Rattle.bundle_report.specs.SoFar.{lines_told, runs_from, verdict_at, IsUneven, HaveTaken, HaveLogs}

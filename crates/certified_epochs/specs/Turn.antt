@@ -10,7 +10,7 @@ use Rattle.verifier_run.specs.Course.{Course}
 use Rattle.verifier_run.specs.Progress.{Progress, ended}
 use Rattle.verifier_run.specs.Taken.{left_of}
 use Rattle.bundle_report.specs.declared.judged.Judged.{Judged}
-use Rattle.bundle_report.specs.BundleReport.{epoch_text}
+use Rattle.bundle_report.specs.Report.{epoch_text}
 use Rattle.bundle_report.specs.RunReport.{parts_at, operations_among}
 use Rattle.bundle_report.specs.Judged.{first_parts}
 use Rattle.certified_epochs.specs.declared.fed_run.FedRun.{FedRun}

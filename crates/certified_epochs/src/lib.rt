@@ -9,8 +9,10 @@ mod ending;
 mod fed_run;
 mod judging;
 mod lines;
+mod report;
 
 pub use certifier::Certifier;
 pub use ending::{end_of, first_refused};
 pub use fed_run::FedRun;
 pub use judging::judge;
+pub use report::{certified_parts, last_epoch, operations_up_to, write_report};

@@ -3,7 +3,7 @@ ghost use Rattle.std.specs.Prelude.{◌++◌, OnOk, OnErr};
 ghost use Rattle.fv_outside.specs.Faults.{Counts};
 ghost use Rattle.fv_outside.specs.Written.{GrowsByFront};
 ghost use Rattle.report_text.specs.Page.{Passes};
-ghost use Rattle.bundle_report.specs.BundleReport.{epoch_text};
+ghost use Rattle.bundle_report.specs.Report.{epoch_text};
 
 use fv_outside::{Failed, Sink};
 use record_text::Operation;

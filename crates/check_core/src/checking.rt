@@ -1,28 +1,37 @@
-//! A check of a bundle, as it is read: each epoch is reported as soon as it is certified.
-ghost use Rattle.std.specs.Prelude.{◌≡◌, ◌+◌, ◌≤◌, ◌^◌, IfSome};
+//! A check of a bundle: what is certified, and how its report ends.
+ghost use Rattle.std.specs.Prelude.{◌≡◌, ◌+◌, ◌≤◌, ◌^◌, ℕ, length, map, vec_len, IfSome, ◌⊎◌, Ok, Err};
+ghost use Rattle.lamport_clocks.specs.Header.{IsHeader};
+ghost use Rattle.merkle_records.specs.Scheme.{scheme_of};
+ghost use Rattle.fv_outside.specs.Faults.{Rose};
+ghost use Rattle.report_text.specs.Ending.{status_of};
 ghost use Rattle.bundle_frames.specs.Extent.{reading_end};
 ghost use Rattle.report_text.specs.Answer.{AnswersTo};
-ghost use Rattle.bundle_report.specs.Headline.{IsSound};
-ghost use Rattle.bundle_report.specs.Answer.{check_answer};
+ghost use Rattle.check_core.specs.Intake.{logs_in, logged};
 ghost use Rattle.check_core.specs.Outcomes.{IsCheckStatus};
+ghost use Rattle.bundle_report.specs.Headline.{IsSound};
+ghost use Rattle.bundle_report.specs.Answer.{check_answer, answer_by, Ends};
+ghost use Rattle.bundle_report.specs.Report.{answer_with};
+ghost use Rattle.bundle_report.specs.RunReport.{courses_of, parts_at};
+ghost use Rattle.bundle_report.specs.Judged.{CanBeJudged, answer_of_runs};
 
-use crate::batch::Batch;
-use crate::feeding::feed_batch;
-use crate::stops::{CheckStop, ReadStop};
-use bundle_frames::{BundleReader, Next};
+use crate::intake::Intake;
+use crate::reading::read_bundle;
+use crate::running::run_logs;
 use bundle_report::{ReportStop, digests_have_32_bytes};
-use certified_epochs::{Certifier, FedRun};
+use certified_epochs::{
+    FedRun, certified_parts, end_of, first_refused, judge, last_epoch, operations_up_to,
+    write_report,
+};
 use fv_outside::{Sink, Source};
 use lamport_clocks::Header;
+use multiset_sum::Part;
 use record_hash::Digests;
-use report_text::{BundleEnd, Status, write_last};
+use record_text::Operation;
+use report_text::{BundleEnd, Status};
 use std::alloc::Global;
 use std::thread::Threads;
-use want_of_memory::Memory;
 
-/// Reads a bundle of no more than so many bytes and runs its logs side by side, and writes its report: the lines of each
-/// epoch as soon as what was read certifies it, and the last line at the end. Nothing is kept of an epoch once its lines
-/// are written.
+/// Reads a bundle of no more than so many bytes, runs its logs side by side, and writes its report.
 pub fn check<R: Threads + Sync, D: Digests + Sync, S: Source, O: Sink>(
     rt: &R,
     alloc: Global,
@@ -37,82 +46,95 @@ pub fn check<R: Threads + Sync, D: Digests + Sync, S: Source, O: Sink>(
     // What is written, the status, what was taken of the source, and the faults.
     ensures answers { AnswersTo (check_answer (D.functions d.now)) reading_end limit result
         (record { left = S.left source.old; left_after = S.left source.new; faults = S.faults source.old; faults_after = S.faults source.new })
-        (record { held = O.held out.old; held_after = O.held out.new; faults = O.faults out.old; faults_after = O.faults out.new }) }
+        (record { held = O.held out.old; held_after = O.held out.new; faults = O.faults out.old; faults_after = O.faults out.new })
+        out.old out.new }
 
     // The answers of that report are serial, or the exhibit of the bytes collides.
     ensures headline { IfSome (S.left source.old) (IsSound (D.functions d.now)) }
 {
     digests_have_32_bytes(d);
-    match check_source(rt, alloc, d, limit, source, out) {
-        Ok(end) => end.status(),
+    match read_bundle(alloc, limit, source) {
+        Ok(intake) => match report(rt, alloc, d, &intake, out) {
+            Ok(end) => end.status(),
+            Err(stop) => stop.status(),
+        },
         Err(stop) => stop.status(limit),
     }
 }
 
-// Reads the header, and checks what is behind it.
-fn check_source<R: Threads + Sync, D: Digests + Sync, S: Source, O: Sink>(
+// Checks what was read, and writes the report.
+fn report<R: Threads + Sync, D: Digests + Sync, O: Sink>(
     rt: &R,
     alloc: Global,
     d: &D,
-    limit: u64,
-    source: &mut S,
+    intake: &Intake,
     out: &mut O,
-) -> Result<BundleEnd, CheckStop>
-    requires limit { limit ≤ 2 ^ 40 }
+) -> Result<BundleEnd, ReportStop>
+    ensures ends { Ends result (O.held out.old) (O.held out.new) (answer_by (D.functions d.now) (logged intake.now)) }
+    ensures unwritten { result ≡ Err ReportStop.Memory → out.new ≡ out.old }
+    ensures write_fault { result ≡ Err ReportStop.WriteFault → Rose (O.faults out.old) (O.faults out.new) }
 {
-    let mut reader = BundleReader::new(alloc, limit)?;
-    match reader.next(source)? {
-        Next::Head(header) => check_frames(rt, alloc, d, &header, &mut reader, source, out),
-        Next::Frame(_) | Next::End => no_header(out),
+    match intake.header {
+        Some(header) => certify(rt, alloc, d, &header, intake, out),
+        None => written(&[], &[], BundleEnd::BadBundle { offset: 0 }, out),
     }
 }
 
-// The report of what has no good header.
-fn no_header<O: Sink>(out: &mut O) -> Result<BundleEnd, CheckStop>
-{
-    let end = BundleEnd::BadBundle { offset: 0 };
-    match write_last(&end.status(), out) {
-        Ok(()) => Ok(end),
-        Err(_) => Err(CheckStop::Report(ReportStop::WriteFault)),
-    }
-}
-
-// Reads the frames under a header batch by batch, and writes what they certify.
-fn check_frames<R: Threads + Sync, D: Digests + Sync, S: Source, O: Sink>(
+// Runs the logs, and writes the report of what they came to.
+fn certify<R: Threads + Sync, D: Digests + Sync, O: Sink>(
     rt: &R,
     alloc: Global,
     d: &D,
     header: &Header,
-    reader: &mut BundleReader,
-    source: &mut S,
+    intake: &Intake,
     out: &mut O,
-) -> Result<BundleEnd, CheckStop>
+) -> Result<BundleEnd, ReportStop>
+    requires header { IsHeader header.now }
+    requires count { vec_len intake.now.logs ≡ header.now.verifiers }
+    ensures ends { Ends result (O.held out.old) (O.held out.new)
+        (answer_of_runs (courses_of (scheme_of (D.functions d.now) header.now) header.now (logs_in intake.now)) intake.now.bad) }
+    ensures unwritten { result ≡ Err ReportStop.Memory → out.new ≡ out.old }
+    ensures write_fault { result ≡ Err ReportStop.WriteFault → Rose (O.faults out.old) (O.faults out.new) }
 {
-    let mut runs = new_runs(alloc, header)?;
-    let mut certifier = Certifier::new(alloc);
-    let mut batch = Batch::new(alloc);
-    'batches: loop {
-        let read = batch.fill(alloc, reader, source);
-        if let Err(ReadStop::Memory) = read {
-            return Err(CheckStop::Read(ReadStop::Memory));
-        }
-        feed_batch(rt, d, &batch, &mut runs);
-        certifier.certify(&mut runs, out)?;
-        match read {
-            Ok(true) => {}
-            Ok(false) => break,
-            Err(stop) => return Err(CheckStop::Read(stop)),
-        }
+    match run_logs(rt, alloc, d, header, &intake.logs) {
+        Ok(runs) => report_runs(alloc, &runs, intake.bad, out),
+        Err(_) => Err(ReportStop::Memory),
     }
-    Ok(certifier.finish(&mut runs, reader.bad(), out)?)
 }
 
-// A run for each verifier.
-fn new_runs(alloc: Global, header: &Header) -> Result<Vec<FedRun>, Memory>
+// Writes the report of what all logs came to.
+fn report_runs<O: Sink>(
+    alloc: Global,
+    runs: &[FedRun],
+    bad: Option<u64>,
+    out: &mut O,
+) -> Result<BundleEnd, ReportStop>
+    requires few { length runs.now ≤ 64 }
+    requires parts { (index : ℕ) → CanBeJudged (length runs.now) (parts_at index (map (λ fed. fed.run.course) runs.now)) }
+    ensures ends { Ends result (O.held out.old) (O.held out.new) (answer_of_runs (map (λ fed. fed.run.course) runs.now) bad) }
+    ensures unwritten { result ≡ Err ReportStop.Memory → out.new ≡ out.old }
+    ensures write_fault { result ≡ Err ReportStop.WriteFault → Rose (O.faults out.old) (O.faults out.new) }
 {
-    let mut runs = Vec::new(alloc);
-    for number in 0..header.verifiers {
-        runs.push(FedRun::new(alloc, number, header)?)?;
+    let judged = judge(alloc, runs)?;
+    let certified = certified_parts(runs, judged.count);
+    let operations = operations_up_to(alloc, runs, last_epoch(certified))?;
+    let end = end_of(&judged, first_refused(runs), bad);
+    written(certified, &operations, end, out)
+}
+
+// Writes a report that ends so.
+fn written<O: Sink>(
+    certified: &[Part],
+    operations: &[&Operation],
+    end: BundleEnd,
+    out: &mut O,
+) -> Result<BundleEnd, ReportStop>
+    ensures so { result ≡ Ok end ⊎ result ≡ Err ReportStop.WriteFault }
+    ensures ends { Ends result (O.held out.old) (O.held out.new) (answer_with certified.now (map (λ op. op.now) operations.now) (status_of end)) }
+    ensures write_fault { result ≡ Err ReportStop.WriteFault → Rose (O.faults out.old) (O.faults out.new) }
+{
+    match write_report(certified, operations, &end.status(), out) {
+        Ok(()) => Ok(end),
+        Err(_) => Err(ReportStop::WriteFault),
     }
-    Ok(runs)
 }

@@ -9,12 +9,11 @@ ghost use Rattle.bundle_report.specs.RunReport.{courses_of, parts_at};
 ghost use Rattle.bundle_report.specs.Judged.{CanBeJudged, judged, answer_of_runs};
 
 use crate::intake::Intake;
-use certified_epochs::{end_of, first_refused, judge};
+use certified_epochs::{FedRun, end_of, first_refused, judge};
 use lamport_clocks::Header;
 use record_hash::Digests;
 use report_text::BundleEnd;
 use std::alloc::Global;
-use verifier_run::{Run, run_log};
 use want_of_memory::Memory;
 
 /// How many epochs of a bundle are certified, from the first on, and how its report ends.
@@ -61,11 +60,11 @@ fn conclude_logs<D: Digests>(
 }
 
 // What runs of all logs come to, in a bundle in which so much is bad.
-fn conclude_runs(alloc: Global, runs: &[Run], bad: Option<u64>) -> Result<Conclusion, Memory>
+fn conclude_runs(alloc: Global, runs: &[FedRun], bad: Option<u64>) -> Result<Conclusion, Memory>
     requires few { length runs.now ≤ 64 }
-    requires parts { (index : ℕ) → CanBeJudged (length runs.now) (parts_at index (map (λ run. run.course) runs.now)) }
-    ensures certified { IfOk result (λ found. found.certified ≡ (judged (length runs.now) (map (λ run. run.course) runs.now)).count) }
-    ensures end { IfOk result (λ found. status_of found.end ≡ (answer_of_runs (map (λ run. run.course) runs.now) bad).status) }
+    requires parts { (index : ℕ) → CanBeJudged (length runs.now) (parts_at index (map (λ fed. fed.run.course) runs.now)) }
+    ensures certified { IfOk result (λ found. found.certified ≡ (judged (length runs.now) (map (λ fed. fed.run.course) runs.now)).count) }
+    ensures end { IfOk result (λ found. status_of found.end ≡ (answer_of_runs (map (λ fed. fed.run.course) runs.now) bad).status) }
 {
     // No `?` here: Rattle's borrow checker can't build its part of the proof with one.
     let judged = match judge(alloc, runs) {
@@ -85,15 +84,15 @@ fn run_in_turn<D: Digests>(
     d: &D,
     header: &Header,
     logs: &[Vec<u8>],
-) -> Result<Vec<Run>, Memory>
+) -> Result<Vec<FedRun>, Memory>
     requires header { IsHeader header.now }
     requires count { length logs.now ≡ header.now.verifiers }
-    ensures courses { IfOk result (λ runs. map (λ run. run.course) runs.items
+    ensures courses { IfOk result (λ runs. map (λ fed. fed.run.course) runs.items
         ≡ courses_of (scheme_of (D.functions d.now) header.now) header.now (map (λ log. log.items) logs.now)) }
 {
     let mut runs = Vec::new(alloc);
     for (number, log) in logs.iter().enumerate() {
-        runs.push(run_log(alloc, d, number as u16, header, log)?)?;
+        runs.push(FedRun::over(alloc, d, number as u16, header, log)?)?;
     }
     Ok(runs)
 }

@@ -1,9 +1,7 @@
-//! Why a check stops before its end, and the status that then comes.
+//! Why reading stops before a bundle's end, and the status that then comes.
 ghost use Rattle.std.specs.Prelude.{◌≡◌};
-ghost use Rattle.check_core.specs.Stops.{reading_stopped, check_stopped};
+ghost use Rattle.check_core.specs.Stops.{reading_stopped};
 
-use bundle_frames::SourceStop;
-use bundle_report::ReportStop;
 use report_text::Status;
 use std::alloc::AllocError;
 use want_of_memory::Memory;
@@ -31,6 +29,7 @@ impl ReadStop {
         }
     }
 }
+
 impl From<Memory> for ReadStop {
     ghost use Rattle.check_core.specs.declared.stops.ReadStop.TheVariants.{Memory as OutOfMemory};
 
@@ -48,40 +47,5 @@ impl From<AllocError> for ReadStop {
 
     fn from(_: AllocError) -> ReadStop {
         ReadStop::Memory
-    }
-}
-
-
-impl From<SourceStop> for ReadStop {
-    ghost use Rattle.check_core.specs.Stops.{read_stopped};
-
-    ghost from_gives = { λ source stop. stop ≡ read_stopped source };
-
-    fn from(stop: SourceStop) -> ReadStop {
-        match stop {
-            SourceStop::ReadFault => ReadStop::ReadFault,
-            SourceStop::InputLimit => ReadStop::InputLimit,
-        }
-    }
-}
-
-/// Why a check stops before its end.
-#[derive(Clone, Copy, Debug, PartialEq, Eq)]
-pub enum CheckStop {
-    /// It was reading.
-    Read(ReadStop),
-    /// It was reporting.
-    Report(ReportStop),
-}
-
-impl CheckStop {
-    /// The status of a call that stops so, where so many bytes are the limit.
-    pub fn status(&self, limit: u64) -> Status
-        ensures value { result ≡ check_stopped limit self.now }
-    {
-        match self {
-            CheckStop::Read(stop) => stop.status(limit),
-            CheckStop::Report(stop) => stop.status(),
-        }
     }
 }

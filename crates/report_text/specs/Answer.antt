@@ -1,16 +1,15 @@
 -- What a call answers that reads a source and writes to a sink: a text, and the status with which it ends.
-use Rattle.std.specs.Prelude.{◌≡◌, ◌≢◌, ℕ, ◌+◌, ◌-◌, min, List, [], length, take, Option, Some, None, IfSome}
+use Rattle.std.specs.Prelude.{◌≡◌, ◌≢◌, ℕ, ◌+◌, List, Option, IfSome}
 use Rattle.fv_outside.specs.Consumed.{TookAtMost, TookJust, TookToEnd, StopsAtEnd, EndsBehind}
 use Rattle.fv_outside.specs.Faults.{Rose}
 use Rattle.fv_outside.specs.Written.{Grows, GrowsByFront}
 use Rattle.report_text.specs.declared.status.Status.{Status}
 use Rattle.report_text.specs.declared.status.Status.TheVariants.{Done, Usage, Memory, ReadFault, WriteFault, VaultFault, BadBundle, Refused, Unbalanced, ClockEnd, NotTagged, NotCertified, Exhibit, InputLimit}
 
--- the text that is written, the status, and the front of the text that is written before the input's end is known
+-- the text that is written, and the status
 pub record Answer : Type 0 where
   pub text : List ℕ
   pub status : Status
-  pub due : List ℕ
 
 -- a status that comes with a whole answer: all of its text was written
 abbrev pub IsEnd : Status → Type 0
@@ -43,41 +42,16 @@ pub record Writing : Type 0 where
   pub faults : ℕ
   pub faults_after : ℕ
 
--- a status that comes with no answer, since reading stopped
-abbrev pub IsCut : Status → Type 0
-IsCut (Done epochs) = ⊥
-IsCut Usage = ⊥
-IsCut Memory = ⊥
-IsCut ReadFault = Unit {0}
-IsCut WriteFault = ⊥
-IsCut VaultFault = ⊥
-IsCut (BadBundle offset) = ⊥
-IsCut (Refused verifier index refusal) = ⊥
-IsCut (Unbalanced epoch added evicted) = ⊥
-IsCut (ClockEnd worker at) = ⊥
-IsCut NotTagged = ⊥
-IsCut NotCertified = ⊥
-IsCut Exhibit = ⊥
-IsCut (InputLimit taken) = Unit {0}
-
--- of the bytes that a source had, those that were taken, up to so many
-abbrev pub taken_of : ℕ → List ℕ → Option (List ℕ) → List ℕ
-taken_of most bytes None = []
-taken_of most bytes (Some rest) = take (min most (length bytes - length rest)) bytes
-
--- A call that reads no more than so many bytes of a source and writes what it answers to them. How far it reads to
--- know its answer is a function of the bytes.
-pub record AnswersTo (answer : List ℕ → Answer) (reading_end : List ℕ → ℕ) (most : ℕ) (result : Status) (reading : Reading)
-    (writing : Writing) : Type 0 where
+-- A call that reads no more than so many bytes of a source and writes what it answers to them, with the sink before
+-- and after it. How far it reads to know its answer is a function of the bytes.
+pub record AnswersTo {O : Type 0} (answer : List ℕ → Answer) (reading_end : List ℕ → ℕ) (most : ℕ) (result : Status) (reading : Reading)
+    (writing : Writing) (sink sink_after : O) : Type 0 where
   -- where it ends with an answer, that is the answer to the source's bytes: the status, and the text that was written
   pub status : IsEnd result → IfSome reading.left (λ bytes. result ≡ (answer bytes).status)
   pub report : IsEnd result → IfSome reading.left (λ bytes. Grows writing.held writing.held_after (answer bytes).text)
-  -- where the sink failed it took a front of that text
+  -- where the sink failed it took a front of that text, and where there is no answer nothing was written
   pub front : result ≡ WriteFault → IfSome reading.left (λ bytes. GrowsByFront writing.held writing.held_after (answer bytes).text)
-  -- where reading stopped, all that is due of the bytes that were taken was written, and after want of memory a front of it
-  pub due : IsCut result → IfSome reading.left (λ bytes. Grows writing.held writing.held_after (answer (taken_of most bytes reading.left_after)).due)
-  pub due_front : result ≡ Memory
-      → IfSome reading.left (λ bytes. GrowsByFront writing.held writing.held_after (answer (taken_of most bytes reading.left_after)).due)
+  pub unwritten : (IsEnd result → ⊥) → result ≢ WriteFault → sink_after ≡ sink
   -- where it answers that the input is too long, the source gave just a byte more than the limit, and else no more
   pub limit : (taken : ℕ) → result ≡ InputLimit taken → (taken ≡ most) × TookJust (most + 1) reading.left reading.left_after
   pub within : result ≢ InputLimit most → TookAtMost most reading.left reading.left_after
@@ -89,7 +63,3 @@ pub record AnswersTo (answer : List ℕ → Answer) (reading_end : List ℕ → 
   -- a fault comes only where the object's own count of faults rose
   pub read_fault : result ≡ ReadFault → Rose reading.faults reading.faults_after
   pub write_fault : result ≡ WriteFault → Rose writing.faults writing.faults_after
-
--- a call that answers nothing has left the sink as it was
-abbrev pub IsUnwritten : {O : Type 0} → Status → O → O → Type 0
-IsUnwritten result sink sink_after = (IsEnd result → ⊥) → result ≢ WriteFault → sink_after ≡ sink

@@ -2,7 +2,7 @@ use Rattle.std.proofs.Common.{◌≡◌, ◌≤◌, ℕ, List, ◌++◌, drop}
 use Rattle.std.specs.List.{flat_map}
 use Rattle.report_text.specs.Page.{Passes}
 use Rattle.report_text.specs.Lines.{operation_line}
-use Rattle.bundle_report.specs.BundleReport.{epoch_text}
+use Rattle.bundle_report.specs.Report.{epoch_text}
 use Rattle.certified_epochs.proofs.lines.write_epoch_lines.Given as goal
 
 -- a text was added, and with the lines that are left it is the epoch's; and the count of faults hasn't fallen

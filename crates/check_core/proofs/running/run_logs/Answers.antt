@@ -14,10 +14,10 @@ returns g c =
     let outcomes = c.in_ok-outcomes.outcomes in
     record {
       courses = IfOk-weaker c.all_done.result _ _
-          (λ runs done. runs_of_outcomes (λ run. run.course) scheme c.args.header.now (map (λ log. log.items) c.args.logs.now)
+          (λ runs done. runs_of_outcomes (λ fed. fed.run.course) scheme c.args.header.now (map (λ log. log.items) c.args.logs.now)
           outcomes.items runs.items outcomes.len done (omega (arith, outcomes.ok)) (c.in_ok-outcomes.ensures.len ∙ sym whole)
           (λ index outcome log within. at_mapped (λ log. log.items)
-          (λ bytes. IfOk (slice_index_or outcomes.items index outcome) (λ run. run.course ≡ log_course scheme (opening_machine index c.args.header.now) bytes))
+          (λ bytes. IfOk (slice_index_or outcomes.items index outcome) (λ fed. fed.run.course ≡ log_course scheme (opening_machine index c.args.header.now) bytes))
           c.args.logs.now index log (subst (λ (n : ℕ). index < n) whole within)
           (λ other. c.in_ok-outcomes.ensures.each index outcome other (subst (λ (n : ℕ). index < n) whole within))))
           c.all_done.ensures.done;
