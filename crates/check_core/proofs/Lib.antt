@@ -1,7 +1,5 @@
 -- What reading a source comes to, what is certified, and that a run comes to what its history says.
-mod TookLemmas
 mod ReportLemmas
-mod ExtentLemmas
 mod LogLemmas
 mod MeaningLemmas
 mod HistoryRunLemmas

@@ -1,8 +1,8 @@
 -- The logs of a bundle, as they come.
-use Rattle.std.specs.Prelude.{◌≡◌, ℕ, List, [], map, ⊤, Option, Some, None}
+use Rattle.std.specs.Prelude.{ℕ, List, [], map, Option, None}
 use Rattle.lamport_clocks.specs.declared.header.Header.{Header}
 use Rattle.bundle_frames.specs.Bundle.{Bundle, bundle_of}
-use Rattle.bundle_frames.specs.Progress.{Progress, rest_of}
+use Rattle.bundle_frames.specs.Reading.{Reading, ahead}
 use Rattle.check_core.specs.declared.intake.Intake.{Intake}
 use Rattle.check_core.specs.Logs.{joined_from, logs_so_far}
 
@@ -25,15 +25,9 @@ logs_in intake = map (λ log. log.items) intake.logs.items
 abbrev pub logged : Intake → Logged
 logged intake = record { header = intake.header; logs = logs_in intake; bad = intake.bad }
 
--- where a source tells its bytes: what one function says of those that it had, another says of those that are left
-abbrev pub Means : {A : Type 0} → Option (List ℕ) → Option (List ℕ) → (List ℕ → A) → (List ℕ → A) → Type 0
-Means None new before after = ⊤
-Means (Some bytes) None before after = ⊥
-Means (Some bytes) (Some rest) before after = before bytes ≡ after rest
-
--- logs so far, and what is left of their bundle at a splitter that has come so far
-abbrev pub behind_at : List (List ℕ) → Progress → List ℕ → Logged
-behind_at logs progress left = behind progress.header logs (rest_of progress left)
+-- logs so far, and what is left of their bundle where it was read so far
+abbrev pub behind_at : List (List ℕ) → Reading → List ℕ → Logged
+behind_at logs reading left = behind reading.progress.header logs (ahead reading left)
 
 -- what bytes mean as a bundle, by its header, the log of each verifier, and what is bad
 abbrev pub logged_of : List ℕ → Logged
