@@ -6,6 +6,8 @@ use Rattle.std.proofs.lemmas.Bool.{cases_lt}
 use Rattle.std.specs.Option.{option_map}
 use Rattle.lamport_clocks.specs.declared.header.Header.{Header}
 use Rattle.fv_outside.specs.Consumed.{StopsAtEnd, TookAtMost, TookJust, TookToEnd, most_behind}
+use Rattle.bundle_frames.specs.declared.coming.SourceStop.{SourceStop}
+use Rattle.bundle_frames.specs.declared.coming.SourceStop.TheVariants.{ReadFault, InputLimit}
 use Rattle.bundle_frames.specs.Bundle.{bundle_of}
 use Rattle.bundle_frames.specs.Extent.{end_in, reading_end, IsDue}
 use Rattle.bundle_frames.specs.Reading.{opening_reading, end_ahead, HasRead, ReadsAs}
@@ -107,6 +109,16 @@ stops_near n (Some bytes) (Some rest) f read near =
     let size = ap length read.1 in
     let size' = length-drop n bytes in
     ⊎_elim (λ some. omega (arith, near some, read.0)) (λ none. omega arith) (cases_lt 0 n)
+
+past_near : (limit : ℕ) (x : Option (List ℕ)) (f : List ℕ → ℕ) → IfSome x (λ bytes. limit < f bytes) → IfSome x (λ bytes. limit + 1 ≤ f bytes + most_behind)
+past_near limit None f behind = tt
+past_near limit (Some bytes) f behind = omega arith
+
+-- the same where a reader stopped
+pub stops_stopped : (stop : SourceStop) (n limit : ℕ) (x y : Option (List ℕ)) (f : List ℕ → ℕ) → ((stop ≡ InputLimit → ⊥) → HasRead n x y) → (stop ≡ InputLimit → HasRead (limit + 1) x y)
+    → (0 < n → IfSome x (λ bytes. n ≤ f bytes + most_behind)) → (stop ≡ InputLimit → IfSome x (λ bytes. limit < f bytes)) → StopsAtEnd f x y
+stops_stopped ReadFault n limit x y f read past near behind = stops_near n x y f (read (λ is. cc)) near
+stops_stopped InputLimit n limit x y f read past near behind = stops_near (limit + 1) x y f (past refl) (λ some. past_near limit x f (behind refl))
 
 -- and where the end lies within what was taken, all up to it was
 pub took_to_end : (n : ℕ) (x y : Option (List ℕ)) (f g : List ℕ → ℕ) → HasRead n x y → ReadsAs n x f g → IfSome y (λ left. g left ≤ n) → TookToEnd f x y

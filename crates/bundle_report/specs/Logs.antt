@@ -1,6 +1,8 @@
 -- The logs of verifiers, with what frames add to each.
 use Rattle.std.specs.Prelude.{ℕ, zero, suc, List, [], ◌∷◌, ◌++◌, Option, Some, None}
 use Rattle.lamport_clocks.specs.declared.header.Header.{Header}
+use Rattle.bundle_frames.specs.declared.coming.Next.{Next}
+use Rattle.bundle_frames.specs.declared.coming.Next.TheVariants as next
 use Rattle.bundle_frames.specs.Bundle.{Frame, log_of}
 
 -- how many logs there are: one for each verifier of the header, none before there is one
@@ -28,3 +30,9 @@ appended (suc index) bytes (log ∷ logs) = log ∷ appended index bytes logs
 abbrev pub logs_so_far : Option Header → List (List ℕ) → Option Header → List (List ℕ)
 logs_so_far None logs found = empty_logs (log_count found)
 logs_so_far (Some header) logs found = logs
+
+-- the logs after what came of their bundle: empty ones for a header, and a frame's body behind its verifier's log
+abbrev pub logs_then : Next → List ℕ → List (List ℕ) → List (List ℕ)
+logs_then (next.Head header) body logs = empty_logs header.verifiers
+logs_then (next.Frame verifier) body logs = appended verifier body logs
+logs_then next.End body logs = logs

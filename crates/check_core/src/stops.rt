@@ -2,6 +2,7 @@
 ghost use Rattle.std.specs.Prelude.{◌≡◌};
 ghost use Rattle.check_core.specs.Stops.{reading_stopped};
 
+use bundle_frames::SourceStop;
 use report_text::Status;
 use std::alloc::AllocError;
 use want_of_memory::Memory;
@@ -26,6 +27,19 @@ impl ReadStop {
             ReadStop::Memory => Status::Memory,
             ReadStop::ReadFault => Status::ReadFault,
             ReadStop::InputLimit => Status::InputLimit { taken: limit },
+        }
+    }
+}
+
+impl From<SourceStop> for ReadStop {
+    ghost use Rattle.check_core.specs.Stops.{stop_of};
+
+    ghost from_gives = { λ stop answer. answer ≡ stop_of stop };
+
+    fn from(stop: SourceStop) -> ReadStop {
+        match stop {
+            SourceStop::ReadFault => ReadStop::ReadFault,
+            SourceStop::InputLimit => ReadStop::InputLimit,
         }
     }
 }

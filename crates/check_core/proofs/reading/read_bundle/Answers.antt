@@ -1,69 +1,166 @@
-use Rattle.std.proofs.Common.{◌≡◌, Err, is_ok, true≢false, arith, refl, sym, ap, map}
-use Rattle.bundle_frames.specs.Progress.{Progress, position}
+use Rattle.std.proofs.Common.{◌≡◌, ◌+◌, ◌-◌, ◌<◌, ◌≤◌, ℕ, List, Option, IfSome, Ok, Err, is_ok, true≢false, map, refl, sym, ap, subst, ◌∙◌, arith}
+use Rattle.lamport_clocks.specs.declared.header.Header.{Header}
+use Rattle.bundle_frames.specs.declared.coming.Next.TheVariants.{End}
+use Rattle.bundle_frames.specs.declared.coming.SourceStop.TheVariants as sources
+use Rattle.bundle_frames.specs.declared.coming.SourceStop.{SourceStop}
+use Rattle.bundle_frames.specs.Progress.{position}
+use Rattle.bundle_frames.specs.Extent.{reading_end}
+use Rattle.bundle_frames.specs.Reading.{Reading, HasRead, end_ahead, header_then}
+use Rattle.bundle_frames.proofs.ReadingLaws.{HasRead-none, HasRead-then, ReadsAs-none, ReadsAs-then, ReadsAs-back, TookJust-from_read, TookAtMost-from_read, end_opening, near-then, stops_near, stops_stopped, took_to_end}
+use Rattle.check_core.specs.declared.stops.ReadStop.{ReadStop}
 use Rattle.check_core.specs.declared.stops.ReadStop.TheVariants.{InputLimit}
-use Rattle.check_core.specs.Intake.{behind_at}
-use Rattle.check_core.proofs.TookLemmas.{TookJust-none, TookJust-then, TookAtMost-then}
-use Rattle.check_core.proofs.MeaningLemmas.{Means-start, Means-then, Means-end, logs_counted}
-use Rattle.check_core.proofs.ExtentLemmas.{due_start, ends_behind, extent_start, stops_start, stops_then, took_to_end}
+use Rattle.bundle_report.specs.Logs.{log_count, logs_then}
+use Rattle.bundle_report.specs.Logged.{Logged, logged_of}
+use Rattle.check_core.specs.Intake.{logs_in, behind_at}
+use Rattle.check_core.specs.Stops.{stop_of}
+use Rattle.check_core.proofs.MeaningLemmas.{opening_joined, verifier_there, reads_next, joined_end, logs_counted}
 use Rattle.check_core.proofs.reading.read_bundle.Goals as goal
 
-pub pieces-init : goal.pieces-init
-pieces-init g c = record {
-  room = c.in_ok-room.ensures.len;
-  limit = omega arith;
-  position = ap position c.in_ok-splitter.ensures.starts;
-  due = due_start _ c.in_ok-splitter.ensures.starts;
-  header = ap (λ (p : Progress). p.header) (sym c.in_ok-splitter.ensures.starts);
-  took = TookJust-none _;
-  means = Means-start _ _ _ (ap (map (λ log. log.items)) c.new-2.ensures.items) c.in_ok-splitter.ensures.starts;
-  extent = extent_start _ _ c.in_ok-splitter.ensures.starts;
-  stops = stops_start _;
-  faults = omega arith;
-}
+stop_input : (stop : SourceStop) (answer : ReadStop) → answer ≡ stop_of stop → answer ≡ InputLimit → stop ≡ sources.InputLimit
+stop_input sources.ReadFault answer is same = cc
+stop_input sources.InputLimit answer is same = refl
 
-pub pieces-preserved : goal.pieces-preserved
-pieces-preserved g c =
-    let within = rw c.in-Ok-Some.field-0-is at c.in-Ok-Some.ensures.within in
-    let position = rw c.in-Ok-Some.field-0-is at c.in-Ok-Some.ensures.position in
-    let took = rw c.in-Ok-Some.field-0-is at c.in-Ok-Some.ensures.took in
+pub frames-init : goal.frames-init
+frames-init g c =
+    let is = c.in_ok-reader.ensures.opening in
+    let none = ap (λ (r : Reading). r.taken) is in
     record {
-      room = c.pieces.invariant.room;
-      limit = within;
-      position = position;
-      due = rw c.in-Ok-Some.field-0-is at c.in-Ok-Some.ensures.due;
-      header = c.in-Ok-Some.ensures.header;
-      took = TookJust-then _ _ _ _ _ _ c.pieces.invariant.took took refl;
-      means = Means-then _ _ _ _ _ _ c.pieces.invariant.means c.in-Ok-Some.ensures.means;
-      extent = Means-then _ _ _ _ _ _ c.pieces.invariant.extent c.in-Ok-Some.ensures.extent;
-      stops = stops_then _ _ _ _ _ c.pieces.invariant.due c.pieces.invariant.position c.pieces.invariant.took c.pieces.invariant.extent c.pieces.invariant.stops c.read_turn.ensures.piece;
-      faults = omega (arith, c.pieces.invariant.faults, c.read_turn.ensures.never_falls);
+      due = c.in_ok-reader.ensures.due;
+      limit = ap (λ (r : Reading). r.limit) is;
+      within = omega arith;
+      position = subst (λ (r : Reading). position r.progress ≤ r.taken) (sym is) (omega arith);
+      header = sym (ap (λ (r : Reading). r.progress.header) is);
+      took = HasRead-none _ _ none;
+      means = ReadsAs-none _ _ _ _ none (λ more. opening_joined c.args.limit _ _ more (ap (map (λ log. log.items)) c.new-2.ensures.items) is);
+      extent = ReadsAs-none _ _ _ _ none (λ more. end_opening c.args.limit more ∙ ap (λ (r : Reading). end_ahead r more) (sym is));
+      near = λ some. absurd (omega arith);
+      faults = omega arith;
     }
 
-pub returns-clause-within : goal.returns-clause-within
-returns-clause-within g c = λ other. TookAtMost-then _ _ _ _ _ _ c.pieces.invariant.took (c.in-Ok-None.ensures.last (λ is. true≢false (ap is_ok is))) (omega (arith, c.pieces.invariant.limit))
+pub join-requires : goal.join-requires
+join-requires g c = record {
+  head = λ header is. (c.in-Ok.ensures.head header (ap Ok is)).1;
+  frame = λ verifier is. verifier_there verifier _ _ _ _ c.frames.invariant.header c.frames.intake.count (c.in-Ok.ensures.frame verifier (ap Ok is));
+}
 
-pub returns-clause-bundle : goal.returns-clause-bundle
-returns-clause-bundle g c =
-    let p : Progress = c.read_turn.new.splitter in
-    let ends = rw c.in-Ok-None.field-0-is at c.in-Ok-None.ensures.end in
-    let means = Means-then _ _ _ _ _ (behind_at _ p) c.pieces.invariant.means c.in-Ok-None.ensures.means in
-    Means-end _ _ _ p _ _ means (ends refl) c.in-Ok-None.ensures.header c.end-intake.ensures.rest
-    (logs_counted (λ log. log.items) c.read_turn.new.intake.logs.items c.read_turn.new.intake.header c.read_turn.new.intake.logs.len (omega (arith, c.read_turn.new.intake.logs.ok)) c.read_turn.new.intake.count)
+pub frames-preserved : goal.frames-preserved
+frames-preserved g c =
+    let last = c.frames.invariant in
+    let next = c.in-Ok.ensures in
+    let logs = c.frames.intake.logs in
+    let sum : c.next.new.self.taken ≡ c.frames.reader.taken + (c.next.new.self.taken - c.frames.reader.taken) = omega (arith, next.rises) in
+    record {
+      due = next.due (λ is. c.in_ok-more.ensures.more (ap Ok c.if-not-more.false) (let same : c.in-Ok.next ≡ End = cc in same));
+      limit = next.same_limit ∙ last.limit;
+      within = omega (arith, next.within, next.same_limit, last.limit);
+      position = next.split;
+      header = c.in_ok-more.ensures.header ∙ ap (header_then (Ok c.in-Ok.next)) last.header ∙ sym next.header;
+      took = HasRead-then _ _ _ _ _ _ last.took (next.took (λ is. true≢false (ap is_ok is))) sum;
+      means = ReadsAs-then _ _ _ _ _ _ _ _ last.took last.means
+          (reads_next _ _ (logs_in c.frames.intake) (logs_in c.join.new.intake) c.frames.reader c.next.new.self c.in-Ok.next c.next.new.self.progress.body next.means next.header
+          (λ header is. (next.head header (ap Ok is)).0) (λ verifier is. next.frame verifier (ap Ok is))
+          (logs_counted (λ log. log.items) logs.items c.frames.reader.progress.header logs.len (omega (arith, logs.ok)) (c.frames.intake.count ∙ ap log_count last.header))
+          (c.in_ok-more.ensures.logs ∙ ap (λ (body : List ℕ). logs_then c.in-Ok.next body (logs_in c.frames.intake)) c.body.ensures.value)) sum;
+      extent = ReadsAs-then _ _ _ _ _ _ _ _ last.took last.extent next.extent sum;
+      near = near-then _ _ _ _ _ _ _ _ _ last.took last.extent next.rises refl last.near next.near;
+      faults = omega (arith, last.faults, next.never_falls);
+    }
 
-pub returns-clause-reached : goal.returns-clause-reached
-returns-clause-reached g c =
-    let over = rw c.in-Ok-None.field-0-is at c.in-Ok-None.ensures.over in
-    took_to_end _ _ _ c.pieces.splitter c.read_turn.new.splitter _ c.pieces.invariant.took c.pieces.invariant.extent c.in-Ok-None.ensures.extent (over refl) c.in-Ok-None.ensures.fed
+pub returns-in_err-more-clause-within : goal.returns-in_err-more-clause-within
+returns-in_err-more-clause-within g c = λ other.
+    let last = c.frames.invariant in
+    let next = c.in-Ok.ensures in
+    let sum : c.next.new.self.taken ≡ c.frames.reader.taken + (c.next.new.self.taken - c.frames.reader.taken) = omega (arith, next.rises) in
+    TookAtMost-from_read _ _ _ _ (HasRead-then _ _ _ _ _ _ last.took (next.took (λ is. true≢false (ap is_ok is))) sum) (omega (arith, next.within, next.same_limit, last.limit))
 
-pub returns-clause-stops : goal.returns-clause-stops
-returns-clause-stops g c =
-    stops_then _ _ _ _ _ c.pieces.invariant.due c.pieces.invariant.position c.pieces.invariant.took c.pieces.invariant.extent c.pieces.invariant.stops c.read_turn.ensures.piece
+pub returns-in_err-more-clause-stops : goal.returns-in_err-more-clause-stops
+returns-in_err-more-clause-stops g c =
+    let last = c.frames.invariant in
+    let next = c.in-Ok.ensures in
+    let sum : c.next.new.self.taken ≡ c.frames.reader.taken + (c.next.new.self.taken - c.frames.reader.taken) = omega (arith, next.rises) in
+    stops_near _ _ _ reading_end (HasRead-then _ _ _ _ _ _ last.took (next.took (λ is. true≢false (ap is_ok is))) sum)
+    (near-then _ _ _ _ _ _ _ _ _ last.took last.extent next.rises refl last.near next.near)
+
+pub returns-in-Err-clause-limit : goal.returns-in-Err-clause-limit
+returns-in-Err-clause-limit g c = λ is.
+    let last = c.frames.invariant in
+    let next = c.in-Err.ensures in
+    let full : c.from.result ≡ InputLimit = cc in
+    let same = stop_input _ _ c.from.ensures full in
+    let sum : c.args.limit + 1 ≡ c.frames.reader.taken + (c.next.new.self.limit + 1 - c.frames.reader.taken) = omega (arith, next.same_limit, last.limit, last.within) in
+    TookJust-from_read _ _ _ (HasRead-then _ _ _ _ _ _ last.took (next.limit (ap Err same)) sum)
+
+pub returns-in-Err-clause-within : goal.returns-in-Err-clause-within
+returns-in-Err-clause-within g c = λ other.
+    let last = c.frames.invariant in
+    let next = c.in-Err.ensures in
+    let sum : c.next.new.self.taken ≡ c.frames.reader.taken + (c.next.new.self.taken - c.frames.reader.taken) = omega (arith, next.rises) in
+    let apart = λ (is : c.in-Err.stop ≡ sources.InputLimit). other (ap Err (c.from.ensures ∙ ap stop_of is)) in
+    TookAtMost-from_read _ _ _ _ (HasRead-then _ _ _ _ _ _ last.took (next.took (λ is. apart cc)) sum) (omega (arith, next.within, next.same_limit, last.limit))
 
 pub returns-in-Err-clause-stops : goal.returns-in-Err-clause-stops
 returns-in-Err-clause-stops g c =
-    stops_then _ _ _ _ _ c.pieces.invariant.due c.pieces.invariant.position c.pieces.invariant.took c.pieces.invariant.extent c.pieces.invariant.stops c.read_turn.ensures.piece
+    let last = c.frames.invariant in
+    let next = c.in-Err.ensures in
+    let sum : c.next.new.self.taken ≡ c.frames.reader.taken + (c.next.new.self.taken - c.frames.reader.taken) = omega (arith, next.rises) in
+    let sum' : c.args.limit + 1 ≡ c.frames.reader.taken + (c.next.new.self.limit + 1 - c.frames.reader.taken) = omega (arith, next.same_limit, last.limit, last.within) in
+    stops_stopped c.in-Err.stop c.next.new.self.taken c.args.limit _ _ reading_end
+    (λ other. HasRead-then _ _ _ _ _ _ last.took (next.took (λ is. other cc)) sum)
+    (λ same. HasRead-then _ _ _ _ _ _ last.took (next.limit (ap Err same)) sum')
+    (near-then _ _ _ _ _ _ _ _ _ last.took last.extent next.rises refl last.near next.near)
+    (λ same. ReadsAs-back (λ (end : ℕ). c.args.limit < end) _ _ _ _ _ last.took last.extent
+    (subst (λ (limit : ℕ). IfSome (g.S.Source.left c.frames.source) (λ bytes. limit < end_ahead c.frames.reader bytes)) (next.same_limit ∙ last.limit) (next.beyond (ap Err same))))
 
 pub returns-in-Err-clause-beyond : goal.returns-in-Err-clause-beyond
 returns-in-Err-clause-beyond g c = λ is.
-    let same : c.in-Err.stop ≡ InputLimit = cc in
-    ends_behind _ _ _ _ _ _ c.pieces.invariant.due c.pieces.invariant.position c.pieces.invariant.extent (c.in-Err.ensures.limit (ap Err same)) (c.in-Err.ensures.full (ap Err same))
+    let last = c.frames.invariant in
+    let next = c.in-Err.ensures in
+    let full : c.from.result ≡ InputLimit = cc in
+    let same = stop_input _ _ c.from.ensures full in
+    ReadsAs-back (λ (end : ℕ). c.args.limit < end) _ _ _ _ _ last.took last.extent
+    (subst (λ (limit : ℕ). IfSome (g.S.Source.left c.frames.source) (λ bytes. limit < end_ahead c.frames.reader bytes)) (next.same_limit ∙ last.limit) (next.beyond (ap Err same)))
+
+pub returns-clause-bundle : goal.returns-clause-bundle
+returns-clause-bundle g c =
+    let last = c.frames.invariant in
+    let next = c.in-Ok.ensures in
+    let end : c.in-Ok.next ≡ End = c.in_ok-more.ensures.end (ap Ok c.if-not-more.true) in
+    let had = c.frames.intake.logs in
+    let logs = c.join.new.intake.logs in
+    let old : Reading = c.frames.reader in
+    let new : Reading = c.next.new.self in
+    let sum : new.taken ≡ old.taken + (new.taken - old.taken) = omega (arith, next.rises) in
+    let read = HasRead-then old.taken _ new.taken _ _ _ last.took (next.took (λ is. true≢false (ap is_ok is))) sum in
+    let means = ReadsAs-then old.taken _ new.taken _ _ logged_of (behind_at (logs_in c.frames.intake) old) (behind_at (logs_in c.join.new.intake) new) last.took last.means
+    (reads_next _ _ (logs_in c.frames.intake) (logs_in c.join.new.intake) old new c.in-Ok.next new.progress.body next.means next.header
+    (λ header is. (next.head header (ap Ok is)).0) (λ verifier is. next.frame verifier (ap Ok is))
+    (logs_counted (λ log. log.items) had.items old.progress.header had.len (omega (arith, had.ok)) (c.frames.intake.count ∙ ap log_count last.header))
+    (c.in_ok-more.ensures.logs ∙ ap (λ (body : List ℕ). logs_then c.in-Ok.next body (logs_in c.frames.intake)) c.body.ensures.value)) sum in
+    ReadsAs-back (λ (l : Logged). record { header = c.join.new.intake.header; logs = logs_in c.join.new.intake; bad = c.bad-intake.result } ≡ l) new.taken _ _ logged_of (behind_at (logs_in c.join.new.intake) new) read means
+    (joined_end (logs_in c.join.new.intake) new _ c.join.new.intake.header c.bad-intake.result (next.end (ap Ok end))
+    (c.in_ok-more.ensures.header ∙ ap (header_then (Ok c.in-Ok.next)) last.header ∙ sym next.header)
+    (c.bad-intake.ensures.ahead (next.ended (ap Ok end)).unread)
+    (logs_counted (λ log. log.items) logs.items c.join.new.intake.header logs.len (omega (arith, logs.ok)) c.join.new.intake.count))
+
+pub returns-clause-within : goal.returns-clause-within
+returns-clause-within g c = λ other.
+    let last = c.frames.invariant in
+    let next = c.in-Ok.ensures in
+    let sum : c.next.new.self.taken ≡ c.frames.reader.taken + (c.next.new.self.taken - c.frames.reader.taken) = omega (arith, next.rises) in
+    TookAtMost-from_read _ _ _ _ (HasRead-then _ _ _ _ _ _ last.took (next.took (λ is. true≢false (ap is_ok is))) sum) (omega (arith, next.within, next.same_limit, last.limit))
+
+pub returns-clause-reached : goal.returns-clause-reached
+returns-clause-reached g c =
+    let last = c.frames.invariant in
+    let next = c.in-Ok.ensures in
+    let sum : c.next.new.self.taken ≡ c.frames.reader.taken + (c.next.new.self.taken - c.frames.reader.taken) = omega (arith, next.rises) in
+    took_to_end _ _ _ reading_end (end_ahead c.next.new.self) (HasRead-then _ _ _ _ _ _ last.took (next.took (λ is. true≢false (ap is_ok is))) sum)
+    (ReadsAs-then _ _ _ _ _ _ _ _ last.took last.extent next.extent sum) (next.reached (ap Ok (c.in_ok-more.ensures.end (ap Ok c.if-not-more.true))))
+
+pub returns-clause-stops : goal.returns-clause-stops
+returns-clause-stops g c =
+    let last = c.frames.invariant in
+    let next = c.in-Ok.ensures in
+    let sum : c.next.new.self.taken ≡ c.frames.reader.taken + (c.next.new.self.taken - c.frames.reader.taken) = omega (arith, next.rises) in
+    stops_near _ _ _ reading_end (HasRead-then _ _ _ _ _ _ last.took (next.took (λ is. true≢false (ap is_ok is))) sum)
+    (near-then _ _ _ _ _ _ _ _ _ last.took last.extent next.rises refl last.near next.near)

@@ -1,25 +1,27 @@
-use Rattle.std.proofs.Common.{◌≡◌, ◌-◌, ◌≤◌, vec_len}
+use Rattle.std.proofs.Common.{◌≡◌, ◌+◌, ◌-◌, ◌≤◌, ◌<◌, IfSome}
+use Rattle.fv_outside.specs.Consumed.{most_behind}
 use Rattle.bundle_frames.specs.Progress.{position}
-use Rattle.bundle_frames.specs.Extent.{end_behind, reading_end, IsDue}
+use Rattle.bundle_frames.specs.Extent.{reading_end, IsDue}
+use Rattle.bundle_frames.specs.Reading.{end_ahead, HasRead, ReadsAs}
 use Rattle.bundle_report.specs.Logged.{logged_of}
-use Rattle.check_core.specs.Intake.{Means, behind_at, logs_in}
-use Rattle.fv_outside.specs.Consumed.{StopsAtEnd, TookJust}
+use Rattle.check_core.specs.Intake.{behind_at, logs_in}
 use Rattle.check_core.proofs.reading.read_bundle.Given as goal
 
--- what was read so far
-abbrev pub invariant-pieces : goal.invariant-pieces
-invariant-pieces g l = record {
-  room : vec_len l.room ≡ 65536;
-  limit : l.taken ≤ l.limit;
-  position : position l.splitter ≡ l.taken;
-  due : IsDue l.splitter;
-  header : l.intake.header ≡ l.splitter.header;
-  took : TookJust l.taken (g.S.Source.left l.fn.source) (g.S.Source.left l.source);
-  means : Means (g.S.Source.left l.fn.source) (g.S.Source.left l.source) logged_of (behind_at (logs_in l.intake) l.splitter);
-  extent : Means (g.S.Source.left l.fn.source) (g.S.Source.left l.source) reading_end (end_behind l.splitter);
-  stops : StopsAtEnd reading_end (g.S.Source.left l.fn.source) (g.S.Source.left l.source);
+-- what was read and joined so far
+abbrev pub invariant-frames : goal.invariant-frames
+invariant-frames g l = record {
+  due : IsDue l.reader.progress;
+  limit : l.reader.limit ≡ l.limit;
+  within : l.reader.taken ≤ l.limit;
+  position : position l.reader.progress ≤ l.reader.taken;
+  header : l.intake.header ≡ l.reader.progress.header;
+  took : HasRead l.reader.taken (g.S.Source.left l.fn.source) (g.S.Source.left l.source);
+  means : ReadsAs l.reader.taken (g.S.Source.left l.fn.source) logged_of (behind_at (logs_in l.intake) l.reader);
+  extent : ReadsAs l.reader.taken (g.S.Source.left l.fn.source) reading_end (end_ahead l.reader);
+  near : 0 < l.reader.taken → IfSome (g.S.Source.left l.fn.source) (λ bytes. l.reader.taken ≤ reading_end bytes + most_behind);
   faults : g.S.Source.faults l.fn.source ≤ g.S.Source.faults l.source;
 }
 
-abbrev pub decreases-pieces : goal.decreases-pieces
-decreases-pieces g l = l.limit - l.taken
+-- how many bytes may still come
+abbrev pub decreases-frames : goal.decreases-frames
+decreases-frames g l = l.limit - position l.reader.progress
