@@ -1,9 +1,9 @@
 -- What one turn of certifying tells of the logs that the runs have taken.
-use Rattle.std.proofs.Common.{◌≡◌, ◌⊎◌, ℕ, suc, ◌+◌, ◌-◌, ◌<◌, ◌≤◌, Bool, true, false, List, [], ◌∷◌, length, map, drop, slice_get, Option, Some, None, inl, inr, refl, sym, ◌∙◌, ap, subst, arith, filter, cond}
-use Rattle.std.specs.Prelude.{IfSome, nat_lt}
+use Rattle.std.proofs.Common.{◌≡◌, ◌⊎◌, ℕ, suc, ◌+◌, ◌-◌, ◌<◌, ◌≤◌, Bool, true, false, List, [], ◌∷◌, length, map, drop, slice_get, Option, Some, None, inl, inr, refl, sym, ◌∙◌, ap, subst, arith, filter, cond, ◌++◌, append-nil}
+use Rattle.std.specs.Prelude.{Result, Ok, Err, is_err, OnErr, OnOk, IfSome, nat_lt}
 use Rattle.std.specs.Option.{option_map}
 use Rattle.std.proofs.lemmas.Bool.Decides.{nat_tests}
-use Rattle.std.proofs.lemmas.Bool.{cases_lt, cond-false}
+use Rattle.std.proofs.lemmas.Bool.{false≢true, cases_lt, cond-false}
 use Rattle.lamport_clocks.specs.declared.header.Header.{Header}
 use Rattle.merkle_records.specs.Scheme.{Scheme}
 use Rattle.multiset_sum.specs.declared.part.Part.{Part}
@@ -20,11 +20,16 @@ use Rattle.bundle_report.specs.declared.judged.Judged.{Judged}
 use Rattle.bundle_report.specs.declared.judged.Uneven.{Uneven}
 use Rattle.bundle_report.specs.Report.{epoch_text}
 use Rattle.bundle_report.specs.RunReport.{courses_of, parts_at, operations_among}
-use Rattle.bundle_report.specs.Judged.{judged, judged_by, CanBeJudged, first_parts}
-use Rattle.bundle_report.specs.SoFar.{lines_told, runs_from, verdict_at, IsUneven, HaveTaken, HaveLogs}
+use Rattle.bundle_report.specs.Judged.{judged, judged_by, CanBeJudged, first_parts, refused_log, end_by}
+use Rattle.log_codec.specs.Log.{read_log}
+use Rattle.report_text.specs.declared.ending.BundleEnd.{BundleEnd}
+use Rattle.bundle_report.specs.declared.refused_log.RefusedLog.{RefusedLog}
+use Rattle.bundle_report.specs.BundleReport.{end_of, histories_at}
+use Rattle.bundle_report.specs.SoFar.{runs_ended, lines_told, lines_from, runs_from, verdict_at, IsUneven, HaveTaken, HaveLogs}
 use Rattle.bundle_report.proofs.CertifyLaws.{can_be_judged, courses-length}
 use Rattle.bundle_report.proofs.LeftLaws.{run_of, left-parts, next-parts, next-operations, runs-length, runs-more}
-use Rattle.bundle_report.proofs.SoFarLaws.{behind, next-tells, uneven-judged}
+use Rattle.bundle_report.proofs.LinesLaws.{lines-more, lines-behind}
+use Rattle.bundle_report.proofs.SoFarLaws.{end-taken, counted-within, behind, next-tells, uneven-judged}
 use Rattle.certified_epochs.specs.declared.fed_run.FedRun.{FedRun}
 use Rattle.certified_epochs.specs.Turn.{courses_in, next_epoch, parts_left, Turned, no_turn, turn_by, turn_at, turn}
 
@@ -228,12 +233,18 @@ module _ (so_far : Judged) (runs : List FedRun) (found : Option ℕ) (epoch : �
       ∙ ap (verdict_of (length runs) epoch) (sym gathered)
       ∙ sym judged_is)
 
+  -- another one leaves the runs
+  pub turn-other : (now : Judged) (found_so : Verdict) → so_far ≡ now → verdict ≡ found_so
+      → turn so_far (runs_of runs) ≡ turn_by now (runs_of runs) epoch found_so
+  turn-other now found_so same is_so =
+      turn-is ∙ ap (turn_by so_far (runs_of runs) epoch) is_so ∙ ap (λ (j : Judged). turn_by j (runs_of runs) epoch found_so) same
+
   -- a balanced one
-  pub turn-balanced : (left : List Progress) (operations : List Operation) → verdict ≡ Balanced
+  pub turn-balanced : (now : Judged) (count : ℕ) (left : List Progress) (operations : List Operation) → so_far ≡ now → count ≡ suc now.count → verdict ≡ Balanced
       → left ≡ map (λ fed. left_of epoch fed.run) runs → operations ≡ merged_up_to epoch (operations_among (fed_courses runs))
       → turn so_far (runs_of runs)
-      ≡ record { more = true; judged = record so_far { count = suc so_far.count }; runs = left; text = epoch_text epoch operations }
-  turn-balanced left operations balanced left_is ops_are =
+      ≡ record { more = true; judged = record { count = count; unbalanced = now.unbalanced }; runs = left; text = epoch_text epoch operations }
+  turn-balanced now count left operations same counted balanced left_is ops_are =
       turn-is ∙ ap (turn_by so_far (runs_of runs) epoch) balanced
       ∙ ap (λ (rs : List Progress). record {
         more = true; judged = record so_far { count = suc so_far.count }; runs = rs;
@@ -242,6 +253,8 @@ module _ (so_far : Judged) (runs : List FedRun) (found : Option ℕ) (epoch : �
       ∙ ap (λ (ops : List Operation). record {
         more = true; judged = record so_far { count = suc so_far.count }; runs = left; text = epoch_text epoch ops })
       (ap (λ (courses : List Course). merged_up_to epoch (operations_among courses)) (courses_same runs) ∙ sym ops_are)
+      ∙ ap (λ (j : Judged). record { more = true; judged = record j { count = suc j.count }; runs = left; text = epoch_text epoch operations }) same
+      ∙ ap (λ (n : ℕ). record { more = true; judged = record now { count = n }; runs = left; text = epoch_text epoch operations }) (sym counted)
 
 -- where there is no next epoch
 pub turn-none : (so_far : Judged) (runs : List Progress) (found : Option ℕ) → found ≡ None → found ≡ next_epoch runs
@@ -307,3 +320,109 @@ pub count-small : (so_far : Judged) (runs : List FedRun) (found : Option ℕ) (e
     → so_far.unbalanced ≡ None → found ≡ Some epoch → found ≡ next_epoch (runs_of runs) → so_far.count ≤ epoch
 count-small so_far runs found epoch have even is next =
     next_count have.0 have.1 have.2 so_far (runs_of runs) epoch have.3 even (sym next ∙ is)
+
+-- what holds where there is an error, where there is one, and on success
+pub err_holds : {T E : Type 0} (P : Type 0) (r : Result T E) → is_err r ≡ true → OnErr r P → P
+err_holds P (Ok value) is holds = absurd (false≢true is)
+err_holds P (Err fault) is holds = holds
+
+pub ok_holds : {T E : Type 0} (P : Type 0) (r : Result T E) → is_err r ≡ false → OnOk r P → P
+ok_holds P (Ok value) is holds = holds
+ok_holds P (Err fault) is holds = absurd (false≢true (sym is))
+
+-- ---- turn after turn
+
+-- a turn that certified an epoch
+pub certified-turn : (scheme : Scheme) (header : Header) (logs : List (List ℕ)) (so_far now : Judged) (runs next : List Progress) (more : Bool)
+    (text : List ℕ) → HaveTaken scheme header logs so_far runs → so_far.unbalanced ≡ None
+    → turn so_far runs ≡ record { more = more; judged = now; runs = next; text = text } → more ≡ true
+    → IsCertified scheme header logs so_far (record { more = true; judged = now; runs = next; text = text })
+certified-turn scheme header logs so_far now runs next more text taken even is is_more =
+    subst (Tells scheme header logs so_far)
+    (is ∙ ap (λ (b : Bool). record { more = b; judged = now; runs = next; text = text }) is_more)
+    (turn-tells scheme header logs so_far runs taken even)
+
+-- and the last
+pub done-turn : (scheme : Scheme) (header : Header) (logs : List (List ℕ)) (so_far now : Judged) (runs next : List Progress) (more : Bool)
+    (text : List ℕ) → HaveTaken scheme header logs so_far runs → so_far.unbalanced ≡ None
+    → turn so_far runs ≡ record { more = more; judged = now; runs = next; text = text } → more ≡ false
+    → IsDone scheme header logs so_far (record { more = false; judged = now; runs = next; text = text })
+done-turn scheme header logs so_far now runs next more text taken even is not_more =
+    subst (Tells scheme header logs so_far)
+    (is ∙ ap (λ (b : Bool). record { more = b; judged = now; runs = next; text = text }) not_more)
+    (turn-tells scheme header logs so_far runs taken even)
+
+-- where an epoch is unbalanced nothing is left to judge
+pub same-judged : (scheme : Scheme) (header : Header) (logs : List (List ℕ)) (so_far : Judged) (runs : List Progress) (now : Judged) (uneven : Uneven)
+    → HaveTaken scheme header logs so_far runs → now ≡ so_far → now.unbalanced ≡ Some uneven
+    → so_far ≡ judged header.verifiers (courses_of scheme header logs)
+same-judged scheme header logs so_far runs now uneven taken same is =
+    uneven-judged scheme header logs so_far runs uneven taken (sym (ap (λ (j : Judged). j.unbalanced) same) ∙ is)
+
+-- the lines of one epoch more
+pub lines-step : (courses : List Course) (first start count next : ℕ) (text line : List ℕ) → start ≤ count → next ≡ suc count
+    → text ≡ lines_from courses (first + start) (count - start) → line ≡ lines_told courses (first + count)
+    → text ++ line ≡ lines_from courses (first + start) (next - start)
+lines-step courses first start count next text line within is so_far own =
+    let at : first + count ≡ (first + start) + (count - start) = omega (arith, within) in
+    let many : suc (count - start) ≡ next - start = omega (arith, within, is) in
+    ap (λ (t : List ℕ). t ++ line) so_far
+    ∙ ap (λ (l : List ℕ). lines_from courses (first + start) (count - start) ++ l) (own ∙ ap (lines_told courses) at)
+    ∙ sym (lines-more courses (first + start) (count - start))
+    ∙ ap (lines_from courses (first + start)) many
+
+-- the lines of so many epochs are a front of those of more
+lines_front : (courses : List Course) (epoch start count all : ℕ) → start ≤ count → count ≤ all
+    → (more : List ℕ) × (lines_from courses epoch (count - start) ++ more ≡ lines_from courses epoch (all - start))
+lines_front courses epoch start count all within below =
+    let sum : (count - start) + (all - count) ≡ all - start = omega (arith, within, below) in (
+      lines_from courses (epoch + (count - start)) (all - count),
+      sym (lines-behind courses epoch (count - start) (all - count)) ∙ ap (lines_from courses epoch) sum,
+    )
+
+-- What was written and what the turn writes are a front of all lines.
+pub turn-front : (scheme : Scheme) (header : Header) (logs : List (List ℕ)) (so_far : Judged) (runs : List Progress) (start : ℕ) (text : List ℕ)
+    → HaveTaken scheme header logs so_far runs → so_far.unbalanced ≡ None → start ≤ so_far.count
+    → text ≡ lines_from (courses_of scheme header logs) (header.first + start) (so_far.count - start)
+    → (more : List ℕ) × ((text ++ (turn so_far runs).text) ++ more
+    ≡ lines_from (courses_of scheme header logs) (header.first + start) ((judged header.verifiers (courses_of scheme header logs)).count - start))
+turn-front scheme header logs so_far runs start text taken even within so_far_is =
+    go (turn so_far runs).more refl (turn-tells scheme header logs so_far runs taken even)
+  where
+    courses : List Course
+    courses = courses_of scheme header logs
+
+    all : ℕ
+    all = (judged header.verifiers courses).count
+
+    go : (b : Bool) → (turn so_far runs).more ≡ b → TellsBy b scheme header logs so_far (turn so_far runs)
+        → (more : List ℕ) × ((text ++ (turn so_far runs).text) ++ more ≡ lines_from courses (header.first + start) (all - start))
+    go true is tells =
+        let bound = counted-within scheme header logs (turn so_far runs).judged (turn so_far runs).runs tells.taken in
+        let rest = lines_front courses (header.first + start) start (turn so_far runs).judged.count all (omega (arith, within, tells.count)) bound in
+        (rest.0,
+          ap (λ (t : List ℕ). t ++ rest.0)
+              (lines-step courses header.first start so_far.count (turn so_far runs).judged.count text (turn so_far runs).text within tells.count so_far_is tells.text)
+              ∙ rest.1)
+    go false is tells =
+        let bound = counted-within scheme header logs so_far runs taken in
+        let rest = lines_front courses (header.first + start) start so_far.count all within bound in
+        (rest.0,
+          ap (λ (t : List ℕ). (text ++ t) ++ rest.0) tells.text
+              ∙ ap (λ (t : List ℕ). t ++ rest.0) (append-nil text ∙ so_far_is)
+              ∙ rest.1)
+
+-- ---- the end
+
+-- How the report ends, as the code finds it.
+pub finish-end : (scheme : Scheme) (header : Header) (logs : List (List ℕ)) (so_far now : Judged) (runs : List Progress) (fed : List FedRun)
+    (refused : Option RefusedLog) (bad : Option ℕ) (end : BundleEnd) → HaveTaken scheme header logs so_far runs
+    → so_far ≡ judged header.verifiers (courses_of scheme header logs) → now ≡ so_far → runs_of fed ≡ runs_ended runs
+    → refused ≡ refused_log 0 (fed_courses fed) → end ≡ end_by now.count now.unbalanced refused bad
+    → end ≡ end_of scheme header (map (read_log scheme.format) logs) (histories_at scheme header logs) bad
+finish-end scheme header logs so_far now runs fed refused bad end taken all same ended found is =
+    is
+    ∙ ap (λ (r : Option RefusedLog). end_by now.count now.unbalanced r bad)
+    (found ∙ ap (refused_log 0) (sym (courses_same fed)) ∙ ap (λ (rs : List Progress). refused_log 0 (courses_in rs)) ended)
+    ∙ ap (λ (j : Judged). end_by j.count j.unbalanced (refused_log 0 (courses_in (runs_ended runs))) bad) same
+    ∙ end-taken scheme header logs so_far runs bad taken all

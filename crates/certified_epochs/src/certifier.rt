@@ -110,7 +110,7 @@ impl Certifier {
         if any_starved(runs) {
             return Err(ReportStop::Memory);
         }
-        if self.judged.unbalanced.is_some() {
+        if let Some(_) = self.judged.unbalanced {
             return Ok(());
         }
         let mut page = Page::new();
@@ -198,9 +198,17 @@ impl Certifier {
         if write_epoch_lines(epoch, &self.operations, page, out).is_err() {
             return Err(ReportStop::WriteFault);
         }
-        self.judged.count += 1;
+        self.judged.count = one_more(self.judged.count, epoch);
         Ok(true)
     }
+}
+
+// One epoch more, which is this one: it has as many before it, from the first on, as are counted, or more.
+fn one_more(count: usize, epoch: u32) -> usize
+    requires within { count ≤ epoch }
+    ensures value { result ≡ count + 1 }
+{
+    count + 1
 }
 
 // Takes the operations up to an epoch out of all runs, in place of those that are there, and puts them in the one order.

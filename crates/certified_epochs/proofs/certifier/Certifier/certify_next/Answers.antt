@@ -1,66 +1,95 @@
-use Rattle.std.proofs.Common.{rules, ◌≡◌, ◌≢◌, ◌+◌, ◌-◌, ◌<◌, ◌≤◌, ◌++◌, ℕ, List, map, length, slice_get, true, false, IfOk, OnOk, OnErr, Ok, Err, None, Some, ◌*◌, ◌/◌, ◌%◌, Bool, nat_eq, nat_lt, [], ◌∷◌, slice_index_or, slice_set, bit_and, bit_or, Fits, w8, w32, w64, Bor, MutBor}
-use Rattle.fv_outside.specs.Faults.{Counts, Rose}
-use Rattle.fv_outside.specs.Written.{Grows, GrowsByFront}
-use Rattle.lamport_clocks.specs.declared.header.Header.{Header}
-use Rattle.merkle_records.specs.Scheme.{Scheme}
+use Rattle.std.proofs.Common.{ℕ, ◌++◌, List, add-one, sym, ◌∙◌, ap, subst, arith}
+use Rattle.std.specs.Prelude.{length}
+use Rattle.fv_outside.specs.Written.{GrowsByFront}
+use Rattle.multiset_sum.specs.declared.part.Part.{Part}
 use Rattle.report_text.specs.Page.{Passes}
-use Rattle.bundle_report.specs.RunReport.{courses_of, parts_at, operations_among}
-use Rattle.bundle_report.specs.Judged.{judged, none_judged}
-use Rattle.log_codec.specs.Log.{read_log}
-use Rattle.report_text.specs.Ending.{status_of}
-use Rattle.report_text.specs.Status.{last_line}
-use Rattle.bundle_report.specs.BundleReport.{histories_at, end_of}
-use Rattle.bundle_report.specs.SoFar.{HaveTaken, HaveLogs, lines_from, runs_ended}
-use Rattle.stamp_order.specs.Merged.{merged, up_to}
-use Rattle.stamp_order.specs.Operations.{moment_of, merged_up_to}
-use Rattle.verifier_run.specs.Taken.{left_of}
-use Rattle.certified_epochs.specs.Turn.{AreFed, next_epoch, parts_left, turn}
+use Rattle.report_text.proofs.PassLaws.{Passes-start}
+use Rattle.bundle_report.specs.declared.judged.Judged.{Judged}
+use Rattle.bundle_report.specs.Judged.{CanBeJudged}
+use Rattle.certified_epochs.specs.Turn.{Turned}
+use Rattle.certified_epochs.proofs.TurnLemmas.{runs_of, fed-judged, with_text, turn-other, turn-balanced, less-left, count-small, err_holds, ok_holds}
 use Rattle.certified_epochs.proofs.certifier.Certifier.certify_next.Goals as goal
 
--- src/certifier.rt:185:15
+-- the text of a turn
+abbrev text_of : Turned → List ℕ
+text_of turned = turned.text
+
 pub verdict-requires-clause-numbers : goal.verdict-requires-clause-numbers
-verdict-requires-clause-numbers g c = ?
+verdict-requires-clause-numbers g c =
+    (subst (CanBeJudged (length c.args.runs.now)) (sym (c.deref.ensures.value ∙ c.in_ok-gather.ensures.parts))
+    (fed-judged c.args.self.now c.args.runs.now c.requires.logs)).numbers
 
--- src/certifier.rt:185:15
 pub verdict-requires-clause-once : goal.verdict-requires-clause-once
-verdict-requires-clause-once g c = ?
+verdict-requires-clause-once g c =
+    (subst (CanBeJudged (length c.args.runs.now)) (sym (c.deref.ensures.value ∙ c.in_ok-gather.ensures.parts))
+    (fed-judged c.args.self.now c.args.runs.now c.requires.logs)).once
 
--- src/certifier.rt:185:15
 pub verdict-requires-clause-counts : goal.verdict-requires-clause-counts
-verdict-requires-clause-counts g c = ?
+verdict-requires-clause-counts g c =
+    (subst (CanBeJudged (length c.args.runs.now)) (sym (c.deref.ensures.value ∙ c.in_ok-gather.ensures.parts))
+    (fed-judged c.args.self.now c.args.runs.now c.requires.logs)).counts
 
--- src/certifier.rt:193:17
 pub returns-in-Unbalanced-clause-turned : goal.returns-in-Unbalanced-clause-turned
-returns-in-Unbalanced-clause-turned g c = ?
+returns-in-Unbalanced-clause-turned g c =
+    with_text _ _ _ _ _
+    (turn-other c.args.self.now c.args.runs.now c.next_epoch.result c.in-Some.epoch c.deref.result.now c.verdict.result c.in-Some.is c.next_epoch.ensures.value
+    (c.deref.ensures.value ∙ c.in_ok-gather.ensures.parts) c.verdict.ensures.verdict c.self.inside.judged _ (sym c.self.view_is) c.in-Unbalanced.is)
 
--- src/certifier.rt:193:17
 pub returns-in-Unbalanced-clause-text : goal.returns-in-Unbalanced-clause-text
-returns-in-Unbalanced-clause-text g c = ?
+returns-in-Unbalanced-clause-text g c =
+    subst (λ (text : List ℕ). Passes (g.O.Sink.held c.args.out.now) c.args.page.now text (g.O.Sink.held c.args.out.now) c.args.page.now)
+    (sym (ap text_of
+    (turn-other c.args.self.now c.args.runs.now c.next_epoch.result c.in-Some.epoch c.deref.result.now c.verdict.result c.in-Some.is c.next_epoch.ensures.value
+    (c.deref.ensures.value ∙ c.in_ok-gather.ensures.parts) c.verdict.ensures.verdict c.self.inside.judged _ (sym c.self.view_is) c.in-Unbalanced.is)))
+    (Passes-start (g.O.Sink.held c.args.out.now) c.args.page.now)
 
--- src/certifier.rt:195:36
 pub returns-in-Missing-clause-turned : goal.returns-in-Missing-clause-turned
-returns-in-Missing-clause-turned g c = ?
+returns-in-Missing-clause-turned g c =
+    with_text _ _ _ _ _
+    (turn-other c.args.self.now c.args.runs.now c.next_epoch.result c.in-Some.epoch c.deref.result.now c.verdict.result c.in-Some.is c.next_epoch.ensures.value
+    (c.deref.ensures.value ∙ c.in_ok-gather.ensures.parts) c.verdict.ensures.verdict c.self.inside.judged _ (sym c.self.view_is) c.in-Missing.is)
 
--- src/certifier.rt:195:36
 pub returns-in-Missing-clause-text : goal.returns-in-Missing-clause-text
-returns-in-Missing-clause-text g c = ?
+returns-in-Missing-clause-text g c =
+    subst (λ (text : List ℕ). Passes (g.O.Sink.held c.args.out.now) c.args.page.now text (g.O.Sink.held c.args.out.now) c.args.page.now)
+    (sym (ap text_of
+    (turn-other c.args.self.now c.args.runs.now c.next_epoch.result c.in-Some.epoch c.deref.result.now c.verdict.result c.in-Some.is c.next_epoch.ensures.value
+    (c.deref.ensures.value ∙ c.in_ok-gather.ensures.parts) c.verdict.ensures.verdict c.self.inside.judged _ (sym c.self.view_is) c.in-Missing.is)))
+    (Passes-start (g.O.Sink.held c.args.out.now) c.args.page.now)
 
--- src/certifier.rt:199:13
 pub returns-then-is_err-clause-front : goal.returns-then-is_err-clause-front
-returns-then-is_err-clause-front g c = ?
+returns-then-is_err-clause-front g c =
+    subst (λ (text : List ℕ). GrowsByFront (g.O.Sink.held c.args.out.now) (g.O.Sink.held c.write_epoch_lines.new.out) (c.args.page.now ++ text))
+    (sym (ap text_of
+    (turn-balanced c.args.self.now c.args.runs.now c.next_epoch.result c.in-Some.epoch c.deref.result.now c.verdict.result c.in-Some.is c.next_epoch.ensures.value
+    (c.deref.ensures.value ∙ c.in_ok-gather.ensures.parts) c.verdict.ensures.verdict c.self.inside.judged _
+    (runs_of c.take.new.runs) c.deref-2.result.now (sym c.self.view_is) (add-one c.self.inside.judged.count) c.in-Balanced.is c.in_ok-take.ensures.left (c.deref-2.ensures.value ∙ c.in_ok-take.ensures.operations))))
+    (err_holds _ c.write_epoch_lines.result (sym c.is_err.ensures.value ∙ c.if-is_err.true) c.write_epoch_lines.ensures.front)
 
--- src/certifier.rt:201:9
-pub overflow_add-self : goal.overflow_add-self
-overflow_add-self g c = ?
+pub one_more-self-inside-requires : goal.one_more-self-inside-requires
+one_more-self-inside-requires g c = record {
+  within =
+      let small = count-small c.args.self.now c.args.runs.now c.next_epoch.result c.in-Some.epoch c.requires.logs c.requires.even c.in-Some.is c.next_epoch.ensures.value in
+      let same = ap (λ (j : Judged). j.count) c.self.view_is in
+      omega (arith, small, same);
+}
 
--- src/certifier.rt:162:5
 pub returns-clause-turned : goal.returns-clause-turned
-returns-clause-turned g c = ?
+returns-clause-turned g c =
+    with_text _ _ _ _ _
+    (turn-balanced c.args.self.now c.args.runs.now c.next_epoch.result c.in-Some.epoch c.deref.result.now c.verdict.result c.in-Some.is c.next_epoch.ensures.value
+    (c.deref.ensures.value ∙ c.in_ok-gather.ensures.parts) c.verdict.ensures.verdict c.self.inside.judged _
+    (runs_of c.take.new.runs) c.deref-2.result.now (sym c.self.view_is) (c.one_more-self-inside.ensures.value ∙ add-one c.self.inside.judged.count) c.in-Balanced.is c.in_ok-take.ensures.left (c.deref-2.ensures.value ∙ c.in_ok-take.ensures.operations))
 
--- src/certifier.rt:162:5
 pub returns-clause-text : goal.returns-clause-text
-returns-clause-text g c = ?
+returns-clause-text g c =
+    subst (λ (text : List ℕ). Passes (g.O.Sink.held c.args.out.now) c.args.page.now text (g.O.Sink.held c.write_epoch_lines.new.out) c.write_epoch_lines.new.page)
+    (sym (ap text_of
+    (turn-balanced c.args.self.now c.args.runs.now c.next_epoch.result c.in-Some.epoch c.deref.result.now c.verdict.result c.in-Some.is c.next_epoch.ensures.value
+    (c.deref.ensures.value ∙ c.in_ok-gather.ensures.parts) c.verdict.ensures.verdict c.self.inside.judged _
+    (runs_of c.take.new.runs) c.deref-2.result.now (sym c.self.view_is) (add-one c.self.inside.judged.count) c.in-Balanced.is c.in_ok-take.ensures.left (c.deref-2.ensures.value ∙ c.in_ok-take.ensures.operations))))
+    (ok_holds _ c.write_epoch_lines.result (sym c.is_err.ensures.value ∙ c.if-is_err.false) c.write_epoch_lines.ensures.whole)
 
--- src/certifier.rt:162:5
 pub returns-clause-less : goal.returns-clause-less
-returns-clause-less g c = ?
+returns-clause-less g c = λ done.
+    less-left c.in-Some.epoch c.args.runs.now c.take.new.runs c.next_epoch.result c.in-Some.is c.next_epoch.ensures.value c.in_ok-take.ensures.left
