@@ -1,9 +1,9 @@
--- Laws of this crate's words, for callers too.
-pub mod FrontLaws
-pub mod BundleLaws
-pub mod PartLaws
-pub mod FindsLaws
+-- What reading a bundle comes to, for callers too, and what this crate's proofs rest on.
 pub mod ReadingLaws
+mod FrontLaws
+mod BundleLaws
+mod PartLaws
+mod FindsLaws
 mod ExtentLemmas
 mod ReaderLemmas
 mod TextLemmas
