@@ -11,7 +11,8 @@ use Rattle.stamp_order.specs.Merged.{up_to}
 use Rattle.verifier_commands.specs.Change.{Change, did_add_m, did_evict_m, did_add_b, did_evict_b, did_evict_bm, did_get, did_put, did_next_epoch}
 use Rattle.soundness.specs.History.{Event}
 use Rattle.soundness.specs.Certified.{event_moment, order_of, order_within, operations_by, operations_in, operations_of, epochs_from}
-use Rattle.soundness.proofs.HistoryLaws.{IsTicking, ticks-epoch}
+use Rattle.verifier_commands.proofs.TickLaws.{ticks-epoch}
+use Rattle.soundness.proofs.HistoryLaws.{IsTicking}
 use Rattle.soundness.proofs.EpochLaws.{IsByEpoch, none_before, by_change}
 use Rattle.check_core.specs.Report.{front_count, epoch_text, certified_text}
 use Rattle.check_core.specs.BundleReport.{epoch_lines}

@@ -21,7 +21,8 @@ use Rattle.verifier_commands.specs.Machine.{Machine, opening_machine, effect_of,
 use Rattle.verifier_run.specs.Trace.{trace, parts_of, part_in}
 use Rattle.soundness.specs.History.{Event, events_from, log_events}
 use Rattle.soundness.specs.Certified.{added_by, evicted_by, added_in, evicted_in, sum_over, epochs_in, sealed_by, sealed_count, epochs_from}
-use Rattle.soundness.proofs.HistoryLaws.{Ticks, IsTicking, ticks_step, events-tick}
+use Rattle.verifier_commands.proofs.TickLaws.{Ticks, ticks_step}
+use Rattle.soundness.proofs.HistoryLaws.{IsTicking, events-tick}
 use Rattle.check_core.proofs.HistoryRunLemmas.{next_event, changed, machine_events, step_events, step_trace, events-accepted}
 use Rattle.check_core.proofs.CountedLemmas.{Keeps, keeps-opening, keeps-after}
 use Rattle.check_core.proofs.SealedLemmas.{sealed_in, log-sealed, closed-added, closed-evicted, of_epoch-front}

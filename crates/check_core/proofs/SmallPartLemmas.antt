@@ -25,7 +25,7 @@ use Rattle.verifier_commands.specs.Machine.{Machine, AreBounded, CountsAdd, open
 use Rattle.verifier_commands.proofs.BoundLaws.{bounded_add, bounded_evict, bounded_turn}
 use Rattle.multiset_sum.specs.Sum.{with_lanes}
 use Rattle.verifier_run.specs.Trace.{trace, parts_of, part_in}
-use Rattle.soundness.proofs.HistoryLaws.{Ticks, ticks_step}
+use Rattle.verifier_commands.proofs.TickLaws.{Ticks, ticks_step}
 use Rattle.check_core.specs.RunReport.{courses_from, parts_at}
 use Rattle.check_core.proofs.HistoryRunLemmas.{changed, step_trace}
 

@@ -27,7 +27,7 @@ use Rattle.verifier_commands.specs.Changes.{node_of, above, above_on, leads_to, 
 use Rattle.verifier_commands.specs.Transition.{Rules, is_root, is_data, is_full, transition}
 use Rattle.soundness.specs.Clash.{is_known}
 use Rattle.soundness.proofs.FamilyLaws.{IsAdd, on_empty, on_same, on_split, IsAdded, added_how}
-use Rattle.soundness.proofs.InvertLaws.{need-ok, and_then-ok, timed-ok}
+use Rattle.verifier_commands.proofs.InvertLaws.{need-ok, and_then-ok, timed-ok}
 use Rattle.soundness.proofs.SideLaws.{above_apart}
 use Rattle.collision_exhibit.specs.declared.audit_event.AuditChange.{AuditChange}
 use Rattle.collision_exhibit.specs.declared.audit_event.AuditChange.TheVariants as audits

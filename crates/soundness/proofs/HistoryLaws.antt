@@ -1,150 +1,24 @@
 -- The events of one log: how the clock moves with each, that they stand in the order of their moments, and that each
 -- is of the log's verifier and of an epoch from the header's first on.
-use Rattle.std.proofs.Common.{◌≡◌, ℕ, suc, ◌<◌, ◌≤◌, ◌⊎◌, inl, inr, false, not, nat_le, List, [], ◌∷◌, is_some, Ok, Err, refl, sym, ◌∙◌, ap, subst, append-nil, arith}
+use Rattle.std.proofs.Common.{◌≡◌, ℕ, suc, ◌≤◌, inl, inr, false, List, [], ◌∷◌, Ok, Err, refl, sym, ◌∙◌, ap, subst, append-nil, arith}
 use Rattle.merkle_records.specs.Scheme.{Scheme}
 use Rattle.std.specs.List.{AllByRecursion}
 use Rattle.std.proofs.lemmas.Bool.Decides.{nat_tests}
-use Rattle.std.proofs.lemmas.Result.{IfOk-at_ok}
 use Rattle.lamport_clocks.specs.declared.header.Header.{Header}
 use Rattle.lamport_clocks.specs.declared.stamp.Stamp.{Stamp}
-use Rattle.lamport_clocks.specs.Stamp.{IsLater}
 use Rattle.lamport_clocks.specs.Reading.{Reading}
-use Rattle.lamport_clocks.specs.Clock.{received, sent, advanced}
-use Rattle.step_words.proofs.StepLaws.{test-ok}
-use Rattle.lamport_clocks.proofs.ClockLaws.{received-later, received-bounds, sent-later, sent-bounds, advanced-later, advanced-bounds}
 use Rattle.log_codec.specs.declared.command.Command.{Command}
-use Rattle.log_codec.specs.declared.command.Command.TheVariants.{AddM, EvictM, AddB, EvictB, EvictBM, Get, Put, NextEpoch}
 use Rattle.stamp_order.specs.declared.moment.Moment.{Moment}
 use Rattle.stamp_order.specs.Moment.{is_before}
 use Rattle.stamp_order.specs.Merged.{comes_before, merged, IsMerged}
 use Rattle.stamp_order.proofs.InOrderLaws.{every-weaker}
 use Rattle.stamp_order.proofs.MergedLaws.{merged-fixed}
-use Rattle.verifier_cache.specs.Entry.{has_kid}
-use Rattle.verifier_cache.specs.Cache.{entry_of}
 use Rattle.verifier_commands.specs.declared.state.State.{State}
 use Rattle.verifier_commands.specs.State.{opening}
-use Rattle.verifier_commands.specs.Change.{Change, did_add_m, did_evict_m, did_add_b, did_evict_b, did_evict_bm, did_get, did_put, did_next_epoch}
-use Rattle.verifier_commands.specs.Changes.{add_under, evict_under, defer_under, is_by_stamp}
-use Rattle.record_text.specs.Same.{same_value}
-use Rattle.verifier_commands.specs.Transition.{Rules, Step, is_root, is_data, is_full, transition}
+use Rattle.verifier_commands.specs.Transition.{Rules, Step, transition}
+use Rattle.verifier_commands.proofs.TickLaws.{Ticks, ticks_step, IsUpTo, up_to-trans, up_to-epoch, ticks-up_to}
 use Rattle.soundness.specs.History.{Event, events_behind, events_from, machinery_under, rules_under, log_events}
 use Rattle.soundness.specs.Certified.{event_moment, order_of}
-use Rattle.soundness.proofs.InvertLaws.{need-ok, and_then-ok, timed-ok}
-
--- ---- how the clock moves
-
--- With a change the clock stands, takes in the stamp of what came, goes to the stamp of what went, or turns.
-abbrev pub Ticks : Reading → Reading → Change → Type 0
-Ticks old new (did_add_m parent after child) = new ≡ old
-Ticks old new (did_evict_m parent after child) = new ≡ old
-Ticks old new (did_add_b child element) = received old element.stamp ≡ Ok new
-Ticks old new (did_evict_b child element) = sent old element.stamp ≡ Ok new
-Ticks old new (did_evict_bm parent after child element) = sent old element.stamp ≡ Ok new
-Ticks old new (did_get entry) = new ≡ old
-Ticks old new (did_put before after) = new ≡ old
-Ticks old new (did_next_epoch sealed) = advanced old ≡ Ok (sealed, new)
-
--- the clock moved with what was done
-abbrev pub DidTick : State → Change × State → Type 0
-DidTick state done = Ticks state.clock done.1.clock done.0
-
--- An accepted command moved the clock with its change.
-pub ticks_step : (rules : Rules) (state : State) (command : Command) (done : Change × State)
-    → transition rules state command ≡ Ok done → DidTick state done
-ticks_step rules state (AddM path value parent) done is =
-    let inner = test-ok (is_root path) _ _ done is in
-    let fresh = test-ok (is_some (entry_of path state.cache.entries)) _ _ done inner.1 in
-    let room = test-ok (is_full state) _ _ done fresh.1 in
-    let holder = need-ok (entry_of parent state.cache.entries) _ _ done room.1 in
-    let family = and_then-ok (add_under rules.scheme.format rules.scheme.digest holder.0 path value) _ done holder.2 in
-    IfOk-at_ok (DidTick state) family.2 refl
-ticks_step rules state (EvictM path parent) done is =
-    let inner = test-ok (is_root path) _ _ done is in
-    let child = need-ok (entry_of path state.cache.entries) _ _ done inner.1 in
-    let holder = need-ok (entry_of parent state.cache.entries) _ _ done child.2 in
-    let after = and_then-ok (evict_under rules.scheme.format rules.scheme.digest holder.0 child.0) _ done holder.2 in
-    IfOk-at_ok (DidTick state) after.2 refl
-ticks_step rules state (AddB path value stamp verifier) done is =
-    let inner = test-ok (is_root path) _ _ done is in
-    let fresh = test-ok (is_some (entry_of path state.cache.entries)) _ _ done inner.1 in
-    let room = test-ok (is_full state) _ _ done fresh.1 in
-    let known = test-ok (nat_le rules.verifiers verifier) _ _ done room.1 in
-    let clock = timed-ok (received state.clock stamp) _ done known.1 in
-    IfOk-at_ok (DidTick state) clock.2 clock.1
-ticks_step rules state (EvictB path stamp) done is =
-    let inner = test-ok (is_root path) _ _ done is in
-    let child = need-ok (entry_of path state.cache.entries) _ _ done inner.1 in
-    let lone = test-ok (has_kid child.0) _ _ done child.2 in
-    let held = test-ok (not (is_by_stamp child.0.hold)) _ _ done lone.1 in
-    let clock = timed-ok (sent state.clock stamp) _ done held.1 in
-    IfOk-at_ok (DidTick state) clock.2 clock.1
-ticks_step rules state (EvictBM path parent stamp) done is =
-    let inner = test-ok (is_root path) _ _ done is in
-    let child = need-ok (entry_of path state.cache.entries) _ _ done inner.1 in
-    let holder = need-ok (entry_of parent state.cache.entries) _ _ done child.2 in
-    let after = and_then-ok (defer_under holder.0 child.0) _ done holder.2 in
-    let clock = timed-ok (sent state.clock stamp) _ done after.2 in
-    IfOk-at_ok (DidTick state) clock.2 clock.1
-ticks_step rules state (Get path value) done is =
-    let entry = need-ok (entry_of path state.cache.entries) _ _ done is in
-    let data_path = test-ok (not (is_data rules.scheme.format path)) _ _ done entry.2 in
-    let same = test-ok (not (same_value entry.0.value value)) _ _ done data_path.1 in
-    IfOk-at_ok (DidTick state) same.1 refl
-ticks_step rules state (Put path value) done is =
-    let entry = need-ok (entry_of path state.cache.entries) _ _ done is in
-    let data_path = test-ok (not (is_data rules.scheme.format path)) _ _ done entry.2 in
-    IfOk-at_ok (DidTick state) data_path.1 refl
-ticks_step rules state NextEpoch done is =
-    let turn = timed-ok (advanced state.clock) _ done is in
-    IfOk-at_ok (DidTick state) turn.2 turn.1
-
--- the first stamp is not after the other
-abbrev pub IsUpTo : Stamp → Stamp → Type 0
-IsUpTo s t = (s.epoch < t.epoch) ⊎ ((s.epoch ≡ t.epoch) × (s.counter ≤ t.counter))
-
-up_to-self : (s t : Stamp) → t ≡ s → IsUpTo s t
-up_to-self s t is = inr (ap (λ (x : Stamp). x.epoch) (sym is), omega (arith, ap (λ (x : Stamp). x.counter) is))
-
-up_to-trans : (s t u : Stamp) → IsUpTo s t → IsUpTo t u → IsUpTo s u
-up_to-trans s t u (inl a) (inl b) = inl (omega arith)
-up_to-trans s t u (inl a) (inr b) = inl (omega arith)
-up_to-trans s t u (inr a) (inl b) = inl (omega arith)
-up_to-trans s t u (inr a) (inr b) = inr (a.0 ∙ b.0, omega arith)
-
-up_to-later : (s t : Stamp) → IsLater t s → IsUpTo s t
-up_to-later s t (inl a) = inl a
-up_to-later s t (inr a) = inr (a.0, omega arith)
-
--- the clock never falls
-pub ticks-up_to : (old new : Reading) (change : Change) → Ticks old new change → IsUpTo old.at new.at
-ticks-up_to old new (did_add_m parent after child) is = up_to-self old.at new.at (ap (λ (r : Reading). r.at) is)
-ticks-up_to old new (did_evict_m parent after child) is = up_to-self old.at new.at (ap (λ (r : Reading). r.at) is)
-ticks-up_to old new (did_add_b child element) is = up_to-later old.at new.at (received-later old new element.stamp is)
-ticks-up_to old new (did_evict_b child element) is = up_to-later old.at new.at (sent-later old new element.stamp is)
-ticks-up_to old new (did_evict_bm parent after child element) is =
-    up_to-later old.at new.at (sent-later old new element.stamp is)
-ticks-up_to old new (did_get entry) is = up_to-self old.at new.at (ap (λ (r : Reading). r.at) is)
-ticks-up_to old new (did_put before after) is = up_to-self old.at new.at (ap (λ (r : Reading). r.at) is)
-ticks-up_to old new (did_next_epoch sealed) is = up_to-later old.at new.at (advanced-later old new sealed is)
-
-up_to-epoch : (s t : Stamp) → IsUpTo s t → s.epoch ≤ t.epoch
-up_to-epoch s t (inl a) = omega arith
-up_to-epoch s t (inr a) = omega arith
-
--- nor does it leave an epoch but for a later one
-pub ticks-epoch : (old new : Reading) (change : Change) → Ticks old new change → old.at.epoch ≤ new.at.epoch
-ticks-epoch old new change is = up_to-epoch old.at new.at (ticks-up_to old new change is)
-
--- its first epoch stays
-pub ticks-first : (old new : Reading) (change : Change) → Ticks old new change → new.first ≡ old.first
-ticks-first old new (did_add_m parent after child) is = ap (λ (r : Reading). r.first) is
-ticks-first old new (did_evict_m parent after child) is = ap (λ (r : Reading). r.first) is
-ticks-first old new (did_add_b child element) is = (received-bounds old new element.stamp is).first
-ticks-first old new (did_evict_b child element) is = (sent-bounds old new element.stamp is).first
-ticks-first old new (did_evict_bm parent after child element) is = (sent-bounds old new element.stamp is).first
-ticks-first old new (did_get entry) is = ap (λ (r : Reading). r.first) is
-ticks-first old new (did_put before after) is = ap (λ (r : Reading). r.first) is
-ticks-first old new (did_next_epoch sealed) is = (advanced-bounds old new sealed is).first
 
 -- ---- the events of a log
 

@@ -33,7 +33,7 @@ use Rattle.record_text.specs.Same.{same_value}
 use Rattle.verifier_commands.specs.Transition.{Rules, Step, is_root, is_data, is_full, transition, add_m, evict_m, add_b, evict_b, evict_bm, get, put, next_epoch}
 use Rattle.soundness.specs.History.{Event, events_behind, events_from, machinery_under}
 use Rattle.soundness.specs.Showing.{Shown, HasDone, shown_by, showing, ShowSame}
-use Rattle.soundness.proofs.InvertLaws.{need-ok, and_then-ok, timed-ok}
+use Rattle.verifier_commands.proofs.InvertLaws.{need-ok, and_then-ok, timed-ok}
 use Rattle.soundness.proofs.ShownLemmas.{found_own, shown-replaced, shown-without, shown-append, distinct-replaced, shown-joined, distinct-joined, shown-left, distinct-left}
 
 -- ---- each keeps its path

@@ -1,7 +1,6 @@
 -- How soundness is proved, in reading order: paths, what a step does, the tree, the world and each command, what
 -- waits, the schedule, the merged order, and the whole.
 pub mod SideLaws
-pub mod InvertLaws
 mod ShownLemmas
 mod LawfulLemmas
 mod MovedLemmas

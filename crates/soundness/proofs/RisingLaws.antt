@@ -27,8 +27,9 @@ use Rattle.verifier_commands.specs.Transition.{Rules, Step, is_root, is_data, is
 use Rattle.soundness.specs.History.{Event, events_behind, events_from, machinery_under, rules_under, log_events}
 use Rattle.soundness.specs.Certified.{evicted_by}
 use Rattle.soundness.specs.Timed.{IsEarlier, evicted_among, IsRising}
-use Rattle.soundness.proofs.InvertLaws.{need-ok, and_then-ok, timed-ok}
-use Rattle.soundness.proofs.HistoryLaws.{Ticks, IsUpTo, IsTicking, ticks-up_to, log-ticks}
+use Rattle.verifier_commands.proofs.InvertLaws.{need-ok, and_then-ok, timed-ok}
+use Rattle.verifier_commands.proofs.TickLaws.{Ticks, IsUpTo, ticks-up_to}
+use Rattle.soundness.proofs.HistoryLaws.{IsTicking, log-ticks}
 
 -- ---- whose they are
 

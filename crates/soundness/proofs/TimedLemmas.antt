@@ -14,7 +14,8 @@ use Rattle.verifier_commands.specs.State.{opening}
 use Rattle.verifier_commands.specs.Change.{Change, did_add_m, did_evict_m, did_add_b, did_evict_b, did_evict_bm, did_get, did_put, did_next_epoch}
 use Rattle.soundness.specs.History.{Event, log_events}
 use Rattle.soundness.specs.Timed.{IsOfBefore, IsTimed, AreTimed}
-use Rattle.soundness.proofs.HistoryLaws.{Ticks, ticks-epoch, ticks-first, IsTicking, log-ticks}
+use Rattle.verifier_commands.proofs.TickLaws.{Ticks, ticks-epoch, ticks-first}
+use Rattle.soundness.proofs.HistoryLaws.{IsTicking, log-ticks}
 
 -- ---- the clock
 

@@ -3,3 +3,5 @@ mod KeyLemmas
 pub mod BelowLaws
 mod CacheLemmas
 pub mod BoundLaws
+pub mod InvertLaws
+pub mod TickLaws

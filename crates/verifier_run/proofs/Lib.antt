@@ -3,3 +3,6 @@ mod CourseLemmas
 mod TraceLemmas
 mod FollowLemmas
 mod PieceLemmas
+mod OrderLemmas
+mod HandOutLemmas
+mod TakenLemmas

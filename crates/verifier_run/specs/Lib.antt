@@ -3,3 +3,6 @@ pub mod Trace
 pub mod Course
 pub mod Progress
 pub mod LogCourse
+pub mod Order
+pub mod Taken
+pub mod Queue

@@ -8,8 +8,12 @@
 #![tactic(auto)]
 
 mod laws;
+mod queue;
 mod run;
 mod tracer;
 
-pub use laws::{logs_come_to_their_course, pieces_do_not_matter};
+pub use laws::{
+    logs_are_handed_out_in_order, logs_come_to_their_course, pieces_do_not_matter, runs_go_on,
+    what_was_taken_leaves_no_trace,
+};
 pub use run::{FeedStop, Run, run_log};

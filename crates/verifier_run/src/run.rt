@@ -1,11 +1,12 @@
 //! A verifier's log in any pieces.
-ghost use Rattle.std.specs.Prelude.{◌≡◌, ◌+◌, ◌<◌, ◌≤◌, ◌^◌, ◌++◌, [], length, take, drop, IsSome, IsOk, IfOk, IfErr, OnOk};
+ghost use Rattle.std.specs.Prelude.{◌≡◌, ◌+◌, ◌<◌, ◌≤◌, ◌^◌, ◌++◌, [], length, take, drop, IsSome, IsOk, IfOk, IfErr, OnOk, OnErr};
 ghost use Rattle.arrayvec.specs.ArrayVec.{array_vec_len};
 ghost use Rattle.lamport_clocks.specs.Header.{IsHeader};
 ghost use Rattle.merkle_records.specs.Scheme.{scheme_of};
 ghost use Rattle.verifier_commands.specs.Machine.{opening_machine};
 ghost use Rattle.verifier_run.specs.Progress.{Progress, between_commands, opening_progress, progress_over, fed, ended, weight};
 ghost use Rattle.verifier_run.specs.LogCourse.{log_course};
+ghost use Rattle.verifier_run.specs.Taken.{taken_by, left_of};
 
 use crate::tracer::Tracer;
 use arrayvec::ArrayVec;
@@ -168,6 +169,28 @@ impl Run {
         ensures value { result.now ≡ self.now.course.operations }
     {
         self.tracer.operations()
+    }
+
+    /// Takes the gets and puts of epochs up to this one, in order. They are kept no longer, nor are the parts of these
+    /// epochs: `ops` and `parts` answer those of later ones. All else stays, and a log goes on as it would have.
+    pub fn take(&mut self, through: u32) -> Result<Vec<Operation>, Memory>
+        ensures operations { IfOk result (λ taken. taken.items ≡ taken_by through self.old.course) }
+        ensures left { OnOk result (self.new ≡ left_of through self.old) }
+        ensures memory { OnErr result (self.new ≡ self.old) }
+    {
+        let mut taken = Vec::new(self.tracer.allocator());
+        self.take_into(through, &mut taken)?;
+        Ok(taken)
+    }
+
+    /// The same, appended to others. For want of memory nothing is taken, and these are as they were.
+    pub fn take_into(&mut self, through: u32, into: &mut Vec<Operation>) -> Result<(), Memory>
+        ensures operations { OnOk result (into.new.items ≡ into.old.items ++ taken_by through self.old.course) }
+        ensures left { OnOk result (self.new ≡ left_of through self.old) }
+        ensures memory { OnErr result (self.new ≡ self.old) }
+        ensures memory_into { OnErr result (into.new.items ≡ into.old.items) }
+    {
+        self.tracer.take_into(through, into)
     }
 }
 

@@ -1,5 +1,5 @@
 //! A verifier and what its commands have come to, command by command.
-ghost use Rattle.std.specs.Prelude.{◌≡◌, ◌+◌, ◌<◌, ◌≤◌, ◌^◌, ◌++◌, ◌∷◌, [], vec_len, vec_capacity, IfOk, OnOk, OnErr};
+ghost use Rattle.std.specs.Prelude.{◌≡◌, ◌+◌, ◌<◌, ◌≤◌, ◌^◌, ◌++◌, length, take, vec_len, vec_capacity, take_while, nat_le, IfOk, OnOk, OnErr};
 ghost use Rattle.lamport_clocks.specs.Header.{IsHeader};
 ghost use Rattle.record_text.specs.Format.{format_of};
 ghost use Rattle.log_codec.specs.Command.{IsCommand};
@@ -7,7 +7,10 @@ ghost use Rattle.merkle_records.specs.Scheme.{scheme_of};
 ghost use Rattle.verifier_commands.specs.Machine.{opening_machine};
 ghost use Rattle.verifier_run.specs.Trace.{operation_in, part_in};
 ghost use Rattle.verifier_run.specs.Course.{Course, opening_course, refuse, after_command};
+ghost use Rattle.verifier_run.specs.Taken.{taken_by, left_behind};
+ghost use Rattle.verifier_run.specs.Queue.{queued, HasRoom};
 
+use crate::queue::Queue;
 use lamport_clocks::Header;
 use log_codec::Command;
 use multiset_sum::Part;
@@ -18,25 +21,27 @@ use std::marker::Model;
 use verifier_commands::{Effect, Verifier};
 use want_of_memory::Memory;
 
-/// A verifier, and the course of its commands. The two lists are all that grows.
+/// A verifier, and the course of its commands. The two queues are all that grows.
 #[derive(Drop)]
 pub(crate) struct Tracer {
     verifier: Verifier,
     accepted: u64,
-    operations: Vec<Operation>,
-    parts: Vec<Part>,
+    operations: Queue<Operation>,
+    parts: Queue<Part>,
     refused: Option<(u64, Refusal)>,
 }
 
 impl Model for Tracer {
     ghost use Rattle.std.specs.Prelude.{◌≡◌};
     ghost use Rattle.verifier_run.specs.Course.{Course};
+    ghost use Rattle.verifier_run.specs.Order.{StandsInOrder};
+    ghost use Rattle.verifier_run.specs.Queue.{queued};
 
     ghost Value = { Course };
 
-    ghost view = { λ t. record { machine = t.verifier; operations = t.operations.items; parts = t.parts.items; refused = t.refused } };
+    ghost view = { λ t. record { machine = t.verifier; operations = queued t.operations; parts = queued t.parts; refused = t.refused } };
 
-    ghost invariant = { λ t. t.accepted ≡ t.verifier.accepted };
+    ghost invariant = { λ t. (t.accepted ≡ t.verifier.accepted) × StandsInOrder t.verifier.state.clock (queued t.operations) (queued t.parts) };
 }
 
 impl Tracer {
@@ -50,10 +55,15 @@ impl Tracer {
         Ok(Tracer {
             verifier,
             accepted: 0,
-            operations: Vec::new(alloc),
-            parts: Vec::new(alloc),
+            operations: Queue::new(alloc),
+            parts: Queue::new(alloc),
             refused: None,
         })
+    }
+
+    /// The allocator that it was made with.
+    pub(crate) fn allocator(&self) -> Global {
+        self.operations.allocator()
     }
 
     /// The number of the refused command, from 0, and why.
@@ -66,13 +76,13 @@ impl Tracer {
     pub(crate) fn operations(&self) -> &[Operation]
         ensures value { result.now ≡ self.now.operations }
     {
-        &self.operations
+        self.operations.as_slice()
     }
 
     pub(crate) fn parts(&self) -> &[Part]
         ensures value { result.now ≡ self.now.parts }
     {
-        &self.parts
+        self.parts.as_slice()
     }
 
     /// Refuses the next command.
@@ -92,8 +102,8 @@ impl Tracer {
         ensures count { self.new.machine.accepted ≤ self.old.machine.accepted + 1 }
     {
         // The room first: a step can't be taken back.
-        self.operations.reserve(1)?;
-        self.parts.reserve(1)?;
+        self.operations.reserve()?;
+        self.parts.reserve()?;
         match self.verifier.step(d, command) {
             Ok(effect) => {
                 self.accepted += 1;
@@ -103,26 +113,83 @@ impl Tracer {
         }
         Ok(())
     }
+
+    /// Appends the operations of epochs up to this one to others, and keeps none of these and no part of these epochs.
+    /// For want of memory nothing of it is done.
+    pub(crate) fn take_into(
+        &mut self,
+        through: u32,
+        into: &mut Vec<Operation>,
+    ) -> Result<(), Memory>
+        ensures taken { OnOk result (into.new.items ≡ into.old.items ++ taken_by through self.old) }
+        ensures left { OnOk result (self.new ≡ left_behind through self.old) }
+        ensures err { OnErr result (self.new ≡ self.old) }
+        ensures err_into { OnErr result (into.new.items ≡ into.old.items) }
+
+        // The rest is as it was, either way.
+        ensures machine { self.new.machine ≡ self.old.machine }
+        ensures refused { self.new.refused ≡ self.old.refused }
+    {
+        let operations = operations_through(self.operations.as_slice(), through);
+        into.reserve(operations)?;
+        append(into, front(self.operations.as_slice(), operations));
+        let parts = parts_through(self.parts.as_slice(), through);
+        self.operations.pass(operations);
+        self.parts.pass(parts);
+        Ok(())
+    }
 }
 
 // Appends what an effect hands out, for which there is room.
-fn keep(effect: Effect, operations: &mut Vec<Operation>, parts: &mut Vec<Part>)
-    requires operations { vec_len operations.old < vec_capacity operations.old }
-    requires parts { vec_len parts.old < vec_capacity parts.old }
-    ensures operations { operations.new.items ≡ operations.old.items ++ operation_in effect }
-    ensures parts { parts.new.items ≡ parts.old.items ++ part_in effect }
+fn keep(effect: Effect, operations: &mut Queue<Operation>, parts: &mut Queue<Part>)
+    requires operations { HasRoom operations.old }
+    requires parts { HasRoom parts.old }
+    ensures operations { queued operations.new ≡ queued operations.old ++ operation_in effect }
+    ensures parts { queued parts.new ≡ queued parts.old ++ part_in effect }
 {
     match effect {
-        Effect::Did(operation) => push_within(operations, operation),
-        Effect::Sealed(part) => push_within(parts, part),
+        Effect::Did(operation) => operations.push_reserved(operation),
+        Effect::Sealed(part) => parts.push_reserved(part),
         Effect::Plain | Effect::Opened => {}
     }
 }
 
-// Appends an item for which there is room.
-fn push_within<T: Drop>(list: &mut Vec<T>, item: T)
-    requires room { vec_len list.old < vec_capacity list.old }
-    ensures items { list.new.items ≡ list.old.items ++ item ∷ [] }
+// How many operations at the front are of epochs up to this one.
+fn operations_through(operations: &[Operation], through: u32) -> usize
+    ensures value { result ≡ length (take_while (λ operation. nat_le operation.stamp.epoch through) operations.now) }
+    ensures within { result ≤ length operations.now }
 {
-    let _there_is_room = list.push(item);
+    operations
+        .iter()
+        .take_while(|operation| operation.stamp.epoch <= through)
+        .count()
+}
+
+// How many parts at the front are of epochs up to this one.
+fn parts_through(parts: &[Part], through: u32) -> usize
+    ensures value { result ≡ length (take_while (λ part. nat_le part.epoch through) parts.now) }
+    ensures within { result ≤ length parts.now }
+{
+    parts
+        .iter()
+        .take_while(|part| part.epoch <= through)
+        .count()
+}
+
+// The first so many operations.
+fn front(operations: &[Operation], len: usize) -> &[Operation]
+    requires within { len ≤ length operations.now }
+    ensures value { result.now ≡ take len operations.now }
+{
+    &operations[..len]
+}
+
+// Appends operations for which there is room.
+fn append(into: &mut Vec<Operation>, operations: &[Operation])
+    requires room { vec_len into.old + length operations.now ≤ vec_capacity into.old }
+    ensures items { into.new.items ≡ into.old.items ++ operations.now }
+{
+    for operation in operations {
+        into.push_reserved(operation.copy());
+    }
 }

@@ -48,6 +48,16 @@ const TWO_SHARDS: &str = "
 08
 ";
 
+// A record is added, and put in two epochs, which are both sealed.
+const PUT_TWICE: &str = "
+01 400000000000000005 00 000000000000000000
+07 400000000000000005 01026162
+08
+07 400000000000000005 01026162
+08
+08
+";
+
 // The bytes of a log from their digits.
 fn log_of(alloc: Global, text: &str) -> Result<Vec<u8>, Fail> {
     let mut log = Vec::new(alloc);
@@ -177,5 +187,24 @@ fn a_sealed_epoch_has_its_sums(rt: HostRuntime) -> Result<(), Fail> {
     assert_eq!(rt; part.epoch, 0);
     assert_eq!(rt; part.added.count(), 2);
     assert_eq!(rt; part.added, part.evicted);
+    Ok(())
+}
+
+// What is taken is kept no longer, and what is of a later epoch is.
+#[test]
+fn what_is_taken_is_kept_no_longer(rt: HostRuntime) -> Result<(), Fail> {
+    let log = log_of(rt.alloc(), PUT_TWICE)?;
+    let mut run = run_log(rt.alloc(), &ToyDigests, 0, &header(), &log)?;
+    let mut taken = run.take(0)?;
+    assert_eq!(rt; taken.as_slice(), [ab_at_5(1, true)?].as_slice());
+    assert_eq!(rt; run.ops().len(), 1);
+    assert_eq!(rt; run.ops()[0].index, 3);
+    assert_eq!(rt; run.parts().len(), 1);
+    assert_eq!(rt; run.parts()[0].epoch, 1);
+    run.take_into(1, &mut taken)?;
+    assert_eq!(rt; taken.len(), 2);
+    assert_eq!(rt; taken[1].index, 3);
+    assert_eq!(rt; run.ops().len(), 0);
+    assert_eq!(rt; run.parts().len(), 0);
     Ok(())
 }
