@@ -1,17 +1,13 @@
 -- Looking up, taking out and replacing entries, by path and by index.
-use Rattle.std.proofs.Common.{◌≡◌, ℕ, zero, suc, ◌+◌, ◌<◌, ◌≤◌, Bool, true, false, List, [], ◌∷◌, ◌++◌, length, drop, get_or, set, Option, Some, None, IsSome, IsNone, if◌then◌else◌, length-append, refl, sym, ◌∙◌, ap, subst, arith}
-use Rattle.std.specs.Option.{option_or, option_map, IfSome}
+use Rattle.std.proofs.Common.{◌≡◌, ℕ, zero, suc, ◌+◌, Bool, true, false, List, [], ◌∷◌, ◌++◌, length, get_or, set, Option, Some, None, IsSome, IsNone, if◌then◌else◌, refl, sym, ◌∙◌, ap, subst, arith}
+use Rattle.std.specs.Option.{option_or, option_map}
 use Rattle.std.proofs.lemmas.Option.{none-some, same_Some}
 use Rattle.std.specs.List.{remove}
 use Rattle.std.proofs.lemmas.Bool.{false≢true}
-use Rattle.std.proofs.lemmas.List.Elements.{at_read}
 use Rattle.tree_keys.specs.Path.{same_path}
 use Rattle.tree_keys.proofs.PathLaws.{same_path-self, same_path-true, same_path-apart}
 use Rattle.verifier_cache.specs.declared.entry.Entry.{Entry}
-use Rattle.record_text.specs.declared.value.Value.TheVariants as values
-use Rattle.verifier_cache.specs.declared.entry.Hold.TheVariants.{Root}
-use Rattle.verifier_cache.specs.Entry.{new_entry}
-use Rattle.verifier_cache.specs.Cache.{IsHeld, entry_of, without, changed, replaced, KeepsPath, AreDistinct, IsIndexOf}
+use Rattle.verifier_cache.specs.Cache.{entry_of, without, changed, replaced, KeepsPath, AreDistinct, IsIndexOf}
 
 -- an entry that is found is one of the path
 pub entry_of-path : (k : List Bool) (xs : List Entry) (e : Entry) → entry_of k xs ≡ Some e → e.path ≡ k
@@ -21,13 +17,6 @@ entry_of-path k (x ∷ xs) e found = go (λ is. entry_of-path k xs e is) (same_p
     go : (entry_of k xs ≡ Some e → e.path ≡ k) → (b : Bool) → same_path k x.path ≡ b → (if b then Some x else entry_of k xs) ≡ Some e → e.path ≡ k
     go further true same is = let alike = same_path-true k x.path same in cc
     go further false apart is = further is
-
--- where no entry is one of the path, none is found
-pub entry_of-none : (k : List Bool) (xs : List Entry) → ((j : ℕ) (d : Entry) → j < length xs → same_path k (get_or xs j d).path ≡ false) → entry_of k xs ≡ None
-entry_of-none k [] apart = refl
-entry_of-none k (x ∷ xs) apart =
-    ap (λ (b : Bool). if b then Some x else entry_of k xs) (apart 0 x (omega arith))
-    ∙ entry_of-none k xs (λ j d within. apart (suc j) d (omega arith))
 
 -- of two lists, one behind the other
 pub entry_of-append : (k : List Bool) (xs ys : List Entry) → entry_of k (xs ++ ys) ≡ option_or (entry_of k xs) (entry_of k ys)
@@ -39,22 +28,6 @@ entry_of-append k (x ∷ xs) ys = go (entry_of-append k xs ys) (same_path k x.pa
     go further false = further
 
 -- ---- the entry at an index
-
--- none from an index on, where it isn't there and none comes after it
-entry_of-drop_at : (k : List Bool) (xs : List Entry) (i : ℕ) (d : Entry) → i < length xs → same_path k (get_or xs i d).path ≡ false → entry_of k (drop (suc i) xs) ≡ None → entry_of k (drop i xs) ≡ None
-entry_of-drop_at k [] i d within apart none = absurd (omega arith)
-entry_of-drop_at k (x ∷ xs) zero d within apart none = ap (λ (b : Bool). if b then Some x else entry_of k xs) apart ∙ none
-entry_of-drop_at k (x ∷ xs) (suc i) d within apart none = entry_of-drop_at k xs i d (omega arith) apart none
-
-pub entry_of-drop : (k : List Bool) (xs : List Entry) (i next : ℕ) (d : Entry) → i < length xs → suc i ≡ next → same_path k (get_or xs i d).path ≡ false → entry_of k (drop next xs) ≡ None → entry_of k (drop i xs) ≡ None
-entry_of-drop k xs i next d within after apart none =
-    entry_of-drop_at k xs i d within apart (subst (λ (n : ℕ). entry_of k (drop n xs) ≡ None) (sym after) none)
-
--- the place where an entry with the path was read
-pub place_read : (k : List Bool) (xs : List Entry) (i : ℕ) (e : Entry) → i < length xs → e ≡ get_or xs i e → same_path k (get_or xs i e).path ≡ true → IsIndexOf k xs i
-place_read k xs i e within read same =
-    let path : k ≡ e.path = same_path-true k (get_or xs i e).path same ∙ ap (λ (x : Entry). x.path) (sym read) in
-    record { within = within; path_there = at_read xs (λ (x : Entry). x.path ≡ k) i e within read (sym path) }
 
 here_same : (k : List Bool) (x : Entry) → x.path ≡ k → same_path k x.path ≡ true
 here_same k x is = subst (λ (p : List Bool). same_path k p ≡ true) (sym is) (same_path-self k)
@@ -160,7 +133,7 @@ length-without k (x ∷ xs) e found = go (λ is. length-without k xs e is) (same
     go further true is = refl
     go further false is = ap (λ (n : ℕ). suc n) (further is)
 
-none_there : (o : Option Entry) → IsNone o → o ≡ None
+pub none_there : (o : Option Entry) → IsNone o → o ≡ None
 none_there None none = refl
 none_there (Some x) none = absurd (false≢true (sym none))
 
@@ -247,44 +220,6 @@ AreDistinct-append (x ∷ xs) e distinct none = go (λ is. AreDistinct-append xs
         → IsNone (entry_of x.path (xs ++ e ∷ [])) × AreDistinct (xs ++ e ∷ [])
     go further true is none = absurd (false≢true (sym none))
     go further false is none = (absent-append x.path xs e distinct.0 (same_path-sym e.path x.path is), further none)
-
--- ---- a cache, whose entries lie in a list
-
--- what was read at a path's place is the path's entry
-pub read_at_place : (k : List Bool) (xs : List Entry) (i : ℕ) (e : Entry) → AreDistinct xs → IsIndexOf k xs i → e ≡ get_or xs i e → entry_of k xs ≡ Some e
-read_at_place k xs i e distinct place read = entry_of-place k xs i e distinct place ∙ ap (λ (x : Entry). Some x) (sym read)
-
-pub path_at_place : (k : List Bool) (xs : List Entry) (i : ℕ) (e : Entry) → IsIndexOf k xs i → e ≡ get_or xs i e → e.path ≡ k
-path_at_place k xs i e place read = ap (λ (x : Entry). x.path) read ∙ place.path_there e
-
--- what was read at a path's place is changed there
-pub set_at_place : (k : List Bool) (f : Entry → Entry) (xs : List Entry) (i : ℕ) (e new : Entry) → AreDistinct xs → IsIndexOf k xs i → e ≡ get_or xs i e → new ≡ f e → set xs i new ≡ changed k f xs
-set_at_place k f xs i e new distinct place read change = ap (set xs i) (change ∙ ap f read) ∙ changed-place k f xs i e distinct place
-
-pub IsHeld-append : (xs ys : List Entry) (room : ℕ) (e : Entry) → IsHeld (record { entries = xs; room = room }) → length xs < room → IsNone (entry_of e.path xs) → ys ≡ xs ++ e ∷ [] → IsHeld (record { entries = ys; room = room })
-IsHeld-append xs ys room e held short none is =
-    let fits : length (xs ++ e ∷ []) ≤ room = simp length-append (omega arith) in
-    subst (λ (zs : List Entry). IsHeld (record { entries = zs; room = room })) (sym is) (record { distinct = AreDistinct-append xs e held.distinct none; within = fits })
-
-pub IsHeld-remove : (k : List Bool) (xs ys : List Entry) (room i : ℕ) → IsHeld (record { entries = xs; room = room }) → IsIndexOf k xs i → ys ≡ remove xs i → IsHeld (record { entries = ys; room = room })
-IsHeld-remove k xs ys room i held place is =
-    let left : ys ≡ without k xs = is ∙ without-place k xs i held.distinct place in
-    let fewer : suc (length (without k xs)) ≡ length xs = length-without k xs _ (entry_of-place k xs i (new_entry k (values.Blob None) Root) held.distinct place) in
-    subst (λ (zs : List Entry). IsHeld (record { entries = zs; room = room })) (sym left) (record { distinct = AreDistinct-without k xs held.distinct; within = omega (arith, held.within, fewer) })
-
-pub IsHeld-set : (k : List Bool) (xs : List Entry) (room i : ℕ) (e : Entry) → IsHeld (record { entries = xs; room = room }) → IsIndexOf k xs i → e.path ≡ k → IsHeld (record { entries = set xs i e; room = room })
-IsHeld-set k xs room i e held place path =
-    subst (λ (zs : List Entry). IsHeld (record { entries = zs; room = room })) (sym (changed-place k (λ old. e) xs i e held.distinct place))
-    (record { distinct = AreDistinct-changed k (λ old. e) xs (λ old is. path) held.distinct; within = omega (arith, held.within, length-changed k (λ old. e) xs) })
-
--- a place in a list is one in the same list
-pub place_in : (k : List Bool) (xs ys : List Entry) (i : ℕ) → ys ≡ xs → IsIndexOf k ys i → IsIndexOf k xs i
-place_in k xs ys i same place = subst (λ (zs : List Entry). IsIndexOf k zs i) same place
-
--- what holds of the value that was read at a path's place holds of the path's entry
-pub value_at_place : (k : List Bool) (xs : List Entry) (i : ℕ) (e : Entry) → AreDistinct xs → IsIndexOf k xs i → e ≡ get_or xs i e → IfSome (entry_of k xs) (λ entry. e.value ≡ entry.value)
-value_at_place k xs i e distinct place read =
-    subst (λ (o : Option Entry). IfSome o (λ entry. e.value ≡ entry.value)) (sym (read_at_place k xs i e distinct place read)) refl
 
 -- ---- an entry in the place of another
 

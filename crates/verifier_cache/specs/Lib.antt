@@ -2,4 +2,7 @@
 pub mod Entry
 pub mod Cache
 pub mod LendsValue
+pub mod Order
+pub mod Index
+pub mod Table
 pub use Rattle.record_text.specs

@@ -1,35 +1,39 @@
 //! The bounded cache of a verifier.
-ghost use Rattle.std.specs.Prelude.{◌≡◌, ◌+◌, ◌<◌, ◌≤◌, nat_le, Bool, List, [], ◌∷◌, ◌++◌, length, Some, None, IsSome, IsNone, IfSome, IfNone, IfOk};
+ghost use Rattle.std.specs.Prelude.{◌≡◌, ◌+◌, ◌-◌, ◌*◌, ◌^◌, ◌<◌, ◌≤◌, nat_le, Bool, List, [], ◌∷◌, ◌++◌, length, Some, None, IsSome, IsNone, IfSome, IfNone, IfOk};
 ghost use Rattle.std.specs.Option.{option_map, option_copied};
 ghost use Rattle.std.specs.Borrow.{sem};
 ghost use Rattle.verifier_cache.specs.LendsValue.{LendsValue};
 ghost use Rattle.verifier_cache.specs.Entry.{kid_of, set_kid, new_entry};
-ghost use Rattle.verifier_cache.specs.Cache.{Held, IsHeld, entry_of, without, changed, replaced, IsIndexOf};
+ghost use Rattle.verifier_cache.specs.Cache.{Held, IsHeld, entry_of, without, changed, replaced};
 
 use crate::entry::{Entry, Hold};
+use crate::steps::Steps;
+use crate::table::Table;
 use record_text::Value;
 use std::alloc::Global;
-use std::marker::Model;
+use std::marker::{Brand, Model};
+use std::sync::ledger::{Blank, Ledger};
 use tree_keys::Path;
 use want_of_memory::Memory;
 
 /// The records that a verifier holds at one time: no path twice, and no more than there is room for.
 #[derive(Debug, Drop)]
 pub struct Cache {
-    entries: Vec<Entry>,
+    table: Table,
     room: u32,
 }
 
 impl Model for Cache {
-    ghost use Rattle.std.specs.Prelude.{◌≤◌, vec_capacity};
-    ghost use Rattle.verifier_cache.specs.Cache.{Held, IsHeld};
+    ghost use Rattle.std.specs.Prelude.{◌≤◌, length};
+    ghost use Rattle.verifier_cache.specs.Cache.{Held};
+    ghost use Rattle.verifier_cache.specs.Table.{standing, IsTable, HasRoom};
 
     ghost Value = { Held };
 
-    ghost view = { λ c. record { entries = c.entries.items; room = c.room } };
+    ghost view = { λ c. record { entries = standing c.table.stored.items; room = c.room } };
 
-    ghost invariant = { λ c. IsHeld (record { entries = c.entries.items; room = c.room })
-        × (c.room ≤ vec_capacity c.entries) };
+    ghost invariant = { λ c. IsTable c.table × HasRoom c.room c.table
+        × (length (standing c.table.stored.items) ≤ c.room) };
 }
 
 impl Cache {
@@ -38,8 +42,8 @@ impl Cache {
         ensures empty { IfOk result (λ cache. cache.entries ≡ []) }
         ensures room { IfOk result (λ cache. cache.room ≡ room) }
     {
-        let entries = Vec::with_capacity(alloc, room as usize)?;
-        Ok(Cache { entries, room })
+        let table = Table::new(alloc, room)?;
+        Ok(Cache { table, room })
     }
 
     /// The number of entries.
@@ -47,7 +51,7 @@ impl Cache {
         ensures value { result ≡ length self.now.entries }
         ensures held { IsHeld self.now }
     {
-        self.entries.len()
+        self.table.len()
     }
 
     /// Whether there is no room for another entry.
@@ -55,7 +59,7 @@ impl Cache {
         ensures value { result ≡ nat_le self.now.room (length self.now.entries) }
         ensures held { IsHeld self.now }
     {
-        self.entries.len() >= self.room as usize
+        self.table.len() >= self.room as usize
     }
 
     /// The value of a path, if it is there.
@@ -69,15 +73,25 @@ impl Cache {
         }
     }
 
+    /// The same answer, with its comparisons of two paths counted.
+    pub fn find_counted<L: Ledger>(&self, k: &Path, steps: &mut Steps<L>) -> Option<&Value>
+        ensures value { option_copied result
+            ≡ option_map (λ entry. entry.value) (entry_of k.now self.now.entries) }
+        ensures steps { 2 ^ (steps.new - steps.old) ≤ 2 * length self.now.entries + 1 }
+        ensures rise { steps.old ≤ steps.new }
+    {
+        match self.table.entry(k, steps) {
+            Some(entry) => Some(&entry.value),
+            None => None,
+        }
+    }
+
     /// The entry of a path, if it is there.
     pub fn entry(&self, k: &Path) -> Option<&Entry>
         ensures value { option_copied result ≡ entry_of k.now self.now.entries }
         ensures path { IfSome result (λ entry. entry.now.path ≡ k.now) }
     {
-        match position(&self.entries, k) {
-            Some(index) => Some(&self.entries[index]),
-            None => None,
-        }
+        self.table.entry_by::<Brand>(k, Blank::new(1))
     }
 
     /// How the record of a path came in.
@@ -114,7 +128,7 @@ impl Cache {
         ensures entries { self.new.entries ≡ self.old.entries ++ entry ∷ [] }
         ensures room { self.new.room ≡ self.old.room }
     {
-        self.entries.push_reserved(entry);
+        self.table.insert(entry, self.room);
     }
 
     /// Takes the entry of a path out, and returns its value. The others stay in their order.
@@ -124,9 +138,7 @@ impl Cache {
         ensures entries { self.new.entries ≡ without k.now self.old.entries }
         ensures room { self.new.room ≡ self.old.room }
     {
-        let index = place(&self.entries, k);
-        let entry = self.entries.remove(index);
-        entry.value
+        self.table.remove(k, self.room)
     }
 
     /// Puts an entry in the place of the one of its path.
@@ -140,8 +152,8 @@ impl Cache {
         ensures absent { (k : List Bool) → IsNone (entry_of k self.old.entries)
             → IsNone (entry_of k self.new.entries) }
     {
-        let index = place(&self.entries, &entry.path);
-        self.entries[index] = entry;
+        let at = self.table.at(&entry.path);
+        self.table.stored[at].entry = entry;
     }
 
     /// The value of a path, to be written.
@@ -150,9 +162,9 @@ impl Cache {
         ensures* writes_back { sem 𝓛 (LendsValue self.entry k.now result) }
         ensures value { IfSome (entry_of k.now self.old.entries) (λ entry. result.now ≡ entry.value) }
     {
-        let index = place(&self.entries, k);
-        let entry = &mut self.entries[index];
-        &mut entry.value
+        let at = self.table.at(k);
+        let stored = &mut self.table.stored[at];
+        &mut stored.entry.value
     }
 
     /// Sets or clears the kid bit of a path's side.
@@ -162,29 +174,7 @@ impl Cache {
             ≡ changed k.now (λ entry. set_kid entry side on) self.old.entries }
         ensures room { self.new.room ≡ self.old.room }
     {
-        let index = place(&self.entries, k);
-        self.entries[index].set_kid(side, on);
+        let at = self.table.at(k);
+        self.table.stored[at].entry.set_kid(side, on);
     }
-}
-
-// The index at which a path's entry stands. The search begins at the end, where the latest entries are,
-// which are the soonest to be used again.
-fn position(entries: &[Entry], k: &Path) -> Option<usize>
-    ensures found { IfSome result (IsIndexOf k.now entries.now) }
-    ensures none { IfNone result (entry_of k.now entries.now ≡ None) }
-{
-    for i in (0..entries.len()).rev() {
-        if k.is_same(&entries[i].path) {
-            return Some(i);
-        }
-    }
-    None
-}
-
-// The index at which the entry of a path stands that is there.
-fn place(entries: &[Entry], k: &Path) -> usize
-    requires there { IsSome (entry_of k.now entries.now) }
-    ensures place { IsIndexOf k.now entries.now result }
-{
-    position(entries, k).unwrap()
 }

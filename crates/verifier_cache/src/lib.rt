@@ -9,7 +9,11 @@
 
 mod cache;
 mod entry;
+mod index;
 mod laws;
+mod search;
+mod steps;
+mod table;
 
 pub use cache::Cache;
 pub use entry::{Entry, Hold};
@@ -17,3 +21,4 @@ pub use laws::{
     changing_keeps_the_others, entries_are_found_by_their_paths, inserting_adds_one_entry,
     removing_takes_one_entry, replacing_changes_one_entry, setting_a_kid_bit_keeps_the_other,
 };
+pub use steps::Steps;

@@ -1,22 +1,11 @@
-use Rattle.std.proofs.Common.{◌≡◌, ◌∙◌, ap, subst, arith}
-use Rattle.std.specs.Option.{IfSome}
-use Rattle.verifier_cache.specs.Cache.{Held, entry_of, without}
-use Rattle.verifier_cache.proofs.EntriesLaws.{place_in, value_at_place, without-place, IsHeld-remove}
+use Rattle.std.proofs.Common.{length, IsSome, sym, ap, subst, arith}
+use Rattle.verifier_cache.specs.Cache.{Held, entry_of}
+use Rattle.verifier_cache.specs.Table.{standing}
+use Rattle.verifier_cache.proofs.EntriesLaws.{length-without_there}
 use Rattle.verifier_cache.proofs.cache.Cache.remove.Goals as goal
 
 pub invariant_of-self : goal.invariant_of-self
 invariant_of-self c =
-    let place = place_in _ _ _ _ c.deref.ensures.value c.place-index.ensures.place in
-    (IsHeld-remove _ _ _ _ _ c.self.invariant.0 place c.remove-entry.ensures.items, omega (arith, c.self.invariant.1, c.remove-entry.ensures.capacity))
-
-pub returns-clause-value : goal.returns-clause-value
-returns-clause-value c =
-    let place = place_in _ _ _ _ c.deref.ensures.value c.place-index.ensures.place in
-    subst (λ (h : Held). IfSome (entry_of c.args.k.now h.entries) (λ entry. c.remove-entry.result.value ≡ entry.value)) c.self.view_is
-    (value_at_place _ _ _ c.remove-entry.result c.self.invariant.0.distinct place c.remove-entry.ensures.value)
-
-pub returns-clause-entries : goal.returns-clause-entries
-returns-clause-entries c =
-    let place = place_in _ _ _ _ c.deref.ensures.value c.place-index.ensures.place in
-    c.remove-entry.ensures.items
-    ∙ (without-place _ _ _ c.self.invariant.0.distinct place ∙ ap (λ (h : Held). without c.args.k.now h.entries) c.self.view_is)
+    let there : IsSome (entry_of c.args.k.now (standing c.self.inside.table.stored.items)) =
+    subst (λ (h : Held). IsSome (entry_of c.args.k.now h.entries)) (sym c.self.view_is) c.requires.there in
+    (c.remove.ensures.table, c.remove.ensures.fits, omega (arith, c.self.invariant.2, ap length c.remove.ensures.entries, length-without_there c.args.k.now (standing c.self.inside.table.stored.items) there))

@@ -1,19 +1,28 @@
-use Rattle.std.proofs.Common.{List, IsNone, refl, sym, ◌∙◌, ap, subst}
+use Rattle.std.proofs.Common.{List, IsNone, length, refl, sym, ◌∙◌, ap, subst, arith}
 use Rattle.verifier_cache.specs.declared.entry.Entry.{Entry}
 use Rattle.verifier_cache.specs.Cache.{Held, entry_of, replaced}
-use Rattle.verifier_cache.proofs.EntriesLaws.{place_in, set_at_place, absent-changed, IsHeld-set}
+use Rattle.verifier_cache.proofs.EntriesLaws.{absent-changed, length-changed}
+use Rattle.verifier_cache.proofs.IndexedLemmas.{live_read, changed_there}
 use Rattle.verifier_cache.proofs.cache.Cache.replace.Goals as goal
 
 pub invariant_of-self : goal.invariant_of-self
 invariant_of-self c =
-    let place = place_in _ _ _ _ c.deref.ensures.value c.place-index.ensures.place in
-    (IsHeld-set _ _ _ _ c.args.entry c.self.invariant.0 place refl, c.self.invariant.1)
+    let there = c.at-at.ensures.at in
+    let read = c.index_mut.ensures.value in
+    let changed = changed_there c.args.entry.path (λ old. c.args.entry) c.self.inside.table.stored.items c.self.inside.table.index c.at-at.result c.index_mut.result.now _ c.self.invariant.0 there read
+    (live_read _ _ _ _ there read) refl refl in
+    (changed.indexed, record { stored = c.self.invariant.1.stored; targets = c.self.invariant.1.targets; index = c.self.invariant.1.index }, omega (arith, c.self.invariant.2, changed.count))
 
 pub returns-clause-entries : goal.returns-clause-entries
 returns-clause-entries c =
-    let place = place_in _ _ _ _ c.deref.ensures.value c.place-index.ensures.place in
-    set_at_place _ (λ old. c.args.entry) _ _ _ c.args.entry c.self.invariant.0.distinct place c.index_mut.ensures.value refl
+    let there = c.at-at.ensures.at in
+    let read = c.index_mut.ensures.value in
+    (changed_there c.args.entry.path (λ old. c.args.entry) c.self.inside.table.stored.items c.self.inside.table.index c.at-at.result c.index_mut.result.now _ c.self.invariant.0 there read
+    (live_read _ _ _ _ there read) refl refl).entries
     ∙ ap (λ (h : Held). replaced c.args.entry h.entries) c.self.view_is
+
+pub returns-clause-len : goal.returns-clause-len
+returns-clause-len c = ap length (returns-clause-entries c) ∙ length-changed c.args.entry.path (λ old. c.args.entry) c.args.self.now.entries
 
 pub returns-clause-absent : goal.returns-clause-absent
 returns-clause-absent c =
