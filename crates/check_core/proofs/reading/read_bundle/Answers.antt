@@ -1,11 +1,10 @@
-use Rattle.std.proofs.Common.{◌≡◌, ◌+◌, ◌-◌, ◌<◌, ◌≤◌, ℕ, List, Option, IfSome, Ok, Err, is_ok, true≢false, map, refl, sym, ap, subst, ◌∙◌, arith}
-use Rattle.lamport_clocks.specs.declared.header.Header.{Header}
+use Rattle.std.proofs.Common.{◌≡◌, ◌+◌, ◌-◌, ◌<◌, ◌≤◌, ℕ, List, IfSome, Ok, Err, is_ok, true≢false, map, refl, sym, ap, subst, ◌∙◌, arith}
 use Rattle.bundle_frames.specs.declared.coming.Next.TheVariants.{End}
 use Rattle.bundle_frames.specs.declared.coming.SourceStop.TheVariants as sources
 use Rattle.bundle_frames.specs.declared.coming.SourceStop.{SourceStop}
 use Rattle.bundle_frames.specs.Progress.{position}
 use Rattle.bundle_frames.specs.Extent.{reading_end}
-use Rattle.bundle_frames.specs.Reading.{Reading, HasRead, end_ahead, header_then}
+use Rattle.bundle_frames.specs.Reading.{Reading, end_ahead, header_then}
 use Rattle.bundle_frames.proofs.ReadingLaws.{HasRead-none, HasRead-then, ReadsAs-none, ReadsAs-then, ReadsAs-back, TookJust-from_read, TookAtMost-from_read, end_opening, near-then, stops_near, stops_stopped, took_to_end}
 use Rattle.check_core.specs.declared.stops.ReadStop.{ReadStop}
 use Rattle.check_core.specs.declared.stops.ReadStop.TheVariants.{InputLimit}
