@@ -7,6 +7,7 @@ ghost use Rattle.verifier_cache.specs.Entry.{kid_of, set_kid, new_entry};
 ghost use Rattle.verifier_cache.specs.Cache.{Held, IsHeld, entry_of, without, changed, replaced};
 
 use crate::entry::{Entry, Hold};
+use crate::search::Hint;
 use crate::steps::Steps;
 use crate::table::Table;
 use record_text::Value;
@@ -94,6 +95,20 @@ impl Cache {
         self.table.entry_by::<Brand>(k, Blank::new(1))
     }
 
+    /// Where a path is found, or would come in: the calls that are told so don't search for it again, as long
+    /// as nothing comes in or goes out.
+    pub fn hint(&self, k: &Path) -> Hint {
+        self.table.hint(k)
+    }
+
+    /// The entry of a path, if it is there, by a hint.
+    pub fn entry_near(&self, k: &Path, hint: Hint) -> Option<&Entry>
+        ensures value { option_copied result ≡ entry_of k.now self.now.entries }
+        ensures path { IfSome result (λ entry. entry.now.path ≡ k.now) }
+    {
+        self.table.entry_near(k, hint)
+    }
+
     /// How the record of a path came in.
     pub fn hold(&self, k: &Path) -> Hold
         requires there { IsSome (entry_of k.now self.now.entries) }
@@ -128,7 +143,18 @@ impl Cache {
         ensures entries { self.new.entries ≡ self.old.entries ++ entry ∷ [] }
         ensures room { self.new.room ≡ self.old.room }
     {
-        self.table.insert(entry, self.room);
+        let hint = self.hint(&entry.path);
+        self.insert_near(entry, hint);
+    }
+
+    /// The same by a hint.
+    pub fn insert_near(&mut self, entry: Entry, hint: Hint)
+        requires room { length self.old.entries < self.old.room }
+        requires absent { IsNone (entry_of entry.path self.old.entries) }
+        ensures entries { self.new.entries ≡ self.old.entries ++ entry ∷ [] }
+        ensures room { self.new.room ≡ self.old.room }
+    {
+        self.table.insert(entry, hint, self.room);
     }
 
     /// Takes the entry of a path out, and returns its value. The others stay in their order.
@@ -138,7 +164,18 @@ impl Cache {
         ensures entries { self.new.entries ≡ without k.now self.old.entries }
         ensures room { self.new.room ≡ self.old.room }
     {
-        self.table.remove(k, self.room)
+        let hint = self.hint(k);
+        self.remove_near(k, hint)
+    }
+
+    /// The same by a hint.
+    pub fn remove_near(&mut self, k: &Path, hint: Hint) -> Value
+        requires there { IsSome (entry_of k.now self.old.entries) }
+        ensures value { IfSome (entry_of k.now self.old.entries) (λ entry. result ≡ entry.value) }
+        ensures entries { self.new.entries ≡ without k.now self.old.entries }
+        ensures room { self.new.room ≡ self.old.room }
+    {
+        self.table.remove(k, hint, self.room)
     }
 
     /// Puts an entry in the place of the one of its path.
@@ -152,7 +189,20 @@ impl Cache {
         ensures absent { (k : List Bool) → IsNone (entry_of k self.old.entries)
             → IsNone (entry_of k self.new.entries) }
     {
-        let at = self.table.at(&entry.path);
+        let hint = self.hint(&entry.path);
+        self.replace_near(entry, hint);
+    }
+
+    /// The same by a hint.
+    pub fn replace_near(&mut self, entry: Entry, hint: Hint)
+        requires there { IsSome (entry_of entry.path self.old.entries) }
+        ensures entries { self.new.entries ≡ replaced entry self.old.entries }
+        ensures room { self.new.room ≡ self.old.room }
+        ensures len { length self.new.entries ≡ length self.old.entries }
+        ensures absent { (k : List Bool) → IsNone (entry_of k self.old.entries)
+            → IsNone (entry_of k self.new.entries) }
+    {
+        let at = self.table.at(&entry.path, hint);
         self.table.stored[at].entry = entry;
     }
 
@@ -162,7 +212,17 @@ impl Cache {
         ensures* writes_back { sem 𝓛 (LendsValue self.entry k.now result) }
         ensures value { IfSome (entry_of k.now self.old.entries) (λ entry. result.now ≡ entry.value) }
     {
-        let at = self.table.at(k);
+        let hint = self.hint(k);
+        self.value_mut_near(k, hint)
+    }
+
+    /// The same by a hint.
+    pub fn value_mut_near(&mut self, k: &Path, hint: Hint) -> &mut Value
+        requires there { IsSome (entry_of k.now self.old.entries) }
+        ensures* writes_back { sem 𝓛 (LendsValue self.entry k.now result) }
+        ensures value { IfSome (entry_of k.now self.old.entries) (λ entry. result.now ≡ entry.value) }
+    {
+        let at = self.table.at(k, hint);
         let stored = &mut self.table.stored[at];
         &mut stored.entry.value
     }
@@ -174,7 +234,8 @@ impl Cache {
             ≡ changed k.now (λ entry. set_kid entry side on) self.old.entries }
         ensures room { self.new.room ≡ self.old.room }
     {
-        let at = self.table.at(k);
+        let hint = self.table.hint(k);
+        let at = self.table.at(k, hint);
         self.table.stored[at].entry.set_kid(side, on);
     }
 }

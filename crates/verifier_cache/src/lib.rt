@@ -21,4 +21,5 @@ pub use laws::{
     changing_keeps_the_others, entries_are_found_by_their_paths, inserting_adds_one_entry,
     removing_takes_one_entry, replacing_changes_one_entry, setting_a_kid_bit_keeps_the_other,
 };
+pub use search::Hint;
 pub use steps::Steps;

@@ -11,7 +11,7 @@ ghost use Rattle.std.specs.List.{filter};
 
 use crate::entry::Entry;
 use crate::index::{Index, Mark};
-use crate::search::{search, search_uncounted};
+use crate::search::{Hint, hint_of, search, search_near};
 use crate::steps::Steps;
 use record_text::Value;
 use std::alloc::Global;
@@ -91,18 +91,37 @@ impl Table {
         self.entry(k, &mut steps)
     }
 
+    /// Where a path is found, or would come in.
+    pub(crate) fn hint(&self, k: &Path) -> Hint
+        requires table { IsTable self.now }
+    {
+        hint_of(&self.index, k)
+    }
+
+    /// The entry of a path, if it is there, by a hint.
+    pub(crate) fn entry_near(&self, k: &Path, hint: Hint) -> Option<&Entry>
+        requires table { IsTable self.now }
+        ensures value { option_copied result ≡ entry_of k.now (standing self.now.stored.items) }
+        ensures path { IfSome result (λ entry. entry.now.path ≡ k.now) }
+    {
+        match search_near(&self.index, k, hint) {
+            Ok(rank) => Some(&self.stored[self.index.mark(rank).at].entry),
+            Err(_) => None,
+        }
+    }
+
     /// Where the entry of a path lies that is there.
-    pub(crate) fn at(&self, k: &Path) -> usize
+    pub(crate) fn at(&self, k: &Path, hint: Hint) -> usize
         requires table { IsTable self.now }
         requires there { IsSome (entry_of k.now (standing self.now.stored.items)) }
         ensures at { IsAt k.now self.now.stored.items result }
     {
-        let found = search_uncounted(&self.index, k).unwrap();
+        let found = search_near(&self.index, k, hint).unwrap();
         self.index.mark(found).at
     }
 
     /// Takes in an entry, behind the others.
-    pub(crate) fn insert(&mut self, entry: Entry, room: u32)
+    pub(crate) fn insert(&mut self, entry: Entry, hint: Hint, room: u32)
         requires table { IsTable self.old }
         requires fits { HasRoom room self.old }
         requires room { length (standing self.old.stored.items) < room }
@@ -112,7 +131,7 @@ impl Table {
         ensures entries { standing self.new.stored.items ≡ standing self.old.stored.items ++ entry ∷ [] }
     {
         self.close_many_gaps(room);
-        let rank = search_uncounted(&self.index, &entry.path).unwrap_err();
+        let rank = search_near(&self.index, &entry.path, hint).unwrap_err();
         let mark = Mark {
             path: entry.path,
             at: self.stored.len(),
@@ -150,7 +169,7 @@ impl Table {
     }
 
     /// Takes the entry of a path out, and returns its value.
-    pub(crate) fn remove(&mut self, k: &Path, room: u32) -> Value
+    pub(crate) fn remove(&mut self, k: &Path, hint: Hint, room: u32) -> Value
         requires table { IsTable self.old }
         requires fits { HasRoom room self.old }
         requires there { IsSome (entry_of k.now (standing self.old.stored.items)) }
@@ -159,7 +178,7 @@ impl Table {
         ensures value { IfSome (entry_of k.now (standing self.old.stored.items)) (λ entry. result ≡ entry.value) }
         ensures entries { standing self.new.stored.items ≡ without k.now (standing self.old.stored.items) }
     {
-        let rank = search_uncounted(&self.index, k).unwrap();
+        let rank = search_near(&self.index, k, hint).unwrap();
         let at = self.index.mark(rank).at;
         self.index.remove(rank);
         let left = &mut self.stored[at];

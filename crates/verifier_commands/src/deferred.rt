@@ -13,7 +13,7 @@ use crate::state::{State, clock_refusal, is_root};
 use lamport_clocks::Stamp;
 use record_text::{Element, Refusal, Value};
 use tree_keys::Path;
-use verifier_cache::{Cache, Entry, Hold};
+use verifier_cache::{Cache, Entry, Hint, Hold};
 
 impl State {
     /// Takes back a record that some verifier evicted with this stamp.
@@ -31,7 +31,8 @@ impl State {
         if is_root(path) {
             return Err(Refusal::IsRoot);
         }
-        if self.cache.entry(path).is_some() {
+        let own = self.cache.hint(path);
+        if self.cache.entry_near(path, own).is_some() {
             return Err(Refusal::AlreadyCached);
         }
         if self.cache.is_full() {
@@ -43,7 +44,8 @@ impl State {
         if let Err(fault) = self.clock.on_add(stamp) {
             return Err(clock_refusal(fault));
         }
-        self.cache.insert(*path, value.copy(), Hold::B);
+        let entry = Entry::new(*path, value.copy(), Hold::B);
+        self.cache.insert_near(entry, own);
         Ok(Outcome::AddB(Element {
             path: *path,
             value: value.copy(),
@@ -65,7 +67,8 @@ impl State {
         if is_root(path) {
             return Err(Refusal::IsRoot);
         }
-        let Some(child) = self.cache.entry(path) else {
+        let own = self.cache.hint(path);
+        let Some(child) = self.cache.entry_near(path, own) else {
             return Err(Refusal::NotCached);
         };
         if child.has_kid() {
@@ -77,7 +80,7 @@ impl State {
         if let Err(fault) = self.clock.on_evict(stamp) {
             return Err(clock_refusal(fault));
         }
-        let value = self.cache.remove(path);
+        let value = self.cache.remove_near(path, own);
         Ok(Outcome::EvictB(Element {
             path: *path,
             value,
@@ -100,17 +103,19 @@ impl State {
         if is_root(path) {
             return Err(Refusal::IsRoot);
         }
-        let Some(child) = self.cache.entry(path) else {
+        let own = self.cache.hint(path);
+        let Some(child) = self.cache.entry_near(path, own) else {
             return Err(Refusal::NotCached);
         };
-        let Some(holder) = self.cache.entry(parent) else {
+        let holders = self.cache.hint(parent);
+        let Some(holder) = self.cache.entry_near(parent, holders) else {
             return Err(Refusal::ParentNotCached);
         };
         let after = defer_under(holder, child)?;
         if let Err(fault) = self.clock.on_evict(stamp) {
             return Err(clock_refusal(fault));
         }
-        let value = take_out(&mut self.cache, path, after);
+        let value = take_out(&mut self.cache, path, own, after, holders);
         Ok(Outcome::EvictBM(Element {
             path: *path,
             value,
@@ -132,13 +137,13 @@ fn is_by_stamp(hold: Hold) -> bool
 
 // Puts a parent in the place of its entry, and takes the record of another path out.
 #[tactic(auto, using(crate::proofs::CacheLemmas::replaced_view))]
-fn take_out(cache: &mut Cache, path: &Path, parent: Entry) -> Value
+fn take_out(cache: &mut Cache, path: &Path, own: Hint, parent: Entry, holders: Hint) -> Value
     requires parent { IsSome (entry_of parent.path cache.old.entries) }
     requires child { IsSome (entry_of path.now cache.old.entries) }
     requires apart { path.now ≢ parent.path }
     ensures value { IfSome (entry_of path.now cache.old.entries) (λ child. result ≡ child.value) }
     ensures cache { cache.new ≡ record cache.old { entries = without path.now (replaced parent cache.old.entries) } }
 {
-    cache.replace(parent);
-    cache.remove(path)
+    cache.replace_near(parent, holders);
+    cache.remove_near(path, own)
 }

@@ -29,18 +29,20 @@ impl State {
         if is_root(path) {
             return Err(Refusal::IsRoot);
         }
-        if self.cache.entry(path).is_some() {
+        let own = self.cache.hint(path);
+        if self.cache.entry_near(path, own).is_some() {
             return Err(Refusal::AlreadyCached);
         }
         if self.cache.is_full() {
             return Err(Refusal::CacheFull);
         }
-        let Some(holder) = self.cache.entry(parent) else {
+        let holders = self.cache.hint(parent);
+        let Some(holder) = self.cache.entry_near(parent, holders) else {
             return Err(Refusal::ParentNotCached);
         };
         let family = add_under(d, holder, path, value)?;
-        self.cache.replace(family.parent);
-        self.cache.insert_entry(family.child);
+        self.cache.replace_near(family.parent, holders);
+        self.cache.insert_near(family.child, own);
         Ok(Outcome::AddM)
     }
 
@@ -59,15 +61,17 @@ impl State {
         if is_root(path) {
             return Err(Refusal::IsRoot);
         }
-        let Some(child) = self.cache.entry(path) else {
+        let own = self.cache.hint(path);
+        let Some(child) = self.cache.entry_near(path, own) else {
             return Err(Refusal::NotCached);
         };
-        let Some(holder) = self.cache.entry(parent) else {
+        let holders = self.cache.hint(parent);
+        let Some(holder) = self.cache.entry_near(parent, holders) else {
             return Err(Refusal::ParentNotCached);
         };
         let after = evict_under(d, holder, child)?;
-        self.cache.replace(after);
-        let _ = self.cache.remove(path);
+        self.cache.replace_near(after, holders);
+        let _ = self.cache.remove_near(path, own);
         Ok(Outcome::EvictM)
     }
 }

@@ -12,7 +12,7 @@ use crate::outcome::Outcome;
 use crate::state::{State, clock_refusal, is_same_value};
 use record_text::{Blob, Refusal, Value};
 use tree_keys::Path;
-use verifier_cache::Cache;
+use verifier_cache::{Cache, Hint};
 
 impl State {
     /// A get: the value that is read.
@@ -39,13 +39,14 @@ impl State {
         ensures follows { Follows result self.old self.new (told (put short_keys self.old path.now value.now)) }
         ensures clock { IfOk result (ClockMoves self.old.clock self.new.clock) }
     {
-        let Some(_) = self.cache.entry(path) else {
+        let own = self.cache.hint(path);
+        let Some(_) = self.cache.entry_near(path, own) else {
             return Err(Refusal::NotCached);
         };
         let Some(key) = path.key() else {
             return Err(Refusal::NotData);
         };
-        write(&mut self.cache, path, value.copy());
+        write(&mut self.cache, path, own, value.copy());
         Ok(Outcome::Put(key, blob_of(value)))
     }
 
@@ -63,13 +64,13 @@ impl State {
 
 // Writes the value of a path that is there.
 #[tactic(auto, using(crate::proofs::CacheLemmas::written_view))]
-fn write(cache: &mut Cache, path: &Path, value: Value)
+fn write(cache: &mut Cache, path: &Path, hint: Hint, value: Value)
     requires there { IsSome (entry_of path.now cache.old.entries) }
     ensures entry { IfSome (entry_of path.now cache.old.entries)
         (λ entry. cache.new.entries ≡ replaced (with_value entry value) cache.old.entries) }
     ensures room { cache.new.room ≡ cache.old.room }
 {
-    *cache.value_mut(path) = value;
+    *cache.value_mut_near(path, hint) = value;
 }
 
 // The data value that a value is.

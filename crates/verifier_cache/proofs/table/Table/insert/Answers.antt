@@ -15,13 +15,13 @@ unwrap_err-rank-requires c =
     let new : Stored = record { entry = c.args.entry; live = true } in
     let absent : IsNone (entry_of c.args.entry.path (standing c.close_many_gaps.new.self.stored.items)) =
     subst (λ (es : List Entry). IsNone (entry_of c.args.entry.path es)) (sym c.close_many_gaps.ensures.entries) c.requires.absent in
-    is_gap c.search_uncounted.result c.args.entry.path c.close_many_gaps.new.self.stored.items c.close_many_gaps.new.self.index new c.close_many_gaps.ensures.table c.search_uncounted.ensures.found absent
+    is_gap c.search_near.result c.args.entry.path c.close_many_gaps.new.self.stored.items c.close_many_gaps.new.self.index new c.close_many_gaps.ensures.table c.search_near.ensures.found absent
 
 pub returns-clause-table : goal.returns-clause-table
 returns-clause-table c =
     let new : Stored = record { entry = c.args.entry; live = true } in
     let gap : IsGapFor c.args.entry.path c.close_many_gaps.new.self.index c.unwrap_err-rank.result =
-    subst (λ (r : Result ℕ ℕ). IfErr r (IsGapFor c.args.entry.path c.close_many_gaps.new.self.index)) c.unwrap_err-rank.ensures c.search_uncounted.ensures.gap in
+    subst (λ (r : Result ℕ ℕ). IfErr r (IsGapFor c.args.entry.path c.close_many_gaps.new.self.index)) c.unwrap_err-rank.ensures c.search_near.ensures.gap in
     let here = c.insert.ensures.here ∙ ap (λ (n : ℕ). let mark : Mark = record { path = c.args.entry.path; at = n } in mark) (c.len.ensures ∙ c.close_many_gaps.new.self.stored.ok.0) in
     indexed-push c.close_many_gaps.new.self.stored.items _ c.close_many_gaps.new.self.index _ c.unwrap_err-rank.result new c.close_many_gaps.ensures.table gap
     c.insert.ensures.sound c.insert.ensures.count c.insert.ensures.before here c.insert.ensures.behind refl c.push_reserved.ensures.items

@@ -12,14 +12,14 @@ use Rattle.verifier_cache.proofs.table.Table.remove.Goals as goal
 pub returns-clause-table : goal.returns-clause-table
 returns-clause-table c =
     let found : IsRankOf c.args.k.now c.args.self.now.index c.unwrap-rank.result =
-    subst (λ (r : Result ℕ ℕ). IfOk r (IsRankOf c.args.k.now c.args.self.now.index)) c.unwrap-rank.ensures c.search_uncounted.ensures.found in
+    subst (λ (r : Result ℕ ℕ). IfOk r (IsRankOf c.args.k.now c.args.self.now.index)) c.unwrap-rank.ensures c.search_near.ensures.found in
     indexed-left c.args.k.now c.args.self.now.stored.items _ c.args.self.now.index _ c.unwrap-rank.result c.mark.result.now.at _ c.requires.table found.within found.path_there
     (sym (ap (λ (m : Mark). m.at) c.mark.ensures.value)) c.remove.ensures.sound c.remove.ensures.count c.remove.ensures.before c.remove.ensures.behind refl refl
 
 pub returns-clause-value : goal.returns-clause-value
 returns-clause-value c =
     let found : IsRankOf c.args.k.now c.args.self.now.index c.unwrap-rank.result =
-    subst (λ (r : Result ℕ ℕ). IfOk r (IsRankOf c.args.k.now c.args.self.now.index)) c.unwrap-rank.ensures c.search_uncounted.ensures.found in
+    subst (λ (r : Result ℕ ℕ). IfOk r (IsRankOf c.args.k.now c.args.self.now.index)) c.unwrap-rank.ensures c.search_near.ensures.found in
     let there : IsAt c.args.k.now c.args.self.now.stored.items c.mark.result.now.at =
     at_rank c.args.k.now c.args.self.now.stored.items c.args.self.now.index c.unwrap-rank.result c.mark.result.now c.requires.table found c.mark.ensures.value in
     subst (λ (o : Option Entry). IfSome o (λ entry. c.copy-value.result ≡ entry.value))
@@ -28,7 +28,7 @@ returns-clause-value c =
 pub returns-clause-entries : goal.returns-clause-entries
 returns-clause-entries c =
     let found : IsRankOf c.args.k.now c.args.self.now.index c.unwrap-rank.result =
-    subst (λ (r : Result ℕ ℕ). IfOk r (IsRankOf c.args.k.now c.args.self.now.index)) c.unwrap-rank.ensures c.search_uncounted.ensures.found in
+    subst (λ (r : Result ℕ ℕ). IfOk r (IsRankOf c.args.k.now c.args.self.now.index)) c.unwrap-rank.ensures c.search_near.ensures.found in
     let there : IsAt c.args.k.now c.args.self.now.stored.items c.mark.result.now.at =
     at_rank c.args.k.now c.args.self.now.stored.items c.args.self.now.index c.unwrap-rank.result c.mark.result.now c.requires.table found c.mark.ensures.value in
     without-at c.args.k.now c.args.self.now.stored.items c.mark.result.now.at _ c.requires.table.distinct there refl

@@ -2,7 +2,7 @@ use Rattle.std.proofs.Common.{length, IsSome, sym, ap, subst, arith}
 use Rattle.verifier_cache.specs.Cache.{Held, entry_of}
 use Rattle.verifier_cache.specs.Table.{standing}
 use Rattle.verifier_cache.proofs.EntriesLaws.{length-without_there}
-use Rattle.verifier_cache.proofs.cache.Cache.remove.Goals as goal
+use Rattle.verifier_cache.proofs.cache.Cache.remove_near.Goals as goal
 
 pub invariant_of-self : goal.invariant_of-self
 invariant_of-self c =

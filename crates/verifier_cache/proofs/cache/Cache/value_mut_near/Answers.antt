@@ -5,7 +5,7 @@ use Rattle.verifier_cache.specs.Entry.{with_value}
 use Rattle.verifier_cache.specs.Cache.{Held, entry_of}
 use Rattle.verifier_cache.specs.LendsValue.{with_value_at}
 use Rattle.verifier_cache.proofs.IndexedLemmas.{live_read, path_read, value_read, changed_there}
-use Rattle.verifier_cache.proofs.cache.Cache.value_mut.Goals as goal
+use Rattle.verifier_cache.proofs.cache.Cache.value_mut_near.Goals as goal
 
 pub invariant_of-self-lent : goal.invariant_of-self-lent
 invariant_of-self-lent c = λ w.

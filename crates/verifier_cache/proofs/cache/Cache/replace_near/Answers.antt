@@ -3,7 +3,7 @@ use Rattle.verifier_cache.specs.declared.entry.Entry.{Entry}
 use Rattle.verifier_cache.specs.Cache.{Held, entry_of, replaced}
 use Rattle.verifier_cache.proofs.EntriesLaws.{absent-changed, length-changed}
 use Rattle.verifier_cache.proofs.IndexedLemmas.{live_read, changed_there}
-use Rattle.verifier_cache.proofs.cache.Cache.replace.Goals as goal
+use Rattle.verifier_cache.proofs.cache.Cache.replace_near.Goals as goal
 
 pub invariant_of-self : goal.invariant_of-self
 invariant_of-self c =
