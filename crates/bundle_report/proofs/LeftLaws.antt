@@ -227,11 +227,19 @@ left_more first zero run = refl
 left_more first (suc count) run =
     let low = first + count in
     let high = first + suc count in
-    ap (λ (ops : List Operation). record run { course = record run.course {
-      operations = ops; parts = filter (λ (p : Part). nat_lt high p.epoch) (filter (λ (p : Part). nat_lt low p.epoch) run.course.parts) } })
+    ap (λ (ops : List Operation). record run {
+      course = record run.course {
+        operations = ops;
+        parts = filter (λ (p : Part). nat_lt high p.epoch) (filter (λ (p : Part). nat_lt low p.epoch) run.course.parts);
+      };
+    })
     (later_left operation_epoch low high run.course.operations (omega arith))
-    ∙ ap (λ (ps : List Part). record run { course = record run.course {
-      operations = filter (λ (op : Operation). nat_lt high op.stamp.epoch) run.course.operations; parts = ps } })
+    ∙ ap (λ (ps : List Part). record run {
+      course = record run.course {
+        operations = filter (λ (op : Operation). nat_lt high op.stamp.epoch) run.course.operations;
+        parts = ps;
+      };
+    })
     (later_left part_epoch low high run.course.parts (omega arith))
 
 -- So it is of all.

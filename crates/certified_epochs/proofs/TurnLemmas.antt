@@ -247,11 +247,18 @@ module _ (so_far : Judged) (runs : List FedRun) (found : Option ℕ) (epoch : �
   turn-balanced now count left operations same counted balanced left_is ops_are =
       turn-is ∙ ap (turn_by so_far (runs_of runs) epoch) balanced
       ∙ ap (λ (rs : List Progress). record {
-        more = true; judged = record so_far { count = suc so_far.count }; runs = rs;
-        text = epoch_text epoch (merged_up_to epoch (operations_among (courses_in (runs_of runs)))) })
+        more = true;
+        judged = record so_far { count = suc so_far.count };
+        runs = rs;
+        text = epoch_text epoch (merged_up_to epoch (operations_among (courses_in (runs_of runs))));
+      })
       (left_same epoch runs ∙ sym left_is)
       ∙ ap (λ (ops : List Operation). record {
-        more = true; judged = record so_far { count = suc so_far.count }; runs = left; text = epoch_text epoch ops })
+        more = true;
+        judged = record so_far { count = suc so_far.count };
+        runs = left;
+        text = epoch_text epoch ops;
+      })
       (ap (λ (courses : List Course). merged_up_to epoch (operations_among courses)) (courses_same runs) ∙ sym ops_are)
       ∙ ap (λ (j : Judged). record { more = true; judged = record j { count = suc j.count }; runs = left; text = epoch_text epoch operations }) same
       ∙ ap (λ (n : ℕ). record { more = true; judged = record now { count = n }; runs = left; text = epoch_text epoch operations }) (sym counted)
@@ -399,18 +406,20 @@ turn-front scheme header logs so_far runs start text taken even within so_far_is
         → (more : List ℕ) × ((text ++ (turn so_far runs).text) ++ more ≡ lines_from courses (header.first + start) (all - start))
     go true is tells =
         let bound = counted-within scheme header logs (turn so_far runs).judged (turn so_far runs).runs tells.taken in
-        let rest = lines_front courses (header.first + start) start (turn so_far runs).judged.count all (omega (arith, within, tells.count)) bound in
-        (rest.0,
+        let rest = lines_front courses (header.first + start) start (turn so_far runs).judged.count all (omega (arith, within, tells.count)) bound in (
+          rest.0,
           ap (λ (t : List ℕ). t ++ rest.0)
               (lines-step courses header.first start so_far.count (turn so_far runs).judged.count text (turn so_far runs).text within tells.count so_far_is tells.text)
-              ∙ rest.1)
+              ∙ rest.1,
+        )
     go false is tells =
         let bound = counted-within scheme header logs so_far runs taken in
-        let rest = lines_front courses (header.first + start) start so_far.count all within bound in
-        (rest.0,
+        let rest = lines_front courses (header.first + start) start so_far.count all within bound in (
+          rest.0,
           ap (λ (t : List ℕ). (text ++ t) ++ rest.0) tells.text
               ∙ ap (λ (t : List ℕ). t ++ rest.0) (append-nil text ∙ so_far_is)
-              ∙ rest.1)
+              ∙ rest.1,
+        )
 
 -- ---- the end
 

@@ -232,11 +232,7 @@ fn put_in_order(operations: &mut Vec<Operation>) -> Result<(), Memory>
 }
 
 // Takes the operations up to an epoch out of all runs, one run after another.
-fn take_all(
-    operations: &mut Vec<Operation>,
-    runs: &mut [FedRun],
-    epoch: u32,
-) -> Result<(), Memory>
+fn take_all(operations: &mut Vec<Operation>, runs: &mut [FedRun], epoch: u32) -> Result<(), Memory>
     ensures operations { OnOk result (operations.new.items
         ≡ operations.old.items ++ up_to moment_of epoch (operations_among (map (λ fed. fed.run.course) runs.old))) }
     ensures left { OnOk result (map (λ fed. fed.run) runs.new ≡ map (λ fed. left_of epoch fed.run) runs.old) }

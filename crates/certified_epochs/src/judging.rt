@@ -73,7 +73,11 @@ fn stopped(count: usize, epoch: u32, added: Sum, evicted: Sum) -> Judged
 }
 
 /// What was handed in of one sealed epoch, by its place among those that each run has, in place of what was gathered.
-pub(crate) fn gather(gathered: &mut Vec<Part>, index: usize, runs: &[FedRun]) -> Result<(), AllocError>
+pub(crate) fn gather(
+    gathered: &mut Vec<Part>,
+    index: usize,
+    runs: &[FedRun],
+) -> Result<(), AllocError>
     ensures parts { OnOk result (gathered.new.items ≡ parts_at index (map (λ fed. fed.run.course) runs.now)) }
 {
     gathered.clear();
@@ -84,7 +88,11 @@ pub(crate) fn gather(gathered: &mut Vec<Part>, index: usize, runs: &[FedRun]) ->
 }
 
 /// Appends what a run has handed in of an epoch, by its place among those that it has, if it is there.
-pub(crate) fn append_part(gathered: &mut Vec<Part>, index: usize, run: &Run) -> Result<(), AllocError>
+pub(crate) fn append_part(
+    gathered: &mut Vec<Part>,
+    index: usize,
+    run: &Run,
+) -> Result<(), AllocError>
     ensures items { OnOk result (gathered.new.items
         ≡ gathered.old.items ++ option_to_list (slice_get run.now.course.parts index)) }
 {
