@@ -3,8 +3,9 @@
 //! A contract sees a `Cache` as a list of entries, no path in two of them, and the most that it may hold;
 //! an entry is a record with its path, how it came in, and which of its children stand in the cache under
 //! it. All memory is taken when a cache is made. The crate stands on `tree_keys`, `record_text` and
-//! `fv_outside`. Begin with `Entry` in `entry.rt`, then `specs/Cache.antt` and `Cache` in `cache.rt`;
-//! `laws.rt` says what is found after an entry came in, went out or was changed.
+//! `want_of_memory`. Begin with `Entry` in `entry.rt`, then `specs/Cache.antt` and `Cache` in `cache.rt`;
+//! `laws.rt` says what is found after an entry came in, went out or was changed. How the entries lie in memory
+//! is said in `table.rt`, how their paths are kept in order in `index.rt`, and how one is found in `search.rt`.
 #![tactic(auto)]
 
 mod cache;
