@@ -1,11 +1,14 @@
 #!/usr/bin/env python3
 """Writes accepted bundles for bench/run.py, the same ones for the same seed.
 
-usage: bench/bundles.py FOLDER [SEED]        (FOLDER lies outside the repository, as /tmp/bundles; about 550 MB)
+usage: bench/bundles.py FOLDER [SEED]        (FOLDER lies outside the repository, as /tmp/bundles; about 700 MB)
 
 NAME is a bundle and NAME.commands the number of its commands. A cold bundle has each record under the Merkle
 tree: a request brings in the chain of nodes down to its key, gets or puts, and sends the chain back. A hot one has
 few records, which all verifiers pass to each other under stamps. An epoch ends after each 8 MiB.
+
+A full one is of one verifier, whose cache is full as it works: by digests or under stamps, on records all over it.
+NAME-begun is its beginning alone, which fills the cache.
 """
 import hashlib
 import os
@@ -19,16 +22,17 @@ MIB = 2**20
 FRAME, EPOCH = 65536, 8 * MIB
 COLD_KEYS, HOT_KEYS = 1024, 256  # cold ones of each verifier, hot ones of all
 FIRST, CACHE, END = 1, 128, 16777215
+FULL_CACHES, FULL_SIZE = (4, 128, 65536), 24 * MIB  # of entries, and bytes once a cache is full
 
 
 class Bundle:
     """A bundle under way: each verifier's clock and the bytes of its log that are in no frame yet."""
 
-    def __init__(self, file, verifiers):
+    def __init__(self, file, verifiers, cache=CACHE):
         self.file, self.size, self.commands = file, 0, 0
         self.epoch, self.counters = FIRST, [0] * verifiers
         self.waiting = [bytearray() for _ in range(verifiers)]
-        header = ((verifiers, 2), (CACHE, 4), (FIRST, 4), (END, 4))
+        header = ((verifiers, 2), (cache, 4), (FIRST, 4), (END, 4))
         file.write(b"FVB1" + b"".join(number.to_bytes(size, "big") for number, size in header))
 
     def log(self, verifier, *texts):
@@ -207,6 +211,82 @@ def hot(chance, bundle, verifiers, size):
     bundle.next_epoch()
 
 
+def leaves(path, depth):
+    return [path] if depth == 0 else leaves(path + "0", depth - 1) + leaves(path + "1", depth - 1)
+
+
+def key_at(leaf, chance):
+    return leaf + format(chance.getrandbits(64), "064b")[len(leaf) :]
+
+
+def full_by_digests(chance, bundle, cache, size):
+    """The root, a node below it, and a whole tree below that: half of the entries are keys, which go and come back."""
+    tree, depth = Tree(bundle, 0, ""), (cache // 2).bit_length() - 1
+    for path in (path for level in range(depth) for path in leaves("0", level)):
+        tree.bring_in(path, path[:-1])
+    keys = [(key_at(leaf, chance), leaf[:-1]) for leaf in leaves("0", depth)]
+    for key, parent in keys:
+        tree.bring_in(key, parent)
+    yield
+    end = bundle.size + size
+    while bundle.size < end:
+        key, parent = chance.choice(keys)
+        tree.send_back(key, parent)
+        tree.bring_in(key, parent)
+        key, _ = chance.choice(keys)
+        tree.values[key] = request(chance, bundle, 0, key, tree.values[key])
+
+
+def full_under_stamps(chance, bundle, cache, size):
+    """The root, and keys under stamps, which go and come back."""
+    tree, depth = Tree(bundle, 0, ""), (cache - 1).bit_length() - 1
+    sent = {}
+
+    def visit(path, parent, deeper):
+        if deeper == 0:
+            for side in "01":
+                if len(sent) < cache - 1:
+                    key = key_at(path + side, chance)
+                    tree.bring_in(key, path)
+                    sent[key] = (tree.defer(key, path), 0)
+            return
+        tree.bring_in(path + "0", path)
+        visit(path + "0", path, deeper - 1)
+        tree.send_back(path + "0", path)
+        tree.bring_in(path + "1", path)
+        visit(path + "1", path, deeper - 1)
+        tree.send_back(path + "1", path)
+
+    visit("", None, depth)
+    keys, values = list(sent), dict.fromkeys(sent)
+    for key in keys:
+        add_by_stamp(bundle, 0, key, None, sent[key])
+    yield
+    end = bundle.size + size
+    while bundle.size < end:
+        key = chance.choice(keys)
+        sent[key] = (bundle.stamp(0), 0)
+        bundle.log(0, b"\x04", slow.path_text(key), stamp_text(sent[key][0]))
+        add_by_stamp(bundle, 0, key, values[key], sent[key])
+        key = chance.choice(keys)
+        values[key] = request(chance, bundle, 0, key, values[key])
+
+
+def write_full(folder, seed, mix, cache):
+    """Writes a bundle with a full cache, and its beginning."""
+    name = f"{mix.__name__.replace('_', '-')}-{cache:05}-entries"
+    for ending in ("-begun", ""):
+        with open(os.path.join(folder, name + ending), "wb") as file:
+            bundle = Bundle(file, 1, cache)
+            work = mix(random.Random(seed + name), bundle, cache, FULL_SIZE)
+            next(work)
+            if not ending:
+                next(work, None)
+            bundle.next_epoch()
+        with open(os.path.join(folder, name + ending + ".commands"), "w") as file:
+            file.write(f"{bundle.commands}\n")
+
+
 def write_bundle(folder, seed, mix, verifiers, size):
     """Writes a bundle of so many MiB, and the number of its commands."""
     name = f"{mix.__name__}-{verifiers:02}-verifiers-{size:02}-MiB"
@@ -224,6 +304,9 @@ def main():
         for verifiers in (1, 4, 16):
             for mix in (cold, hot):
                 write_bundle(folder, seed, mix, verifiers, size)
+    for cache in FULL_CACHES:
+        for mix in (full_by_digests, full_under_stamps):
+            write_full(folder, seed, mix, cache)
 
 
 if __name__ == "__main__":

@@ -4,7 +4,8 @@
 usage: bench/bundles.py FOLDER && bench/run.py FOLDER [PROGRAM]
 
 Each bundle is checked, and those of 1 and 16 MiB and 1 and 4 verifiers are audited too. The last lines say how much
-more time a byte an audit of 16 MiB takes than one of 1 MiB: about 1 where the time is linear.
+more time a byte an audit of 16 MiB takes than one of 1 MiB: about 1 where the time is linear; and how much more time a
+command takes where 65,536 entries fill the cache than where 4 do, its beginning not counted: at most 3.
 
 PROGRAM is crates/fastver_cli/out/fastver_cli where none is named: `rt run` in crates/fastver_cli builds it. Run it
 when nothing else is at work on the machine. The report is thrown away; a status other than 0 is told and fails.
@@ -18,6 +19,7 @@ PROGRAM = "crates/fastver_cli/out/fastver_cli"
 SMALL, LARGE = "-01-MiB", "-16-MiB"
 KINDS = ["cold-01-verifiers", "cold-04-verifiers", "hot-01-verifiers", "hot-04-verifiers"]
 AUDITED = [kind + size for kind in KINDS for size in (SMALL, LARGE)]
+FULL, CACHES, BEGUN = ["full-by-digests", "full-under-stamps"], ["-00004-entries", "-00128-entries", "-65536-entries"], "-begun"
 
 
 def words(program, command):
@@ -41,7 +43,7 @@ def peak_memory(program, command, bundle):
 
 
 def measure(program, command, folder, name):
-    """Prints a line of a bundle; the nanoseconds a byte, and whether each run answered 0."""
+    """Prints a line of a bundle; the seconds, the nanoseconds a byte, the commands, and whether each run answered 0."""
     bundle = os.path.join(folder, name)
     with open(bundle + ".commands") as file:
         commands = int(file.read())
@@ -49,11 +51,29 @@ def measure(program, command, folder, name):
     seconds, peak = min(seconds for seconds, _ in runs), peak_memory(program, command, bundle)
     size = os.path.getsize(bundle)
     a_byte, a_command = 1e9 * seconds / size, 1e9 * seconds / commands
-    print(f"{name:27} {command} {size:9} {commands:8} {seconds:8.3f} {a_byte:8.1f} {a_command:10.0f} {peak:9}")
+    print(f"{name:36} {command} {size:9} {commands:8} {seconds:8.3f} {a_byte:8.1f} {a_command:10.0f} {peak:9}")
     statuses = [status for _, status in runs]
     if any(statuses):
         print(f"  answered {statuses}")
-    return a_byte, not any(statuses)
+    return seconds, a_byte, commands, not any(statuses)
+
+
+def a_command(checks, kind, cache):
+    """The nanoseconds of a command once the cache is full."""
+    (seconds, commands), (begun, first) = checks[kind + cache], checks[kind + cache + BEGUN]
+    return 1e9 * (seconds - begun) / (commands - first)
+
+
+def tell_full(checks):
+    """Prints the time of a command by the entries of a full cache; how many kinds take too long with the most."""
+    slow = 0
+    for kind in FULL:
+        if all(kind + cache + ending in checks for cache in CACHES for ending in ("", BEGUN)):
+            times = [a_command(checks, kind, cache) for cache in CACHES]
+            told = ", ".join(f"{time:.0f} ns with{cache}".replace("-", " ") for time, cache in zip(times, CACHES))
+            print(f"{kind}: a command takes {told}: {times[-1] / times[0]:.2f} times as long with the most as with the fewest")
+            slow += times[-1] > 3 * times[0]
+    return slow
 
 
 def main():
@@ -61,18 +81,20 @@ def main():
     top = os.path.join(os.path.dirname(os.path.abspath(__file__)), "..")
     program = os.path.abspath(sys.argv[2]) if len(sys.argv) > 2 else os.path.join(top, PROGRAM)
     names = sorted(file[: -len(".commands")] for file in os.listdir(folder) if file.endswith(".commands"))
-    fails, audits = 0, {}
-    print("bundle                      command   bytes commands  seconds  ns/byte ns/command  peak KiB")
+    fails, audits, checks = 0, {}, {}
+    print("bundle                               command   bytes commands  seconds  ns/byte ns/command  peak KiB")
     for name in names:
-        _, good = measure(program, "check", folder, name)
+        seconds, _, commands, good = measure(program, "check", folder, name)
+        checks[name] = seconds, commands
         fails += not good
         if name in AUDITED:
-            audits[name], good = measure(program, "audit", folder, name)
+            _, audits[name], _, good = measure(program, "audit", folder, name)
             fails += not good
     for kind in KINDS:
         if kind + SMALL in audits and kind + LARGE in audits:
             ratio = audits[kind + LARGE] / audits[kind + SMALL]
             print(f"{kind}: an audit of 16 MiB takes {ratio:.2f} times as long a byte as one of 1 MiB")
+    fails += tell_full(checks)
     return 1 if fails or not names else 0
 
 
