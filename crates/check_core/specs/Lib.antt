@@ -1,4 +1,5 @@
 -- What the clauses on a check cite, in reading order.
+pub mod Batch
 pub mod Intake
 pub mod Outcomes
 pub mod Stops

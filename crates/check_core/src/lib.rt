@@ -10,6 +10,7 @@
 //! `checking.rt`.
 #![tactic(auto)]
 
+mod batch;
 mod checking;
 mod concluding;
 mod intake;
@@ -17,6 +18,7 @@ mod reading;
 mod running;
 mod stops;
 
+pub use batch::{BATCH_FRAMES, Batch, Slot};
 pub use checking::check;
 pub use concluding::{Conclusion, conclude};
 pub use intake::Intake;
