@@ -117,11 +117,12 @@ all_take functions number frames [] [] len each = tt
 all_take functions number frames [] (new ∷ news) len each = absurd (omega (arith, len))
 all_take functions number frames (old ∷ olds) [] len each = absurd (omega (arith, len))
 all_take functions number frames (old ∷ olds) (new ∷ news) len each =
-    let first : number + 0 ≡ number = omega arith in
-    (subst (λ (n : ℕ). Takes functions n frames old new) first (each 0 old (omega arith)),
-     all_take functions (suc number) frames olds news (omega (arith, len))
-     (λ i d within. let next : number + suc i ≡ suc number + i = omega arith in
-     subst (λ (n : ℕ). Takes functions n frames (get_or olds i d) (get_or news i d)) next (each (suc i) d (omega (arith, within)))))
+    let first : number + 0 ≡ number = omega arith in (
+      subst (λ (n : ℕ). Takes functions n frames old new) first (each 0 old (omega arith)),
+      all_take functions (suc number) frames olds news (omega (arith, len))
+          (λ i d within. let next : number + suc i ≡ suc number + i = omega arith in
+          subst (λ (n : ℕ). Takes functions n frames (get_or olds i d) (get_or news i d)) next (each (suc i) d (omega (arith, within)))),
+    )
 
 module _ (functions : DigestFunctions) (frames : List Frame) where
   pub taken_by_all : (number : ℕ) (header : Header) (olds news : List FedRun) → AllTake functions number frames olds news
@@ -131,10 +132,11 @@ module _ (functions : DigestFunctions) (frames : List Frame) where
   taken_by_all number header [] (new ∷ news) each headers fine = absurd each
   taken_by_all number header (old ∷ olds) [] each headers fine = absurd each
   taken_by_all number header (old ∷ olds) (new ∷ news) each headers fine =
-      let rest = taken_by_all (suc number) header olds news each.1 headers.1 fine.1 in
-      ((each.0.fed fine.0, rest.0),
-       ap (λ (run : Progress). run ∷ map (λ fed. fed.run) news) (each.0.taken fine.0 ∙ ap (λ (h : Header). took (scheme_of functions h) number old.run frames) headers.0)
-       ∙ ap (λ (runs : List Progress). took (scheme_of functions header) number old.run frames ∷ runs) rest.1)
+      let rest = taken_by_all (suc number) header olds news each.1 headers.1 fine.1 in (
+        (each.0.fed fine.0, rest.0),
+        ap (λ (run : Progress). run ∷ map (λ fed. fed.run) news) (each.0.taken fine.0 ∙ ap (λ (h : Header). took (scheme_of functions h) number old.run frames) headers.0)
+            ∙ ap (λ (runs : List Progress). took (scheme_of functions header) number old.run frames ∷ runs) rest.1,
+      )
 
   pub headers_of_all : (number : ℕ) (header : Header) (olds news : List FedRun) → AllTake functions number frames olds news
       → AllByRecursion (λ fed. fed.run.course.machine.header ≡ header) olds → AllByRecursion (λ fed. fed.run.course.machine.header ≡ header) news

@@ -146,7 +146,12 @@ impl Batch {
     }
 
     // Keeps the frame that was read last, of this verifier.
-    fn keep(&mut self, alloc: Global, reader: &mut BundleReader, verifier: u16) -> Result<(), Memory>
+    fn keep(
+        &mut self,
+        alloc: Global,
+        reader: &mut BundleReader,
+        verifier: u16,
+    ) -> Result<(), Memory>
         requires room { length self.old < 64 }
         requires body { length reader.old.progress.body ≤ longest_body }
         ensures kept { OnOk result (self.new ≡ self.old ++ record { verifier = verifier; body = reader.old.progress.body } ∷ []) }
