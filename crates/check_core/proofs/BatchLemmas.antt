@@ -1,11 +1,11 @@
 -- Frames that were read, one more each time.
-use Rattle.std.proofs.Common.{◌≡◌, ℕ, ◌+◌, ◌-◌, ◌<◌, ◌≤◌, List, [], ◌∷◌, ◌++◌, length, map, take, set, Option, Some, None, Ok, Result, refl, sym, ◌∙◌, ap, subst, true≢false, append_assoc, arith}
+use Rattle.std.proofs.Common.{◌≡◌, ℕ, ◌+◌, ◌<◌, ◌≤◌, List, [], ◌∷◌, ◌++◌, length, map, take, set, Option, Some, None, Ok, Result, sym, ◌∙◌, ap, subst, true≢false, append_assoc, arith}
 use Rattle.std.proofs.lemmas.List.{map-append, take_more_set}
 use Rattle.std.specs.Prelude.{IsSome, IsSomeAnd}
 use Rattle.std.specs.List.{AllByRecursion}
 use Rattle.lamport_clocks.specs.declared.header.Header.{Header}
 use Rattle.bundle_frames.specs.declared.coming.Next.{Next}
-use Rattle.bundle_frames.specs.declared.coming.Next.TheVariants.{Head, Frame, End}
+use Rattle.bundle_frames.specs.declared.coming.Next.TheVariants.{Frame}
 use Rattle.bundle_frames.specs.declared.coming.SourceStop.{SourceStop}
 use Rattle.bundle_frames.specs.Bundle.{Bundle, IsFrame, with_frames, Frame as FrameOf}
 use Rattle.bundle_frames.specs.Reading.{Reading, ReadsAs, ahead, next_then}

@@ -1,4 +1,4 @@
-use Rattle.std.proofs.Common.{◌≡◌, ◌+◌, ◌-◌, ◌≤◌, ◌<◌, ℕ, List, Ok, Err, IfSome, is_ok, true≢false, refl, sym, ap, subst, ◌∙◌, arith}
+use Rattle.std.proofs.Common.{◌≡◌, ◌<◌, ℕ, Ok, Err, is_ok, true≢false, refl, sym, ap, subst, ◌∙◌, arith}
 use Rattle.std.specs.List.{AllByRecursion}
 use Rattle.bundle_frames.specs.declared.coming.Next.{Next}
 use Rattle.bundle_frames.specs.declared.coming.SourceStop.{SourceStop}

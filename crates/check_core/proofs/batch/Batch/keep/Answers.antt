@@ -1,4 +1,4 @@
-use Rattle.std.proofs.Common.{◌≡◌, ◌+◌, ◌<◌, ◌≤◌, List, length, map, take, ap, sym, ◌∙◌, arith}
+use Rattle.std.proofs.Common.{◌<◌, length, map, take, ap, arith}
 use Rattle.std.proofs.lemmas.List.{length-map, length-take-le}
 use Rattle.bundle_frames.specs.Bundle.{Frame}
 use Rattle.check_core.specs.Batch.{frame_in, bytes_of}
