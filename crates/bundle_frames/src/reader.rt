@@ -107,6 +107,9 @@ impl BundleReader {
         ensures further { IfOk result (λ next. next ≢ Next.End
             → position self.old.progress < position self.new.progress) }
         ensures split { position self.new.progress ≤ self.new.taken }
+        ensures onward { self.old.progress.offset ≤ self.new.progress.offset }
+        ensures bytes { (verifier : ℕ) → result ≡ Ok (Next.Frame verifier)
+            → self.old.progress.offset + length self.new.progress.body ≤ self.new.progress.offset }
 
         // At the end no byte that is left makes a difference, and reading ended within what was taken.
         ensures end { result ≡ Ok Next.End
@@ -198,6 +201,9 @@ impl BundleReader {
             → position self.old.progress < position self.new.progress) }
         ensures rises { position self.old.progress ≤ position self.new.progress }
         ensures split { position self.new.progress ≤ self.new.taken }
+        ensures onward { self.old.progress.offset ≤ self.new.progress.offset }
+        ensures bytes { (verifier : ℕ) → result ≡ Some (Next.Frame verifier)
+            → self.old.progress.offset + length self.new.progress.body ≤ self.new.progress.offset }
         ensures none { result ≡ None → self.new.unread ≡ [] }
         ensures last { result ≡ Some Next.End → (more : List ℕ) → ahead self.new more ≡ ahead self.new [] }
         ensures over { result ≡ Some Next.End → (more : List ℕ) → end_ahead self.new more ≤ self.new.taken }

@@ -61,6 +61,7 @@ impl FedRun {
         ensures taken { self.new.is_starved ≡ false
             → self.new.run ≡ fed (scheme_of (D.functions d.now) self.old.run.course.machine.header) self.old.run piece.now }
         ensures starved { self.old.is_starved ≡ true → self.new.is_starved ≡ true }
+        ensures header { self.new.run.course.machine.header ≡ self.old.run.course.machine.header }
         ensures weight { weight self.new.run ≤ weight self.old.run + length piece.now }
     {
         if self.is_starved {

@@ -1,4 +1,6 @@
 -- What the clauses on a check cite, in reading order.
+pub mod Batch
+pub mod Feeding
 pub mod Intake
 pub mod Outcomes
 pub mod Stops

@@ -10,15 +10,19 @@
 //! `checking.rt`.
 #![tactic(auto)]
 
+mod batch;
 mod checking;
 mod concluding;
+mod feeding;
 mod intake;
 mod reading;
 mod running;
 mod stops;
 
+pub use batch::{BATCH_FRAMES, Batch, Slot};
 pub use checking::check;
 pub use concluding::{Conclusion, conclude};
+pub use feeding::{FEW_BYTES, feed_batch};
 pub use intake::Intake;
 pub use reading::read_bundle;
 pub use report_text::Status;

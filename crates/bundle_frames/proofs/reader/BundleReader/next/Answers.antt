@@ -20,6 +20,7 @@ pieces-init g c = record {
   means = ReadsAs-none _ _ _ _ (omega arith) (λ more. refl);
   extent = ReadsAs-none _ _ _ _ (omega arith) (λ more. refl);
   near = λ less. absurd (omega arith);
+  onward = omega arith;
   further = omega arith;
   faults = omega arith;
 }
@@ -38,6 +39,7 @@ pieces-preserved g c =
       means = ReadsAs-kept _ _ _ _ _ (ReadsAs-then _ _ _ _ _ _ _ _ last.took last.means fill.means (omega (arith, split.taken, fill.rises, last.rises))) split.rest;
       extent = ReadsAs-kept _ _ _ _ _ (ReadsAs-then _ _ _ _ _ _ _ _ last.took last.extent fill.extent (omega (arith, split.taken, fill.rises, last.rises))) split.extent;
       near = near-then _ _ _ _ _ _ _ _ _ last.took last.extent fill.rises split.taken last.near fill.near;
+      onward = omega (arith, last.onward, ap (λ (p : Progress). p.offset) fill.progress, split.onward);
       further = omega (arith, last.further, ap position fill.progress, split.rises);
       faults = omega (arith, last.faults, fill.never_falls);
     }

@@ -16,6 +16,7 @@ invariant-pieces g l = record {
   means : ReadsAs (l.self.taken - l.fn.self.taken) (g.S.Source.left l.fn.source) (ahead l.fn.self) (ahead l.self);
   extent : ReadsAs (l.self.taken - l.fn.self.taken) (g.S.Source.left l.fn.source) (end_ahead l.fn.self) (end_ahead l.self);
   near : l.fn.self.taken < l.self.taken → IfSome (g.S.Source.left l.fn.source) (λ bytes. l.self.taken ≤ end_ahead l.fn.self bytes + most_behind);
+  onward : l.fn.self.progress.offset ≤ l.self.progress.offset;
   further : position l.fn.self.progress ≤ position l.self.progress;
   faults : g.S.Source.faults l.fn.source ≤ g.S.Source.faults l.source;
 }

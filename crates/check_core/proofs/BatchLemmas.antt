@@ -1,0 +1,82 @@
+-- Frames that were read, one more each time.
+use Rattle.std.proofs.Common.{◌≡◌, ℕ, ◌+◌, ◌<◌, ◌≤◌, List, [], ◌∷◌, ◌++◌, length, map, take, set, Option, Some, None, Ok, Result, sym, ◌∙◌, ap, subst, true≢false, append_assoc, arith}
+use Rattle.std.proofs.lemmas.List.{map-append, take_more_set}
+use Rattle.std.specs.Prelude.{IsSome, IsSomeAnd}
+use Rattle.std.specs.List.{AllByRecursion}
+use Rattle.lamport_clocks.specs.declared.header.Header.{Header}
+use Rattle.bundle_frames.specs.declared.coming.Next.{Next}
+use Rattle.bundle_frames.specs.declared.coming.Next.TheVariants.{Frame}
+use Rattle.bundle_frames.specs.declared.coming.SourceStop.{SourceStop}
+use Rattle.bundle_frames.specs.Bundle.{Bundle, IsFrame, with_frames, Frame as FrameOf}
+use Rattle.bundle_frames.specs.Reading.{Reading, ReadsAs, ahead, next_then}
+use Rattle.bundle_frames.proofs.ReadingLaws.{ReadsAs-kept, ReadsAs-map}
+use Rattle.check_core.specs.declared.batch.Slot.{Slot}
+use Rattle.check_core.specs.Batch.{frame_in, bytes_of}
+
+-- ---- a frame more
+
+-- the slots that hold frames, once a slot more does
+pub frames_more : (old slots : List Slot) (count : ℕ) (slot : Slot) → count < length slots → take count slots ≡ take count old
+    → map frame_in (take (count + 1) (set slots count slot)) ≡ map frame_in (take count old) ++ frame_in slot ∷ []
+frames_more old slots count slot within same =
+    ap (map frame_in) (take_more_set slots count slot within)
+    ∙ map-append frame_in (take count slots) (slot ∷ [])
+    ∙ ap (λ (front : List Slot). map frame_in front ++ frame_in slot ∷ []) same
+
+-- their bytes
+pub bytes_more : (frames : List FrameOf) (frame : FrameOf) → bytes_of (frames ++ frame ∷ []) ≡ bytes_of frames + length frame.body
+bytes_more [] frame = omega arith
+bytes_more (first ∷ frames) frame =
+    let rest = bytes_more frames frame in
+    omega (arith, rest)
+
+-- each is in its ranges
+pub all_more : (P : FrameOf → Type 0) (frames : List FrameOf) (frame : FrameOf) → AllByRecursion P frames → P frame → AllByRecursion P (frames ++ frame ∷ [])
+all_more P [] frame all last = (last, tt)
+all_more P (first ∷ frames) frame all last = (all.0, all_more P frames frame all.1 last)
+
+-- a frame that came is one of the header that is known
+pub known_frame : (verifier : ℕ) (body : List ℕ) (known : Option Header) (header : Header) → known ≡ Some header
+    → IsSomeAnd known (λ h. IsFrame h.verifiers (record { verifier = verifier; body = body })) → IsFrame header.verifiers (record { verifier = verifier; body = body })
+known_frame verifier body known header is frame =
+    subst (λ (k : Option Header). IsSomeAnd k (λ h. IsFrame h.verifiers (record { verifier = verifier; body = body }))) is frame
+
+-- and so its body is no longer than the longest
+pub known_bounded : (verifier : ℕ) (body : List ℕ) (known : Option Header)
+    → IsSomeAnd known (λ h. IsFrame h.verifiers (record { verifier = verifier; body = body })) → length body ≤ 65536
+known_bounded verifier body None frame = absurd frame
+known_bounded verifier body (Some header) frame = frame.bounded
+
+-- where a header is known no other comes
+pub no_header : (known was : Option Header) → known ≡ was → IsSome was → known ≡ None → ⊥
+no_header known was same some none = true≢false (sym (subst IsSome (sym same ∙ none) some))
+
+-- ---- what was read means
+
+-- frames before frames
+joined : (some more : List FrameOf) (bundle : Bundle) → with_frames some (with_frames more bundle) ≡ with_frames (some ++ more) bundle
+joined some more bundle = ap (λ (frames : List FrameOf). record bundle { frames = frames }) (sym (append_assoc some more bundle.frames))
+
+-- a frame that came and was handed over stands behind the frames so far
+pub reads_frame : (n : ℕ) (x : Option (List ℕ)) (frames all : List FrameOf) (verifier : ℕ) (old new handed : Reading) (result : Result Next SourceStop)
+    → ReadsAs n x (ahead old) (λ more. next_then result new.progress.body (ahead new more))
+    → result ≡ Ok (Frame verifier) → handed ≡ record new { progress = record new.progress { body = [] } }
+    → all ≡ frames ++ record { verifier = verifier; body = new.progress.body } ∷ []
+    → ReadsAs n x (λ more. with_frames frames (ahead old more)) (λ more. with_frames all (ahead handed more))
+reads_frame n x frames all verifier old new handed result reads is same more_frames =
+    ReadsAs-kept n x (λ more. with_frames frames (ahead old more)) (λ more. with_frames frames (next_then result new.progress.body (ahead new more)))
+    (λ more. with_frames all (ahead handed more))
+    (ReadsAs-map (with_frames frames) n x (ahead old) (λ more. next_then result new.progress.body (ahead new more)) reads)
+    (λ more. ap (λ (r : Result Next SourceStop). with_frames frames (next_then r new.progress.body (ahead new more))) is
+    ∙ joined frames (record { verifier = verifier; body = new.progress.body } ∷ []) (ahead new more)
+    ∙ ap (λ (fs : List FrameOf). with_frames fs (ahead new more)) (sym more_frames)
+    ∙ ap (λ (r : Reading). with_frames all (ahead r more)) (sym same))
+
+-- where no frame came they are all
+pub reads_none : (n : ℕ) (x : Option (List ℕ)) (frames : List FrameOf) (old new : Reading) (result : Result Next SourceStop)
+    → ReadsAs n x (ahead old) (λ more. next_then result new.progress.body (ahead new more))
+    → ((rest : Bundle) → next_then result new.progress.body rest ≡ rest)
+    → ReadsAs n x (λ more. with_frames frames (ahead old more)) (λ more. with_frames frames (ahead new more))
+reads_none n x frames old new result reads none =
+    ReadsAs-map (with_frames frames) n x (ahead old) (ahead new)
+    (ReadsAs-kept n x (ahead old) (λ more. next_then result new.progress.body (ahead new more)) (ahead new) reads (λ more. none (ahead new more)))

@@ -1,0 +1,140 @@
+use Rattle.std.proofs.Common.{◌≡◌, ◌<◌, ℕ, Ok, Err, is_ok, true≢false, refl, sym, ap, subst, ◌∙◌, arith}
+use Rattle.std.specs.List.{AllByRecursion}
+use Rattle.bundle_frames.specs.declared.coming.Next.{Next}
+use Rattle.bundle_frames.specs.declared.coming.SourceStop.{SourceStop}
+use Rattle.bundle_frames.specs.declared.coming.SourceStop.TheVariants as sources
+use Rattle.bundle_frames.specs.Bundle.{IsFrame, Frame}
+use Rattle.bundle_frames.specs.Extent.{IsDue}
+use Rattle.bundle_frames.specs.Progress.{position}
+use Rattle.bundle_frames.specs.Reading.{Reading, end_ahead, next_then, header_then}
+use Rattle.bundle_frames.proofs.ReadingLaws.{HasRead-then, ReadsAs-then, ReadsAs-kept, ReadsAs-back, near-then}
+use Rattle.check_core.specs.declared.stops.ReadStop.{ReadStop}
+use Rattle.check_core.specs.declared.stops.ReadStop.TheVariants.{InputLimit}
+use Rattle.check_core.specs.Batch.{bytes_of}
+use Rattle.check_core.specs.Stops.{stop_of}
+use Rattle.check_core.proofs.BatchLemmas.{bytes_more, all_more, known_frame, known_bounded, no_header, reads_frame, reads_none}
+use Rattle.check_core.proofs.batch.Batch.fill.Goals as goal
+
+stop_input : (stop : SourceStop) (answer : ReadStop) → answer ≡ stop_of stop → answer ≡ InputLimit → stop ≡ sources.InputLimit
+stop_input sources.ReadFault answer is same = cc
+stop_input sources.InputLimit answer is same = refl
+
+pub returns-in-Err-clause-goes_on : goal.returns-in-Err-clause-goes_on
+returns-in-Err-clause-goes_on g c = λ other.
+    let last = c.frames.invariant in
+    let next = c.in-Err.ensures in
+    record {
+      means = ReadsAs-then _ _ _ _ _ _ _ _ last.took last.means (reads_none _ _ c.frames.self c.frames.reader c.next.new.self (Err c.in-Err.stop) next.means (λ rest. refl)) (omega (arith, next.rises, last.rises));
+      extent = ReadsAs-then _ _ _ _ _ _ _ _ last.took last.extent next.extent (omega (arith, next.rises, last.rises));
+      header = next.header ∙ last.header;
+      bytes = omega (arith, last.bytes, next.onward);
+    }
+
+pub returns-in-Err-clause-took : goal.returns-in-Err-clause-took
+returns-in-Err-clause-took g c = λ other.
+    let last = c.frames.invariant in
+    let next = c.in-Err.ensures in
+    let apart = λ (is : c.in-Err.stop ≡ sources.InputLimit). other (ap Err (c.from.ensures ∙ ap stop_of is)) in
+    HasRead-then _ _ _ _ _ _ last.took (next.took (λ is. apart cc)) (omega (arith, next.rises, last.rises))
+
+pub returns-in-Err-clause-limit : goal.returns-in-Err-clause-limit
+returns-in-Err-clause-limit g c = λ is.
+    let last = c.frames.invariant in
+    let next = c.in-Err.ensures in
+    let full : c.from.result ≡ InputLimit = cc in
+    let same = stop_input _ _ c.from.ensures full in
+    HasRead-then _ _ _ _ _ _ last.took (next.limit (ap Err same)) (omega (arith, next.rises, next.within, last.rises))
+
+pub returns-in-Err-clause-near : goal.returns-in-Err-clause-near
+returns-in-Err-clause-near g c =
+    let last = c.frames.invariant in
+    let next = c.in-Err.ensures in
+    near-then _ _ _ _ _ _ _ _ _ last.took last.extent next.rises refl last.near next.near
+
+pub returns-in-Err-clause-beyond : goal.returns-in-Err-clause-beyond
+returns-in-Err-clause-beyond g c = λ is.
+    let last = c.frames.invariant in
+    let next = c.in-Err.ensures in
+    let full : c.from.result ≡ InputLimit = cc in
+    let same = stop_input _ _ c.from.ensures full in
+    ReadsAs-back (λ (end : ℕ). c.next.new.self.limit < end) _ _ _ _ _ last.took last.extent (next.beyond (ap Err same))
+
+pub keep-requires-clause-body : goal.keep-requires-clause-body
+keep-requires-clause-body g c = known_bounded c.in-Frame.verifier _ _ (c.in-Ok.ensures.frame c.in-Frame.verifier (ap Ok c.in-Frame.is))
+
+pub frames-preserved : goal.frames-preserved
+frames-preserved g c =
+    let last = c.frames.invariant in
+    let next = c.in-Ok.ensures in
+    let due = next.due (λ is. cc) in
+    let came = ap Ok c.in-Frame.is in
+    let new : Reading = c.next.new.self in
+    let kept = c.in_ok-keep-in-Frame.ensures.kept in
+    let handed = c.in_ok-keep-in-Frame.ensures.handed in
+    let taken : c.keep.new.reader.taken ≡ new.taken = ap (λ (r : Reading). r.taken) handed in
+    let limit : c.keep.new.reader.limit ≡ new.limit = ap (λ (r : Reading). r.limit) handed in
+    let frame : Frame = record { verifier = c.in-Frame.verifier; body = new.progress.body } in
+    record {
+      due = subst (λ (r : Reading). IsDue r.progress) (sym handed) (record { partial = due.partial; at_start = due.at_start });
+      header = ap (λ (r : Reading). r.progress.header) handed ∙ next.header ∙ ap (λ (n : Next). header_then (Ok n) c.frames.reader.progress.header) c.in-Frame.is ∙ last.header;
+      limit = limit ∙ next.same_limit ∙ last.limit;
+      rises = omega (arith, taken, next.rises, last.rises);
+      read = λ some. (omega (arith, taken, limit, next.within), omega (arith, taken, next.split, ap (λ (r : Reading). position r.progress) handed));
+      took = HasRead-then _ _ _ _ _ _ last.took (next.took (λ is. true≢false (ap is_ok is))) (omega (arith, taken, next.rises, last.rises));
+      means = ReadsAs-then _ _ _ _ _ _ _ _ last.took last.means
+          (reads_frame _ _ c.frames.self c.keep.new.self c.in-Frame.verifier c.frames.reader new c.keep.new.reader (Ok c.in-Ok.next) next.means came handed kept)
+          (omega (arith, taken, next.rises, last.rises));
+      extent = ReadsAs-kept _ _ _ _ _ (ReadsAs-then _ _ _ _ _ _ _ _ last.took last.extent next.extent (omega (arith, taken, next.rises, last.rises)))
+          (λ more. ap (λ (r : Reading). end_ahead r more) (sym handed));
+      near = near-then _ _ _ _ _ _ _ _ _ last.took last.extent next.rises taken last.near next.near;
+      bytes =
+          let all = ap bytes_of kept in
+          let more = bytes_more c.frames.self frame in
+          omega (arith, all, more, last.bytes, next.bytes c.in-Frame.verifier came, ap (λ (r : Reading). r.progress.offset) handed);
+      frames = λ header known. subst (AllByRecursion (IsFrame header.verifiers)) (sym kept)
+          (all_more (IsFrame header.verifiers) c.frames.self frame (last.frames header known)
+          (known_frame c.in-Frame.verifier _ _ header (last.header ∙ known) (next.frame c.in-Frame.verifier came)));
+      faults = omega (arith, last.faults, next.never_falls);
+    }
+
+pub returns-in_err-keep-in-Frame-clause-took : goal.returns-in_err-keep-in-Frame-clause-took
+returns-in_err-keep-in-Frame-clause-took g c = λ other.
+    let last = c.frames.invariant in
+    let next = c.in-Ok.ensures in
+    let taken = ap (λ (r : Reading). r.taken) c.in_err-keep-in-Frame.ensures.reader in
+    HasRead-then _ _ _ _ _ _ last.took (next.took (λ is. true≢false (ap is_ok is))) (omega (arith, taken, next.rises, last.rises))
+
+pub returns-in_err-keep-in-Frame-clause-near : goal.returns-in_err-keep-in-Frame-clause-near
+returns-in_err-keep-in-Frame-clause-near g c =
+    let last = c.frames.invariant in
+    let next = c.in-Ok.ensures in
+    let taken = ap (λ (r : Reading). r.taken) c.in_err-keep-in-Frame.ensures.reader in
+    near-then _ _ _ _ _ _ _ _ _ last.took last.extent next.rises taken last.near next.near
+
+pub returns-in-End-clause-goes_on : goal.returns-in-End-clause-goes_on
+returns-in-End-clause-goes_on g c = λ other.
+    let last = c.frames.invariant in
+    let next = c.in-Ok.ensures in
+    record {
+      means = ReadsAs-then _ _ _ _ _ _ _ _ last.took last.means
+          (reads_none _ _ c.frames.self c.frames.reader c.next.new.self (Ok c.in-Ok.next) next.means
+          (λ rest. ap (λ (n : Next). next_then (Ok n) c.next.new.self.progress.body rest) c.in-End.is)) (omega (arith, next.rises, last.rises));
+      extent = ReadsAs-then _ _ _ _ _ _ _ _ last.took last.extent next.extent (omega (arith, next.rises, last.rises));
+      header = next.header ∙ ap (λ (n : Next). header_then (Ok n) c.frames.reader.progress.header) c.in-End.is ∙ last.header;
+      bytes = omega (arith, last.bytes, next.onward);
+    }
+
+pub returns-in-End-clause-took : goal.returns-in-End-clause-took
+returns-in-End-clause-took g c = λ other.
+    let last = c.frames.invariant in
+    let next = c.in-Ok.ensures in
+    HasRead-then _ _ _ _ _ _ last.took (next.took (λ is. true≢false (ap is_ok is))) (omega (arith, next.rises, last.rises))
+
+pub returns-in-End-clause-near : goal.returns-in-End-clause-near
+returns-in-End-clause-near g c =
+    let last = c.frames.invariant in
+    let next = c.in-Ok.ensures in
+    near-then _ _ _ _ _ _ _ _ _ last.took last.extent next.rises refl last.near next.near
+
+pub returns-in-Head : goal.returns-in-Head
+returns-in-Head g c = absurd (no_header _ _ c.frames.invariant.header c.requires.header (c.in-Ok.ensures.head _ (ap Ok c.in-Head.is)).0)

@@ -1,0 +1,192 @@
+//! Frames that are read before they are fed.
+ghost use Rattle.std.specs.Prelude.{◌≡◌, ◌≢◌, ℕ, ◌+◌, ◌-◌, ◌<◌, ◌≤◌, ◌++◌, ◌∷◌, [], length, map, take, true, false, Ok, Err, Some, IfSome, IsSome, OnOk, OnErr, vec_len};
+ghost use Rattle.std.specs.List.{AllByRecursion};
+ghost use Rattle.fv_outside.specs.Consumed.{most_behind};
+ghost use Rattle.fv_outside.specs.Faults.{Rose};
+ghost use Rattle.lamport_clocks.specs.declared.header.Header.{Header};
+ghost use Rattle.bundle_frames.specs.Bundle.{IsFrame, longest_body};
+ghost use Rattle.bundle_frames.specs.Extent.{IsDue};
+ghost use Rattle.bundle_frames.specs.Progress.{position};
+ghost use Rattle.bundle_frames.specs.Reading.{ahead, end_ahead, HasRead, IsSpent};
+ghost use Rattle.check_core.specs.Batch.{frame_in, bytes_of, GoesOnBy};
+
+use crate::stops::ReadStop;
+use bundle_frames::{BundleReader, FrameBuffer, Next};
+use fv_outside::Source;
+use std::alloc::Global;
+use std::marker::Model;
+use want_of_memory::Memory;
+
+/// The most frames that are read before they are fed.
+pub const BATCH_FRAMES: usize = 64;
+
+/// A frame that was read: whose, and its body.
+#[derive(Drop)]
+pub struct Slot {
+    pub verifier: u16,
+    pub body: FrameBuffer,
+}
+
+/// The frames that are read before they are fed. Their buffers are used again and again. Contracts see the frames.
+#[derive(Drop)]
+pub struct Batch {
+    slots: Vec<Slot>,
+    // So many of the slots hold a frame, of so many bytes in all.
+    count: usize,
+    bytes: u64,
+}
+
+impl Model for Batch {
+    ghost use Rattle.std.specs.Prelude.{List};
+    ghost use Rattle.bundle_frames.specs.Bundle.{Frame};
+    ghost use Rattle.check_core.specs.Batch.{frames_of, IsBatch};
+
+    ghost Value = { List Frame };
+
+    ghost view = { frames_of };
+
+    ghost invariant = { IsBatch };
+}
+
+impl Batch {
+    /// A batch of no frames.
+    pub fn new(alloc: Global) -> Self
+        ensures empty { result ≡ [] }
+    {
+        Batch {
+            slots: Vec::new(alloc),
+            count: 0,
+            bytes: 0,
+        }
+    }
+
+    /// The frames.
+    pub fn slots(&self) -> &[Slot]
+        ensures frames { map frame_in result.now ≡ self.now }
+    {
+        &self.slots[..self.count]
+    }
+
+    /// How many bytes the bodies of the frames have in all.
+    pub fn bytes(&self) -> u64
+        ensures value { result ≡ bytes_of self.now }
+    {
+        self.bytes
+    }
+
+    /// Reads the next frames, in place of those that are there: as many as a batch has, or up to the end or to where
+    /// reading stops. It answers whether there may be more.
+    pub fn fill<S: Source>(
+        &mut self,
+        alloc: Global,
+        reader: &mut BundleReader,
+        source: &mut S,
+    ) -> Result<bool, ReadStop>
+        requires due { IsDue reader.old.progress }
+        requires header { IsSome reader.old.progress.header }
+
+        // What was read are these frames, whatever comes behind them.
+        ensures goes_on { result ≢ Err ReadStop.Memory → GoesOnBy self.new reader.old reader.new (S.left source.old) }
+        ensures frames { (header : Header) → reader.old.progress.header ≡ Some header → AllByRecursion (IsFrame header.verifiers) self.new }
+
+        // What was taken of the source. Past the limit it is one byte, and that is not read.
+        ensures took { result ≢ Err ReadStop.InputLimit
+            → HasRead (reader.new.taken - reader.old.taken) (S.left source.old) (S.left source.new) }
+        ensures limit { result ≡ Err ReadStop.InputLimit
+            → HasRead (reader.new.limit + 1 - reader.old.taken) (S.left source.old) (S.left source.new) }
+        ensures full { result ≡ Err ReadStop.InputLimit → reader.new.taken ≡ reader.new.limit }
+        ensures rises { reader.old.taken ≤ reader.new.taken }
+        ensures within { reader.new.taken ≤ reader.new.limit }
+        ensures same_limit { reader.new.limit ≡ reader.old.limit }
+        ensures split { position reader.new.progress ≤ reader.new.taken }
+
+        // A piece is read only while reading ends behind what was taken, and a byte past the limit too.
+        ensures near { reader.old.taken < reader.new.taken
+            → IfSome (S.left source.old) (λ bytes. reader.new.taken ≤ end_ahead reader.old bytes + most_behind) }
+        ensures beyond { result ≡ Err ReadStop.InputLimit
+            → IfSome (S.left source.old) (λ bytes. reader.new.limit < end_ahead reader.old bytes) }
+
+        // At the end no byte that is left makes a difference, and reading ended within what was taken.
+        ensures end { result ≡ Ok false → IfSome (S.left source.new) (λ left. ahead reader.new left ≡ ahead reader.new []) }
+        ensures reached { result ≡ Ok false → IfSome (S.left source.new) (λ left. end_ahead reader.new left ≤ reader.new.taken) }
+        ensures spent { result ≢ Ok true → result ≢ Err ReadStop.Memory → IsSpent reader.new }
+        ensures due { result ≡ Ok true → IsDue reader.new.progress }
+        ensures fault { result ≡ Err ReadStop.ReadFault → Rose (S.faults source.old) (S.faults source.new) }
+        ensures never_falls { S.faults source.old ≤ S.faults source.new }
+    {
+        self.clear();
+        'frames: while !self.is_full() {
+            let next = match reader.next(source) {
+                Ok(next) => next,
+                Err(stop) => return Err(ReadStop::from(stop)),
+            };
+            match next {
+                Next::Frame(verifier) => self.keep(alloc, reader, verifier)?,
+                Next::End => return Ok(false),
+                Next::Head(_) => return Ok(false),
+            }
+        }
+        Ok(true)
+    }
+
+    // Lets the frames go.
+    fn clear(&mut self)
+        ensures empty { self.new ≡ [] }
+    {
+        self.count = 0;
+        self.bytes = 0;
+    }
+
+    // Whether there are as many frames as a batch has.
+    fn is_full(&self) -> bool
+        ensures full { result ≡ true → 0 < length self.now }
+        ensures room { result ≡ false → length self.now < 64 }
+    {
+        self.count >= BATCH_FRAMES
+    }
+
+    // Keeps the frame that was read last, of this verifier.
+    fn keep(
+        &mut self,
+        alloc: Global,
+        reader: &mut BundleReader,
+        verifier: u16,
+    ) -> Result<(), Memory>
+        requires room { length self.old < 64 }
+        requires body { length reader.old.progress.body ≤ longest_body }
+        ensures kept { OnOk result (self.new ≡ self.old ++ record { verifier = verifier; body = reader.old.progress.body } ∷ []) }
+        ensures same { OnErr result (self.new ≡ self.old) }
+        ensures handed { OnOk result (reader.new ≡ record reader.old { progress = record reader.old.progress { body = [] } }) }
+        ensures reader { OnErr result (reader.new ≡ reader.old) }
+    {
+        make_room(alloc, &mut self.slots, self.count)?;
+        let len = reader.body().len() as u64;
+        put(&mut self.slots[self.count], reader, verifier);
+        self.count += 1;
+        self.bytes += len;
+        Ok(())
+    }
+}
+
+// Makes one slot more, if there are just so many.
+fn make_room(alloc: Global, slots: &mut Vec<Slot>, count: usize) -> Result<(), Memory>
+    requires count { count ≤ vec_len slots.old }
+    ensures same { take count slots.new.items ≡ take count slots.old.items }
+    ensures count { count ≤ vec_len slots.new }
+    ensures room { OnOk result (count < vec_len slots.new) }
+{
+    if count == slots.len() {
+        let body = FrameBuffer::new(alloc)?;
+        slots.push(Slot { verifier: 0, body })?;
+    }
+    Ok(())
+}
+
+// Puts the frame that was read last, of this verifier, into a slot.
+fn put(slot: &mut Slot, reader: &mut BundleReader, verifier: u16)
+    ensures frame { frame_in slot.new ≡ record { verifier = verifier; body = reader.old.progress.body } }
+    ensures handed { reader.new ≡ record reader.old { progress = record reader.old.progress { body = [] } } }
+{
+    slot.verifier = verifier;
+    reader.hand_over(&mut slot.body);
+}

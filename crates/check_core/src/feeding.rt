@@ -1,0 +1,66 @@
+//! Frames, fed to the runs of their verifiers, side by side.
+ghost use Rattle.std.specs.Prelude.{◌≡◌, ◌+◌, ◌<◌, ◌≤◌, ◌^◌, ℕ, length, map};
+ghost use Rattle.std.specs.List.{AllByRecursion};
+ghost use Rattle.lamport_clocks.specs.declared.header.Header.{Header};
+ghost use Rattle.merkle_records.specs.Scheme.{scheme_of};
+ghost use Rattle.verifier_run.specs.Progress.{weight};
+ghost use Rattle.bundle_report.specs.SoFar.{runs_behind};
+ghost use Rattle.certified_epochs.specs.Turn.{AreFed};
+ghost use Rattle.check_core.specs.Batch.{frame_in, bytes_of};
+ghost use Rattle.check_core.specs.Feeding.{Takes};
+
+use crate::batch::{Batch, Slot};
+use certified_epochs::FedRun;
+use record_hash::Digests;
+use std::thread::{Threads, for_each_mut};
+
+/// Frames of fewer bytes are fed where they were read: to start threads would take longer.
+pub const FEW_BYTES: u64 = 65_536;
+
+/// Feeds each run the frames of its verifier, in order, side by side where there are many bytes.
+pub fn feed_batch<R: Threads + Sync, D: Digests + Sync>(
+    rt: &R,
+    d: &D,
+    batch: &Batch,
+    runs: &mut [FedRun],
+)
+    requires room { AllByRecursion (λ fed. weight fed.run + bytes_of batch.now < 2 ^ 63) runs.old }
+
+    // Where memory was not wanting, all frames are taken.
+    ensures taken { (header : Header) → AllByRecursion (λ fed. fed.run.course.machine.header ≡ header) runs.old
+        → AreFed runs.new → AreFed runs.old
+        × (map (λ fed. fed.run) runs.new ≡ runs_behind (scheme_of (D.functions d.now) header) 0 (map (λ fed. fed.run) runs.old) batch.now) }
+    ensures headers { (header : Header) → AllByRecursion (λ fed. fed.run.course.machine.header ≡ header) runs.old
+        → AllByRecursion (λ fed. fed.run.course.machine.header ≡ header) runs.new }
+    ensures weight { (bound : ℕ) → AllByRecursion (λ fed. weight fed.run ≤ bound) runs.old
+        → AllByRecursion (λ fed. weight fed.run ≤ bound + bytes_of batch.now) runs.new }
+    ensures len { length runs.new ≡ length runs.old }
+{
+    let threads = if batch.bytes() < FEW_BYTES {
+        1
+    } else {
+        runs.len().max(1)
+    };
+    let slots = batch.slots();
+    for_each_mut(
+        rt,
+        runs,
+        threads,
+        &|index: usize, fed: &mut FedRun|
+            requires { weight fed.now.run + bytes_of (map frame_in slots.now) < 2 ^ 63 }
+            ensures { Takes (D.functions d.entry.now) index (map frame_in slots.entry.now) fed.entry.now fed.exit.now }
+        { feed_own(d, slots, index, fed) },
+    );
+}
+
+// Feeds a run the frames of the verifier of this number, in order.
+fn feed_own<D: Digests>(d: &D, slots: &[Slot], number: usize, fed: &mut FedRun)
+    requires room { weight fed.old.run + bytes_of (map frame_in slots.now) < 2 ^ 63 }
+    ensures takes { Takes (D.functions d.now) number (map frame_in slots.now) fed.old fed.new }
+{
+    for slot in slots {
+        if usize::from(slot.verifier) == number {
+            fed.feed(d, slot.body.body());
+        }
+    }
+}
