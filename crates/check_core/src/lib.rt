@@ -6,6 +6,9 @@
 //! joined logs. An audit takes the parts of a check: `read_bundle`, and `conclude`, which says how many epochs are
 //! certified and writes nothing.
 //!
+//! `batch.rt` and `feeding.rt` read frames some at a time and feed them side by side, so that a check needn't hold its
+//! input. `check` doesn't yet use them: it holds the input whole.
+//!
 //! The crate stands on `bundle_frames` and `verifier_run`, which read, and on `certified_epochs`. Begin with
 //! `checking.rt`.
 #![tactic(auto)]
