@@ -1,6 +1,6 @@
 -- Which statuses a check can end with.
 use Rattle.report_text.specs.declared.status.Status.{Status}
-use Rattle.report_text.specs.declared.status.Status.TheVariants.{Done, Usage, Memory, ReadFault, WriteFault, VaultFault, BadBundle, Refused, Unbalanced, ClockEnd, NotTagged, NotCertified, Exhibit, InputLimit}
+use Rattle.report_text.specs.declared.status.Status.TheVariants.{Done, Usage, Memory, ReadFault, WriteFault, VaultFault, BadScript, BadBundle, Refused, Unbalanced, ClockEnd, NotTagged, NotCertified, Exhibit, InputLimit}
 
 -- a status that a check can end with
 abbrev pub IsCheckStatus : Status → Type 0
@@ -10,6 +10,7 @@ IsCheckStatus Memory = Unit {0}
 IsCheckStatus ReadFault = Unit {0}
 IsCheckStatus WriteFault = Unit {0}
 IsCheckStatus VaultFault = ⊥
+IsCheckStatus (BadScript line cause) = ⊥
 IsCheckStatus (BadBundle offset) = Unit {0}
 IsCheckStatus (Refused verifier index refusal) = Unit {0}
 IsCheckStatus (Unbalanced epoch added evicted) = Unit {0}

@@ -28,7 +28,7 @@ use Rattle.verifier_commands.specs.Transition.{Rules, is_root, is_data, is_full,
 use Rattle.soundness.specs.Clash.{is_known}
 use Rattle.soundness.proofs.FamilyLaws.{IsAdd, on_empty, on_same, on_split, IsAdded, added_how}
 use Rattle.verifier_commands.proofs.InvertLaws.{need-ok, and_then-ok, timed-ok}
-use Rattle.soundness.proofs.SideLaws.{above_apart}
+use Rattle.tree_keys.proofs.SideLaws.{above_apart}
 use Rattle.collision_exhibit.specs.declared.audit_event.AuditChange.{AuditChange}
 use Rattle.collision_exhibit.specs.declared.audit_event.AuditChange.TheVariants as audits
 use Rattle.collision_exhibit.specs.AuditEvent.{audit_changes_by}

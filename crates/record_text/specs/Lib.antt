@@ -7,4 +7,5 @@ pub mod Texts
 pub mod Fields
 pub mod Reading
 pub mod Refusal
+pub mod Cause
 pub use Rattle.tree_keys.specs

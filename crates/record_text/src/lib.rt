@@ -6,8 +6,10 @@
 //! `value.rt`, then `Reader` in `reader.rt` and the writers in `writing.rt`; `laws.rt` says that no text
 //! begins another, and what a text that is cut short is read as. What a get or put reports stands in
 //! `operation.rt`, what an audit shows in `exhibit.rt`, and the names of the refusals in `refusal.rt`.
+//! What is asked of a store stands in `request.rt`, and why a line of a script is refused in `cause.rt`.
 #![tactic(auto)]
 
+mod cause;
 mod element;
 mod exhibit;
 mod laws;
@@ -15,9 +17,11 @@ mod operation;
 mod reader;
 mod reading;
 mod refusal;
+mod request;
 mod value;
 mod writing;
 
+pub use cause::Cause;
 pub use element::Element;
 pub use exhibit::{Elements, Exhibit, ValueText};
 pub use laws::{
@@ -28,6 +32,7 @@ pub use operation::Operation;
 pub use reader::{Reader, TextFault};
 pub use reading::{read_element, read_path, read_value};
 pub use refusal::Refusal;
+pub use request::Request;
 pub use value::{Blob, LONGEST_BLOB, Node, Pointer, Value, initial};
 pub use writing::{
     LONGEST_ELEMENT_TEXT, LONGEST_VALUE_TEXT, PATH_TEXT_LEN, element_text, push_path, push_stamp,

@@ -4,7 +4,7 @@ use Rattle.fv_outside.specs.Consumed.{TookAtMost, TookJust, TookToEnd, StopsAtEn
 use Rattle.fv_outside.specs.Faults.{Rose}
 use Rattle.fv_outside.specs.Written.{Grows, GrowsByFront}
 use Rattle.report_text.specs.declared.status.Status.{Status}
-use Rattle.report_text.specs.declared.status.Status.TheVariants.{Done, Usage, Memory, ReadFault, WriteFault, VaultFault, BadBundle, Refused, Unbalanced, ClockEnd, NotTagged, NotCertified, Exhibit, InputLimit}
+use Rattle.report_text.specs.declared.status.Status.TheVariants.{Done, Usage, Memory, ReadFault, WriteFault, VaultFault, BadScript, BadBundle, Refused, Unbalanced, ClockEnd, NotTagged, NotCertified, Exhibit, InputLimit}
 
 -- the text that is written, and the status
 pub record Answer : Type 0 where
@@ -19,6 +19,7 @@ IsEnd Memory = ⊥
 IsEnd ReadFault = ⊥
 IsEnd WriteFault = ⊥
 IsEnd VaultFault = ⊥
+IsEnd (BadScript line cause) = ⊥
 IsEnd (BadBundle offset) = Unit {0}
 IsEnd (Refused verifier index refusal) = Unit {0}
 IsEnd (Unbalanced epoch added evicted) = Unit {0}

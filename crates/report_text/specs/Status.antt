@@ -1,10 +1,11 @@
 -- How a run of the program ends: the number and the text of each status.
 use Rattle.std.specs.Prelude.{ℕ, List, ◌++◌, codes}
 use Rattle.std.specs.Fmt.{decimal}
+use Rattle.record_text.specs.Cause.{cause_name}
 use Rattle.record_text.specs.Refusal.{refusal_name}
 use Rattle.record_text.specs.declared.refusal.Refusal.{Refusal}
 use Rattle.report_text.specs.declared.status.Status.{Status}
-use Rattle.report_text.specs.declared.status.Status.TheVariants.{Done, Usage, Memory, ReadFault, WriteFault, VaultFault, BadBundle, Refused, Unbalanced, ClockEnd, NotTagged, NotCertified, Exhibit, InputLimit}
+use Rattle.report_text.specs.declared.status.Status.TheVariants.{Done, Usage, Memory, ReadFault, WriteFault, VaultFault, BadScript, BadBundle, Refused, Unbalanced, ClockEnd, NotTagged, NotCertified, Exhibit, InputLimit}
 use Rattle.report_text.specs.Lines.{stamp_words, line_end}
 
 -- the exit status of the program
@@ -15,6 +16,7 @@ status_number Memory = 2
 status_number ReadFault = 3
 status_number WriteFault = 4
 status_number VaultFault = 5
+status_number (BadScript line cause) = 6
 status_number (BadBundle offset) = 7
 status_number (Refused verifier index refusal) = 8
 status_number (Unbalanced epoch added evicted) = 9
@@ -45,6 +47,7 @@ status_words Memory = codes "memory"
 status_words ReadFault = codes "read fault"
 status_words WriteFault = codes "write fault"
 status_words VaultFault = codes "vault fault"
+status_words (BadScript line cause) = codes "bad script line " ++ decimal line ++ codes " " ++ cause_name cause
 status_words (BadBundle offset) = codes "bad bundle at byte " ++ decimal offset
 status_words (Refused verifier index refusal) = refused_words verifier index refusal
 status_words (Unbalanced epoch added evicted) = unbalanced_words epoch added.count evicted.count

@@ -8,7 +8,7 @@ use crate::lines::{LONGEST_LINE, push_stamp};
 use arrayvec::ArrayVec;
 use lamport_clocks::Stamp;
 use multiset_sum::Sum;
-use record_text::Refusal;
+use record_text::{Cause, Refusal};
 
 /// How a run of the program ends.
 #[derive(Clone, Copy, Debug, PartialEq, Eq)]
@@ -27,6 +27,11 @@ pub enum Status {
     WriteFault,
     /// The vault failed.
     VaultFault,
+    /// This line of the script, counted from 1, is the first outside the grammar; nothing was run.
+    BadScript {
+        line: u64,
+        cause: Cause,
+    },
     /// The bytes at this offset are no whole valid header or frame.
     BadBundle {
         offset: u64,
@@ -79,6 +84,15 @@ impl Status {
             Status::ReadFault => push_text(&mut line, b"read fault"),
             Status::WriteFault => push_text(&mut line, b"write fault"),
             Status::VaultFault => push_text(&mut line, b"vault fault"),
+            Status::BadScript {
+                line: number,
+                cause,
+            } => {
+                push_text(&mut line, b"bad script line ");
+                push_decimal(&mut line, *number);
+                push_text(&mut line, b" ");
+                push_text(&mut line, cause.name().as_bytes());
+            }
             Status::BadBundle { offset } => {
                 push_text(&mut line, b"bad bundle at byte ");
                 push_decimal(&mut line, *offset);
@@ -122,6 +136,7 @@ impl Status {
             Status::ReadFault => 3,
             Status::WriteFault => 4,
             Status::VaultFault => 5,
+            Status::BadScript { .. } => 6,
             Status::BadBundle { .. } => 7,
             Status::Refused { .. } => 8,
             Status::Unbalanced { .. } => 9,

@@ -22,7 +22,7 @@ use Rattle.soundness.specs.Clash.{LastEvicted}
 use Rattle.soundness.specs.Showing.{Shown, ShowSame, showing_both, DidAddM}
 use Rattle.soundness.specs.Spot.{Spot, untouched, cached, merkle, waiting, Spots, is_touched, side_of, pointer_at, home_of, LeadsBy, IsKeptBy, Covers, IsKind, IsTree}
 use Rattle.soundness.specs.World.{cached_in, blob_at, AllShown, with_shown, Stored, IsWorld}
-use Rattle.soundness.proofs.SideLaws.{above_apart, above_no_prefix}
+use Rattle.tree_keys.proofs.SideLaws.{above_apart, above_no_prefix}
 use Rattle.soundness.proofs.MovedLemmas.{this_or_other, pointer_kind}
 use Rattle.soundness.proofs.FamilyLaws.{IsAdded, added_how, pointer_set, pointer_set_other, kid_set}
 use Rattle.soundness.proofs.UnderLemmas.{FitsUnder, pair_moves, changed_parent, nothing_there, fits_empty, fits_split}

@@ -25,7 +25,7 @@ use Rattle.soundness.specs.Collision.{IsCollision}
 use Rattle.soundness.specs.Showing.{Shown, ShowSame, showing_both, DidAddM}
 use Rattle.soundness.specs.Spot.{Spot, untouched, cached, merkle, Spots, is_touched, side_of, pointer_at, home_of, LeadsBy, IsKind, IsTree}
 use Rattle.soundness.specs.World.{cached_in, AllShown, with_shown, Stored, IsWorld, blob_at}
-use Rattle.soundness.proofs.SideLaws.{above_apart}
+use Rattle.tree_keys.proofs.SideLaws.{above_apart}
 use Rattle.soundness.proofs.FamilyLaws.{IsAdd, on_empty, on_same, on_split}
 use Rattle.soundness.proofs.UnderLemmas.{changed_parent, fits_known}
 use Rattle.soundness.proofs.JoinLemmas.{kept_value, not_waiting, join_world, Joining, joining, WorldAfter, parent_pointer, parent_kind, empty_untouched, split_untouched, join_empty, join_split}

@@ -18,7 +18,7 @@ use Rattle.soundness.specs.Clash.{LastEvicted, with_last_evicted}
 use Rattle.soundness.specs.Showing.{Shown, ShowSame, showing_both, DidEvictM, DidEvictBM}
 use Rattle.soundness.specs.Spot.{Spot, untouched, cached, merkle, waiting, Spots, value_at, is_touched, pointer_in, pointer_at, home_of, LeadsBy, IsKind, IsTree}
 use Rattle.soundness.specs.World.{cached_in, blob_in, blob_at, AllShown, with_shown, Stored, IsWorld}
-use Rattle.soundness.proofs.SideLaws.{above_apart}
+use Rattle.tree_keys.proofs.SideLaws.{above_apart}
 use Rattle.soundness.proofs.MovedLemmas.{this_or_other}
 use Rattle.soundness.proofs.FamilyLaws.{IsLeft, evicted_into, evicted_how, deferred_in, deferred_how, pointer_set, pointer_set_other, no_kids}
 use Rattle.soundness.proofs.UnderLemmas.{changed_parent, pair_moves, fits_known}

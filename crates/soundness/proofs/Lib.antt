@@ -1,6 +1,5 @@
--- How soundness is proved, in reading order: paths, what a step does, the tree, the world and each command, what
+-- How soundness is proved, in reading order: what a step does, the tree, the world and each command, what
 -- waits, the schedule, the merged order, and the whole.
-pub mod SideLaws
 mod ShownLemmas
 mod LawfulLemmas
 mod MovedLemmas

@@ -14,7 +14,7 @@ use Rattle.merkle_records.proofs.KindLaws.{IsSide-node_side}
 use Rattle.verifier_cache.specs.declared.entry.Entry.{Entry}
 use Rattle.verifier_commands.specs.Changes.{node_of}
 use Rattle.soundness.specs.Spot.{Spot, untouched, cached, merkle, waiting, Spots, is_touched, pointer_at, home_of, LeadsBy, Leads, Covers, IsKind, IsTree, side_of}
-use Rattle.soundness.proofs.SideLaws.{side_of_prefix}
+use Rattle.tree_keys.proofs.SideLaws.{side_of_prefix}
 
 -- ---- where pointers lead
 

@@ -8,7 +8,7 @@ use Rattle.record_text.specs.Format.{Format}
 use Rattle.merkle_records.specs.Merkle.{Digest}
 use Rattle.verifier_cache.specs.declared.entry.Entry.{Entry}
 use Rattle.soundness.specs.Spot.{Spot, cached, Spots, is_touched, pointer_at, home_of, LeadsBy, Leads, Covers, IsKind, IsTree}
-use Rattle.soundness.proofs.SideLaws.{is_prefix-self, is_prefix-trans, prefix_of_side, side-trans, side-compare, above_no_prefix, above_apart}
+use Rattle.tree_keys.proofs.SideLaws.{is_prefix-self, is_prefix-trans, prefix_of_side, side-trans, side-compare, above_no_prefix, above_apart}
 use Rattle.soundness.proofs.MovedLemmas.{pointer_below, pointer_touched, leads_same_hold, this_or_other}
 
 -- A parent in a cache and its child on a side change: the parent's pointer of that side leads to the child from

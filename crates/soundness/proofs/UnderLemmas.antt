@@ -13,7 +13,7 @@ use Rattle.verifier_cache.specs.declared.entry.Entry.{Entry}
 use Rattle.verifier_cache.specs.Entry.{set_kid}
 use Rattle.verifier_commands.specs.Changes.{node_of, with_node}
 use Rattle.soundness.specs.Spot.{Spot, cached, Spots, is_touched, side_of, pointer_at, home_of, LeadsBy, Leads, Covers, IsKind, IsTree}
-use Rattle.soundness.proofs.SideLaws.{is_prefix-trans, prefix_of_side, side-prefix, side-trans, above_no_prefix}
+use Rattle.tree_keys.proofs.SideLaws.{is_prefix-trans, prefix_of_side, side-prefix, side-trans, above_no_prefix}
 use Rattle.soundness.proofs.MovedLemmas.{leads_touched, pointer_touched}
 use Rattle.soundness.proofs.PairLemmas.{two_move, one_parent}
 use Rattle.soundness.proofs.FamilyLaws.{kid_set, kid_set_other}

@@ -3,7 +3,7 @@ use crate::rows::{data_value, field, path_of, same, same_bytes, stamp};
 use fv_outside::MemorySink;
 use multiset_sum::Sum;
 use record_text::{
-    Blob, Element, Elements, Exhibit, Node, Operation, Pointer, Refusal, Value, ValueText,
+    Blob, Cause, Element, Elements, Exhibit, Node, Operation, Pointer, Refusal, Value, ValueText,
 };
 use report_text::{
     PAGE_ROOM, Page, Status, write_epoch, write_exhibit, write_last, write_operation,
@@ -31,6 +31,10 @@ fn plain_status(name: &str) -> Option<Status> {
 fn status_with_numbers(name: &str) -> Option<Status> {
     match name {
         "Done" => Some(Status::Done { epochs: 0 }),
+        "BadScript" => Some(Status::BadScript {
+            line: 3,
+            cause: Cause::Key,
+        }),
         "BadBundle" => Some(Status::BadBundle { offset: 18 }),
         "Refused" => Some(Status::Refused {
             verifier: 0,
@@ -67,6 +71,7 @@ Memory | 2 | memory
 ReadFault | 3 | read fault
 WriteFault | 4 | write fault
 VaultFault | 5 | vault fault
+BadScript | 6 | bad script line 3 Key
 BadBundle | 7 | bad bundle at byte 18
 Refused | 8 | refused v0 command 4 WrongValue
 Unbalanced | 9 | epoch 7 unbalanced added 1 evicted 0

@@ -8,8 +8,9 @@ use std::marker::Model;
 /// The number of bits of a key: a path of so many bits is a data path.
 pub const KEY_BITS: u8 = 64;
 
-/// A path of the tree: 0 to 64 bits, the first bit most significant.
-#[derive(Clone, Copy, Debug, PartialEq, Eq)]
+/// A path of the tree: 0 to 64 bits, the first bit most significant. Shorter paths come first in their order, and those of
+/// one length by their bits.
+#[derive(Clone, Copy, Debug, PartialEq, Eq, PartialOrd, Ord)]
 #[tactic(auto, using(crate::proofs::BitsLaws::path_view))]
 pub struct Path {
     len: u8,

@@ -1,9 +1,13 @@
 -- How paths lie to each other: what is a prefix, and on which side.
-use Rattle.std.proofs.Common.{◌≡◌, ◌≢◌, ◌⊎◌, Bool, true, false, List, [], ◌∷◌, ◌++◌, Some, refl, sym, ◌∙◌, ap, inl, inr}
+use Rattle.std.proofs.Common.{◌≡◌, ◌≢◌, ◌⊎◌, Bool, true, false, List, [], ◌∷◌, ◌++◌, Some, None, refl, sym, ◌∙◌, ap, inl, inr, arith}
 use Rattle.std.proofs.lemmas.Bool.{false≢true}
 use Rattle.std.proofs.lemmas.Option.{none-some}
 use Rattle.tree_keys.specs.Path.{side, is_prefix}
-use Rattle.verifier_commands.proofs.BelowLaws.{side-self}
+use Rattle.tree_keys.proofs.PathLaws.{side-short}
+
+-- none lies below itself
+pub side-self : (p : List Bool) → side p p ≡ None
+side-self p = side-short p p (omega arith)
 
 pub is_prefix-self : (p : List Bool) → is_prefix p p ≡ true
 is_prefix-self [] = refl

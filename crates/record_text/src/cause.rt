@@ -1,0 +1,31 @@
+//! Why a line of a script is outside its grammar.
+ghost use Rattle.std.specs.Prelude.{◌≡◌};
+
+/// Why a line of a script is refused: the first test, in this order, that the line doesn't pass.
+#[derive(Clone, Copy, Debug, PartialEq, Eq)]
+pub enum Cause {
+    /// The line is none of the forms, by its number of words and the second of them, or it is too long.
+    Shape,
+    /// There is no worker of this number, or it is spelled otherwise than in decimal digits.
+    Worker,
+    /// The key is no number below 2^64, or it is spelled otherwise than in decimal digits.
+    Key,
+    /// The value is neither `.` nor an even number of 2 to 128 lower-case hexadecimal digits.
+    Hex,
+}
+
+impl Cause {
+    ghost use Rattle.record_text.specs.Cause.{cause_name};
+
+    /// The name that a status prints.
+    pub fn name(self) -> &'static str
+        ensures name { result.now ≡ cause_name self }
+    {
+        match self {
+            Cause::Shape => "Shape",
+            Cause::Worker => "Worker",
+            Cause::Key => "Key",
+            Cause::Hex => "Hex",
+        }
+    }
+}

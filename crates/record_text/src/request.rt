@@ -1,0 +1,27 @@
+//! Gets and puts that are asked for.
+ghost use Rattle.std.specs.Prelude.{◌≡◌};
+
+use crate::value::Blob;
+
+/// A get or a put that is asked for. The value of a get is none, and a put of none takes the key's value away.
+#[derive(Clone, Debug, PartialEq, Eq, Drop)]
+pub struct Request {
+    /// Whether it is a put.
+    pub put: bool,
+    pub key: u64,
+    /// What is put.
+    pub value: Blob,
+}
+
+impl Request {
+    /// The same once more.
+    pub fn copy(&self) -> Self
+        ensures value { result ≡ self.now }
+    {
+        Request {
+            put: self.put,
+            key: self.key,
+            value: self.value.copy(),
+        }
+    }
+}
