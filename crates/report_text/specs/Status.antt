@@ -3,6 +3,8 @@ use Rattle.std.specs.Prelude.{ℕ, List, ◌++◌, codes}
 use Rattle.std.specs.Fmt.{decimal}
 use Rattle.record_text.specs.Cause.{cause_name}
 use Rattle.record_text.specs.Refusal.{refusal_name}
+use Rattle.lamport_clocks.specs.declared.stamp.Stamp.{Stamp}
+use Rattle.record_text.specs.declared.cause.Cause.{Cause}
 use Rattle.record_text.specs.declared.refusal.Refusal.{Refusal}
 use Rattle.report_text.specs.declared.status.Status.{Status}
 use Rattle.report_text.specs.declared.status.Status.TheVariants.{Done, Usage, Memory, ReadFault, WriteFault, VaultFault, BadScript, BadBundle, Refused, Unbalanced, ClockEnd, NotTagged, NotCertified, Exhibit, InputLimit}
@@ -39,6 +41,14 @@ count_words added evicted = codes " unbalanced added " ++ decimal added ++ codes
 abbrev pub unbalanced_words : ℕ → ℕ → ℕ → List ℕ
 unbalanced_words epoch added evicted = codes "epoch " ++ decimal epoch ++ count_words added evicted
 
+-- which line of a script is refused, and why
+abbrev pub bad_script_words : ℕ → Cause → List ℕ
+bad_script_words line cause = codes "bad script line " ++ decimal line ++ codes " " ++ cause_name cause
+
+-- whose clock ended, and where it stood
+abbrev pub clock_end_words : ℕ → Stamp → List ℕ
+clock_end_words worker at = codes "clock end worker " ++ decimal worker ++ codes " at " ++ stamp_words at
+
 -- what a status says; `done` and the number of certified epochs where the whole job is done
 abbrev pub status_words : Status → List ℕ
 status_words (Done epochs) = codes "done " ++ decimal epochs
@@ -47,11 +57,11 @@ status_words Memory = codes "memory"
 status_words ReadFault = codes "read fault"
 status_words WriteFault = codes "write fault"
 status_words VaultFault = codes "vault fault"
-status_words (BadScript line cause) = codes "bad script line " ++ decimal line ++ codes " " ++ cause_name cause
+status_words (BadScript line cause) = bad_script_words line cause
 status_words (BadBundle offset) = codes "bad bundle at byte " ++ decimal offset
 status_words (Refused verifier index refusal) = refused_words verifier index refusal
 status_words (Unbalanced epoch added evicted) = unbalanced_words epoch added.count evicted.count
-status_words (ClockEnd worker at) = codes "clock end worker " ++ decimal worker ++ codes " at " ++ stamp_words at
+status_words (ClockEnd worker at) = clock_end_words worker at
 status_words NotTagged = codes "not tagged"
 status_words NotCertified = codes "not certified"
 status_words Exhibit = codes "exhibit"

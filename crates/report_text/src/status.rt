@@ -1,7 +1,8 @@
 //! How a run of the program ends, with its number and its words.
-ghost use Rattle.std.specs.Prelude.{◌≡◌, ◌+◌, ◌≤◌, ◌++◌};
+ghost use Rattle.std.specs.Prelude.{◌≡◌, ◌+◌, ◌≤◌, ◌++◌, length};
+ghost use Rattle.std.specs.Fmt.{decimal};
 ghost use Rattle.arrayvec.specs.ArrayVec.{array_vec_len};
-ghost use Rattle.report_text.specs.Status.{refused_words, unbalanced_words, count_words};
+ghost use Rattle.report_text.specs.Status.{bad_script_words, clock_end_words, refused_words, unbalanced_words, count_words};
 
 use crate::digits::{push_decimal, push_text};
 use crate::lines::{LONGEST_LINE, push_stamp};
@@ -73,56 +74,37 @@ impl Status {
         ensures text { result.items ≡ status_words self.now }
         ensures short { array_vec_len result ≤ 200 }
     {
-        let mut line = ArrayVec::new();
+        let mut text = ArrayVec::new();
         match self {
-            Status::Done { epochs } => {
-                push_text(&mut line, b"done ");
-                push_decimal(&mut line, *epochs);
-            }
-            Status::Usage => push_text(&mut line, b"usage"),
-            Status::Memory => push_text(&mut line, b"memory"),
-            Status::ReadFault => push_text(&mut line, b"read fault"),
-            Status::WriteFault => push_text(&mut line, b"write fault"),
-            Status::VaultFault => push_text(&mut line, b"vault fault"),
-            Status::BadScript {
-                line: number,
-                cause,
-            } => {
-                push_text(&mut line, b"bad script line ");
-                push_decimal(&mut line, *number);
-                push_text(&mut line, b" ");
-                push_text(&mut line, cause.name().as_bytes());
-            }
-            Status::BadBundle { offset } => {
-                push_text(&mut line, b"bad bundle at byte ");
-                push_decimal(&mut line, *offset);
-            }
+            Status::Done { epochs } => push_number(&mut text, b"done ", *epochs),
+            Status::Usage => push_text(&mut text, b"usage"),
+            Status::Memory => push_text(&mut text, b"memory"),
+            Status::ReadFault => push_text(&mut text, b"read fault"),
+            Status::WriteFault => push_text(&mut text, b"write fault"),
+            Status::VaultFault => push_text(&mut text, b"vault fault"),
+            Status::BadScript { line, cause } => push_bad_script(&mut text, *line, *cause),
+            Status::BadBundle { offset } => push_number(&mut text, b"bad bundle at byte ", *offset),
             Status::Refused {
                 verifier,
                 index,
                 refusal,
             } => {
-                push_refused(&mut line, *verifier, *index, *refusal);
+                push_refused(&mut text, *verifier, *index, *refusal);
             }
             Status::Unbalanced {
                 epoch,
                 added,
                 evicted,
             } => {
-                push_unbalanced(&mut line, *epoch, added.count(), evicted.count());
+                push_unbalanced(&mut text, *epoch, added.count(), evicted.count());
             }
-            Status::ClockEnd { worker, at } => {
-                push_text(&mut line, b"clock end worker ");
-                push_decimal(&mut line, u64::from(*worker));
-                push_text(&mut line, b" at ");
-                push_stamp(&mut line, at);
-            }
-            Status::NotTagged => push_text(&mut line, b"not tagged"),
-            Status::NotCertified => push_text(&mut line, b"not certified"),
-            Status::Exhibit => push_text(&mut line, b"exhibit"),
-            Status::InputLimit { .. } => push_text(&mut line, b"input limit"),
+            Status::ClockEnd { worker, at } => push_clock_end(&mut text, *worker, at),
+            Status::NotTagged => push_text(&mut text, b"not tagged"),
+            Status::NotCertified => push_text(&mut text, b"not certified"),
+            Status::Exhibit => push_text(&mut text, b"exhibit"),
+            Status::InputLimit { .. } => push_text(&mut text, b"input limit"),
         }
-        line
+        text
     }
 
     /// The exit status of the program.
@@ -147,6 +129,40 @@ impl Status {
             Status::InputLimit { .. } => 14,
         }
     }
+}
+
+// Adds words and a number.
+fn push_number<const ROOM: usize>(line: &mut ArrayVec<u8, ROOM>, words: &[u8], number: u64)
+    requires room { array_vec_len line.old + length words.now + 20 ≤ ROOM }
+    ensures appended { line.new.items ≡ line.old.items ++ words.now ++ decimal number }
+    ensures short { array_vec_len line.new ≤ array_vec_len line.old + length words.now + 20 }
+{
+    push_text(line, words);
+    push_decimal(line, number);
+}
+
+// Adds which line of a script is refused, and why.
+fn push_bad_script<const ROOM: usize>(line: &mut ArrayVec<u8, ROOM>, number: u64, cause: Cause)
+    requires room { array_vec_len line.old + 50 ≤ ROOM }
+    ensures appended { line.new.items ≡ line.old.items ++ bad_script_words number cause }
+    ensures short { array_vec_len line.new ≤ array_vec_len line.old + 50 }
+{
+    push_text(line, b"bad script line ");
+    push_decimal(line, number);
+    push_text(line, b" ");
+    push_text(line, cause.name().as_bytes());
+}
+
+// Adds whose clock ended, and where.
+fn push_clock_end<const ROOM: usize>(line: &mut ArrayVec<u8, ROOM>, worker: u16, at: &Stamp)
+    requires room { array_vec_len line.old + 90 ≤ ROOM }
+    ensures appended { line.new.items ≡ line.old.items ++ clock_end_words worker at.now }
+    ensures short { array_vec_len line.new ≤ array_vec_len line.old + 90 }
+{
+    push_text(line, b"clock end worker ");
+    push_decimal(line, u64::from(worker));
+    push_text(line, b" at ");
+    push_stamp(line, at);
 }
 
 // Adds which command of which log is refused, and why.
