@@ -1,0 +1,3 @@
+mod SplittingLemmas
+mod WordLemmas
+mod ScriptLemmas

@@ -1,0 +1,5 @@
+-- What the clauses on scripts cite, in reading order.
+pub mod Lines
+pub mod Words
+pub mod Script
+pub use Rattle.record_text.specs
