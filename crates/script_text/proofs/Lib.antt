@@ -1,3 +1,4 @@
 mod SplittingLemmas
 mod WordLemmas
 mod ScriptLemmas
+mod GeneratorLemmas

@@ -2,4 +2,5 @@
 pub mod Lines
 pub mod Words
 pub mod Script
+pub mod Generator
 pub use Rattle.record_text.specs

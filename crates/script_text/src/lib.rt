@@ -7,12 +7,16 @@
 #![tactic(auto)]
 
 mod fault;
+mod generator;
 mod line;
 mod requests;
+mod shape;
 mod splitting;
 mod task;
 mod words;
 
 pub use fault::ScriptFault;
+pub use generator::generate;
 pub use requests::Requests;
+pub use shape::Shape;
 pub use task::{Line, Task};
