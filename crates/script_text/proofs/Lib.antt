@@ -2,3 +2,4 @@ mod SplittingLemmas
 mod WordLemmas
 mod ScriptLemmas
 mod GeneratorLemmas
+mod TextLemmas

@@ -2,5 +2,6 @@
 pub mod Lines
 pub mod Words
 pub mod Script
+pub mod Text
 pub mod Generator
 pub use Rattle.record_text.specs

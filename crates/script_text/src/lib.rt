@@ -14,9 +14,11 @@ mod shape;
 mod splitting;
 mod task;
 mod words;
+mod writing;
 
 pub use fault::ScriptFault;
 pub use generator::generate;
 pub use requests::Requests;
 pub use shape::Shape;
 pub use task::{Line, Task};
+pub use writing::write_script;

@@ -81,9 +81,10 @@ impl Requests {
         }
     }
 
-    /// How many phases there are.
+    /// How many phases there are: at least one.
     pub fn len(&self) -> usize
         ensures value { result ≡ length self.now }
+        ensures some { 0 < result }
     {
         self.closed.len() + 1
     }
