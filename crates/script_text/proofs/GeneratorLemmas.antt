@@ -1,11 +1,10 @@
 -- A load grows by a request and the close that is due behind it.
-use Rattle.std.proofs.Common.{◌≡◌, ℕ, suc, ◌+◌, true, false, List, [], ◌∷◌, ◌++◌, append_assoc, add-one, refl, ap, sym, ◌∙◌}
+use Rattle.std.proofs.Common.{◌≡◌, ℕ, ◌+◌, true, false, List, [], ◌∷◌, ◌++◌, append_assoc, add-one, refl, ap, sym, ◌∙◌}
 use Rattle.script_text.specs.declared.shape.Shape.{Shape}
-use Rattle.script_text.specs.declared.task.Task.{Task}
 use Rattle.script_text.specs.declared.task.Line.{Line}
 use Rattle.script_text.specs.declared.task.Line.TheVariants as said
 use Rattle.script_text.specs.Script.{phases_of, then_line}
-use Rattle.script_text.specs.Generator.{next_draw, state_behind, task_for, task_from, closes_behind, close_behind, lines_made}
+use Rattle.script_text.specs.Generator.{next_draw, state_behind, task_for, closes_behind, close_behind, lines_made}
 use Rattle.script_text.proofs.ScriptLemmas.{phases_of-then}
 
 -- two lines behind others

@@ -3,3 +3,5 @@ mod WordLemmas
 mod ScriptLemmas
 mod GeneratorLemmas
 mod TextLemmas
+mod WrittenWordLemmas
+mod WrittenLemmas

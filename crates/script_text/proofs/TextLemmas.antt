@@ -1,7 +1,6 @@
 -- A script's text grows phase by phase.
-use Rattle.std.proofs.Common.{◌≡◌, ℕ, zero, suc, ◌+◌, ◌<◌, ◌≤◌, List, [], ◌∷◌, ◌++◌, length, get_or, take, append_assoc, codes, refl, ap, sym, ◌∙◌, add-one, arith}
+use Rattle.std.proofs.Common.{◌≡◌, ℕ, zero, suc, ◌+◌, ◌<◌, ◌≤◌, List, [], ◌∷◌, ◌++◌, length, get_or, take, append_assoc, codes, ap, sym, ◌∙◌, add-one, arith}
 use Rattle.std.proofs.lemmas.List.{append-nil, take_more, flat_map_more}
-use Rattle.std.specs.List.{flat_map}
 use Rattle.script_text.specs.declared.task.Task.{Task}
 use Rattle.script_text.specs.Text.{phase_text, behind_text, script_text}
 

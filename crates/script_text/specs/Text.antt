@@ -1,9 +1,9 @@
 -- What phases are written as: the one spelling of a script, each line with its end.
 use Rattle.std.specs.Prelude.{◌≡◌, ℕ, ◌<◌, ◌≤◌, ◌^◌, Bool, true, false, List, [], ◌∷◌, ◌++◌, length, Option, Some, None, codes}
 use Rattle.std.specs.Fmt.{decimal}
-use Rattle.std.specs.List.{flat_map, All}
+use Rattle.std.specs.List.{flat_map, AllByRecursion}
 use Rattle.std.specs.Option.{ForSome}
-use Rattle.hex.specs.Hex.{encode_lower}
+use Rattle.hex.specs.Hex.{encode_lower, IsBytes}
 use Rattle.script_text.specs.declared.task.Task.{Task}
 
 -- the bytes of a data value as a word: a point for none of them, else two digits each
@@ -42,6 +42,10 @@ script_text (phase ∷ phases) = phase_text phase ++ behind_text phases
 pub record IsTask (verifiers : ℕ) (task : Task) : Type 0 where
   pub worker : task.worker < verifiers
   pub key : task.request.key < 2 ^ 64
-  pub length : ForSome task.request.value (λ bytes. length bytes ≤ 64)
-  pub bytes : ForSome task.request.value (λ bytes. All (λ byte. byte < 256) bytes)
+  pub size : ForSome task.request.value (λ bytes. length bytes ≤ 64)
+  pub bytes : ForSome task.request.value IsBytes
   pub get : task.request.put ≡ false → task.request.value ≡ None
+
+-- each task of each phase is one that a line can ask
+abbrev pub AreTasks : ℕ → List (List Task) → Type 0
+AreTasks verifiers phases = AllByRecursion (λ phase. AllByRecursion (IsTask verifiers) phase) phases

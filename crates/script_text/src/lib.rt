@@ -8,6 +8,7 @@
 
 mod fault;
 mod generator;
+mod laws;
 mod line;
 mod requests;
 mod shape;
@@ -18,6 +19,7 @@ mod writing;
 
 pub use fault::ScriptFault;
 pub use generator::generate;
+pub use laws::scripts_are_read_back;
 pub use requests::Requests;
 pub use shape::Shape;
 pub use task::{Line, Task};
