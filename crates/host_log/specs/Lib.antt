@@ -1,0 +1,2 @@
+-- What the clauses on a host's log cite.
+pub mod Frames

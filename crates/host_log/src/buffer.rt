@@ -1,0 +1,67 @@
+//! The bytes of a log that grows command by command.
+ghost use Rattle.std.specs.Prelude.{◌≡◌, [], ◌++◌, OnOk, OnErr};
+ghost use Rattle.record_text.specs.Format.{short_keys};
+ghost use Rattle.log_codec.specs.Command.{command_text};
+
+use log_codec::{Command, write};
+use std::alloc::Global;
+use std::marker::Model;
+use std::mem;
+use want_of_memory::Memory;
+
+/// The texts of commands, one behind another. Contracts see these bytes.
+#[derive(Debug, Drop)]
+pub struct LogBuffer {
+    bytes: Vec<u8>,
+}
+
+impl Model for LogBuffer {
+    ghost use Rattle.std.specs.Prelude.{ℕ, List};
+
+    ghost Value = { List ℕ };
+
+    ghost view = { λ buffer. buffer.bytes.items };
+}
+
+impl LogBuffer {
+    /// Nothing yet. It takes its memory as it grows.
+    pub fn new(alloc: Global) -> Self
+        ensures empty { result ≡ [] }
+    {
+        LogBuffer {
+            bytes: Vec::new(alloc),
+        }
+    }
+
+    /// Adds a command.
+    pub fn push(&mut self, command: &Command) -> Result<(), Memory>
+        ensures pushed { OnOk result (self.new ≡ self.old ++ command_text short_keys command.now) }
+        ensures err { OnErr result (self.new ≡ self.old) }
+    {
+        self.bytes.extend_from_slice(write(command).as_slice())?;
+        Ok(())
+    }
+
+    /// What was pushed.
+    pub fn bytes(&self) -> &[u8]
+        ensures value { result.now ≡ self.now }
+    {
+        self.bytes.as_slice()
+    }
+
+    /// What was pushed, for the taker's own. This buffer goes on with the spare one's memory, and with nothing in it.
+    pub fn take(&mut self, mut spare: LogBuffer) -> LogBuffer
+        ensures taken { result ≡ self.old }
+        ensures empty { self.new ≡ [] }
+    {
+        spare.clear();
+        mem::replace(self, spare)
+    }
+
+    /// Lets what was pushed go, and keeps the memory.
+    pub fn clear(&mut self)
+        ensures empty { self.new ≡ [] }
+    {
+        self.bytes.clear();
+    }
+}

@@ -1,0 +1,14 @@
+//! Tests of the host's crates, over their public calls.
+//!
+//! A crate with tests is proved twice, so tests have a crate of their own for each layer. `scripts` and `loads` are of
+//! `script_text`, `logs` of `host_log`. A table is one text, a row a line, which is read as the test runs: begin at `rows`.
+#![tactic(auto)]
+
+#[cfg(test)]
+mod loads;
+#[cfg(test)]
+mod logs;
+#[cfg(test)]
+mod rows;
+#[cfg(test)]
+mod scripts;

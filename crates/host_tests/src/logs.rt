@@ -1,0 +1,161 @@
+//! A host's log: its bytes and its frames.
+use crate::rows::{bytes_of, field, same, same_bytes};
+use bundle_frames::write_header;
+use bundle_rows::command_of;
+use fv_outside::{Failed, MemorySink};
+use host_log::{LogBuffer, write_frames};
+use lamport_clocks::Header;
+use std::alloc::Global;
+use std::test::Fail;
+
+// What a host of one verifier and two shards writes for an empty script: a header, and two frames.
+const SETUP: &str = "
+46564231 0001 00000080 00000000 00ffffff
+0000 00000060
+01 01 0000000000000000 00 00 00 0000000000000000
+05 01 0000000000000000 00 0000000000000000 00000000 00000001
+01 01 8000000000000000 00 00 00 0000000000000000
+05 01 8000000000000000 00 0000000000000000 00000000 00000002
+0000 00000052
+08
+03 01 0000000000000000 00 00 00000000 00000001 0000
+04 01 0000000000000000 00000001 00000002
+03 01 8000000000000000 00 00 00000000 00000002 0000
+04 01 8000000000000000 00000001 00000004
+08
+";
+
+const SETUP_HEADER: Header = Header {
+    verifiers: 1,
+    cache: 128,
+    first: 0,
+    end: 16_777_215,
+};
+
+// Its commands: those of the first round, and those of the last close.
+const FIRST_ROUND: &str = "
+addM /0 initial root
+evictBM /0 root 0.1
+addM /1 initial root
+evictBM /1 root 0.2
+";
+
+const LAST_CLOSE: &str = "
+next
+addB /0 initial 0.1 v0
+evictB /0 1.2
+addB /1 initial 0.2 v0
+evictB /1 1.4
+next
+";
+
+// Adds the commands of rows.
+fn push_rows(log: &mut LogBuffer, rows: &str) -> Result<(), Fail> {
+    for row in rows.trim().lines() {
+        let command = command_of(row).ok_or("a row of no command")?;
+        log.push(&command)?;
+    }
+    Ok(())
+}
+
+#[test]
+fn the_rounds_of_an_empty_script_are_its_bundle(rt: HostRuntime) -> Result<(), Fail> {
+    let bundle = bytes_of(rt.alloc(), SETUP)?;
+    let mut sink = MemorySink::new(rt.alloc(), 1000, 50, &[])?;
+    same(
+        &rt,
+        "header",
+        &write_header(&SETUP_HEADER, &mut sink),
+        &Ok(()),
+    );
+    let mut log = LogBuffer::new(rt.alloc());
+    let mut spare = LogBuffer::new(rt.alloc());
+    for rows in [FIRST_ROUND, "", LAST_CLOSE] {
+        push_rows(&mut log, rows)?;
+        let taken = log.take(spare);
+        same(&rt, rows, &log.bytes().len(), &0);
+        same(
+            &rt,
+            rows,
+            &write_frames(0, taken.bytes(), &mut sink),
+            &Ok(()),
+        );
+        spare = taken;
+    }
+    same_bytes(&rt, "bundle", sink.bytes(), &bundle);
+    Ok(())
+}
+
+#[test]
+fn a_buffer_goes_on_behind_a_clear(rt: HostRuntime) -> Result<(), Fail> {
+    let bundle = bytes_of(rt.alloc(), SETUP)?;
+    let mut log = LogBuffer::new(rt.alloc());
+    push_rows(&mut log, FIRST_ROUND)?;
+    same(&rt, "first", &Some(log.bytes()), &bundle.get(24..120));
+    log.clear();
+    same_bytes(&rt, "clear", log.bytes(), b"");
+    push_rows(&mut log, LAST_CLOSE)?;
+    same(&rt, "last", &Some(log.bytes()), &bundle.get(126..208));
+    Ok(())
+}
+
+// So many bytes, and the heads of the frames in which they are written for verifier 258.
+const FRAMES: &str = "
+0 |
+1 | 0102 00000001
+65535 | 0102 0000ffff
+65536 | 0102 00010000
+65537 | 0102 00010000, 0102 00000001
+131072 | 0102 00010000, 0102 00010000
+131073 | 0102 00010000, 0102 00010000, 0102 00000001
+";
+
+// So many bytes: 0 to 250, over and over.
+fn some_bytes(alloc: Global, count: usize) -> Result<Vec<u8>, Fail> {
+    let mut bytes = Vec::new(alloc);
+    for place in 0..count {
+        bytes.push((place % 251) as u8)?;
+    }
+    Ok(bytes)
+}
+
+// The frames of these bytes with these heads.
+fn frames_with(alloc: Global, heads: &str, bytes: &[u8]) -> Result<Vec<u8>, Fail> {
+    let mut frames = Vec::new(alloc);
+    let mut rest = bytes;
+    for head in heads.split(',') {
+        frames.extend_from_slice(&bytes_of(alloc, head)?)?;
+        let (body, behind) = rest.split_at(rest.len().min(65_536));
+        frames.extend_from_slice(body)?;
+        rest = behind;
+    }
+    Ok(frames)
+}
+
+#[test]
+fn frames_have_at_most_65536_bytes(rt: HostRuntime) -> Result<(), Fail> {
+    for row in FRAMES.trim().lines() {
+        let bytes = some_bytes(rt.alloc(), field(row, 0)?.parse()?)?;
+        let wanted = frames_with(rt.alloc(), field(row, 1)?, &bytes)?;
+        let mut sink = MemorySink::new(rt.alloc(), 200_000, 30_000, &[])?;
+        same(&rt, row, &write_frames(258, &bytes, &mut sink), &Ok(()));
+        same(&rt, row, &(sink.bytes() == wanted.as_slice()), &true);
+    }
+    Ok(())
+}
+
+#[test]
+fn where_a_write_fails_a_front_was_written(rt: HostRuntime) -> Result<(), Fail> {
+    let bytes = some_bytes(rt.alloc(), 65_537)?;
+    let wanted = frames_with(rt.alloc(), "0102 00010000", &bytes)?;
+    // The head and the body of the first frame are written, and then the head of the second fails.
+    let mut sink = MemorySink::new(rt.alloc(), 200_000, 100_000, &[2])?;
+    same(
+        &rt,
+        "answer",
+        &write_frames(258, &bytes, &mut sink),
+        &Err(Failed),
+    );
+    same(&rt, "front", &(sink.bytes() == wanted.as_slice()), &true);
+    Ok(())
+}

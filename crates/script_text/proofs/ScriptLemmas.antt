@@ -1,0 +1,139 @@
+-- How the phases of a script grow line by line, and how far a script was read.
+use Rattle.std.proofs.Common.{◌≡◌, ℕ, ◌+◌, ◌≤◌, ◌==◌, true, Option, Some, None, is_some, length, List, [], ◌∷◌, ◌++◌, append_assoc, Result, Ok, Err, refl, ap, sym, ◌∙◌, arith}
+use Rattle.std.specs.List.{onto_first}
+use Rattle.std.proofs.lemmas.Bool.{eqb-true}
+use Rattle.std.proofs.lemmas.Bool.Decides.{nat_tests}
+use Rattle.std.proofs.lemmas.List.{append-nil}
+use Rattle.step_words.specs.Steps.{and_then}
+use Rattle.record_text.specs.declared.cause.Cause.{Cause}
+use Rattle.record_text.specs.declared.cause.Cause.TheVariants.{Shape}
+use Rattle.script_text.specs.declared.task.Task.{Task}
+use Rattle.script_text.specs.declared.task.Line.{Line}
+use Rattle.script_text.specs.declared.task.Line.TheVariants as said
+use Rattle.script_text.specs.Lines.{lines_of, words_of, words_behind}
+use Rattle.script_text.specs.Script.{BadLine, at_line, line_says, lines_say, words_say, with_line, phases_of, script_of, then_line}
+use Rattle.script_text.proofs.SplittingLemmas.{words_of-some}
+
+-- ---- a line
+
+-- a line that is not too long says what its words do
+pub line_says-short : (verifiers : ℕ) (line : List ℕ) → length line ≤ 256 → line_says verifiers line ≡ words_say verifiers (words_of line)
+unfolding line_says
+line_says-short verifiers line short = grind (arith, nat_tests)
+
+-- five words and more are none of the forms
+pub words_say-more : (verifiers : ℕ) (a b c d : List ℕ) (behind : Option (List ℕ)) → is_some behind ≡ true
+    → words_say verifiers (a ∷ b ∷ c ∷ d ∷ words_behind behind) ≡ Err Shape
+unfolding words_say
+words_say-more verifiers a b c d None there = cc
+words_say-more verifiers a b c d (Some line) there =
+    let some = words_of-some line in
+    ap (λ words. words_say verifiers (a ∷ b ∷ c ∷ d ∷ words)) some.2
+
+-- words one behind another
+pub words_of-four : (line a b c d : List ℕ) (behind1 behind2 behind3 behind4 : Option (List ℕ)) (line1 line2 line3 : List ℕ)
+    → words_of line ≡ a ∷ words_behind behind1 → behind1 ≡ Some line1
+    → words_of line1 ≡ b ∷ words_behind behind2 → behind2 ≡ Some line2
+    → words_of line2 ≡ c ∷ words_behind behind3 → behind3 ≡ Some line3
+    → words_of line3 ≡ d ∷ words_behind behind4
+    → words_of line ≡ a ∷ b ∷ c ∷ d ∷ words_behind behind4
+words_of-four line a b c d behind1 behind2 behind3 behind4 line1 line2 line3 first is1 second is2 third is3 fourth =
+    first ∙ ap (λ o. a ∷ words_behind o) is1
+    ∙ ap (λ words. a ∷ words) (second ∙ ap (λ o. b ∷ words_behind o) is2)
+    ∙ ap (λ words. a ∷ b ∷ words) (third ∙ ap (λ o. c ∷ words_behind o) is3)
+    ∙ ap (λ words. a ∷ b ∷ c ∷ words) fourth
+
+-- ---- phases
+
+-- a task joins the last phase
+pub then_line-last : (phases : List (List Task)) (last : List Task) (task : Task)
+    → then_line (phases ++ last ∷ []) (said.Task task) ≡ phases ++ (last ++ task ∷ []) ∷ []
+then_line-last [] last task = refl
+then_line-last (phase ∷ []) last task = refl
+then_line-last (phase ∷ next ∷ phases) last task = ap (λ more. phase ∷ more) (then_line-last (next ∷ phases) last task)
+
+-- a line in front and a line behind don't meet
+with_line-then : (first : Line) (phase : List Task) (phases : List (List Task)) (last : Line)
+    → with_line first (then_line (phase ∷ phases) last) ≡ then_line (with_line first (phase ∷ phases)) last
+with_line-then said.Epoch phase phases said.Epoch = refl
+with_line-then said.Epoch phase phases (said.Task task) = refl
+with_line-then (said.Task first) phase phases said.Epoch = refl
+with_line-then (said.Task first) phase [] (said.Task task) = refl
+with_line-then (said.Task first) phase (next ∷ phases) (said.Task task) = refl
+
+-- there is a phase
+some_phase : (lines : List Line) → (phase : List Task) × (phases : List (List Task)) × (phases_of lines ≡ phase ∷ phases)
+unfolding phases_of
+some_phase [] = ([], [], refl)
+some_phase (said.Epoch ∷ lines) = ([], phases_of lines, refl)
+some_phase (said.Task task ∷ lines) =
+    let more = some_phase lines in
+    (task ∷ more.0, more.1, ap (onto_first task) more.2)
+
+-- the phases of lines with one more line behind them
+pub phases_of-then : (lines : List Line) (last : Line) → phases_of (lines ++ last ∷ []) ≡ then_line (phases_of lines) last
+unfolding phases_of
+phases_of-then [] said.Epoch = refl
+phases_of-then [] (said.Task task) = refl
+phases_of-then (line ∷ lines) last =
+    let some = some_phase lines in
+    ap (with_line line) (phases_of-then lines last)
+    ∙ ap (λ phases. with_line line (then_line phases last)) some.2
+    ∙ with_line-then line some.0 some.1 last
+    ∙ ap (λ phases. then_line (with_line line phases) last) (sym some.2)
+
+-- ---- reading
+
+-- So many lines were read, and these phases are of them; what is left of the bytes says the rest.
+pub record HasRead (verifiers : ℕ) (bytes : List ℕ) (phases : List (List Task)) (number : ℕ) (rest : List ℕ) : Type 0 where
+  pub lines : List Line
+  pub are : phases ≡ phases_of lines
+  pub left : lines_say verifiers 1 (lines_of bytes) ≡ and_then (lines_say verifiers (number + 1) (lines_of rest)) (λ more. Ok (lines ++ more))
+
+-- before the first line
+pub read-nothing : (verifiers : ℕ) (bytes : List ℕ) → HasRead verifiers bytes ([] ∷ []) 0 bytes
+unfolding phases_of
+read-nothing verifiers bytes = record { lines = []; are = refl; left = go (lines_say verifiers 1 (lines_of bytes)) } where
+  go : (said : Result (List Line) BadLine) → said ≡ and_then said (λ more. Ok ([] ++ more))
+  go (Ok lines) = refl
+  go (Err bad) = refl
+
+-- one more line
+pub read-line : (verifiers : ℕ) (bytes : List ℕ) (phases : List (List Task)) (number : ℕ) (rest line behind : List ℕ) (last : Line)
+    → HasRead verifiers bytes phases number rest → lines_of rest ≡ line ∷ lines_of behind → line_says verifiers line ≡ Ok last
+    → HasRead verifiers bytes (then_line phases last) (number + 1) behind
+unfolding lines_say
+read-line verifiers bytes phases number rest line behind last before is says =
+    record {
+      lines = before.lines ++ last ∷ [];
+      are = ap (λ ps. then_line ps last) before.are ∙ sym (phases_of-then before.lines last);
+      left = before.left
+          ∙ ap (λ lines. and_then (lines_say verifiers (number + 1) lines) (λ more. Ok (before.lines ++ more))) is
+          ∙ ap (λ first. and_then (and_then (at_line (number + 1) first) (λ said. and_then (lines_say verifiers (number + 1 + 1) (lines_of behind)) (λ more. Ok (said ∷ more)))) (λ more. Ok (before.lines ++ more))) says
+          ∙ go (lines_say verifiers (number + 1 + 1) (lines_of behind));
+    } where
+      go : (said : Result (List Line) BadLine)
+          → and_then (and_then said (λ more. Ok (last ∷ more))) (λ more. Ok (before.lines ++ more)) ≡ and_then said (λ more. Ok ((before.lines ++ last ∷ []) ++ more))
+      go (Ok more) = ap Ok (sym (append_assoc before.lines (last ∷ []) more))
+      go (Err bad) = refl
+
+-- a line that is refused
+pub read-refused : (verifiers : ℕ) (bytes : List ℕ) (phases : List (List Task)) (number : ℕ) (rest line behind : List ℕ) (cause : Cause)
+    → HasRead verifiers bytes phases number rest → lines_of rest ≡ line ∷ lines_of behind → line_says verifiers line ≡ Err cause
+    → script_of verifiers bytes ≡ Err (record { line = number + 1; cause = cause })
+unfolding lines_say
+read-refused verifiers bytes phases number rest line behind cause before is says =
+    ap (λ said. and_then said (λ lines. Ok (phases_of lines)))
+    (before.left
+    ∙ ap (λ lines. and_then (lines_say verifiers (number + 1) lines) (λ more. Ok (before.lines ++ more))) is
+    ∙ ap (λ first. and_then (and_then (at_line (number + 1) first) (λ said. and_then (lines_say verifiers (number + 1 + 1) (lines_of behind)) (λ more. Ok (said ∷ more)))) (λ more. Ok (before.lines ++ more))) says)
+
+-- all lines
+pub read-all : (verifiers : ℕ) (bytes : List ℕ) (phases : List (List Task)) (number : ℕ) (rest : List ℕ) → (length rest == 0) ≡ true
+    → HasRead verifiers bytes phases number rest → script_of verifiers bytes ≡ Ok phases
+unfolding lines_say lines_of
+read-all verifiers bytes phases number (byte ∷ rest) none before = absurd (omega (arith, eqb-true (length (byte ∷ rest)) 0 none))
+read-all verifiers bytes phases number [] none before =
+    ap (λ said. and_then said (λ lines. Ok (phases_of lines))) before.left
+    ∙ ap (λ lines. Ok (phases_of lines)) (append-nil before.lines)
+    ∙ ap Ok (sym before.are)

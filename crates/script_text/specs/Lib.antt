@@ -1,0 +1,7 @@
+-- What the clauses on scripts cite, in reading order.
+pub mod Lines
+pub mod Words
+pub mod Script
+pub mod Text
+pub mod Generator
+pub use Rattle.record_text.specs

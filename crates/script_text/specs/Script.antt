@@ -1,0 +1,93 @@
+-- What bytes mean as a script.
+use Rattle.std.specs.Prelude.{◌≡◌, ℕ, ◌+◌, nat_lt, Bool, true, false, List, [], ◌∷◌, ◌++◌, length, Option, Some, None, Result, Ok, Err, codes, if◌then◌else◌}
+use Rattle.std.specs.List.{onto_first}
+use Rattle.std.specs.Option.{option_map}
+use Rattle.std.specs.Str.{bytes_eq}
+use Rattle.step_words.specs.Steps.{need, and_then}
+use Rattle.record_text.specs.declared.cause.Cause.{Cause}
+use Rattle.record_text.specs.declared.cause.Cause.TheVariants.{Shape, Worker, Key, Hex}
+use Rattle.script_text.specs.declared.fault.ScriptFault.{ScriptFault}
+use Rattle.script_text.specs.declared.fault.ScriptFault.TheVariants.{BadScript, Memory}
+use Rattle.script_text.specs.declared.task.Task.{Task}
+use Rattle.script_text.specs.declared.task.Line.{Line}
+use Rattle.script_text.specs.declared.task.Line.TheVariants as said
+use Rattle.script_text.specs.Lines.{lines_of, words_of}
+use Rattle.script_text.specs.Words.{worker_in, key_in, value_in}
+
+-- ---- one line
+
+-- the most bytes of a line, without its end
+abbrev pub longest_line : ℕ
+longest_line = 256
+
+-- a get or a put of a worker, of a key and with a value, tested in this order
+unfoldable pub task_in : ℕ → List ℕ → List ℕ → Bool → Option (Option (List ℕ)) → Result Line Cause
+task_in verifiers worker key put value =
+    need (worker_in verifiers worker) Worker (λ w.
+    need (key_in key) Key (λ k.
+    need value Hex (λ v.
+    Ok (said.Task (record { worker = w; request = record { put = put; key = k; value = v } })))))
+
+-- the forms of a line, by the number of its words and the second of them
+unfoldable pub words_say : ℕ → List (List ℕ) → Result Line Cause
+words_say verifiers (word ∷ []) = if bytes_eq word (codes "epoch") then Ok said.Epoch else Err Shape
+words_say verifiers (worker ∷ verb ∷ key ∷ []) =
+    if bytes_eq verb (codes "get") then task_in verifiers worker key false (Some None)
+    else if bytes_eq verb (codes "del") then task_in verifiers worker key true (Some None)
+    else Err Shape
+words_say verifiers (worker ∷ verb ∷ key ∷ value ∷ []) =
+    if bytes_eq verb (codes "put") then task_in verifiers worker key true (option_map Some (value_in value))
+    else Err Shape
+words_say verifiers words = Err Shape
+
+-- What a line says to so many workers, or the first cause for which it is refused.
+unfoldable pub line_says : ℕ → List ℕ → Result Line Cause
+line_says verifiers line = if nat_lt longest_line (length line) then Err Shape else words_say verifiers (words_of line)
+
+-- ---- all lines
+
+-- a line that is refused, by its number and cause
+pub record BadLine : Type 0 where
+  pub line : ℕ
+  pub cause : Cause
+
+-- a refused line by its number
+abbrev pub at_line : {A : Type 0} → ℕ → Result A Cause → Result A BadLine
+at_line number (Ok value) = Ok value
+at_line number (Err cause) = Err (record { line = number; cause = cause })
+
+-- what lines say, the first of which has this number, or the first of them that is refused
+unfoldable pub lines_say : ℕ → ℕ → List (List ℕ) → Result (List Line) BadLine
+lines_say verifiers number [] = Ok []
+lines_say verifiers number (line ∷ lines) =
+    and_then (at_line number (line_says verifiers line)) (λ first.
+    and_then (lines_say verifiers (number + 1) lines) (λ more.
+    Ok (first ∷ more)))
+
+-- a line in front of phases: a task is the first of the first phase, and the close of an epoch ends a phase before it
+abbrev pub with_line : Line → List (List Task) → List (List Task)
+with_line said.Epoch phases = [] ∷ phases
+with_line (said.Task task) phases = onto_first task phases
+
+-- the phases of a script: what is asked between the closes of epochs
+unfoldable pub phases_of : List Line → List (List Task)
+phases_of [] = [] ∷ []
+phases_of (line ∷ lines) = with_line line (phases_of lines)
+
+-- What bytes mean as a script for so many workers: its phases, or the first line outside the grammar, counted from 1.
+abbrev pub script_of : ℕ → List ℕ → Result (List (List Task)) BadLine
+script_of verifiers bytes = and_then (lines_say verifiers 1 (lines_of bytes)) (λ lines. Ok (phases_of lines))
+
+-- ---- the same line by line
+
+-- phases with one more line behind them: a task is the last of the last phase, and the close of an epoch opens another
+abbrev pub then_line : List (List Task) → Line → List (List Task)
+then_line phases said.Epoch = phases ++ [] ∷ []
+then_line [] (said.Task task) = (task ∷ []) ∷ []
+then_line (phase ∷ []) (said.Task task) = (phase ++ task ∷ []) ∷ []
+then_line (phase ∷ next ∷ phases) (said.Task task) = phase ∷ then_line (next ∷ phases) (said.Task task)
+
+-- a fault that names a line names the one that is refused
+abbrev pub IsFaultOf : Result (List (List Task)) BadLine → ScriptFault → Type 0
+IsFaultOf script (BadScript line cause) = script ≡ Err (record { line = line; cause = cause })
+IsFaultOf script Memory = Unit {0}

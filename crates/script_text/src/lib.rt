@@ -1,0 +1,26 @@
+//! Scripts: what the workers of a host are asked, line by line, and where its epochs close.
+//!
+//! What bytes mean as a script is defined in `specs/Script.antt`, over the lines and words of `specs/Lines.antt` and
+//! `specs/Words.antt`. The crate stands on `record_text` for requests and for the causes of a refused line, and on the
+//! kit's `hex` and `memchr`. Begin with `Requests` in `requests.rt`, which reads a script. `generator.rt` makes a script
+//! of a seed, in place of one that is read.
+#![tactic(auto)]
+
+mod fault;
+mod generator;
+mod laws;
+mod line;
+mod requests;
+mod shape;
+mod splitting;
+mod task;
+mod words;
+mod writing;
+
+pub use fault::ScriptFault;
+pub use generator::generate;
+pub use laws::scripts_are_read_back;
+pub use requests::Requests;
+pub use shape::Shape;
+pub use task::{Line, Task};
+pub use writing::write_script;

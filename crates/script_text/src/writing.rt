@@ -1,0 +1,99 @@
+//! Writes phases as a script.
+ghost use Rattle.std.specs.Prelude.{◌≡◌, ◌++◌, ◌*◌, ◌≤◌, length, IfOk, OnOk};
+ghost use Rattle.std.specs.Fmt.{decimal};
+ghost use Rattle.hex.specs.Hex.{encode_lower};
+ghost use Rattle.script_text.specs.Text.{value_word, request_words, task_text, phase_text, script_text};
+
+use crate::requests::Requests;
+use crate::task::Task;
+use record_text::{LONGEST_BLOB, Request};
+use std::alloc::Global;
+use want_of_memory::Memory;
+
+/// The script of these phases. It is read as them.
+pub fn write_script(alloc: Global, requests: &Requests) -> Result<Vec<u8>, Memory>
+    ensures text { IfOk result (λ text. text.items ≡ script_text requests.now) }
+{
+    let phases = requests.len();
+    let mut text = Vec::new(alloc);
+    write_phase(requests.phase(0), &mut text)?;
+    for number in 1..phases {
+        text.extend_from_slice(b"epoch\n")?;
+        write_phase(requests.phase(number), &mut text)?;
+    }
+    Ok(text)
+}
+
+// Adds the lines of a phase.
+fn write_phase(phase: &[Task], text: &mut Vec<u8>) -> Result<(), Memory>
+    ensures appended { OnOk result (text.new.items ≡ text.old.items ++ phase_text phase.now) }
+{
+    for task in phase {
+        write_task(task, text)?;
+    }
+    Ok(())
+}
+
+// Adds the line of a task.
+#[tactic(auto, unfolding(crate::specs::Text::task_line))]
+fn write_task(task: &Task, text: &mut Vec<u8>) -> Result<(), Memory>
+    ensures appended { OnOk result (text.new.items ≡ text.old.items ++ task_text task.now) }
+{
+    write_decimal(u64::from(task.worker), text)?;
+    write_request(&task.request, text)?;
+    text.push(b'\n')?;
+    Ok(())
+}
+
+// Adds the words behind the number of a worker.
+fn write_request(request: &Request, text: &mut Vec<u8>) -> Result<(), Memory>
+    ensures appended { OnOk result (text.new.items ≡ text.old.items
+        ++ request_words request.now.put request.now.key request.now.value) }
+{
+    if !request.put {
+        text.extend_from_slice(b" get ")?;
+        return write_decimal(request.key, text);
+    }
+    let Some(bytes) = request.value.bytes() else {
+        text.extend_from_slice(b" del ")?;
+        return write_decimal(request.key, text);
+    };
+    text.extend_from_slice(b" put ")?;
+    write_decimal(request.key, text)?;
+    text.push(b' ')?;
+    write_value(bytes, text)
+}
+
+// Adds a number in decimal.
+fn write_decimal(number: u64, text: &mut Vec<u8>) -> Result<(), Memory>
+    ensures appended { OnOk result (text.new.items ≡ text.old.items ++ decimal number) }
+{
+    let mut buffer = itoa::Buffer::new();
+    text.extend_from_slice(buffer.format(number).as_bytes())?;
+    Ok(())
+}
+
+// Adds the word of a data value's bytes.
+fn write_value(bytes: &[u8], text: &mut Vec<u8>) -> Result<(), Memory>
+    requires few { length bytes.now ≤ LONGEST_BLOB }
+    ensures appended { OnOk result (text.new.items ≡ text.old.items ++ value_word bytes.now) }
+{
+    if bytes.is_empty() {
+        text.push(b'.')?;
+        return Ok(());
+    }
+    let mut digits = [0; 2 * LONGEST_BLOB];
+    let digits = encode(bytes, &mut digits);
+    text.extend_from_slice(digits)?;
+    Ok(())
+}
+
+// The digits of these bytes, in room for them.
+fn encode<'a>(bytes: &[u8], room: &'a mut [u8]) -> &'a [u8]
+    requires few { 2 * length bytes.now ≤ length room.old }
+    ensures encoded { result.now ≡ encode_lower bytes.now }
+{
+    let digits = &mut room[..2 * bytes.len()];
+    hex::encode_to_slice(bytes, digits).unwrap();
+    digits
+}
