@@ -1,6 +1,6 @@
 -- Lemmas on the tests of the transition.
 mod KeyLemmas
-pub mod BelowLaws
+mod BelowLaws
 mod CacheLemmas
 pub mod BoundLaws
 pub mod InvertLaws
