@@ -1,0 +1,2 @@
+-- Lemmas on shards and chains.
+pub mod ChainLaws

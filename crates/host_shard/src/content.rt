@@ -1,0 +1,54 @@
+//! What a place of the host's table holds.
+ghost use Rattle.std.specs.Prelude.{◌≡◌};
+ghost use Rattle.record_text.specs.Format.{short_keys};
+ghost use Rattle.host_shard.specs.Content.{pending};
+ghost use Rattle.host_shard.specs.Shown.{shown_content};
+
+use crate::shard::Shard;
+use lamport_clocks::Stamp;
+use record_text::{Blob, Element, Value};
+use tree_keys::Path;
+
+/// The record of a key that waits by itself, apart from its shard.
+#[derive(Debug, Drop)]
+pub struct HotRecord {
+    pub key: u64,
+    pub value: Blob,
+    /// The stamp with which it was evicted last.
+    pub stamp: Stamp,
+    /// The verifier that evicted it.
+    pub evictor: u16,
+    /// How often the key was touched in this epoch.
+    pub touches: u64,
+}
+
+/// A shard, a hot record, or nothing.
+#[derive(Drop)]
+pub enum Content {
+    Cold(Shard),
+    Hot(HotRecord),
+    Vacant,
+}
+
+impl Content {
+    /// The element with which the content waits, until a verifier takes it in.
+    pub fn pending(&self) -> Option<Element>
+        ensures value { result ≡ pending short_keys (shown_content self.now) }
+    {
+        match self {
+            Content::Cold(shard) => Some(Element {
+                path: shard.frontier,
+                value: shard.value.copy(),
+                stamp: shard.stamp,
+                verifier: shard.evictor,
+            }),
+            Content::Hot(hot) => Some(Element {
+                path: Path::of_key(hot.key),
+                value: Value::Blob(hot.value.copy()),
+                stamp: hot.stamp,
+                verifier: hot.evictor,
+            }),
+            Content::Vacant => None,
+        }
+    }
+}
