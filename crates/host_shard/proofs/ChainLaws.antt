@@ -1,5 +1,5 @@
 -- The links of a chain: each lies below the one before, above the key or at it, and its values are of its kind.
-use Rattle.std.proofs.Common.{◌≡◌, ◌⊎◌, ◌≤◌, Bool, true, false, List, [], ◌∷◌, ◌++◌, length, Option, Some, None, if◌then◌else◌, refl, sym, ◌∙◌, subst, inl, inr, arith}
+use Rattle.std.proofs.Common.{◌≡◌, ◌⊎◌, ◌≤◌, Bool, true, false, List, [], ◌∷◌, ◌++◌, length, Option, Some, None, if◌then◌else◌, refl, sym, ◌∙◌, ap, subst, inl, inr, arith}
 use Rattle.std.proofs.lemmas.Bool.{false≢true}
 use Rattle.std.specs.Option.{unwrap_or}
 use Rattle.tree_keys.specs.Path.{side, is_prefix, common}
@@ -11,7 +11,9 @@ use Rattle.record_text.specs.Value.{IsSide, IsOf, empty_node, initial_value}
 use Rattle.merkle_records.specs.Merkle.{taken_over}
 use Rattle.host_shard.specs.declared.link.Link.{Link}
 use Rattle.host_shard.specs.Tree.{Tree, pointer_of}
+use Rattle.host_shard.specs.Shard.{Shard, tree_of}
 use Rattle.host_shard.specs.Chain.{next_link, known_link, fork_link, IsNextLink}
+use Rattle.tree_keys.proofs.PathLaws.{same_path-self}
 use Rattle.tree_keys.proofs.SideLaws.{is_prefix-self, side_of_prefix, prefix_cases}
 use Rattle.record_text.proofs.ValueTextLaws.{initial_value-kind}
 use Rattle.merkle_records.proofs.KindLaws.{is_prefix-side, length-side, IsSide-node_side, IsOf-with_side}
@@ -129,3 +131,8 @@ pub next_of : (format : Format) (tree : Tree) (key at : List Bool) (value : Valu
 next_of format tree key at value link whole kinds kind next =
     subst (IsLinkOf format key at next.on) (sym next.next)
     (next_link_of format tree key at next.on (pointer_of value next.on) whole next.on_side kinds (pointer_of-kind format at value next.on kind))
+
+-- the frontier's own value
+pub frontier_kind : (format : Format) (shard : Shard) → AreOf format (tree_of shard) → IsOf format shard.frontier shard.value
+frontier_kind format shard kinds =
+    kinds shard.frontier shard.value (ap (λ (b : Bool). if b then Some shard.value else shard.records shard.frontier) (same_path-self shard.frontier))

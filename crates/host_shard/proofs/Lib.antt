@@ -1,2 +1,5 @@
 -- Lemmas on shards and chains.
 pub mod ChainLaws
+mod ChainLemmas
+mod RecordLemmas
+mod SettleLemmas

@@ -1,11 +1,14 @@
 -- A shard as data: the records below one path, with which a verifier takes them back.
-use Rattle.std.specs.Prelude.{ℕ, Bool, List, None, ◌+◌, ◌-◌, ◌^◌, min, if◌then◌else◌}
+use Rattle.std.specs.Prelude.{ℕ, Bool, false, List, None, ◌+◌, ◌-◌, ◌^◌, min, if◌then◌else◌}
 use Rattle.tree_keys.specs.Path.{same_path}
 use Rattle.lamport_clocks.specs.declared.stamp.Stamp.{Stamp}
 use Rattle.record_text.specs.declared.value.Value.{Value}
 use Rattle.record_text.specs.declared.element.Element.{Element}
 use Rattle.record_text.specs.Format.{Format}
 use Rattle.record_text.specs.Value.{initial_value}
+use Rattle.merkle_records.specs.Merkle.{Digest}
+use Rattle.host_shard.specs.declared.link.Link.{Link}
+use Rattle.host_shard.specs.Chain.{closed_value, closed_records}
 use Rattle.host_shard.specs.Tree.{Tree, with_record}
 
 -- The path and the value of the shard's frontier, the records below it, the stamp and the verifier with which the
@@ -43,4 +46,11 @@ new_shard format frontier stamp evictor = record {
   stamp = stamp;
   evictor = evictor;
   touches = λ k. 0;
+}
+
+-- The shard at the end of a chain, where the value there becomes `last`, and each path is evicted to the one before.
+abbrev pub settled : Format → Digest → Shard → List Link → Value → Shard
+settled format digest shard links last = record shard {
+  value = closed_value format digest false shard.frontier shard.value links last;
+  records = closed_records format digest false shard.records links last
 }

@@ -5,12 +5,15 @@
 //! `specs/Chain.antt` says. `specs/Mirrors.antt` says when a shard is what the verifiers hold of it.
 #![tactic(auto)]
 
+mod chains;
 mod content;
 mod link;
 mod record;
 mod records;
+mod settling;
 mod shard;
 
+pub use chains::chain;
 pub use content::{Content, HotRecord};
 pub use link::Link;
 pub use record::Record;
