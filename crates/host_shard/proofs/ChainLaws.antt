@@ -1,18 +1,18 @@
 -- The links of a chain: each lies below the one before, above the key or at it, and its values are of its kind.
-use Rattle.std.proofs.Common.{◌≡◌, ◌⊎◌, ◌≤◌, Bool, true, false, List, [], ◌∷◌, ◌++◌, length, Option, Some, None, if◌then◌else◌, refl, sym, ◌∙◌, ap, subst, inl, inr, arith}
+use Rattle.std.proofs.Common.{◌≡◌, ◌≢◌, ◌⊎◌, ◌≤◌, Bool, true, false, List, [], ◌∷◌, ◌++◌, length, Option, Some, None, IsSome, if◌then◌else◌, refl, sym, ◌∙◌, ap, subst, inl, inr, arith}
 use Rattle.std.proofs.lemmas.Bool.{false≢true}
 use Rattle.std.specs.Option.{unwrap_or}
-use Rattle.tree_keys.specs.Path.{side, is_prefix, common}
+use Rattle.tree_keys.specs.Path.{side, same_path, is_prefix, common}
 use Rattle.record_text.specs.declared.value.Pointer.{Pointer}
 use Rattle.record_text.specs.declared.value.Value.{Value}
 use Rattle.record_text.specs.declared.value.Value.TheVariants as values
 use Rattle.record_text.specs.Format.{Format, path_bits}
 use Rattle.record_text.specs.Value.{IsSide, IsOf, empty_node, initial_value}
-use Rattle.merkle_records.specs.Merkle.{taken_over}
+use Rattle.merkle_records.specs.Merkle.{Digest, taken_over}
 use Rattle.host_shard.specs.declared.link.Link.{Link}
 use Rattle.host_shard.specs.Tree.{Tree, pointer_of}
 use Rattle.host_shard.specs.Shard.{Shard, tree_of}
-use Rattle.host_shard.specs.Chain.{next_link, known_link, fork_link, IsNextLink}
+use Rattle.host_shard.specs.Chain.{last_value, closed_value, closed_records, next_link, known_link, fork_link, IsNextLink, IsChain}
 use Rattle.tree_keys.proofs.PathLaws.{same_path-self}
 use Rattle.tree_keys.proofs.SideLaws.{is_prefix-self, side_of_prefix, prefix_cases}
 use Rattle.record_text.proofs.ValueTextLaws.{initial_value-kind}
@@ -136,3 +136,22 @@ next_of format tree key at value link whole kinds kind next =
 pub frontier_kind : (format : Format) (shard : Shard) → AreOf format (tree_of shard) → IsOf format shard.frontier shard.value
 frontier_kind format shard kinds =
     kinds shard.frontier shard.value (ap (λ (b : Bool). if b then Some shard.value else shard.records shard.frontier) (same_path-self shard.frontier))
+
+-- The value at the chain's end is of the key's kind.
+pub last_kind : (format : Format) (tree : Tree) (key at : List Bool) (value : Value) (links : List Link) → length key ≡ path_bits format → AreOf format tree → IsOf format at value
+    → IsChain format tree key at value links → IsOf format key (last_value value links)
+last_kind format tree key at value [] whole kinds kind ends = subst (λ (k : List Bool). IsOf format k value) ends kind
+last_kind format tree key at value (link ∷ links) whole kinds kind chain =
+    last_kind format tree key link.path link.taken links whole kinds (next_of format tree key at value link whole kinds kind chain.0).taken chain.1
+
+-- Behind a chain to a key below its start the key has a record.
+pub closed_end : (format : Format) (digest : Digest) (lent : Bool) (tree kept : Tree) (key at : List Bool) (value : Value) (links : List Link) (last : Value)
+    → at ≢ key → IsChain format tree key at value links → IsSome (closed_records format digest lent kept links last key)
+closed_end format digest lent tree kept key at value [] last apart ends = absurd (apart ends)
+closed_end format digest lent tree kept key at value (link ∷ links) last apart chain =
+    found (same_path key link.path) refl (λ other. closed_end format digest lent tree kept key link.path link.taken links last other chain.1)
+  where
+    found : (b : Bool) → same_path key link.path ≡ b → (link.path ≢ key → IsSome (closed_records format digest lent kept links last key))
+        → IsSome (if b then Some (closed_value format digest lent link.path link.taken links last) else closed_records format digest lent kept links last key)
+    found true same rest = refl
+    found false other rest = rest (λ is. false≢true (sym other ∙ ap (same_path key) is ∙ same_path-self key))

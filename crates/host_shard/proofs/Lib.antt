@@ -3,3 +3,4 @@ pub mod ChainLaws
 mod ChainLemmas
 mod RecordLemmas
 mod SettleLemmas
+mod TouchLemmas

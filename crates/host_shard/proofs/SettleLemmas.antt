@@ -1,5 +1,5 @@
 -- What settling a chain does to records, one path after another.
-use Rattle.std.proofs.Common.{◌≡◌, ℕ, Bool, true, false, List, [], ◌∷◌, Option, Some, None, IsSome, is_some, unwrap_or, not, if◌then◌else◌, refl, sym, ◌∙◌, ap, subst}
+use Rattle.std.proofs.Common.{◌≡◌, Bool, true, false, List, [], ◌∷◌, Option, Some, None, IsSome, is_some, unwrap_or, not, if◌then◌else◌, refl, sym, ◌∙◌, ap, subst}
 use Rattle.std.proofs.Math.Path.{fun_ext}
 use Rattle.std.proofs.lemmas.Bool.{false≢true, true≢false}
 use Rattle.std.specs.Option.{option_map, option_map_or}
@@ -141,7 +141,7 @@ pub settled_values : (format : Format) (digest : Digest) (kept mid : Kept) (link
     → values_in (valued mid link.path value) ≡ closed_records format digest false (values_in kept) (link ∷ links) last
 settled_values format digest kept mid link links last value below is =
     valued_values mid link.path value
-        (subst (λ (t : Tree). IsSome (t link.path)) (sym below) (closed_there format digest false _ links last link.path (opened_there format kept link.path)))
+    (subst (λ (t : Tree). IsSome (t link.path)) (sym below) (closed_there format digest false _ links last link.path (opened_there format kept link.path)))
     ∙ ap (λ (t : Tree). with_record t link.path value) below
     ∙ closed_one format digest kept link links last value
     ∙ ap (with_record (closed_records format digest false (values_in kept) links last) link.path) is

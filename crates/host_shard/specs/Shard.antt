@@ -52,5 +52,5 @@ new_shard format frontier stamp evictor = record {
 abbrev pub settled : Format → Digest → Shard → List Link → Value → Shard
 settled format digest shard links last = record shard {
   value = closed_value format digest false shard.frontier shard.value links last;
-  records = closed_records format digest false shard.records links last
+  records = closed_records format digest false shard.records links last;
 }

@@ -2,7 +2,7 @@
 ghost use Rattle.std.specs.Prelude.{◌≡◌, ◌≤◌, vec_len, IfOk};
 ghost use Rattle.tree_keys.specs.Path.{side};
 ghost use Rattle.record_text.specs.Format.{short_keys};
-ghost use Rattle.host_shard.specs.Chain.{next_link, pointer_toward, IsChain};
+ghost use Rattle.host_shard.specs.Chain.{next_link, pointer_toward, last_value, IsChain};
 ghost use Rattle.host_shard.specs.Content.{key_path};
 ghost use Rattle.host_shard.specs.Mirrors.{IsShard, IsKeyOf};
 ghost use Rattle.host_shard.specs.Shard.{tree_of};
@@ -63,5 +63,15 @@ fn next_link(shard: &Shard, key: &Path, ahead: Option<Pointer>) -> Link
     match shard.value_of(&pointer.path) {
         Some(value) => Link::known(&pointer.path, value),
         None => Link::new(&pointer.path),
+    }
+}
+
+/// The value of the path at the chain's end, which is that of the path before it where there is no link.
+pub fn last_value<'a>(value: &'a Value, links: &'a [Link]) -> &'a Value
+    ensures value { result.now ≡ last_value value.now links.now }
+{
+    match links.last() {
+        Some(link) => &link.taken,
+        None => value,
     }
 }

@@ -1,10 +1,12 @@
 //! What a place of the host's table holds.
-ghost use Rattle.std.specs.Prelude.{◌≡◌};
+ghost use Rattle.std.specs.Prelude.{◌≡◌, ◌<◌, ◌^◌};
 ghost use Rattle.record_text.specs.Format.{short_keys};
-ghost use Rattle.host_shard.specs.Content.{pending};
+ghost use Rattle.record_text.specs.Element.{IsStamp};
+ghost use Rattle.host_shard.specs.Content.{pending, pending_hot};
 ghost use Rattle.host_shard.specs.Shown.{shown_content};
 
 use crate::shard::Shard;
+use crate::waiting::waiting;
 use lamport_clocks::Stamp;
 use record_text::{Blob, Element, Value};
 use tree_keys::Path;
@@ -30,24 +32,26 @@ pub enum Content {
     Vacant,
 }
 
+impl HotRecord {
+    /// The element with which the record waits, until a verifier takes it in.
+    pub fn pending(&self) -> Element
+        ensures value { result ≡ pending_hot short_keys self.now }
+        ensures stamp { IsStamp result.stamp }
+        ensures verifier { result.verifier < 2 ^ 16 }
+    {
+        let value = Value::Blob(self.value.copy());
+        waiting(Path::of_key(self.key), value, self.stamp, self.evictor)
+    }
+}
+
 impl Content {
-    /// The element with which the content waits, until a verifier takes it in.
+    /// The element with which the content waits, if it isn't vacant.
     pub fn pending(&self) -> Option<Element>
         ensures value { result ≡ pending short_keys (shown_content self.now) }
     {
         match self {
-            Content::Cold(shard) => Some(Element {
-                path: shard.frontier,
-                value: shard.value.copy(),
-                stamp: shard.stamp,
-                verifier: shard.evictor,
-            }),
-            Content::Hot(hot) => Some(Element {
-                path: Path::of_key(hot.key),
-                value: Value::Blob(hot.value.copy()),
-                stamp: hot.stamp,
-                verifier: hot.evictor,
-            }),
+            Content::Cold(shard) => Some(shard.pending()),
+            Content::Hot(hot) => Some(hot.pending()),
             Content::Vacant => None,
         }
     }

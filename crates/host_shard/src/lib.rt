@@ -12,8 +12,9 @@ mod record;
 mod records;
 mod settling;
 mod shard;
+mod waiting;
 
-pub use chains::chain;
+pub use chains::{chain, last_value};
 pub use content::{Content, HotRecord};
 pub use link::Link;
 pub use record::Record;

@@ -76,17 +76,19 @@ pub(crate) fn settle<D: Digests>(
 impl Shard {
     /// Settles the shard behind a chain from its frontier: the value at the end becomes `last`, and each record above it
     /// keeps the digest of what the next one became. For want of memory all is as before.
-    pub fn settle<D: Digests>(
-        &mut self,
-        d: &D,
-        links: &[Link],
-        last: Value,
-    ) -> Result<(), Memory>
+    pub fn settle<D: Digests>(&mut self, d: &D, links: &[Link], last: Value) -> Result<(), Memory>
         ensures settled { OnOk result (shown self.new ≡ settled short_keys
             (D.functions d.now).digest (shown self.old) links.now last) }
         ensures as_before { OnErr result (shown self.new ≡ shown self.old) }
     {
-        self.value = settle(d, &mut self.records, &self.frontier, &self.value, links, last)?;
+        self.value = settle(
+            d,
+            &mut self.records,
+            &self.frontier,
+            &self.value,
+            links,
+            last,
+        )?;
         Ok(())
     }
 }

@@ -1,13 +1,16 @@
 //! Shards.
-ghost use Rattle.std.specs.Prelude.{◌≡◌};
+ghost use Rattle.std.specs.Prelude.{◌≡◌, ◌<◌, ◌^◌, IsSome};
 ghost use Rattle.std.specs.Option.{option_copied};
 ghost use Rattle.record_text.specs.Format.{short_keys};
-ghost use Rattle.host_shard.specs.Shard.{tree_of, new_shard};
+ghost use Rattle.record_text.specs.Element.{IsStamp};
+ghost use Rattle.host_shard.specs.Content.{key_path};
+ghost use Rattle.host_shard.specs.Shard.{tree_of, new_shard, pending_shard, touched};
 ghost use Rattle.host_shard.specs.Shown.{shown};
 
 use crate::records::Records;
+use crate::waiting::waiting;
 use lamport_clocks::Stamp;
-use record_text::{Value, initial};
+use record_text::{Element, Value, initial};
 use std::alloc::Global;
 use tree_keys::Path;
 
@@ -51,5 +54,24 @@ impl Shard {
             Some(kept) => Some(&kept.value),
             None => None,
         }
+    }
+
+    /// The element with which the shard waits, until a verifier takes it in.
+    pub fn pending(&self) -> Element
+        ensures value { result ≡ pending_shard (shown self.now) }
+        ensures stamp { IsStamp result.stamp }
+        ensures verifier { result.verifier < 2 ^ 16 }
+    {
+        waiting(self.frontier, self.value.copy(), self.stamp, self.evictor)
+    }
+
+    /// Counts one touch more of a key that has a record.
+    pub fn touch(&mut self, key: u64)
+        requires there { IsSome ((shown self.old).records (key_path short_keys key)) }
+        ensures touched { shown self.new ≡ record (shown self.old) {
+          touches = touched (shown self.old).touches (key_path short_keys key);
+        } }
+    {
+        self.records.touch(&Path::of_key(key));
     }
 }

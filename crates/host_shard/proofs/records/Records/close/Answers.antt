@@ -1,4 +1,4 @@
-use Rattle.std.proofs.Common.{◌≡◌, None, ◌∙◌, ap}
+use Rattle.std.proofs.Common.{None, ◌∙◌, ap}
 use Rattle.host_shard.specs.Records.{Listed, record_at, with_kept}
 use Rattle.host_shard.proofs.RecordLemmas.{updated}
 use Rattle.host_shard.proofs.records.Records.close.Goals as goal

@@ -1,4 +1,4 @@
-use Rattle.std.proofs.Common.{◌≡◌, ◌∙◌, ap}
+use Rattle.std.proofs.Common.{◌∙◌, ap}
 use Rattle.host_shard.specs.Records.{Listed, record_at}
 use Rattle.host_shard.proofs.RecordLemmas.{get_by-record}
 use Rattle.host_shard.proofs.records.Records.get.Goals as goal

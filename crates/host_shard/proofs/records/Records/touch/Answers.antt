@@ -1,18 +1,18 @@
-use Rattle.std.proofs.Common.{◌≡◌, ℕ, Bool, List, Some, None, refl, sym, ◌∙◌, ap, subst}
-use Rattle.std.specs.Option.{option_map, option_copied_mut}
+use Rattle.std.proofs.Common.{ℕ, sym, ◌∙◌, ap}
+use Rattle.std.specs.Option.{option_copied_mut}
 use Rattle.std.specs.BTreeMap.{BTreeMap}
 use Rattle.tree_keys.specs.declared.path.Path.{Path}
 use Rattle.host_shard.specs.declared.record.Record.{Record}
 use Rattle.host_shard.specs.declared.records.Records.TheInside.{Inside}
 use Rattle.host_shard.specs.Shard.{one_more}
-use Rattle.host_shard.specs.Records.{Listed, record_at, with_kept}
+use Rattle.host_shard.specs.Records.{record_at}
 use Rattle.host_shard.proofs.RecordLemmas.{set_there, set_none}
 use Rattle.host_shard.proofs.records.Records.touch.Goals as goal
 use Rattle.host_shard.proofs.records.Records.touch.Goals.{in-Some, in_default}
 
 pub returns : goal.returns
 returns c = elim c.match-get_mut.branch [
-    in-Some w ↦
+  | in-Some w ↦
       let now : Record = record { value = w.in-Some.kept.now.value; touches = w.saturating_add-kept.result } in
       let change : Record → Record = λ r. record { value = r.value; touches = one_more r.touches } in
       record {
@@ -27,4 +27,4 @@ returns c = elim c.match-get_mut.branch [
             ∙ set_none c.self.inside.map.entries c.args.self.now c.args.path.now (λ r. record { value = r.value; touches = one_more r.touches }) c.self.view_is
             (sym (ap option_copied_mut w.in_default.is) ∙ c.get_mut.follows.claims.0);
       }
-  ]
+]
