@@ -14,9 +14,15 @@ use Rattle.host_shard.specs.Chain.{IsChain, last_value}
 use Rattle.host_shard.specs.Shard.{Shard, tree_of}
 use Rattle.host_shard.specs.Content.{Content, cold, hot, vacant, key_path}
 use Rattle.host_shard.specs.Mirrors.{IsShard, IsKeyOf, Mirrors}
-use Rattle.host_plan.specs.declared.plan.Plan.{Plan}
+use Rattle.host_plan.specs.declared.plans.Plan.{Plan}
 use Rattle.host_plan.specs.Moments.{renewing}
 use Rattle.host_plan.specs.Request.{cold_commands, hot_commands, served, served_hot, value_after}
+
+-- The content owns the key: it is a shard below whose frontier the key lies, or the key's hot record.
+abbrev pub Owns : Format → Content → ℕ → Type 0
+Owns format (cold shard) key = IsShard format shard × IsKeyOf format shard (key_path format key)
+Owns format (hot record') key = record'.key ≡ key
+Owns format vacant key = ⊥
 
 -- A shard that mirrors, for some hot keys of which the key is none.
 pub record IsServable (format : Format) (digest : Digest) (shard : Shard) (key : List Bool) : Type 0 where

@@ -1,11 +1,16 @@
 //! The host's plans: the commands of the setup and of one request, and what they leave of the records.
 //!
 //! The crate stands on `host_shard` for shards and chains, on `log_codec` for commands and on `merkle_records` for nodes.
-//! Begin with `plan` in `plan.rt` beside `specs/Plan.antt`, then `setup` in `setup.rt` beside `specs/Setup.antt`.
+//! Begin with `plan` in `serving.rt` beside `specs/Plan.antt`, then `setup` in `setup.rt` beside `specs/Setup.antt`.
 #![tactic(auto)]
 
 mod commands;
-mod plan;
+mod fault;
+mod moments;
+mod plans;
+mod serving;
 
 pub use commands::Commands;
-pub use plan::Plan;
+pub use fault::PlanFault;
+pub use plans::Plan;
+pub use serving::plan;

@@ -2,6 +2,7 @@
 ghost use Rattle.std.specs.Prelude.{◌≡◌, ◌<◌, ◌^◌};
 ghost use Rattle.record_text.specs.Format.{short_keys};
 ghost use Rattle.record_text.specs.Element.{IsStamp};
+ghost use Rattle.record_text.specs.Value.{IsOf};
 ghost use Rattle.host_shard.specs.Content.{pending, pending_hot};
 ghost use Rattle.host_shard.specs.Shown.{shown_content};
 
@@ -36,6 +37,7 @@ impl HotRecord {
     /// The element with which the record waits, until a verifier takes it in.
     pub fn pending(&self) -> Element
         ensures value { result ≡ pending_hot short_keys self.now }
+        ensures kind { IsOf short_keys result.path result.value }
         ensures stamp { IsStamp result.stamp }
         ensures verifier { result.verifier < 2 ^ 16 }
     {

@@ -1,4 +1,4 @@
-//! The plan of one request.
+//! Plans.
 use crate::commands::Commands;
 use record_text::Blob;
 
