@@ -1,2 +1,3 @@
 -- Lemmas on plans.
 mod TypedLemmas
+mod SetupLemmas
