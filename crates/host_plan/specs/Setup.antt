@@ -48,6 +48,10 @@ paths_below (suc levels) path = paths_below levels (child path false) ++ paths_b
 abbrev pub first_content : Format → ℕ → List Bool → Content
 first_content format first frontier = cold (new_shard format frontier (first_stamp first frontier) 0)
 
+-- the same of each frontier of a list
+abbrev pub first_contents : Format → ℕ → List (List Bool) → List Content
+first_contents format first frontiers = map (first_content format first) frontiers
+
 -- The contents of the 2^bits shards behind the setup, in the order of the shards.
 abbrev pub setup_contents : Format → ℕ → ℕ → List Content
-setup_contents format first bits = map (first_content format first) (paths_below bits [])
+setup_contents format first bits = first_contents format first (paths_below bits [])

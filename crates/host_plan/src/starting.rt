@@ -6,7 +6,7 @@ ghost use Rattle.record_text.specs.Format.{short_keys};
 ghost use Rattle.log_codec.specs.Command.{IsCommand};
 ghost use Rattle.host_shard.specs.Shown.{shown_content};
 ghost use Rattle.host_plan.specs.declared.fault.SetupFault.TheVariants.{ClockEnd};
-ghost use Rattle.host_plan.specs.Setup.{IsShardCount, first_stamp, first_content, paths_below, set_up, setup_commands, setup_contents};
+ghost use Rattle.host_plan.specs.Setup.{IsShardCount, first_stamp, first_contents, paths_below, set_up, setup_commands, setup_contents};
 
 use crate::commands::Commands;
 use crate::fault::SetupFault;
@@ -88,7 +88,7 @@ fn set_up(
         ≡ commands.old.items ++ set_up short_keys first levels path.now parent.now) }
     ensures contents { OnOk result (map shown_content contents.new.items
         ≡ map shown_content contents.old.items
-        ++ map (first_content short_keys first) (paths_below levels path.now)) }
+        ++ first_contents short_keys first (paths_below levels path.now)) }
 {
     commands.push(Command::AddM {
         path: *path,
