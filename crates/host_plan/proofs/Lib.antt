@@ -1,0 +1,3 @@
+-- Lemmas on plans.
+mod TypedLemmas
+mod SetupLemmas

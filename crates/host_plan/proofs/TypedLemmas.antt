@@ -1,0 +1,87 @@
+-- The commands of a plan are commands: each value is of its path's kind, and each path, stamp and number is in its range.
+use Rattle.std.proofs.Common.{◌≡◌, ◌<◌, ◌≤◌, ◌^◌, ◌≢◌, Bool, false, List, [], ◌∷◌, ◌++◌, length, Option, Some, None, IsSome, refl, sym, subst, arith}
+use Rattle.std.proofs.lemmas.Bool.{false≢true}
+use Rattle.std.specs.List.{AllByRecursion}
+use Rattle.tree_keys.specs.Path.{side, IsBelow}
+use Rattle.lamport_clocks.specs.declared.stamp.Stamp.{Stamp}
+use Rattle.record_text.specs.declared.element.Element.{Element}
+use Rattle.record_text.specs.declared.value.Value.{Value}
+use Rattle.record_text.specs.declared.value.Value.TheVariants as values
+use Rattle.record_text.specs.Format.{Format, path_bits}
+use Rattle.record_text.specs.Value.{IsOf}
+use Rattle.record_text.specs.Element.{IsStamp}
+use Rattle.log_codec.specs.declared.command.Command.{Command}
+use Rattle.log_codec.specs.Command.{IsCommand}
+use Rattle.tree_keys.proofs.SideLaws.{above_apart}
+use Rattle.host_shard.specs.declared.link.Link.{Link}
+use Rattle.host_shard.specs.Tree.{Tree}
+use Rattle.host_shard.specs.Chain.{IsChain}
+use Rattle.host_shard.specs.Shard.{Shard, tree_of, settled}
+use Rattle.merkle_records.specs.Merkle.{Digest}
+use Rattle.host_shard.proofs.ChainLaws.{AreOf, next_of, closed_end}
+use Rattle.host_plan.specs.Visit.{visit, between}
+
+-- the path of a value isn't longer than a key's
+length-IsOf : (format : Format) (path : List Bool) (value : Value) → IsOf format path value → length path ≤ path_bits format
+length-IsOf format path (values.Blob blob) kind = omega (arith, kind.0)
+length-IsOf format path (values.Node node) kind = omega (arith, kind.0)
+
+-- all of two lists joined
+pub AllByRecursion-append : {X : Type 0} (P : X → Type 0) (xs ys : List X) → AllByRecursion P xs → AllByRecursion P ys → AllByRecursion P (xs ++ ys)
+AllByRecursion-append P [] ys hs gs = gs
+AllByRecursion-append P (x ∷ xs) ys hs gs = (hs.0, AllByRecursion-append P xs ys hs.1 gs)
+
+-- a command alone
+pub one_typed : (format : Format) (command : Command) → IsCommand format command → AllByRecursion (IsCommand format) (command ∷ [])
+one_typed format command typed = (typed, tt)
+
+-- the visit of a chain
+pub visit_typed : (format : Format) (tree : Tree) (key at : List Bool) (value : Value) (links : List Link) (inner : List Command)
+    → length key ≡ path_bits format → AreOf format tree → IsOf format at value → IsChain format tree key at value links
+    → AllByRecursion (IsCommand format) inner → AllByRecursion (IsCommand format) (visit at links inner)
+visit_typed format tree key at value [] inner whole kinds kind chain typed = typed
+visit_typed format tree key at value (link ∷ links) inner whole kinds kind chain typed =
+    let next = next_of format tree key at value link whole kinds kind chain.0 in
+    let above = length-IsOf format at value kind in
+    let path = length-IsOf format link.path link.value next.value in (
+      (next.value, above),
+      AllByRecursion-append (IsCommand format) (visit link.path links inner) _
+          (visit_typed format tree key link.path link.taken links inner whole kinds next.taken chain.1 typed)
+          ((path, above), tt),
+    )
+
+-- what stands between an add and an evict with a stamp
+pub between_typed : (format : Format) (element : Element) (stamp : Stamp) (inner : List Command)
+    → IsOf format element.path element.value → IsStamp element.stamp → element.verifier < 2 ^ 16 → IsStamp stamp
+    → AllByRecursion (IsCommand format) inner → AllByRecursion (IsCommand format) (between element stamp inner)
+between_typed format element stamp inner kind added verifier evicted typed = (
+  (kind, added, verifier),
+  AllByRecursion-append (IsCommand format) inner _ typed ((length-IsOf format element.path element.value kind, evicted), tt),
+)
+
+-- a frontier is no key below it
+pub frontier_apart : (frontier key : List Bool) → IsBelow frontier key → frontier ≢ key
+frontier_apart frontier key below = go (side frontier key) refl below
+  where
+    go : (s : Option Bool) → side frontier key ≡ s → IsSome s → frontier ≢ key
+    go None is some = absurd (false≢true some)
+    go (Some on) is some = above_apart frontier key on is
+
+-- ---- of what the code computes
+
+-- the whole of a plan's commands, where the inner one is a command at the chain's end
+pub chain_typed : (format : Format) (tree : Tree) (key : List Bool) (element : Element) (links : List Link) (command : Command) (stamp : Stamp)
+    → length key ≡ path_bits format → AreOf format tree → IsOf format element.path element.value → IsChain format tree key element.path element.value links
+    → IsStamp element.stamp → element.verifier < 2 ^ 16 → IsStamp stamp → IsCommand format command
+    → AllByRecursion (IsCommand format) (between element stamp (visit element.path links (command ∷ [])))
+chain_typed format tree key element links command stamp whole kinds kind chain added verifier evicted typed =
+    between_typed format element stamp (visit element.path links (command ∷ [])) kind added verifier evicted
+    (visit_typed format tree key element.path element.value links (command ∷ []) whole kinds kind chain (one_typed format command typed))
+
+-- a key of a shard has a record behind the chain to it
+pub settled_there : (format : Format) (digest : Digest) (shard now : Shard) (key : List Bool) (links : List Link) (last : Value)
+    → IsBelow shard.frontier key → IsChain format (tree_of shard) key shard.frontier shard.value links → now ≡ settled format digest shard links last
+    → IsSome (now.records key)
+settled_there format digest shard now key links last below chain is =
+    subst (λ (s : Shard). IsSome (s.records key)) (sym is)
+    (closed_end format digest false (tree_of shard) shard.records key shard.frontier shard.value links last (frontier_apart shard.frontier key below) chain)

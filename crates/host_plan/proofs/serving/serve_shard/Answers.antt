@@ -1,0 +1,48 @@
+use Rattle.std.proofs.Common.{List, subst, ap, sym, ◌∙◌}
+use Rattle.std.specs.List.{AllByRecursion}
+use Rattle.record_text.specs.declared.element.Element.{Element}
+use Rattle.record_text.specs.declared.value.Value.{Value}
+use Rattle.record_text.specs.declared.value.Value.TheVariants as values
+use Rattle.record_text.specs.Format.{short_keys}
+use Rattle.record_text.specs.Value.{IsOf}
+use Rattle.log_codec.specs.Command.{IsCommand}
+use Rattle.host_shard.specs.declared.link.Link.{Link}
+use Rattle.host_shard.specs.Chain.{IsChain, last_value}
+use Rattle.host_shard.specs.Content.{key_path}
+use Rattle.host_shard.specs.Shard.{tree_of}
+use Rattle.host_shard.specs.Shown.{shown}
+use Rattle.host_shard.proofs.ChainLaws.{frontier_kind, last_kind}
+use Rattle.host_plan.proofs.TypedLemmas.{chain_typed, settled_there}
+use Rattle.host_plan.proofs.serving.serve_shard.Goals as goal
+
+pub answer_of-answer-requires : goal.answer_of-answer-requires
+answer_of-answer-requires g c =
+    let key = key_path short_keys c.args.request.now.key in
+    let last = last_kind short_keys (tree_of (shown c.args.shard.now)) key c.args.shard.now.frontier c.args.shard.now.value c.in_ok-links.links.items c.requires.own.1.whole c.requires.own.0.kinds
+    (frontier_kind short_keys (shown c.args.shard.now) c.requires.own.0.kinds) c.in_ok-links.ensures.chain in
+    record {
+      kind = subst (λ (value : Value). IsOf short_keys key value)
+          (sym (c.last_value.ensures.value ∙ ap (last_value c.args.shard.now.value) c.as_slice.ensures.value)) last;
+    }
+
+pub touch-requires : goal.touch-requires
+touch-requires g c = record {
+  there = settled_there short_keys (g.D.Digests.functions c.args.d.now).digest (shown c.args.shard.now) (shown c.settle.new.self) (key_path short_keys c.args.request.now.key)
+      c.as_slice-3.result.now (values.Blob c.copy.result) c.requires.own.1.below
+      (subst (λ (links : List Link). IsChain short_keys (tree_of (shown c.args.shard.now)) (key_path short_keys c.args.request.now.key) c.args.shard.now.frontier c.args.shard.now.value links)
+      (sym c.as_slice-3.ensures.value) c.in_ok-links.ensures.chain)
+      c.in_ok-settle.ensures.settled;
+}
+
+pub returns-clause-typed : goal.returns-clause-typed
+returns-clause-typed g c =
+    let tree = tree_of (shown c.args.shard.now) in
+    let key = key_path short_keys c.args.request.now.key in
+    let links : List Link = c.as_slice-2.result.now in
+    let kind = subst (λ (element : Element). IsOf short_keys element.path element.value) (sym c.pending-element.ensures.value)
+    (frontier_kind short_keys (shown c.args.shard.now) c.requires.own.0.kinds) in
+    let chain = subst (λ (element : Element). IsChain short_keys tree key element.path element.value links) (sym c.pending-element.ensures.value)
+    (subst (λ (ls : List Link). IsChain short_keys tree key c.args.shard.now.frontier c.args.shard.now.value ls) (sym c.as_slice-2.ensures.value) c.in_ok-links.ensures.chain) in
+    subst (AllByRecursion (IsCommand short_keys)) (sym c.in_ok-commands.ensures.commands)
+    (chain_typed short_keys tree key c.pending-element.result links c.command_of-command.result c.at.result c.requires.own.1.whole c.requires.own.0.kinds kind chain
+    c.pending-element.ensures.stamp c.pending-element.ensures.verifier c.in_ok-commands.ensures.stamp c.command_of-command.ensures.typed)

@@ -1,0 +1,57 @@
+-- The setup of the shards: the commands of worker 0, and the contents behind them.
+use Rattle.std.specs.Prelude.{◌≡◌, ℕ, zero, suc, ◌+◌, ◌^◌, ◌≤◌, ◌<◌, Bool, true, false, List, [], ◌∷◌, ◌++◌, map}
+use Rattle.tree_keys.specs.Bits.{number_of}
+use Rattle.lamport_clocks.specs.declared.stamp.Stamp.{Stamp}
+use Rattle.record_text.specs.Format.{Format}
+use Rattle.record_text.specs.Value.{initial_value}
+use Rattle.log_codec.specs.declared.command.Command.{Command}
+use Rattle.log_codec.specs.declared.command.Command.TheVariants.{AddM, EvictM, EvictBM}
+use Rattle.host_shard.specs.Shard.{new_shard}
+use Rattle.host_shard.specs.Content.{Content, cold}
+
+-- so many shards can be set up: a power of two from 2 to 1,024
+pub record IsShardCount (shards : ℕ) : Type 0 where
+  pub bits : ℕ
+  pub some : 0 < bits
+  pub most : bits ≤ 10
+  pub power : shards ≡ 2 ^ bits
+
+-- the child of a path on a side
+abbrev pub child : List Bool → Bool → List Bool
+child path on = path ++ on ∷ []
+
+-- the first stamp of a shard: its number and 1, in the first epoch
+abbrev pub first_stamp : ℕ → List Bool → Stamp
+first_stamp first frontier = record { epoch = first; counter = 1 + number_of frontier }
+
+-- The visit of a path under its parent. With no level below it, it is a shard's frontier, and is deferred. Else its two
+-- children are visited, side 0 before side 1, and it is evicted.
+abbrev pub set_up : Format → ℕ → ℕ → List Bool → List Bool → List Command
+set_up format first zero path parent =
+    AddM path (initial_value format path) parent ∷ EvictBM path parent (first_stamp first path) ∷ []
+set_up format first (suc levels) path parent =
+    AddM path (initial_value format path) parent
+    ∷ (set_up format first levels (child path false) path ++ (set_up format first levels (child path true) path ++ EvictM path parent ∷ []))
+
+-- The commands of the setup of 2^bits shards: each path of 1 to so many bits is visited.
+abbrev pub setup_commands : Format → ℕ → ℕ → List Command
+setup_commands format first zero = []
+setup_commands format first (suc levels) =
+    set_up format first levels (child [] false) [] ++ set_up format first levels (child [] true) []
+
+-- the paths so many levels below a path, in their order
+abbrev pub paths_below : ℕ → List Bool → List (List Bool)
+paths_below zero path = path ∷ []
+paths_below (suc levels) path = paths_below levels (child path false) ++ paths_below levels (child path true)
+
+-- a shard as the setup leaves it
+abbrev pub first_content : Format → ℕ → List Bool → Content
+first_content format first frontier = cold (new_shard format frontier (first_stamp first frontier) 0)
+
+-- the same of each frontier of a list
+abbrev pub first_contents : Format → ℕ → List (List Bool) → List Content
+first_contents format first frontiers = map (first_content format first) frontiers
+
+-- The contents of the 2^bits shards behind the setup, in the order of the shards.
+abbrev pub setup_contents : Format → ℕ → ℕ → List Content
+setup_contents format first bits = first_contents format first (paths_below bits [])

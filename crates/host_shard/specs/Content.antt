@@ -1,0 +1,33 @@
+-- What a place of the host's table holds.
+use Rattle.std.specs.Prelude.{ℕ, Bool, List, Option, Some, None}
+use Rattle.tree_keys.specs.Bits.{bits_of}
+use Rattle.record_text.specs.declared.value.Value.TheVariants as values
+use Rattle.record_text.specs.declared.element.Element.{Element}
+use Rattle.record_text.specs.Format.{Format, path_bits}
+use Rattle.host_shard.specs.declared.content.HotRecord.{HotRecord}
+use Rattle.host_shard.specs.Shard.{Shard, pending_shard}
+
+-- a shard, a record that waits by itself, or nothing
+pub data Content : Type 0 where
+  cold : Shard → Content
+  hot : HotRecord → Content
+  vacant : Content
+
+-- the path of a key
+abbrev pub key_path : Format → ℕ → List Bool
+key_path format key = bits_of (path_bits format) key
+
+-- the element with which a hot record waits
+abbrev pub pending_hot : Format → HotRecord → Element
+pending_hot format record' = record {
+  path = key_path format record'.key;
+  value = values.Blob record'.value;
+  stamp = record'.stamp;
+  verifier = record'.evictor;
+}
+
+-- the element with which a content waits
+abbrev pub pending : Format → Content → Option Element
+pending format (cold shard) = Some (pending_shard shard)
+pending format (hot record') = Some (pending_hot format record')
+pending format vacant = None

@@ -1,0 +1,42 @@
+-- Records of the code, as a finite map.
+use Rattle.std.specs.Map.{lookup}
+use Rattle.std.specs.Option.{option_map, option_map_or}
+use Rattle.std.specs.Prelude.{ℕ, Bool, List, Option, if◌then◌else◌}
+use Rattle.tree_keys.specs.Path.{same_path}
+use Rattle.record_text.specs.Format.{Format}
+use Rattle.record_text.specs.Value.{initial_value}
+use Rattle.host_shard.specs.declared.record.Record.{Record}
+use Rattle.host_shard.specs.Tree.{Tree}
+
+-- the records with their paths, in some order
+abbrev pub Listed : Type 0
+Listed = List (List Bool × Record)
+
+-- records as a function of their paths
+abbrev pub Kept : Type 0
+Kept = List Bool → Option Record
+
+abbrev pub record_at : Listed → Kept
+record_at listed = λ path. lookup (same_path path) listed
+
+-- the same, but for what is kept of a path
+abbrev pub with_kept : Kept → List Bool → Option Record → Kept
+with_kept kept path now = λ k. if same_path k path then now else kept k
+
+-- a record that nothing was done to yet
+abbrev pub new_record : Format → List Bool → Record
+new_record format path = record { value = initial_value format path; touches = 0 }
+
+-- the values of records
+abbrev pub values_in : Kept → Tree
+values_in kept = λ path. option_map (λ r. r.value) (kept path)
+
+abbrev pub values_of : Listed → Tree
+values_of listed = values_in (record_at listed)
+
+-- the touches of records: none of a path without one
+abbrev pub touches_in : Kept → List Bool → ℕ
+touches_in kept = λ path. option_map_or (λ r. r.touches) (kept path) 0
+
+abbrev pub touches_of : Listed → List Bool → ℕ
+touches_of listed = touches_in (record_at listed)

@@ -1,0 +1,77 @@
+//! The chain from a shard's frontier to a key.
+ghost use Rattle.std.specs.Prelude.{◌≡◌, ◌≤◌, vec_len, IfOk};
+ghost use Rattle.tree_keys.specs.Path.{side};
+ghost use Rattle.record_text.specs.Format.{short_keys};
+ghost use Rattle.host_shard.specs.Chain.{next_link, pointer_toward, last_value, IsChain};
+ghost use Rattle.host_shard.specs.Content.{key_path};
+ghost use Rattle.host_shard.specs.Mirrors.{IsShard, IsKeyOf};
+ghost use Rattle.host_shard.specs.Shard.{tree_of};
+ghost use Rattle.host_shard.specs.Shown.{shown};
+
+use crate::link::Link;
+use crate::shard::Shard;
+use record_text::{Pointer, Value};
+use std::alloc::Global;
+use tree_keys::Path;
+use want_of_memory::Memory;
+
+// Room for so many links is taken at once. A longer chain takes more.
+const ROOM: usize = 24;
+
+/// The chain from the shard's frontier to a key below it.
+pub fn chain(alloc: Global, shard: &Shard, key: u64) -> Result<Vec<Link>, Memory>
+    requires fits { IsShard short_keys (shown shard.now) }
+    requires own { IsKeyOf short_keys (shown shard.now) (key_path short_keys key) }
+    ensures chain { IfOk result (λ links. IsChain short_keys (tree_of (shown shard.now))
+        (key_path short_keys key) shard.now.frontier shard.now.value links.items) }
+    ensures few { IfOk result (λ links. vec_len links ≤ 64) }
+{
+    let end = Path::of_key(key);
+    let mut links = Vec::with_capacity(alloc, ROOM)?;
+    let mut at = shard.frontier;
+    let mut ahead = toward(&shard.value, &at, &end);
+    while !at.is_same(&end) {
+        let link = next_link(shard, &end, ahead);
+        at = link.path;
+        ahead = toward(&link.taken, &at, &end);
+        links.push(link)?;
+    }
+    Ok(links)
+}
+
+// The pointer of a path's value on the side of a key.
+fn toward(value: &Value, at: &Path, key: &Path) -> Option<Pointer>
+    ensures value { result ≡ pointer_toward value.now (side at.now key.now) }
+{
+    match (value, at.side(key)) {
+        (Value::Node(node), Some(side)) => node.side(side),
+        _ => None,
+    }
+}
+
+// The link behind a pointer.
+fn next_link(shard: &Shard, key: &Path, ahead: Option<Pointer>) -> Link
+    ensures value { result ≡ next_link short_keys (tree_of (shown shard.now)) key.now ahead }
+{
+    let pointer = match ahead {
+        Some(pointer) => pointer,
+        None => return Link::new(key),
+    };
+    if !key.starts_with(&pointer.path) {
+        return Link::fork(key, &pointer);
+    }
+    match shard.value_of(&pointer.path) {
+        Some(value) => Link::known(&pointer.path, value),
+        None => Link::new(&pointer.path),
+    }
+}
+
+/// The value of the path at the chain's end, which is that of the path before it where there is no link.
+pub fn last_value<'a>(value: &'a Value, links: &'a [Link]) -> &'a Value
+    ensures value { result.now ≡ last_value value.now links.now }
+{
+    match links.last() {
+        Some(link) => &link.taken,
+        None => value,
+    }
+}

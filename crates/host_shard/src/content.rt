@@ -1,0 +1,60 @@
+//! What a place of the host's table holds.
+ghost use Rattle.std.specs.Prelude.{◌≡◌, ◌<◌, ◌^◌};
+ghost use Rattle.record_text.specs.Format.{short_keys};
+ghost use Rattle.record_text.specs.Element.{IsStamp};
+ghost use Rattle.record_text.specs.Value.{IsOf};
+ghost use Rattle.host_shard.specs.Content.{pending, pending_hot};
+ghost use Rattle.host_shard.specs.Shown.{shown_content};
+
+use crate::shard::Shard;
+use crate::waiting::waiting;
+use lamport_clocks::Stamp;
+use record_text::{Blob, Element, Value};
+use tree_keys::Path;
+
+/// The record of a key that waits by itself, apart from its shard.
+#[derive(Debug, Drop)]
+pub struct HotRecord {
+    pub key: u64,
+    pub value: Blob,
+    /// The stamp with which it was evicted last.
+    pub stamp: Stamp,
+    /// The verifier that evicted it.
+    pub evictor: u16,
+    /// How often the key was touched in this epoch.
+    pub touches: u64,
+}
+
+/// A shard, a hot record, or nothing.
+#[derive(Drop)]
+pub enum Content {
+    Cold(Shard),
+    Hot(HotRecord),
+    Vacant,
+}
+
+impl HotRecord {
+    /// The element with which the record waits, until a verifier takes it in.
+    pub fn pending(&self) -> Element
+        ensures value { result ≡ pending_hot short_keys self.now }
+        ensures kind { IsOf short_keys result.path result.value }
+        ensures stamp { IsStamp result.stamp }
+        ensures verifier { result.verifier < 2 ^ 16 }
+    {
+        let value = Value::Blob(self.value.copy());
+        waiting(Path::of_key(self.key), value, self.stamp, self.evictor)
+    }
+}
+
+impl Content {
+    /// The element with which the content waits, if it isn't vacant.
+    pub fn pending(&self) -> Option<Element>
+        ensures value { result ≡ pending short_keys (shown_content self.now) }
+    {
+        match self {
+            Content::Cold(shard) => Some(shard.pending()),
+            Content::Hot(hot) => Some(hot.pending()),
+            Content::Vacant => None,
+        }
+    }
+}

@@ -1,0 +1,92 @@
+//! The records of a shard by their paths.
+ghost use Rattle.std.specs.Prelude.{◌≡◌, [], not, is_some, unwrap_or, Some, None, IsSome, IfOk, OnOk, OnErr};
+ghost use Rattle.std.specs.Option.{option_copied, option_map};
+ghost use Rattle.record_text.specs.Format.{short_keys};
+ghost use Rattle.host_shard.specs.declared.record.Record.{Record};
+ghost use Rattle.host_shard.specs.Records.{record_at, with_kept, new_record};
+ghost use Rattle.host_shard.specs.Shard.{one_more};
+
+use crate::record::Record;
+use record_text::{Value, initial};
+use std::alloc::Global;
+use std::collections::BTreeMap;
+use std::marker::Model;
+use tree_keys::Path;
+use want_of_memory::Memory;
+
+/// Records by their paths. Contracts see the list of them.
+#[derive(Drop)]
+pub struct Records {
+    map: BTreeMap<Path, Record>,
+}
+
+impl Model for Records {
+    ghost use Rattle.host_shard.specs.Records.{Listed};
+
+    ghost Value = { Listed };
+
+    ghost view = { λ r. r.map.entries };
+}
+
+impl Records {
+    /// No records. They take memory from `alloc` as they come.
+    pub fn new(alloc: Global) -> Self
+        ensures empty { result ≡ [] }
+    {
+        Records {
+            map: BTreeMap::new(alloc),
+        }
+    }
+
+    /// The record of a path, if it has one.
+    pub fn get(&self, path: &Path) -> Option<&Record>
+        ensures value { option_copied result ≡ record_at self.now path.now }
+    {
+        self.map.get(path)
+    }
+
+    /// Makes sure that a path has a record, and answers whether it is a new one. For want of memory all is as before.
+    pub fn open(&mut self, path: &Path) -> Result<bool, Memory>
+        ensures new { IfOk result (λ new. new ≡ not (is_some (record_at self.old path.now))) }
+        ensures opened { OnOk result (record_at self.new ≡ with_kept (record_at self.old) path.now
+            (Some (unwrap_or (record_at self.old path.now) (new_record short_keys path.now)))) }
+        ensures as_before { OnErr result (self.new ≡ self.old) }
+    {
+        if self.map.contains_key(path) {
+            return Ok(false);
+        }
+        let new = Record {
+            value: initial(path),
+            touches: 0,
+        };
+        self.map.insert(*path, new)?;
+        Ok(true)
+    }
+
+    /// Drops the record of a path.
+    pub fn close(&mut self, path: &Path)
+        ensures closed { record_at self.new ≡ with_kept (record_at self.old) path.now None }
+    {
+        self.map.remove(path);
+    }
+
+    /// Sets the value of a path that has a record.
+    pub fn set(&mut self, path: &Path, value: Value)
+        ensures set { record_at self.new ≡ with_kept (record_at self.old) path.now
+            (option_map (λ r. record { value = value; touches = r.touches }) (record_at self.old path.now)) }
+    {
+        if let Some(kept) = self.map.get_mut(path) {
+            kept.value = value;
+        }
+    }
+
+    /// Counts one touch more of a path that has a record.
+    pub fn touch(&mut self, path: &Path)
+        ensures touched { record_at self.new ≡ with_kept (record_at self.old) path.now
+            (option_map (λ r. record { value = r.value; touches = one_more r.touches }) (record_at self.old path.now)) }
+    {
+        if let Some(kept) = self.map.get_mut(path) {
+            kept.touches = kept.touches.saturating_add(1);
+        }
+    }
+}

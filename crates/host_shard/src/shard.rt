@@ -1,0 +1,77 @@
+//! Shards.
+ghost use Rattle.std.specs.Prelude.{◌≡◌, ◌<◌, ◌^◌, IsSome};
+ghost use Rattle.std.specs.Option.{option_copied};
+ghost use Rattle.record_text.specs.Format.{short_keys};
+ghost use Rattle.record_text.specs.Element.{IsStamp};
+ghost use Rattle.host_shard.specs.Content.{key_path};
+ghost use Rattle.host_shard.specs.Shard.{tree_of, new_shard, pending_shard, touched};
+ghost use Rattle.host_shard.specs.Shown.{shown};
+
+use crate::records::Records;
+use crate::waiting::waiting;
+use lamport_clocks::Stamp;
+use record_text::{Element, Value, initial};
+use std::alloc::Global;
+use tree_keys::Path;
+
+/// The records at and below one path, and with what that path was evicted last.
+#[derive(Drop)]
+pub struct Shard {
+    /// The path at and below which the records lie.
+    pub frontier: Path,
+    /// The frontier's value.
+    pub value: Value,
+    /// The records below the frontier.
+    pub records: Records,
+    /// The stamp with which the frontier was evicted last.
+    pub stamp: Stamp,
+    /// The verifier that evicted it.
+    pub evictor: u16,
+}
+
+impl Shard {
+    /// A shard without records, whose frontier has its initial value.
+    pub fn new(alloc: Global, frontier: Path, stamp: Stamp, evictor: u16) -> Self
+        ensures shard { shown result ≡ new_shard short_keys frontier stamp evictor }
+    {
+        Shard {
+            frontier,
+            value: initial(&frontier),
+            records: Records::new(alloc),
+            stamp,
+            evictor,
+        }
+    }
+
+    /// The value of a path, the frontier's too, if it has a record.
+    pub fn value_of(&self, path: &Path) -> Option<&Value>
+        ensures value { option_copied result ≡ tree_of (shown self.now) path.now }
+    {
+        if path.is_same(&self.frontier) {
+            return Some(&self.value);
+        }
+        match self.records.get(path) {
+            Some(kept) => Some(&kept.value),
+            None => None,
+        }
+    }
+
+    /// The element with which the shard waits, until a verifier takes it in.
+    pub fn pending(&self) -> Element
+        ensures value { result ≡ pending_shard (shown self.now) }
+        ensures stamp { IsStamp result.stamp }
+        ensures verifier { result.verifier < 2 ^ 16 }
+    {
+        waiting(self.frontier, self.value.copy(), self.stamp, self.evictor)
+    }
+
+    /// Counts one touch more of a key that has a record.
+    pub fn touch(&mut self, key: u64)
+        requires there { IsSome ((shown self.old).records (key_path short_keys key)) }
+        ensures touched { shown self.new ≡ record (shown self.old) {
+          touches = touched (shown self.old).touches (key_path short_keys key);
+        } }
+    {
+        self.records.touch(&Path::of_key(key));
+    }
+}
