@@ -1,0 +1,7 @@
+-- How the laws of the host are proved, in reading order.
+pub mod StepLaws
+pub mod RunLaws
+mod StandingLemmas
+mod FamilyLemmas
+mod WorksLaws
+mod PathLemmas

@@ -1,0 +1,2 @@
+-- What the laws of the host cite, in reading order.
+pub mod Running

@@ -1,0 +1,6 @@
+//! What the host's commands do to a verifier, and to the host's records.
+#![tactic(auto)]
+
+mod laws;
+
+pub use laws::a_run_is_the_history;
