@@ -33,8 +33,7 @@ parent_of at node hold on = set_kid (new_entry at (values.Node node) hold) on tr
 
 -- A child fits under a node: it is added with one value and stands then with another, and the node's pointer of
 -- its side leads to it and is not deferred.
-pub record Fits (format : Format) (digest : Digest) (at : List Bool) (node : Node) (path : List Bool) (value taken : Value) : Type 0 where
-  pub on : Bool
+pub record Fits (format : Format) (digest : Digest) (at : List Bool) (node : Node) (on : Bool) (path : List Bool) (value taken : Value) : Type 0 where
   pub middle : Node
   pub pointer : Pointer
   pub below : side at path ≡ Some on
@@ -62,31 +61,31 @@ parent_there : (at path : List Bool) (node : Node) (hold : Hold) (on kid : Bool)
 parent_there at path node hold on kid below = ap (λ (s : Option Bool). above_on s (Some node)) below
 
 -- a child that was added leaves again
-pub leaves : (format : Format) (digest : Digest) (at : List Bool) (node : Node) (path : List Bool) (value taken last : Value) (hold : Hold)
-    → (fits : Fits format digest at node path value taken)
-    → evict_under format digest (parent_of at fits.middle hold fits.on) (new_entry path last M)
-    ≡ Ok (new_entry at (values.Node (pointing format digest node fits.on path last)) hold)
-leaves format digest at node path value taken last hold fits =
-    need-there (above parent path) refusals.NotBelow _ _ (record { on = fits.on; node = fits.middle })
-    (parent_there at path fits.middle hold fits.on true fits.below)
-    (test-passed (not (leads_to (node_side fits.middle fits.on) path)) refusals.NotChild _ _ leads
+pub leaves : (format : Format) (digest : Digest) (at : List Bool) (node : Node) (on : Bool) (path : List Bool) (value taken last : Value) (hold : Hold)
+    → (fits : Fits format digest at node on path value taken)
+    → evict_under format digest (parent_of at fits.middle hold on) (new_entry path last M)
+    ≡ Ok (new_entry at (values.Node (pointing format digest node on path last)) hold)
+leaves format digest at node on path value taken last hold fits =
+    need-there (above parent path) refusals.NotBelow _ _ (record { on = on; node = fits.middle })
+    (parent_there at path fits.middle hold on true fits.below)
+    (test-passed (not (leads_to (node_side fits.middle on) path)) refusals.NotChild _ _ leads
     (test-passed (has_kid (new_entry path last M)) refusals.HasChild _ _ refl
-    (test-passed (holds_wrong M (kid_of parent fits.on) (is_deferred (node_side fits.middle fits.on))) refusals.WrongHold _ _ held
+    (test-passed (holds_wrong M (kid_of parent on) (is_deferred (node_side fits.middle on))) refusals.WrongHold _ _ held
     (ap (λ (e : Entry). Ok e)
-    (kid_gone at fits.middle (pointing format digest fits.middle fits.on path last) hold fits.on
+    (kid_gone at fits.middle (pointing format digest fits.middle on path last) hold on
     ∙ ap (λ (n : Node). new_entry at (values.Node n) hold) (fits.over (Some (pointer_to format digest path last))))))))
   where
     parent : Entry
-    parent = parent_of at fits.middle hold fits.on
+    parent = parent_of at fits.middle hold on
 
-    leads : not (leads_to (node_side fits.middle fits.on) path) ≡ false
+    leads : not (leads_to (node_side fits.middle on) path) ≡ false
     leads =
         ap (λ (o : Option Pointer). not (leads_to o path)) fits.points
         ∙ (ap (λ (p : List Bool). not (same_path p path)) fits.to ∙ ap (λ (b : Bool). not b) (same_path-self path))
 
-    held : holds_wrong M (kid_of parent fits.on) (is_deferred (node_side fits.middle fits.on)) ≡ false
+    held : holds_wrong M (kid_of parent on) (is_deferred (node_side fits.middle on)) ≡ false
     held =
-        ap (λ (b : Bool). not b || is_deferred (node_side fits.middle fits.on)) (kid_there at fits.middle hold fits.on)
+        ap (λ (b : Bool). not b || is_deferred (node_side fits.middle on)) (kid_there at fits.middle hold on)
         ∙ (ap (λ (o : Option Pointer). is_deferred o) fits.points ∙ fits.fresh)
 
 -- ---- where a child fits
@@ -106,9 +105,8 @@ kid_clear at node hold false = refl
 -- where the pointer leads nowhere, a path with its initial value
 pub fits_new : (format : Format) (digest : Digest) (at key : List Bool) (node : Node) (on : Bool)
     → side at key ≡ Some on → node_side node on ≡ None
-    → Fits format digest at node key (initial_value format key) (initial_value format key)
+    → Fits format digest at node on key (initial_value format key) (initial_value format key)
 fits_new format digest at key node on below none = record {
-  on = on;
   middle = pointing format digest node on key (initial_value format key);
   pointer = pointer_to format digest key (initial_value format key);
   below = below;
@@ -137,9 +135,8 @@ fits_new format digest at key node on below none = record {
 pub fits_known : (format : Format) (digest : Digest) (at : List Bool) (node : Node) (on : Bool) (pointer : Pointer) (value : Value)
     → side at pointer.path ≡ Some on → node_side node on ≡ Some pointer → pointer.deferred ≡ false
     → pointer.digest ≡ digest (value_text format value)
-    → Fits format digest at node pointer.path value value
+    → Fits format digest at node on pointer.path value value
 fits_known format digest at node on pointer value below points fresh kept = record {
-  on = on;
   middle = node;
   pointer = pointer;
   below = below;
@@ -187,9 +184,8 @@ lone path value hold false = refl
 -- where it leads below the path: the path takes the pointer over
 pub fits_fork : (format : Format) (digest : Digest) (at fork : List Bool) (node : Node) (on which : Bool) (pointer : Pointer)
     → side at fork ≡ Some on → node_side node on ≡ Some pointer → side fork pointer.path ≡ Some which
-    → Fits format digest at node fork (initial_value format fork) (values.Node (taken_over (side fork pointer.path) pointer))
+    → Fits format digest at node on fork (initial_value format fork) (values.Node (taken_over (side fork pointer.path) pointer))
 fits_fork format digest at fork node on which pointer below points further = record {
-  on = on;
   middle = pointing format digest node on fork (initial_value format fork);
   pointer = pointer_to format digest fork (initial_value format fork);
   below = below;

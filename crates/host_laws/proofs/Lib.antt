@@ -5,3 +5,5 @@ mod StandingLemmas
 mod FamilyLemmas
 mod WorksLaws
 mod PathLemmas
+mod EndLemmas
+pub mod ChainLaws

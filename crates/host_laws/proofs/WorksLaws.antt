@@ -90,17 +90,17 @@ told_visit at hold node middle on path taken last left clock told after =
     ∷ (told ++ (after.at, did_evict_m (parent_of at middle hold on) (new_entry at (values.Node left) hold) (new_entry path last M)) ∷ [])
 
 -- Commands that work behind a child work behind its parent, between the add and the evict of the child.
-pub descend : (rules : Rules) (depth : ℕ) (at path : List Bool) (hold : Hold) (node : Node) (value taken last : Value)
+pub descend : (rules : Rules) (depth : ℕ) (at path : List Bool) (hold : Hold) (node : Node) (on : Bool) (value taken last : Value)
     (clock after : Reading) (inner : List Command) (told : Told)
-    → (fits : Fits rules.scheme.format rules.scheme.digest at node path value taken)
+    → (fits : Fits rules.scheme.format rules.scheme.digest at node on path value taken)
     → Works rules depth path M taken clock inner told last after
-    → let left = pointing rules.scheme.format rules.scheme.digest node fits.on path last in
+    → let left = pointing rules.scheme.format rules.scheme.digest node on path last in
     Works rules (suc depth) at hold (values.Node node) clock (AddM path value at ∷ (inner ++ EvictM path at ∷ []))
-    (told_visit at hold node fits.middle fits.on path taken last left clock told after) (values.Node left) after
-descend rules depth at path hold node value taken last clock after inner told fits works front room clear roomy =
+    (told_visit at hold node fits.middle on path taken last left clock told after) (values.Node left) after
+descend rules depth at path hold node on value taken last clock after inner told fits works front room clear roomy =
     run-step rules _ (AddM path value at) (inner ++ EvictM path at ∷ []) _ (standing (front ++ parent ∷ []) room clock child) _ _ added
     (run-append rules _ inner (EvictM path at ∷ []) told _ (standing (front ++ parent ∷ []) room after gone) _
-    (works (front ++ parent ∷ []) room (clear-below at path fits.on front parent fits.below refl clear) inside)
+    (works (front ++ parent ∷ []) room (clear-below at path on front parent fits.below refl clear) inside)
     (run-one rules _ (EvictM path at) _ (standing front room after later) evicted))
   where
     format : Format
@@ -113,7 +113,7 @@ descend rules depth at path hold node value taken last clock after inner told fi
     before = new_entry at (values.Node node) hold
 
     parent : Entry
-    parent = parent_of at fits.middle hold fits.on
+    parent = parent_of at fits.middle hold on
 
     child : Entry
     child = new_entry path taken M
@@ -122,7 +122,7 @@ descend rules depth at path hold node value taken last clock after inner told fi
     gone = new_entry path last M
 
     later : Entry
-    later = new_entry at (values.Node (pointing format digest node fits.on path last)) hold
+    later = new_entry at (values.Node (pointing format digest node on path last)) hold
 
     length-last : (entry : Entry) → length (front ++ entry ∷ []) ≡ length front + 1
     length-last entry = length-append front (entry ∷ [])
@@ -134,10 +134,10 @@ descend rules depth at path hold node value taken last clock after inner told fi
     here = clear at (is_prefix-self at)
 
     below : entry_of path front ≡ None
-    below = clear path (prefix_of_side at path fits.on fits.below)
+    below = clear path (prefix_of_side at path on fits.below)
 
     apart : same_path path at ≡ false
-    apart = same_path-apart path at (λ same. above_no_prefix at path fits.on fits.below (subst (λ (k : List Bool). is_prefix k at ≡ true) (sym same) (is_prefix-self at)))
+    apart = same_path-apart path at (λ same. above_no_prefix at path on fits.below (subst (λ (k : List Bool). is_prefix k at ≡ true) (sym same) (is_prefix-self at)))
 
     full : nat_le room (length (front ++ before ∷ [])) ≡ false
     full = grind (arith, nat_tests, length-last before)
@@ -145,7 +145,7 @@ descend rules depth at path hold node value taken last clock after inner told fi
     added : transition rules (standing front room clock before) (AddM path value at)
         ≡ Ok (did_add_m before parent child, standing (front ++ parent ∷ []) room clock child)
     added =
-        test-passed (is_root path) refusals.IsRoot _ _ (not_root at path fits.on fits.below)
+        test-passed (is_root path) refusals.IsRoot _ _ (not_root at path on fits.below)
         (test-passed (is_some (entry_of path (front ++ before ∷ []))) refusals.AlreadyCached _ _
         (ap (λ (o : Option Entry). is_some o) (entry_of-neither path front before below apart))
         (test-passed (is_full (standing front room clock before)) refusals.CacheFull _ _ full
@@ -158,7 +158,7 @@ descend rules depth at path hold node value taken last clock after inner told fi
     parent_there = entry_of-front at (front ++ parent ∷ []) (gone ∷ []) parent (entry_of-last front parent here)
 
     cleared : (entry : Entry) → entry.path ≡ at → entry_of path (front ++ entry ∷ []) ≡ None
-    cleared entry is = clear-below at path fits.on front entry fits.below is clear path (is_prefix-self path)
+    cleared entry is = clear-below at path on front entry fits.below is clear path (is_prefix-self path)
 
     left_entries : without path (replaced later ((front ++ parent ∷ []) ++ gone ∷ [])) ≡ front ++ later ∷ []
     left_entries =
@@ -170,9 +170,9 @@ descend rules depth at path hold node value taken last clock after inner told fi
     evicted : transition rules (standing (front ++ parent ∷ []) room after gone) (EvictM path at)
         ≡ Ok (did_evict_m parent later gone, standing front room after later)
     evicted =
-        test-passed (is_root path) refusals.IsRoot _ _ (not_root at path fits.on fits.below)
+        test-passed (is_root path) refusals.IsRoot _ _ (not_root at path on fits.below)
         (need-there (entry_of path ((front ++ parent ∷ []) ++ gone ∷ [])) refusals.NotCached _ _ gone
         (entry_of-last (front ++ parent ∷ []) gone (cleared parent refl))
         (need-there (entry_of at ((front ++ parent ∷ []) ++ gone ∷ [])) refusals.ParentNotCached _ _ parent parent_there
-        (and_then-there (evict_under format digest parent gone) _ _ later (leaves format digest at node path value taken last hold fits)
+        (and_then-there (evict_under format digest parent gone) _ _ later (leaves format digest at node on path value taken last hold fits)
         (ap (λ (entries : List Entry). Ok (did_evict_m parent later gone, with_entries (standing (front ++ parent ∷ []) room after gone) entries)) left_entries))))

@@ -1,2 +1,3 @@
 -- What the laws of the host cite, in reading order.
 pub mod Running
+pub mod Carried
