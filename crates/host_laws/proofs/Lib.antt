@@ -7,3 +7,4 @@ mod WorksLaws
 mod PathLemmas
 mod EndLemmas
 pub mod ChainLaws
+mod VisitLaws

@@ -83,10 +83,10 @@ run-append rules state (command ∷ first) second told_first told_second middle 
 
 -- ---- what was told, and the history
 
-added_told-append : (first second : Told) → added_told (first ++ second) ≡ added_told first ++ added_told second
+pub added_told-append : (first second : Told) → added_told (first ++ second) ≡ added_told first ++ added_told second
 added_told-append first second = flat_map-append (λ (one : Stamp × Change). added_by one.1) first second
 
-evicted_told-append : (first second : Told) → evicted_told (first ++ second) ≡ evicted_told first ++ evicted_told second
+pub evicted_told-append : (first second : Told) → evicted_told (first ++ second) ≡ evicted_told first ++ evicted_told second
 evicted_told-append first second = flat_map-append (λ (one : Stamp × Change). evicted_by one.1) first second
 
 run-events : (rules : Rules) (number index : ℕ) (state : State) (commands : List Command) (told : Told) (last : State)
