@@ -115,7 +115,7 @@ module _ (format : Format) (digest : Digest) (tree : Tree) (key : List Bool) (le
         node = node;
         is_node = refl;
         on = on;
-    fits = fits_known format digest at node on pointer kept.value there points (lead.fresh origin.0 origin.1 pointer origin.2 begins) kept.digest_of;
+        fits = fits_known format digest at node on pointer kept.value there points (lead.fresh origin.0 origin.1 pointer origin.2 begins) kept.digest_of;
         on_side = below;
         begins = begins;
         kind = lead.kinds pointer.path kept.value kept.there;

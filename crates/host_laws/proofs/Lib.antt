@@ -8,3 +8,5 @@ mod PathLemmas
 mod EndLemmas
 pub mod ChainLaws
 mod VisitLaws
+mod BetweenLaws
+mod RequestLaws

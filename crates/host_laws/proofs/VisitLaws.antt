@@ -40,13 +40,13 @@ use Rattle.host_laws.proofs.WorksLaws.{Works, told_visit, descend}
 use Rattle.host_laws.proofs.EndLemmas.{access_by, told_request, works_request}
 use Rattle.host_laws.proofs.ChainLaws.{LeadTo, AreOf, IsNext, next_fits}
 
-accesses_told-append : (first second : Told) → accesses_told (first ++ second) ≡ accesses_told first ++ accesses_told second
+pub accesses_told-append : (first second : Told) → accesses_told (first ++ second) ≡ accesses_told first ++ accesses_told second
 accesses_told-append first second = flat_map-append (λ (one : Stamp × Change). accesses_by one.1) first second
 
-carried-append : (path : List Bool) (first second : Told) → carried path (first ++ second) ≡ carried path first ++ carried path second
+pub carried-append : (path : List Bool) (first second : Told) → carried path (first ++ second) ≡ carried path first ++ carried path second
 carried-append path first second = flat_map-append (λ (one : Stamp × Change). carrying path one.1) first second
 
-all-append : {A : Type 0} (P : A → Type 0) (xs ys : List A) → AllByRecursion P xs → AllByRecursion P ys → AllByRecursion P (xs ++ ys)
+pub all-append : {A : Type 0} (P : A → Type 0) (xs ys : List A) → AllByRecursion P xs → AllByRecursion P ys → AllByRecursion P (xs ++ ys)
 all-append P [] ys first second = second
 all-append P (x ∷ xs) ys first second = (first.0, all-append P xs ys first.1 second)
 

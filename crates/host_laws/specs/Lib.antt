@@ -1,3 +1,4 @@
 -- What the laws of the host cite, in reading order.
 pub mod Running
 pub mod Carried
+pub mod Served
