@@ -10,3 +10,5 @@ pub mod ChainLaws
 mod VisitLaws
 mod BetweenLaws
 mod RequestLaws
+mod PartLaws
+mod MirrorLaws

@@ -72,7 +72,7 @@ leads format digest shard key can = record {
             absurd (can.cold (subst (IsAmong can.hot) (prefix_whole pointer.path key begins short) among))
 
 -- the frontier's own record
-frontier_there : (shard : Shard) → tree_of shard shard.frontier ≡ Some shard.value
+pub frontier_there : (shard : Shard) → tree_of shard shard.frontier ≡ Some shard.value
 frontier_there shard = ap (λ (b : Bool). if b then Some shard.value else shard.records shard.frontier) (same_path-self shard.frontier)
 
 pub frontier_of : (shard : Shard) → AreOf (tree_of shard) shard.value

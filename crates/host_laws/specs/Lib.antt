@@ -2,3 +2,4 @@
 pub mod Running
 pub mod Carried
 pub mod Served
+pub mod Mirroring
