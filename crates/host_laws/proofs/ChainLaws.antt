@@ -2,6 +2,7 @@
 use Rattle.std.proofs.Common.{◌≡◌, ◌≢◌, ◌⊎◌, ◌<◌, ◌≤◌, Bool, true, false, not, List, [], ◌∷◌, length, Option, Some, None, if◌then◌else◌, eq-eqb, nat_eq, refl, sym, ◌∙◌, ap, subst, inl, inr, arith}
 use Rattle.std.specs.Option.{unwrap_or}
 use Rattle.std.proofs.lemmas.Bool.{false≢true}
+use Rattle.std.proofs.lemmas.Bool.Decides.{nat_tests}
 use Rattle.std.proofs.lemmas.Option.{none-some, same_Some}
 use Rattle.tree_keys.specs.Path.{side, is_prefix, common, same_path}
 use Rattle.tree_keys.proofs.PathLaws.{same_path-apart}
@@ -48,6 +49,7 @@ pub record IsNext (format : Format) (digest : Digest) (tree : Tree) (key at : Li
   pub fits : Fits format digest at node on link.path link.value link.taken
   pub on_side : side at key ≡ Some on
   pub begins : is_prefix link.path key ≡ true
+  pub added : IsOf format link.path link.value
   pub kind : IsOf format link.path link.taken
   pub known : AreOf tree link.taken
   pub brought : leads_to (node_side node on) link.path ≡ true → tree link.path ≡ Some link.taken
@@ -71,6 +73,14 @@ initial_none format path on pointer is = go (nat_eq (length path) (path_bits for
 initial_data : (format : Format) (path : List Bool) → length path ≡ path_bits format → IsOf format path (initial_value format path)
 initial_data format path whole =
     subst (λ (b : Bool). IsOf format path (if b then values.Blob None else values.Node empty_node)) (sym (eq-eqb (length path) (path_bits format) whole)) (whole, tt)
+
+-- and a shorter one with no pointers
+initial_node : (format : Format) (path : List Bool) → length path < path_bits format → IsOf format path (initial_value format path)
+initial_node format path short = go (nat_eq (length path) (path_bits format)) refl
+  where
+    go : (b : Bool) → nat_eq (length path) (path_bits format) ≡ b → IsOf format path (if b then values.Blob None else values.Node empty_node)
+    go true same = let whole : length path ≡ path_bits format = grind (arith, nat_tests) in absurd (omega (arith, whole, short))
+    go false apart = (short, tt, tt)
 
 -- what takes a pointer over has that pointer alone
 taken_pointer : (which side' : Bool) (pointer found : Pointer) → node_side (taken_over (Some which) pointer) side' ≡ Some found → (side' ≡ which) × (pointer ≡ found)
@@ -98,6 +108,7 @@ module _ (format : Format) (digest : Digest) (tree : Tree) (key : List Bool) (le
     fits = fits_new format digest at key node on below none;
     on_side = below;
     begins = is_prefix-self key;
+    added = initial_data format key lead.whole;
     kind = initial_data format key lead.whole;
     known = λ which pointer is. absurd (initial_none format key which pointer is);
     brought = λ is. absurd (false≢true (ap (λ (o : Option Pointer). leads_to o key) (sym none) ∙ is));
@@ -118,6 +129,7 @@ module _ (format : Format) (digest : Digest) (tree : Tree) (key : List Bool) (le
         fits = fits_known format digest at node on pointer kept.value there points (lead.fresh origin.0 origin.1 pointer origin.2 begins) kept.digest_of;
         on_side = below;
         begins = begins;
+        added = lead.kinds pointer.path kept.value kept.there;
         kind = lead.kinds pointer.path kept.value kept.there;
         known = λ which other is. (pointer.path, which, record { value = kept.value; there = kept.there; leads = is });
         brought = λ is. kept.there;
@@ -148,6 +160,7 @@ module _ (format : Format) (digest : Digest) (tree : Tree) (key : List Bool) (le
     fits = fits_fork format digest at fork node on where_to.which pointer where_to.below points where_to.path_side;
     on_side = below;
     begins = prefix_of_side fork key (not where_to.which) where_to.key_side;
+    added = initial_node format fork (omega (arith, length-side fork pointer.path where_to.which where_to.path_side, of_side.fits));
     kind = subst (λ (s : Option Bool). IsOf format fork (values.Node (taken_over s pointer))) (sym where_to.path_side)
         (IsOf-with_side format fork empty_node where_to.which (Some pointer) (omega (arith, length-side fork pointer.path where_to.which where_to.path_side, of_side.fits), tt, tt)
         (record { below = is_prefix-side fork pointer.path where_to.which where_to.path_side; fits = of_side.fits; digest = of_side.digest }));

@@ -187,13 +187,15 @@ module _ (format : Format) (digest : Digest) (tree base : Tree) (frontier : List
   stands full path value [] kind known chain here agrees = here
   stands full path value (link ∷ links) kind known chain here agrees =
       let next = next_fits format digest tree key lead path value link kind known chain.0 in
-      let became = closed_value format digest false link.path link.taken links last in
-      (here, stands full link.path link.taken links next.kind next.known chain.1
-      (agrees link.path next.on next.fits.below
-      ∙ ap (λ (b : Bool). if b then Some became else closed_records format digest false base links last link.path) (same_path-self link.path))
-      (λ k on below. agrees k next.on (side-trans path link.path k next.on on next.fits.below below)
-      ∙ ap (λ (b : Bool). if b then Some became else closed_records format digest false base links last k)
-      (same_path-apart k link.path (below_apart link.path k on below))))
+      let became = closed_value format digest false link.path link.taken links last in (
+        here,
+        stands full link.path link.taken links next.kind next.known chain.1
+            (agrees link.path next.on next.fits.below
+            ∙ ap (λ (b : Bool). if b then Some became else closed_records format digest false base links last link.path) (same_path-self link.path))
+            (λ k on below. agrees k next.on (side-trans path link.path k next.on on next.fits.below below)
+            ∙ ap (λ (b : Bool). if b then Some became else closed_records format digest false base links last k)
+            (same_path-apart k link.path (below_apart link.path k on below))),
+      )
 
   -- some path of the chain
   pub record Part (full : Tree) (path : List Bool) : Type 0 where
