@@ -29,26 +29,11 @@ use Rattle.host_plan.specs.Moments.{taking, giving, renewing}
 use Rattle.host_plan.specs.Visit.{between}
 use Rattle.host_laws.specs.Running.{Told, run}
 use Rattle.host_laws.specs.Served.{IsBare}
+use Rattle.host_laws.proofs.MomentLaws.{received-taken, sent-given}
 use Rattle.host_laws.proofs.StepLaws.{test-passed, need-there, and_then-there, timed-there}
 use Rattle.host_laws.proofs.RunLaws.{run-one, run-step, run-append}
 use Rattle.host_laws.proofs.StandingLemmas.{entry_of-last, without-last}
 use Rattle.host_laws.proofs.WorksLaws.{IsClear, standing, Works}
-
--- ---- the clock
-
--- a stamp of an open epoch is taken in, where the counter doesn't pass the end
-pub received-taken : (clock : Reading) (stamp : Stamp) → is_open clock stamp.epoch ≡ true → (taking clock stamp).at.counter ≤ clock.end
-    → received clock stamp ≡ Ok (taking clock stamp)
-received-taken clock stamp is_taken within =
-    test-passed (not (is_open clock stamp.epoch)) faults.BadEpoch _ _ (ap (λ (b : Bool). not b) is_taken)
-    (test-passed (nat_lt clock.end (taking clock stamp).at.counter) faults.ClockEnd _ _ (grind (arith, nat_tests)) refl)
-
--- the next counter is handed out, where it doesn't pass the end
-pub sent-given : (clock : Reading) → (giving clock).at.counter ≤ clock.end → sent clock (giving clock).at ≡ Ok (giving clock)
-sent-given clock within =
-    test-passed (not (clock.at.epoch == clock.at.epoch)) faults.BadEpoch _ _ (ap (λ (b : Bool). not b) (eq-eqb clock.at.epoch clock.at.epoch refl))
-    (test-passed (nat_le (1 + clock.at.counter) clock.at.counter) faults.StampNotLater _ _ (grind (arith, nat_tests))
-    (test-passed (nat_lt clock.end (1 + clock.at.counter)) faults.ClockEnd _ _ (grind (arith, nat_tests)) refl))
 
 -- ---- a verifier at rest
 

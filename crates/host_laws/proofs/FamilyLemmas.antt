@@ -1,6 +1,6 @@
 -- How a child comes in under a parent whose kid bits are clear, and leaves it again.
 use Rattle.std.proofs.Common.{◌≡◌, ℕ, Bool, true, false, not, ◌||◌, List, [], ◌∷◌, Option, Some, None, is_some, Result, Ok, if◌then◌else◌, refl, sym, ◌∙◌, ap, subst}
-use Rattle.std.proofs.lemmas.Option.{none-some}
+use Rattle.std.specs.Option.{option_map}
 use Rattle.tree_keys.specs.Path.{side, same_path}
 use Rattle.tree_keys.proofs.PathLaws.{same_path-self, same_path-apart}
 use Rattle.record_text.specs.declared.value.Pointer.{Pointer}
@@ -16,14 +16,14 @@ use Rattle.record_text.specs.Same.{same_bytes, same_value}
 use Rattle.record_text.proofs.SameTestLaws.{same_bytes-self, same_value-self}
 use Rattle.merkle_records.specs.declared.cases.AddCase.{AddCase}
 use Rattle.merkle_records.specs.declared.cases.AddCase.TheVariants as cases
-use Rattle.merkle_records.specs.Merkle.{Digest, case_of, pointing, pointer_to, taken_over, added_by, after_evict}
+use Rattle.merkle_records.specs.Merkle.{Digest, case_of, pointing, pointer_to, deferred_pointer, taken_over, added_by, after_evict, after_defer}
 use Rattle.verifier_cache.specs.declared.entry.Entry.{Entry}
 use Rattle.verifier_cache.specs.declared.entry.Hold.{Hold}
 use Rattle.verifier_cache.specs.declared.entry.Hold.TheVariants.{Root, M, B}
 use Rattle.verifier_cache.specs.Entry.{kid_of, set_kid, has_kid, new_entry}
 use Rattle.verifier_commands.specs.declared.changes.Parent.{Parent}
 use Rattle.verifier_commands.specs.declared.changes.Family.{Family}
-use Rattle.verifier_commands.specs.Changes.{above, above_on, node_of, leads_to, is_deferred, has_digest, leads_below, set_kid_on, family_of, add_by, add_under, left_by, evict_under, holds_wrong}
+use Rattle.verifier_commands.specs.Changes.{above, above_on, node_of, leads_to, is_deferred, has_digest, leads_below, set_kid_on, family_of, add_by, add_under, left_by, evict_under, holds_wrong, is_by_digest, defer_under}
 use Rattle.verifier_commands.proofs.BelowLaws.{below_apart}
 use Rattle.host_laws.proofs.StepLaws.{test-passed, need-there}
 
@@ -226,3 +226,41 @@ fits_fork format digest at fork node on which pointer below points further = rec
         (ap (λ (o : Option Pointer). Ok (family_of (new_entry at (values.Node node) hold) above_it (added_by format digest node on fork (initial_value format fork) o (case_of o fork)) fork (leads_below fork o))) points
         ∙ (ap (λ (c : AddCase). Ok (family_of (new_entry at (values.Node node) hold) above_it (added_by format digest node on fork (initial_value format fork) (Some pointer) c) fork (side fork pointer.path))) parts
         ∙ ap (λ (e : Entry). Ok (record { parent = parent_of at (pointing format digest node on fork (initial_value format fork)) hold on; child = e })) (child hold))))
+
+-- its pointer
+pub fits_new-pointer : (format : Format) (digest : Digest) (at key : List Bool) (node : Node) (on : Bool)
+    → (below : side at key ≡ Some on) (none : node_side node on ≡ None)
+    → (fits_new format digest at key node on below none).pointer ≡ pointer_to format digest key (initial_value format key)
+unfolding fits_new
+fits_new-pointer format digest at key node on below none = refl
+
+-- ---- the child is lent
+
+-- the node of a parent whose child of a side was lent: the pointer to it is marked
+abbrev pub lending : Node → Bool → Pointer → Node
+lending node on pointer = with_side node on (Some (deferred_pointer pointer))
+
+-- a child that was added is deferred
+pub is_lent : (format : Format) (digest : Digest) (at : List Bool) (node : Node) (on : Bool) (path : List Bool) (value taken : Value) (hold : Hold)
+    → (fits : Fits format digest at node on path value taken)
+    → defer_under (parent_of at fits.middle hold on) (new_entry path taken M)
+    ≡ Ok (new_entry at (values.Node (lending node on fits.pointer)) hold)
+is_lent format digest at node on path value taken hold fits =
+    need-there (above parent path) refusals.NotBelow _ _ (record { on = on; node = fits.middle })
+    (parent_there at path fits.middle hold on true fits.below)
+    (test-passed (not (leads_to (node_side fits.middle on) path)) refusals.NotChild _ _ leads
+    (test-passed (has_kid (new_entry path taken M)) refusals.HasChild _ _ refl
+    (test-passed (not (is_by_digest M) || not (kid_of parent on)) refusals.WrongHold _ _ (ap (λ (b : Bool). not b) (kid_there at fits.middle hold on))
+    (ap (λ (e : Entry). Ok e)
+    (kid_gone at fits.middle (after_defer fits.middle on) hold on
+    ∙ ap (λ (n : Node). new_entry at (values.Node n) hold)
+    (ap (λ (o : Option Pointer). with_side fits.middle on (option_map deferred_pointer o)) fits.points
+    ∙ fits.over (Some (deferred_pointer fits.pointer))))))))
+  where
+    parent : Entry
+    parent = parent_of at fits.middle hold on
+
+    leads : not (leads_to (node_side fits.middle on) path) ≡ false
+    leads =
+        ap (λ (o : Option Pointer). not (leads_to o path)) fits.points
+        ∙ (ap (λ (p : List Bool). not (same_path p path)) fits.to ∙ ap (λ (b : Bool). not b) (same_path-self path))

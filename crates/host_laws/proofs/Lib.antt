@@ -3,6 +3,7 @@ pub mod StepLaws
 pub mod RunLaws
 mod StandingLemmas
 mod FamilyLemmas
+mod MomentLaws
 mod WorksLaws
 mod PathLemmas
 mod EndLemmas

@@ -47,7 +47,8 @@ use Rattle.host_laws.proofs.PathLemmas.{prefix_whole}
 use Rattle.host_laws.proofs.EndLemmas.{IsEnd, change_by, told_request, works_request}
 use Rattle.host_laws.proofs.ChainLaws.{LeadTo, AreOf, IsNext, next_fits}
 use Rattle.host_laws.proofs.VisitLaws.{Visited, visited, accesses_told-append, carried-append, all-append}
-use Rattle.host_laws.proofs.BetweenLaws.{received-taken, sent-given, clear-bare, length-bare, told_between, between_runs}
+use Rattle.host_laws.proofs.MomentLaws.{received-taken, sent-given}
+use Rattle.host_laws.proofs.BetweenLaws.{clear-bare, length-bare, told_between, between_runs}
 
 -- ---- a shard that can serve a key
 
