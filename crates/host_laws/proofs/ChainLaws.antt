@@ -58,7 +58,7 @@ pub record IsNext (format : Format) (digest : Digest) (tree : Tree) (key at : Li
       → (pointer.path ≡ link.path) × (tree link.path ≡ Some link.taken)
 
 -- a path that has no record yet has no pointer
-initial_none : (format : Format) (path : List Bool) (on : Bool) (pointer : Pointer) → pointer_of (initial_value format path) on ≡ Some pointer → ⊥
+pub initial_none : (format : Format) (path : List Bool) (on : Bool) (pointer : Pointer) → pointer_of (initial_value format path) on ≡ Some pointer → ⊥
 initial_none format path on pointer is = go (nat_eq (length path) (path_bits format)) is
   where
     side_none : (which : Bool) → node_side empty_node which ≡ Some pointer → ⊥
@@ -75,7 +75,7 @@ initial_data format path whole =
     subst (λ (b : Bool). IsOf format path (if b then values.Blob None else values.Node empty_node)) (sym (eq-eqb (length path) (path_bits format) whole)) (whole, tt)
 
 -- and a shorter one with no pointers
-initial_node : (format : Format) (path : List Bool) → length path < path_bits format → IsOf format path (initial_value format path)
+pub initial_node : (format : Format) (path : List Bool) → length path < path_bits format → IsOf format path (initial_value format path)
 initial_node format path short = go (nat_eq (length path) (path_bits format)) refl
   where
     go : (b : Bool) → nat_eq (length path) (path_bits format) ≡ b → IsOf format path (if b then values.Blob None else values.Node empty_node)

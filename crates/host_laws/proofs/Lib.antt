@@ -13,3 +13,5 @@ mod BetweenLaws
 mod RequestLaws
 mod PartLaws
 mod MirrorLaws
+mod SetUpLemmas
+mod SetUpLaws

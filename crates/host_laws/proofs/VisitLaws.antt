@@ -67,15 +67,11 @@ pub record Visited (rules : Rules) (base : Tree) (at : List Bool) (hold : Hold) 
 
 -- ---- one link more
 
--- a child that came and went, with what was done in between
-abbrev told_link : List Bool → Hold → Node → Node → Bool → List Bool → Value → Value → Node → Reading → Told → Told
-told_link at hold node middle on path taken last left clock told = told_visit at hold node middle on path taken last left clock told clock
-
-carried_link-other : (at : List Bool) (hold : Hold) (node middle left : Node) (on : Bool) (path k : List Bool) (taken last : Value) (clock : Reading) (told : Told)
-    → same_path path k ≡ false → carried k (told_link at hold node middle on path taken last left clock told) ≡ carried k told
-carried_link-other at hold node middle left on path k taken last clock told apart =
-    ap (λ (b : Bool). (if b then add ∷ [] else []) ++ carried k (told ++ (clock.at, evict) ∷ [])) apart
-    ∙ (carried-append k told ((clock.at, evict) ∷ [])
+pub carried_link-other : (at : List Bool) (hold : Hold) (node middle left : Node) (on : Bool) (path k : List Bool) (taken last : Value) (clock after : Reading) (told : Told)
+    → same_path path k ≡ false → carried k (told_visit at hold node middle on path taken last left clock told after) ≡ carried k told
+carried_link-other at hold node middle left on path k taken last clock after told apart =
+    ap (λ (b : Bool). (if b then add ∷ [] else []) ++ carried k (told ++ (after.at, evict) ∷ [])) apart
+    ∙ (carried-append k told ((after.at, evict) ∷ [])
     ∙ (ap (λ (b : Bool). carried k told ++ ((if b then evict ∷ [] else []) ++ [])) apart
     ∙ append-nil (carried k told)))
   where
@@ -87,7 +83,7 @@ carried_link-other at hold node middle left on path k taken last clock told apar
 
 carried_link-own : (at : List Bool) (hold : Hold) (node middle left : Node) (on : Bool) (path : List Bool) (taken last : Value) (clock : Reading) (told : Told)
     → carried path told ≡ []
-    → carried path (told_link at hold node middle on path taken last left clock told)
+    → carried path (told_visit at hold node middle on path taken last left clock told clock)
     ≡ did_add_m (new_entry at (values.Node node) hold) (parent_of at middle hold on) (new_entry path taken M)
     ∷ did_evict_m (parent_of at middle hold on) (new_entry at (values.Node left) hold) (new_entry path last M) ∷ []
 carried_link-own at hold node middle left on path taken last clock told none =
@@ -157,11 +153,11 @@ module _ (rules : Rules) (tree base : Tree) (clock : Reading) (request : Request
       left = pointing format digest next.node next.on link.path became
 
       told : Told
-      told = told_link at hold next.node next.fits.middle next.on link.path link.taken became left clock rest.told
+      told = told_visit at hold next.node next.fits.middle next.on link.path link.taken became left clock rest.told clock
 
       outside : (path : List Bool) → side at path ≡ None → carried path told ≡ []
       outside path apart =
-          carried_link-other at hold next.node next.fits.middle left next.on link.path path link.taken became clock rest.told
+          carried_link-other at hold next.node next.fits.middle left next.on link.path path link.taken became clock clock rest.told
           (same_path-apart link.path path (λ same. none-some next.on (sym apart ∙ (ap (side at) (sym same) ∙ next.fits.below))))
           ∙ rest.outside path (further (side link.path path) refl)
         where
@@ -199,7 +195,7 @@ module _ (rules : Rules) (tree base : Tree) (clock : Reading) (request : Request
               (same_path-true link.path path same) (inr own)
           go false apart =
               subst (λ (changes : List Change). IsCarried path (base path) (closed_records format digest false base (link ∷ links) (value_after request found) path) changes)
-              (sym (carried_link-other at hold next.node next.fits.middle left next.on link.path path link.taken became clock rest.told apart))
+              (sym (carried_link-other at hold next.node next.fits.middle left next.on link.path path link.taken became clock clock rest.told apart))
               (subst (λ (after : Option Value). IsCarried path (base path) after (carried path rest.told))
               (sym (ap (λ (b : Bool). if b then Some became else closed_records format digest false base links (value_after request found) path) other))
               (rest.once path))

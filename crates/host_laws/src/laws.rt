@@ -2,12 +2,14 @@
 //! their contracts are the laws.
 ghost use Rattle.std.specs.Prelude.{◌≡◌, ℕ, Bool, List, Ok};
 ghost use Rattle.std.specs.List.{AllByRecursion};
+ghost use Rattle.lamport_clocks.specs.declared.header.Header.{Header};
 ghost use Rattle.lamport_clocks.specs.Reading.{Reading};
 ghost use Rattle.record_text.specs.declared.request.Request.{Request};
 ghost use Rattle.record_text.specs.Format.{Format};
 ghost use Rattle.record_text.specs.Value.{IsBlob};
 ghost use Rattle.log_codec.specs.declared.command.Command.{Command};
 ghost use Rattle.merkle_records.specs.Merkle.{Digest, GivesDigests};
+ghost use Rattle.merkle_records.specs.Scheme.{Scheme};
 ghost use Rattle.verifier_commands.specs.declared.state.State.{State};
 ghost use Rattle.verifier_commands.specs.Transition.{Rules};
 ghost use Rattle.soundness.specs.Typed.{IsTyped};
@@ -17,6 +19,7 @@ ghost use Rattle.host_plan.specs.declared.plan.Plan.{Plan};
 ghost use Rattle.host_laws.specs.Running.{Told, run, IsHistory};
 ghost use Rattle.host_laws.specs.Served.{CanTake, PlanRuns};
 ghost use Rattle.host_laws.specs.Mirroring.{ContentMirrors, Owns};
+ghost use Rattle.host_laws.specs.SettingUp.{CanSetUp, SetupRuns};
 
 /// Commands that run are accepted, and what is told of them is the verifier's history.
 pub fn a_run_is_the_history()
@@ -49,4 +52,10 @@ pub fn a_plan_is_typed()
         (clock later : Reading) (plan : Plan)
         → IsBlob format request.value → ContentMirrors format digest hot_keys content → Owns format hot_keys content request.key
         → IsPlan format digest worker content request clock plan after later → AllByRecursion (IsTyped format) plan.commands }
+{}
+
+/// Verifier 0 accepts the commands of the setup from its opening state, and hands out what the new shards wait with; each
+/// of these mirrors, with no hot keys.
+pub fn the_setup_runs()
+    ensures runs { (scheme : Scheme) (header : Header) (bits : ℕ) → CanSetUp scheme.format header bits → SetupRuns scheme header bits }
 {}
