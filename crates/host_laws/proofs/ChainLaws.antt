@@ -1,12 +1,12 @@
 -- Each link of a chain to a key fits under the one before.
-use Rattle.std.proofs.Common.{◌≡◌, ◌≢◌, ◌⊎◌, ◌<◌, ◌≤◌, Bool, true, false, not, List, [], ◌∷◌, length, Option, Some, None, if◌then◌else◌, eq-eqb, nat_eq, refl, sym, ◌∙◌, ap, subst, inl, inr, arith}
+use Rattle.std.proofs.Common.{◌≡◌, ◌⊎◌, ◌<◌, Bool, true, false, not, List, length, Option, Some, None, if◌then◌else◌, eq-eqb, nat_eq, refl, sym, ◌∙◌, ap, subst, inl, inr, arith}
 use Rattle.std.specs.Option.{unwrap_or}
 use Rattle.std.proofs.lemmas.Bool.{false≢true}
 use Rattle.std.proofs.lemmas.Bool.Decides.{nat_tests}
 use Rattle.std.proofs.lemmas.Option.{none-some, same_Some}
-use Rattle.tree_keys.specs.Path.{side, is_prefix, common, same_path}
+use Rattle.tree_keys.specs.Path.{side, is_prefix, common}
 use Rattle.tree_keys.proofs.PathLaws.{same_path-apart}
-use Rattle.tree_keys.proofs.SideLaws.{is_prefix-self, prefix_of_side, side_of_prefix, above_apart}
+use Rattle.tree_keys.proofs.SideLaws.{is_prefix-self, prefix_of_side, side_of_prefix}
 use Rattle.record_text.specs.declared.value.Pointer.{Pointer}
 use Rattle.record_text.specs.declared.value.Node.{Node}
 use Rattle.record_text.specs.declared.value.Value.{Value}
@@ -21,7 +21,7 @@ use Rattle.host_shard.specs.declared.link.Link.{Link}
 use Rattle.host_shard.specs.Tree.{Tree, pointer_of, IsPointerIn}
 use Rattle.host_shard.specs.Chain.{new_link, known_link, fork_link, next_link, IsNextLink}
 use Rattle.host_shard.specs.Mirrors.{IsKept}
-use Rattle.host_laws.proofs.PathLemmas.{Parts, parts}
+use Rattle.host_laws.proofs.ForkLaws.{Parts, parts}
 use Rattle.host_laws.proofs.FamilyLemmas.{Fits, fits_new, fits_known, fits_fork}
 
 -- Records on the way to a whole key: each value is of its path's kind, and each pointer to a path that begins the key

@@ -1,7 +1,5 @@
 -- What a request does at the end of its chain: it reads or writes the value of its key.
-use Rattle.std.proofs.Common.{◌≡◌, ℕ, ◌+◌, ◌≤◌, Bool, true, false, not, List, [], ◌∷◌, ◌++◌, length, nat_eq, eq-eqb, Option, Some, None, Ok, if◌then◌else◌, refl, sym, ◌∙◌, ap, subst}
-use Rattle.std.specs.List.{AllByRecursion}
-use Rattle.tree_keys.specs.Path.{same_path}
+use Rattle.std.proofs.Common.{◌≡◌, ℕ, Bool, true, false, not, List, [], ◌∷◌, ◌++◌, length, eq-eqb, Option, Ok, if◌then◌else◌, refl, ap}
 use Rattle.tree_keys.proofs.PathLaws.{same_path-self}
 use Rattle.tree_keys.proofs.SideLaws.{is_prefix-self}
 use Rattle.lamport_clocks.specs.Reading.{Reading}
@@ -12,7 +10,6 @@ use Rattle.record_text.specs.declared.refusal.Refusal.TheVariants as refusals
 use Rattle.record_text.specs.Format.{Format, path_bits}
 use Rattle.record_text.specs.Same.{same_value}
 use Rattle.record_text.proofs.SameTestLaws.{same_value-self}
-use Rattle.log_codec.specs.declared.command.Command.{Command}
 use Rattle.log_codec.specs.declared.command.Command.TheVariants.{Get, Put}
 use Rattle.verifier_cache.specs.declared.entry.Entry.{Entry}
 use Rattle.verifier_cache.specs.declared.entry.Hold.{Hold}
@@ -20,15 +17,15 @@ use Rattle.verifier_cache.specs.Entry.{new_entry}
 use Rattle.verifier_cache.specs.Cache.{entry_of}
 use Rattle.verifier_commands.specs.State.{with_entries}
 use Rattle.verifier_commands.specs.Change.{Change, did_get, did_put}
-use Rattle.verifier_commands.specs.Transition.{Rules, transition, is_data}
+use Rattle.verifier_commands.specs.Transition.{Rules, is_data}
 use Rattle.host_shard.specs.Content.{key_path}
 use Rattle.host_plan.specs.Request.{command_of, value_after}
-use Rattle.host_laws.specs.Running.{Told, Access, access_of, run, added_told, evicted_told, accesses_told}
+use Rattle.host_laws.specs.Running.{Told, Access, added_told, evicted_told, accesses_told}
 use Rattle.host_laws.specs.Carried.{carried}
-use Rattle.host_laws.proofs.StepLaws.{test-passed, need-there}
-use Rattle.host_laws.proofs.RunLaws.{run-one}
+use Rattle.host_laws.proofs.StepLemmas.{test-passed, need-there}
+use Rattle.host_laws.proofs.RunLemmas.{run-one}
 use Rattle.host_laws.proofs.StandingLemmas.{entry_of-last, replaced-last}
-use Rattle.host_laws.proofs.WorksLaws.{IsClear, standing, Works}
+use Rattle.host_laws.proofs.WorksLemmas.{standing, Works}
 
 -- a whole path is a data path
 is_whole : (format : Format) (path : List Bool) → length path ≡ path_bits format → not (is_data format path) ≡ false

@@ -1,5 +1,5 @@
 -- How a child comes in under a parent whose kid bits are clear, and leaves it again.
-use Rattle.std.proofs.Common.{◌≡◌, ℕ, Bool, true, false, not, ◌||◌, List, [], ◌∷◌, Option, Some, None, is_some, Result, Ok, if◌then◌else◌, refl, sym, ◌∙◌, ap, subst}
+use Rattle.std.proofs.Common.{◌≡◌, ℕ, Bool, true, false, not, ◌||◌, List, Option, Some, None, is_some, Ok, if◌then◌else◌, refl, ◌∙◌, ap}
 use Rattle.std.specs.Option.{option_map}
 use Rattle.tree_keys.specs.Path.{side, same_path}
 use Rattle.tree_keys.proofs.PathLaws.{same_path-self, same_path-apart}
@@ -7,7 +7,6 @@ use Rattle.record_text.specs.declared.value.Pointer.{Pointer}
 use Rattle.record_text.specs.declared.value.Node.{Node}
 use Rattle.record_text.specs.declared.value.Value.{Value}
 use Rattle.record_text.specs.declared.value.Value.TheVariants as values
-use Rattle.record_text.specs.declared.refusal.Refusal.{Refusal}
 use Rattle.record_text.specs.declared.refusal.Refusal.TheVariants as refusals
 use Rattle.record_text.specs.Format.{Format}
 use Rattle.record_text.specs.Value.{node_side, with_side, initial_value}
@@ -16,16 +15,15 @@ use Rattle.record_text.specs.Same.{same_bytes, same_value}
 use Rattle.record_text.proofs.SameTestLaws.{same_bytes-self, same_value-self}
 use Rattle.merkle_records.specs.declared.cases.AddCase.{AddCase}
 use Rattle.merkle_records.specs.declared.cases.AddCase.TheVariants as cases
-use Rattle.merkle_records.specs.Merkle.{Digest, case_of, pointing, pointer_to, deferred_pointer, taken_over, added_by, after_evict, after_defer}
+use Rattle.merkle_records.specs.Merkle.{Digest, case_of, pointing, pointer_to, deferred_pointer, taken_over, added_by, after_defer}
 use Rattle.verifier_cache.specs.declared.entry.Entry.{Entry}
 use Rattle.verifier_cache.specs.declared.entry.Hold.{Hold}
-use Rattle.verifier_cache.specs.declared.entry.Hold.TheVariants.{Root, M, B}
+use Rattle.verifier_cache.specs.declared.entry.Hold.TheVariants.{M}
 use Rattle.verifier_cache.specs.Entry.{kid_of, set_kid, has_kid, new_entry}
 use Rattle.verifier_commands.specs.declared.changes.Parent.{Parent}
-use Rattle.verifier_commands.specs.declared.changes.Family.{Family}
-use Rattle.verifier_commands.specs.Changes.{above, above_on, node_of, leads_to, is_deferred, has_digest, leads_below, set_kid_on, family_of, add_by, add_under, left_by, evict_under, holds_wrong, is_by_digest, defer_under}
+use Rattle.verifier_commands.specs.Changes.{above, above_on, leads_to, is_deferred, has_digest, leads_below, set_kid_on, family_of, add_by, add_under, left_by, evict_under, holds_wrong, is_by_digest, defer_under}
 use Rattle.verifier_commands.proofs.BelowLaws.{below_apart}
-use Rattle.host_laws.proofs.StepLaws.{test-passed, need-there}
+use Rattle.host_laws.proofs.StepLemmas.{test-passed, need-there}
 
 -- a parent with its child of a side in the cache, and no other
 abbrev pub parent_of : List Bool → Node → Hold → Bool → Entry

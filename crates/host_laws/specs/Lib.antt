@@ -2,5 +2,4 @@
 pub mod Running
 pub mod Carried
 pub mod Served
-pub mod Mirroring
 pub mod SettingUp

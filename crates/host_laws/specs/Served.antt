@@ -1,7 +1,7 @@
 -- What a request's commands do to the verifier of its worker.
-use Rattle.std.specs.Prelude.{◌≡◌, ◌⊎◌, ℕ, ◌<◌, ◌≤◌, Bool, List, [], ◌∷◌, Option, Some, None, IsSome, Ok}
+use Rattle.std.specs.Prelude.{◌≡◌, ◌⊎◌, ℕ, ◌<◌, ◌≤◌, Bool, List, [], ◌∷◌, Option, Some, None, Ok}
 use Rattle.std.specs.List.{AllByRecursion}
-use Rattle.tree_keys.specs.Path.{side, IsBelow}
+use Rattle.tree_keys.specs.Path.{IsBelow}
 use Rattle.lamport_clocks.specs.declared.stamp.Stamp.{Stamp}
 use Rattle.lamport_clocks.specs.Stamp.{IsLater}
 use Rattle.lamport_clocks.specs.Reading.{Reading}
@@ -10,13 +10,11 @@ use Rattle.record_text.specs.declared.request.Request.{Request}
 use Rattle.record_text.specs.declared.value.Value.{Value}
 use Rattle.record_text.specs.declared.value.Value.TheVariants as values
 use Rattle.record_text.specs.Format.{Format, path_bits}
-use Rattle.log_codec.specs.declared.command.Command.{Command}
 use Rattle.verifier_cache.specs.declared.entry.Entry.{Entry}
 use Rattle.verifier_commands.specs.declared.state.State.{State}
-use Rattle.verifier_commands.specs.Change.{Change}
 use Rattle.verifier_commands.specs.Transition.{Rules}
 use Rattle.host_shard.specs.Content.{Content, cold, hot, vacant, key_path, pending}
-use Rattle.host_plan.specs.Plan.{CanServe, IsOpenAt, clock_after}
+use Rattle.host_plan.specs.Plan.{IsOpenAt, clock_after}
 use Rattle.host_plan.specs.declared.plan.Plan.{Plan}
 use Rattle.host_laws.specs.Running.{Told, Access, run, added_told, evicted_told, accesses_told}
 use Rattle.host_laws.specs.Carried.{IsCarried, carried}

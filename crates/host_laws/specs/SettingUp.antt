@@ -24,7 +24,6 @@ use Rattle.host_plan.specs.Setup.{child, setup_commands, setup_contents}
 use Rattle.host_laws.specs.Running.{Told, run, added_told, evicted_told, accesses_told}
 use Rattle.host_laws.specs.Carried.{carried}
 use Rattle.host_laws.specs.Served.{waiting}
-use Rattle.host_laws.specs.Mirroring.{ContentMirrors}
 
 -- The pointer to a path once it is set up with so many levels below it: a frontier is lent, and a path above keeps the
 -- pointers to its two children.
@@ -75,7 +74,7 @@ pub record CanSetUp (format : Format) (header : Header) (bits : ℕ) : Type 0 wh
   pub counters : 2 ^ bits ≤ header.end
 
 -- The setup runs: verifier 0 accepts its commands from its opening state. They add no element, and evict those with which
--- the shards then wait, in their order. Each path comes in as a new one, none of them below a frontier; and each shard mirrors.
+-- the shards then wait, in their order. Each path comes in as a new one, and none of them lies below a frontier.
 pub record SetupRuns (scheme : Scheme) (header : Header) (bits : ℕ) : Type 0 where
   pub told : Told
   pub runs : run (rules_under scheme header 0) (opening 0 header) (setup_commands scheme.format header.first bits) ≡ Ok (told, set_up_state scheme header bits)
@@ -85,4 +84,3 @@ pub record SetupRuns (scheme : Scheme) (header : Header) (bits : ℕ) : Type 0 w
   pub new : AllByRecursion (λ one. IsNew one.1) told
   pub apart : (path : List Bool) → bits < length path → carried path told ≡ []
   pub typed : AllByRecursion (IsTyped scheme.format) (setup_commands scheme.format header.first bits)
-  pub mirrors : AllByRecursion (ContentMirrors scheme.format scheme.digest []) (setup_contents scheme.format header.first bits)

@@ -18,7 +18,6 @@ ghost use Rattle.host_plan.specs.Plan.{CanServe, IsPlan};
 ghost use Rattle.host_plan.specs.declared.plan.Plan.{Plan};
 ghost use Rattle.host_laws.specs.Running.{Told, run, IsHistory};
 ghost use Rattle.host_laws.specs.Served.{CanTake, PlanRuns};
-ghost use Rattle.host_laws.specs.Mirroring.{ContentMirrors, Owns};
 ghost use Rattle.host_laws.specs.SettingUp.{CanSetUp, SetupRuns};
 
 /// Commands that run are accepted, and what is told of them is the verifier's history.
@@ -36,26 +35,8 @@ pub fn a_plan_runs()
         → PlanRuns rules state content after request plan later }
 {}
 
-/// A content mirrors again once it served a request, with the same keys hot. It is asked that digests have 32 bytes.
-pub fn a_plan_mirrors()
-    ensures mirrors { (format : Format) (digest : Digest) (worker : ℕ) (hot_keys : List (List Bool)) (content after : Content) (request : Request)
-        (clock later : Reading) (plan : Plan)
-        → GivesDigests digest → IsBlob format request.value → ContentMirrors format digest hot_keys content → Owns format hot_keys content request.key
-        → IsPlan format digest worker content request clock plan after later → ContentMirrors format digest hot_keys after }
-    ensures serves { (format : Format) (digest : Digest) (hot_keys : List (List Bool)) (content : Content) (key : ℕ)
-        → ContentMirrors format digest hot_keys content → Owns format hot_keys content key → CanServe format digest content key }
-{}
-
-/// The values that a plan's commands bring in are of their paths' kinds.
-pub fn a_plan_is_typed()
-    ensures typed { (format : Format) (digest : Digest) (worker : ℕ) (hot_keys : List (List Bool)) (content after : Content) (request : Request)
-        (clock later : Reading) (plan : Plan)
-        → IsBlob format request.value → ContentMirrors format digest hot_keys content → Owns format hot_keys content request.key
-        → IsPlan format digest worker content request clock plan after later → AllByRecursion (IsTyped format) plan.commands }
-{}
-
-/// Verifier 0 accepts the commands of the setup from its opening state, and hands out what the new shards wait with; each
-/// of these mirrors, with no hot keys.
+/// Verifier 0 accepts the commands of the setup from its opening state: it takes nothing in, and hands out what the new
+/// shards wait with.
 pub fn the_setup_runs()
     ensures runs { (scheme : Scheme) (header : Header) (bits : ℕ) → CanSetUp scheme.format header bits → SetupRuns scheme header bits }
 {}

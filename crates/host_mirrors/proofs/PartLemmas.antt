@@ -1,11 +1,11 @@
 -- The paths of a chain once it is closed: which pointers stand there, and which have stayed as they were.
-use Rattle.std.proofs.Common.{◌≡◌, ◌≢◌, ◌⊎◌, ℕ, ◌+◌, ◌<◌, ◌≤◌, Bool, true, false, not, List, [], ◌∷◌, length, Option, Some, None, is_some, IsSome, if◌then◌else◌, refl, sym, ◌∙◌, ap, subst, inl, inr, arith}
+use Rattle.std.proofs.Common.{◌≡◌, ◌≢◌, ◌⊎◌, ◌≤◌, Bool, true, false, not, List, [], ◌∷◌, length, Option, Some, None, is_some, IsSome, if◌then◌else◌, refl, sym, ◌∙◌, ap, subst, inl, inr, arith}
 use Rattle.std.specs.List.{IsAmong}
 use Rattle.std.proofs.lemmas.Bool.{false≢true}
 use Rattle.std.proofs.lemmas.Option.{none-some, same_Some}
 use Rattle.tree_keys.specs.Path.{side, is_prefix, same_path}
 use Rattle.tree_keys.proofs.PathLaws.{same_path-self, same_path-true, same_path-apart}
-use Rattle.tree_keys.proofs.SideLaws.{side-self, is_prefix-self, is_prefix-trans, prefix_of_side, side_of_prefix, prefix_cases, side-prefix, side-trans, above_no_prefix}
+use Rattle.tree_keys.proofs.SideLaws.{side-self, is_prefix-self, is_prefix-trans, prefix_of_side, side_of_prefix, prefix_cases, side-prefix, side-trans}
 use Rattle.verifier_commands.proofs.BelowLaws.{below_apart}
 use Rattle.record_text.specs.declared.value.Pointer.{Pointer}
 use Rattle.record_text.specs.declared.value.Node.{Node}
@@ -14,12 +14,12 @@ use Rattle.record_text.specs.declared.value.Value.TheVariants as values
 use Rattle.record_text.specs.Format.{Format, path_bits}
 use Rattle.record_text.specs.Value.{IsOf, IsSide, node_side, with_side}
 use Rattle.merkle_records.specs.Merkle.{Digest, GivesDigests, pointer_to}
-use Rattle.merkle_records.proofs.KindLaws.{IsSide-node_side, IsOf-with_side, is_prefix-side, length-side, node_side-with_side, node_side-with_other}
+use Rattle.merkle_records.proofs.KindLaws.{IsSide-node_side, IsOf-with_side, is_prefix-side, node_side-with_side}
 use Rattle.host_shard.specs.declared.link.Link.{Link}
 use Rattle.host_shard.specs.Tree.{Tree, pointer_of, with_record, IsPointerIn, IsReached, at_start, by_pointer}
 use Rattle.host_shard.specs.Chain.{IsChain, aimed_on, closed_value, closed_records}
 use Rattle.host_shard.specs.Mirrors.{IsKept, IsWaiting}
-use Rattle.host_laws.proofs.PathLemmas.{sides_apart, prefix_whole}
+use Rattle.host_laws.proofs.ForkLaws.{sides_apart, prefix_whole}
 use Rattle.host_laws.proofs.ChainLaws.{LeadTo, AreOf, Leads, IsNext, next_fits}
 
 -- a side is another one, or its other

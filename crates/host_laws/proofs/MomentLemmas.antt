@@ -1,5 +1,5 @@
 -- The clock takes in and hands out what doesn't pass its end.
-use Rattle.std.proofs.Common.{◌≡◌, ◌+◌, ◌≤◌, Bool, true, false, not, nat_le, nat_lt, nat_eq, eq-eqb, Ok, refl, ap, arith}
+use Rattle.std.proofs.Common.{◌≡◌, ◌+◌, ◌≤◌, Bool, true, not, nat_le, nat_lt, eq-eqb, Ok, refl, ap, arith}
 use Rattle.std.specs.Prelude.{◌==◌}
 use Rattle.std.proofs.lemmas.Bool.Decides.{nat_tests}
 use Rattle.lamport_clocks.specs.declared.stamp.Stamp.{Stamp}
@@ -7,7 +7,7 @@ use Rattle.lamport_clocks.specs.declared.clock.ClockFault.TheVariants as faults
 use Rattle.lamport_clocks.specs.Reading.{Reading}
 use Rattle.lamport_clocks.specs.Clock.{is_open, received, sent}
 use Rattle.host_plan.specs.Moments.{taking, giving}
-use Rattle.host_laws.proofs.StepLaws.{test-passed}
+use Rattle.host_laws.proofs.StepLemmas.{test-passed}
 
 -- a stamp of an open epoch is taken in, where the counter doesn't pass the end
 pub received-taken : (clock : Reading) (stamp : Stamp) → is_open clock stamp.epoch ≡ true → (taking clock stamp).at.counter ≤ clock.end

@@ -1,9 +1,9 @@
 -- More on how paths lie to each other: the longest path that two begin with, and paths that begin a key.
-use Rattle.std.proofs.Common.{◌≡◌, ◌≢◌, ◌⊎◌, ◌<◌, ◌≤◌, Bool, true, false, not, List, [], ◌∷◌, ◌++◌, length, Some, None, refl, sym, ◌∙◌, ap, subst, inl, inr, arith}
+use Rattle.std.proofs.Common.{◌≡◌, ◌≢◌, ◌⊎◌, ◌≤◌, Bool, true, false, not, List, [], ◌∷◌, ◌++◌, length, Some, refl, sym, ◌∙◌, ap, subst, inl, inr, arith}
 use Rattle.std.proofs.lemmas.Bool.{false≢true}
-use Rattle.std.proofs.lemmas.Option.{none-some, same_Some}
+use Rattle.std.proofs.lemmas.Option.{same_Some}
 use Rattle.tree_keys.specs.Path.{side, is_prefix, common}
-use Rattle.tree_keys.proofs.SideLaws.{is_prefix-self, is_prefix-trans, prefix_of_side, side_of_prefix, prefix_cases, side-prefix, above_no_prefix}
+use Rattle.tree_keys.proofs.SideLaws.{is_prefix-self, side_of_prefix, prefix_cases, side-prefix, above_no_prefix}
 use Rattle.merkle_records.proofs.KindLaws.{is_prefix-side, length-side}
 
 -- the longest common prefix is a prefix of both

@@ -1,10 +1,10 @@
 -- A shard mirrors again once a request was served.
-use Rattle.std.proofs.Common.{◌≡◌, ◌≢◌, ℕ, ◌<◌, Bool, true, false, List, [], ◌∷◌, ◌++◌, length, Option, Some, None, IsSome, if◌then◌else◌, refl, sym, ◌∙◌, ap, subst, arith}
+use Rattle.std.proofs.Common.{◌≡◌, ℕ, ◌<◌, Bool, true, false, List, [], ◌∷◌, ◌++◌, length, Option, Some, None, IsSome, if◌then◌else◌, refl, sym, subst}
 use Rattle.std.specs.List.{IsAmong, AllByRecursion}
 use Rattle.std.proofs.lemmas.Bool.{false≢true}
 use Rattle.tree_keys.specs.BitsLaws.{length-bits_of}
-use Rattle.tree_keys.specs.Path.{side, is_prefix, same_path, IsBelow}
-use Rattle.tree_keys.proofs.PathLaws.{same_path-self, same_path-true}
+use Rattle.tree_keys.specs.Path.{side, same_path}
+use Rattle.tree_keys.proofs.PathLaws.{same_path-true}
 use Rattle.lamport_clocks.specs.Reading.{Reading}
 use Rattle.record_text.specs.declared.request.Request.{Request}
 use Rattle.record_text.specs.declared.value.Pointer.{Pointer}
@@ -18,19 +18,19 @@ use Rattle.log_codec.specs.declared.command.Command.TheVariants.{EvictM, Get, Pu
 use Rattle.soundness.specs.Typed.{IsTyped}
 use Rattle.host_shard.specs.declared.link.Link.{Link}
 use Rattle.host_shard.specs.Tree.{Tree, pointer_of}
-use Rattle.host_shard.specs.Chain.{IsChain, last_value, closed_value, closed_records}
+use Rattle.host_shard.specs.Chain.{IsChain, last_value, closed_records}
 use Rattle.host_shard.specs.Shard.{Shard, tree_of, one_more, touched}
 use Rattle.host_shard.specs.Content.{Content, cold, hot, vacant, key_path}
-use Rattle.host_shard.specs.Mirrors.{IsShard, IsKeyOf, Mirrors}
+use Rattle.host_shard.specs.Mirrors.{IsKeyOf}
 use Rattle.host_plan.specs.Request.{command_of, value_after, served}
 use Rattle.host_plan.specs.Visit.{visit}
 use Rattle.host_plan.specs.Plan.{CanServe, IsPlan}
 use Rattle.host_plan.specs.declared.plan.Plan.{Plan}
-use Rattle.host_laws.specs.Mirroring.{IsMirrored, ContentMirrors, Owns}
-use Rattle.host_laws.proofs.ChainLaws.{LeadTo, AreOf, IsNext, next_fits}
-use Rattle.host_laws.proofs.VisitLaws.{all-append}
-use Rattle.host_laws.proofs.RequestLaws.{leads, frontier_there, frontier_of}
-use Rattle.host_laws.proofs.PartLaws.{whole_none, kept_after, waits_after, hot_waits_after, reached_after, kinds_after, keeps_record, key_record}
+use Rattle.host_mirrors.specs.Mirroring.{IsMirrored, ContentMirrors, Owns}
+use Rattle.host_laws.proofs.ChainLaws.{LeadTo, AreOf, next_fits}
+use Rattle.host_laws.proofs.ToldLaws.{all-append}
+use Rattle.host_laws.proofs.FrontierLaws.{leads, frontier_there, frontier_of}
+use Rattle.host_mirrors.proofs.PartLemmas.{whole_none, kept_after, waits_after, hot_waits_after, reached_after, kinds_after, keeps_record, key_record}
 
 -- the value at a chain's end is of its path's kind
 pub last_kind : (format : Format) (digest : Digest) (tree : Tree) (key : List Bool) → LeadTo format digest tree key

@@ -1,21 +1,15 @@
 -- Commands that are accepted one after another: one more, and one list behind another.
-use Rattle.std.proofs.Common.{◌≡◌, ℕ, suc, List, [], ◌∷◌, ◌++◌, Option, None, Result, Ok, refl, sym, ◌∙◌, ap, subst}
-use Rattle.std.specs.Option.{option_or}
+use Rattle.std.proofs.Common.{◌≡◌, ℕ, suc, List, [], ◌∷◌, ◌++◌, None, Result, Ok, refl, sym, ◌∙◌, ap, subst}
 use Rattle.std.specs.Result.{result_ok}
 use Rattle.std.proofs.lemmas.Option.{same_Some}
-use Rattle.std.proofs.lemmas.List.Concat.{flat_map-append}
-use Rattle.step_words.specs.Steps.{and_then}
-use Rattle.lamport_clocks.specs.declared.stamp.Stamp.{Stamp}
-use Rattle.record_text.specs.declared.element.Element.{Element}
 use Rattle.log_codec.specs.declared.command.Command.{Command}
 use Rattle.verifier_commands.specs.declared.state.State.{State}
 use Rattle.verifier_commands.specs.Change.{Change}
 use Rattle.verifier_commands.specs.Transition.{Rules, Step, transition}
 use Rattle.verifier_commands.proofs.InvertLaws.{and_then-ok}
 use Rattle.soundness.specs.History.{Event, events_behind, events_from, refusal_behind, refusal_from, machinery_under}
-use Rattle.soundness.specs.Certified.{added_by, evicted_by}
-use Rattle.host_laws.specs.Running.{Told, run, added_told, evicted_told, as_events, IsHistory}
-use Rattle.host_laws.proofs.StepLaws.{and_then-there}
+use Rattle.host_laws.specs.Running.{Told, run, as_events, IsHistory}
+use Rattle.host_laws.proofs.StepLemmas.{and_then-there}
 
 -- what is Ok is told by it
 same_Ok : {A E : Type 0} (x y : A) → ◌≡◌ {A = Result A E} (Ok x) (Ok y) → x ≡ y
@@ -82,12 +76,6 @@ run-append rules state (command ∷ first) second told_first told_second middle 
     ∙ ap (λ (t : Told). Ok (t ++ told_second, last)) begins.all
 
 -- ---- what was told, and the history
-
-pub added_told-append : (first second : Told) → added_told (first ++ second) ≡ added_told first ++ added_told second
-added_told-append first second = flat_map-append (λ (one : Stamp × Change). added_by one.1) first second
-
-pub evicted_told-append : (first second : Told) → evicted_told (first ++ second) ≡ evicted_told first ++ evicted_told second
-evicted_told-append first second = flat_map-append (λ (one : Stamp × Change). evicted_by one.1) first second
 
 run-events : (rules : Rules) (number index : ℕ) (state : State) (commands : List Command) (told : Told) (last : State)
     → run rules state commands ≡ Ok (told, last) → events_from (machinery_under rules) number index state commands ≡ as_events number index told

@@ -1,9 +1,9 @@
 -- Commands that work behind the entry of a path: they do the same whatever clear entries stand before it.
-use Rattle.std.proofs.Common.{◌≡◌, ℕ, suc, ◌+◌, ◌<◌, ◌≤◌, Bool, true, false, List, [], ◌∷◌, ◌++◌, length, nat_le, Option, Some, None, is_some, Result, Ok, refl, sym, ◌∙◌, ap, subst, arith}
+use Rattle.std.proofs.Common.{◌≡◌, ℕ, suc, ◌+◌, ◌≤◌, Bool, true, false, List, [], ◌∷◌, ◌++◌, length, nat_le, Option, Some, None, is_some, Ok, refl, ◌∙◌, ap, subst, arith}
 use Rattle.std.proofs.lemmas.List.{length-append}
 use Rattle.std.proofs.lemmas.Option.{none-some}
 use Rattle.std.proofs.lemmas.Bool.Decides.{nat_tests}
-use Rattle.tree_keys.specs.Path.{side, same_path, is_prefix}
+use Rattle.tree_keys.specs.Path.{side, is_prefix}
 use Rattle.tree_keys.proofs.PathLaws.{same_path-self, same_path-apart}
 use Rattle.tree_keys.proofs.SideLaws.{is_prefix-self, is_prefix-trans, prefix_of_side, above_no_prefix}
 use Rattle.lamport_clocks.specs.Reading.{Reading}
@@ -23,16 +23,16 @@ use Rattle.verifier_cache.specs.Entry.{new_entry}
 use Rattle.verifier_cache.specs.Cache.{entry_of, without, replaced}
 use Rattle.verifier_commands.specs.declared.state.State.{State}
 use Rattle.verifier_commands.specs.State.{with_entries, at_clock}
-use Rattle.verifier_commands.specs.Change.{Change, did_add_m, did_evict_m, did_evict_bm}
+use Rattle.verifier_commands.specs.Change.{did_add_m, did_evict_m, did_evict_bm}
 use Rattle.verifier_commands.specs.Changes.{add_under, evict_under, defer_under}
 use Rattle.verifier_commands.specs.Transition.{Rules, transition, is_root, is_full, evicted_as}
 use Rattle.host_plan.specs.Moments.{giving}
 use Rattle.host_laws.specs.Running.{Told, run}
-use Rattle.host_laws.proofs.StepLaws.{test-passed, need-there, and_then-there, timed-there}
-use Rattle.host_laws.proofs.RunLaws.{run-none, run-one, run-step, run-append}
+use Rattle.host_laws.proofs.StepLemmas.{test-passed, need-there, and_then-there, timed-there}
+use Rattle.host_laws.proofs.RunLemmas.{run-none, run-one, run-step, run-append}
 use Rattle.host_laws.proofs.StandingLemmas.{entry_of-last, entry_of-front, entry_of-neither, replaced-last, replaced-front, without-last}
 use Rattle.host_laws.proofs.FamilyLemmas.{Fits, parent_of, leaves, lending, is_lent}
-use Rattle.host_laws.proofs.MomentLaws.{sent-given}
+use Rattle.host_laws.proofs.MomentLemmas.{sent-given}
 
 -- nothing of this path or below it stands among the entries
 abbrev pub IsClear : List Bool → List Entry → Type 0

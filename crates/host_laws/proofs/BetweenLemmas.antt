@@ -1,16 +1,11 @@
 -- An element that is taken in, what is done behind it, and its path that is handed out again.
-use Rattle.std.proofs.Common.{◌≡◌, ◌⊎◌, ℕ, suc, ◌+◌, ◌<◌, ◌≤◌, Bool, true, false, not, List, [], ◌∷◌, ◌++◌, length, nat_le, nat_lt, nat_eq, eq-eqb, Option, Some, None, is_some, Result, Ok, if◌then◌else◌, refl, sym, ◌∙◌, ap, subst, inl, inr, arith}
-use Rattle.std.specs.Prelude.{◌==◌}
-use Rattle.std.proofs.lemmas.List.{length-append}
+use Rattle.std.proofs.Common.{◌≡◌, ℕ, suc, ◌+◌, ◌<◌, ◌≤◌, Bool, true, false, not, List, [], ◌∷◌, ◌++◌, length, nat_le, Option, Some, None, is_some, Ok, if◌then◌else◌, refl, sym, ◌∙◌, ap, inl, inr, arith}
 use Rattle.std.proofs.lemmas.Bool.{false≢true}
 use Rattle.std.proofs.lemmas.Bool.Decides.{nat_tests}
 use Rattle.tree_keys.specs.Path.{same_path, is_prefix}
-use Rattle.tree_keys.proofs.PathLaws.{same_path-apart}
 use Rattle.tree_keys.proofs.SideLaws.{is_prefix-self}
-use Rattle.lamport_clocks.specs.declared.stamp.Stamp.{Stamp}
-use Rattle.lamport_clocks.specs.declared.clock.ClockFault.TheVariants as faults
 use Rattle.lamport_clocks.specs.Reading.{Reading}
-use Rattle.lamport_clocks.specs.Clock.{is_open, greater_counter, received, sent}
+use Rattle.lamport_clocks.specs.Clock.{is_open, received, sent}
 use Rattle.record_text.specs.declared.element.Element.{Element}
 use Rattle.record_text.specs.declared.value.Value.{Value}
 use Rattle.record_text.specs.declared.refusal.Refusal.TheVariants as refusals
@@ -19,21 +14,21 @@ use Rattle.log_codec.specs.declared.command.Command.TheVariants.{AddB, EvictB}
 use Rattle.verifier_cache.specs.declared.entry.Entry.{Entry}
 use Rattle.verifier_cache.specs.declared.entry.Hold.TheVariants.{B}
 use Rattle.verifier_cache.specs.Entry.{has_kid, new_entry}
-use Rattle.verifier_cache.specs.Cache.{entry_of, without}
+use Rattle.verifier_cache.specs.Cache.{entry_of}
 use Rattle.verifier_commands.specs.declared.state.State.{State}
 use Rattle.verifier_commands.specs.State.{at_clock}
 use Rattle.verifier_commands.specs.Change.{did_add_b, did_evict_b}
 use Rattle.verifier_commands.specs.Changes.{is_by_stamp}
 use Rattle.verifier_commands.specs.Transition.{Rules, transition, is_root, is_full, evicted_as}
-use Rattle.host_plan.specs.Moments.{taking, giving, renewing}
+use Rattle.host_plan.specs.Moments.{taking, renewing}
 use Rattle.host_plan.specs.Visit.{between}
 use Rattle.host_laws.specs.Running.{Told, run}
 use Rattle.host_laws.specs.Served.{IsBare}
-use Rattle.host_laws.proofs.MomentLaws.{received-taken, sent-given}
-use Rattle.host_laws.proofs.StepLaws.{test-passed, need-there, and_then-there, timed-there}
-use Rattle.host_laws.proofs.RunLaws.{run-one, run-step, run-append}
+use Rattle.host_laws.proofs.MomentLemmas.{received-taken, sent-given}
+use Rattle.host_laws.proofs.StepLemmas.{test-passed, need-there, timed-there}
+use Rattle.host_laws.proofs.RunLemmas.{run-one, run-step, run-append}
 use Rattle.host_laws.proofs.StandingLemmas.{entry_of-last, without-last}
-use Rattle.host_laws.proofs.WorksLaws.{IsClear, standing, Works}
+use Rattle.host_laws.proofs.WorksLemmas.{IsClear, standing, Works}
 
 -- ---- a verifier at rest
 

@@ -1,12 +1,9 @@
 -- The plan of a request runs, for a key of a shard and for a hot key.
-use Rattle.std.proofs.Common.{◌≡◌, ◌⊎◌, ℕ, zero, suc, ◌+◌, ◌*◌, ◌<◌, ◌≤◌, Bool, true, false, List, [], ◌∷◌, ◌++◌, length, Option, Some, None, IsSome, Ok, append-nil, if◌then◌else◌, refl, sym, ◌∙◌, ap, subst, inl, inr, arith}
+use Rattle.std.proofs.Common.{◌≡◌, ℕ, suc, ◌+◌, ◌*◌, ◌<◌, ◌≤◌, Bool, true, false, List, [], ◌∷◌, ◌++◌, length, Option, Some, None, IsSome, Ok, append-nil, if◌then◌else◌, refl, sym, ◌∙◌, ap, subst, inl, inr, arith}
 use Rattle.std.specs.Int.{Width, w8, w16, w32, w64, w128, byte_len}
-use Rattle.std.specs.List.{AllByRecursion, IsAmong}
-use Rattle.std.proofs.lemmas.Bool.{false≢true}
-use Rattle.tree_keys.specs.Path.{side, is_prefix, same_path, IsBelow}
+use Rattle.std.specs.List.{AllByRecursion}
+use Rattle.tree_keys.specs.Path.{side, IsBelow}
 use Rattle.tree_keys.specs.BitsLaws.{length-bits_of}
-use Rattle.tree_keys.proofs.PathLaws.{same_path-self, same_path-apart}
-use Rattle.verifier_commands.proofs.BelowLaws.{below_apart}
 use Rattle.lamport_clocks.specs.declared.stamp.Stamp.{Stamp}
 use Rattle.lamport_clocks.specs.Stamp.{IsLater}
 use Rattle.lamport_clocks.specs.Reading.{Reading}
@@ -14,85 +11,34 @@ use Rattle.lamport_clocks.specs.Clock.{is_open}
 use Rattle.lamport_clocks.proofs.ClockLaws.{received-above, sent-later}
 use Rattle.record_text.specs.declared.element.Element.{Element}
 use Rattle.record_text.specs.declared.request.Request.{Request}
-use Rattle.record_text.specs.declared.value.Pointer.{Pointer}
 use Rattle.record_text.specs.declared.value.Value.{Value}
 use Rattle.record_text.specs.declared.value.Value.TheVariants as values
 use Rattle.record_text.specs.Format.{Format, path_bits}
 use Rattle.record_text.specs.Value.{IsOf}
 use Rattle.log_codec.specs.declared.command.Command.{Command}
-use Rattle.merkle_records.specs.Merkle.{Digest}
-use Rattle.merkle_records.proofs.KindLaws.{length-side}
 use Rattle.verifier_cache.specs.declared.entry.Hold.TheVariants.{B}
 use Rattle.verifier_commands.specs.declared.state.State.{State}
 use Rattle.verifier_commands.specs.Change.{Change}
 use Rattle.verifier_commands.specs.Transition.{Rules, is_root}
 use Rattle.soundness.specs.Certified.{evicted_by}
-use Rattle.host_shard.specs.declared.link.Link.{Link}
 use Rattle.host_shard.specs.declared.content.HotRecord.{HotRecord}
-use Rattle.host_shard.specs.Tree.{Tree, pointer_of, IsPointerIn}
-use Rattle.host_shard.specs.Chain.{IsChain, last_value, closed_value, closed_records}
+use Rattle.host_shard.specs.Chain.{last_value, closed_value}
 use Rattle.host_shard.specs.Shard.{Shard, tree_of, pending_shard}
 use Rattle.host_shard.specs.Content.{Content, cold, hot, vacant, key_path, pending, pending_hot}
-use Rattle.host_shard.specs.Mirrors.{IsKept}
-use Rattle.host_plan.specs.Moments.{taking, giving, renewing}
-use Rattle.host_plan.specs.Visit.{visit}
-use Rattle.host_plan.specs.Request.{command_of, value_after, served, served_hot}
+use Rattle.host_plan.specs.Moments.{taking, renewing}
+use Rattle.host_plan.specs.Request.{value_after, served, served_hot}
 use Rattle.host_plan.specs.Plan.{IsServable, CanServe, IsPlan}
 use Rattle.host_plan.specs.declared.plan.Plan.{Plan}
-use Rattle.host_laws.specs.Running.{Told, Access, run, added_told, evicted_told, accesses_told}
+use Rattle.host_laws.specs.Running.{Told, Access, run}
 use Rattle.host_laws.specs.Carried.{IsCarried, carried}
-use Rattle.host_laws.specs.Served.{CanTake, IsWithin, IsOwned, waiting, kept_in, PlanRuns}
-use Rattle.host_laws.proofs.RunLaws.{added_told-append, evicted_told-append}
-use Rattle.host_laws.proofs.PathLemmas.{prefix_whole}
+use Rattle.host_laws.specs.Served.{CanTake, IsWithin, waiting, kept_in, PlanRuns}
+use Rattle.host_laws.proofs.ToldLaws.{added_told-append, evicted_told-append, accesses_told-append, carried-append, all-append}
 use Rattle.host_laws.proofs.EndLemmas.{IsEnd, change_by, told_request, works_request}
-use Rattle.host_laws.proofs.ChainLaws.{LeadTo, AreOf, IsNext, next_fits}
-use Rattle.host_laws.proofs.VisitLaws.{Visited, visited, accesses_told-append, carried-append, all-append}
-use Rattle.host_laws.proofs.MomentLaws.{received-taken, sent-given}
-use Rattle.host_laws.proofs.BetweenLaws.{clear-bare, length-bare, told_between, between_runs}
-
--- ---- a shard that can serve a key
-
--- its records lead to the key
-pub leads : (format : Format) (digest : Digest) (shard : Shard) (key : List Bool) → IsServable format digest shard key → LeadTo format digest (tree_of shard) key
-leads format digest shard key can = record {
-  whole = can.own.whole;
-  kinds = can.fits.kinds;
-  fresh = fresh;
-  kept = λ path on pointer is begins. can.mirrors.kept path on pointer is (fresh path on pointer is begins);
-}
-  where
-    fresh : (path : List Bool) (on : Bool) (pointer : Pointer) → IsPointerIn (tree_of shard) path on pointer → is_prefix pointer.path key ≡ true → pointer.deferred ≡ false
-    fresh path on pointer is begins = go pointer.deferred refl
-      where
-        go : (b : Bool) → pointer.deferred ≡ b → pointer.deferred ≡ false
-        go false not_so = not_so
-        go true deferred =
-            let among = can.mirrors.waits path on pointer is deferred in
-            let whole : length pointer.path ≡ path_bits format = can.mirrors.hot_keys.whole pointer.path among in
-            let short : length key ≤ length pointer.path = omega (arith, whole, can.own.whole) in
-            absurd (can.cold (subst (IsAmong can.hot) (prefix_whole pointer.path key begins short) among))
-
--- the frontier's own record
-pub frontier_there : (shard : Shard) → tree_of shard shard.frontier ≡ Some shard.value
-frontier_there shard = ap (λ (b : Bool). if b then Some shard.value else shard.records shard.frontier) (same_path-self shard.frontier)
-
-pub frontier_of : (shard : Shard) → AreOf (tree_of shard) shard.value
-frontier_of shard on pointer is = (shard.frontier, on, record { value = shard.value; there = frontier_there shard; leads = is })
-
-pub frontier_based : (shard : Shard) (k : List Bool) (on : Bool) → side shard.frontier k ≡ Some on → tree_of shard k ≡ shard.records k
-frontier_based shard k on below =
-    ap (λ (b : Bool). if b then Some shard.value else shard.records k) (same_path-apart k shard.frontier (below_apart shard.frontier k on below))
-
--- a chain has no more links than the key has bits behind its head
-pub chain_length : (format : Format) (digest : Digest) (tree : Tree) (key : List Bool) → LeadTo format digest tree key
-    → (at : List Bool) (value : Value) (links : List Link) → IsOf format at value → AreOf tree value → IsChain format tree key at value links
-    → length links + length at ≤ length key
-chain_length format digest tree key lead at value [] kind known chain = omega (arith, ap (λ (k : List Bool). length k) chain)
-chain_length format digest tree key lead at value (link ∷ links) kind known chain =
-    let next = next_fits format digest tree key lead at value link kind known chain.0 in
-    let longer = length-side at link.path next.on next.fits.below in
-    let rest = chain_length format digest tree key lead link.path link.taken links next.kind next.known chain.1 in
-    omega arith
+use Rattle.host_laws.proofs.ChainLaws.{LeadTo}
+use Rattle.host_laws.proofs.VisitLemmas.{Visited, visited}
+use Rattle.host_laws.proofs.MomentLemmas.{received-taken, sent-given}
+use Rattle.host_laws.proofs.FrontierLaws.{leads, frontier_there, frontier_of, frontier_based, chain_length}
+use Rattle.host_laws.proofs.BetweenLemmas.{clear-bare, length-bare, told_between, between_runs}
 
 not_root : (path : List Bool) → 0 < length path → is_root path ≡ false
 not_root [] some = absurd (omega (arith, some))

@@ -1,10 +1,9 @@
 -- A request along its chain: its commands work behind the entry at the chain's head, and each path of the chain comes
 -- into the cache once and leaves it once.
-use Rattle.std.proofs.Common.{◌≡◌, ℕ, suc, ◌+◌, ◌≤◌, ◌⊎◌, Bool, true, false, List, [], ◌∷◌, ◌++◌, length, Option, Some, None, append-nil, if◌then◌else◌, refl, sym, ◌∙◌, ap, subst, inl, inr, arith}
+use Rattle.std.proofs.Common.{◌≡◌, suc, Bool, true, false, List, [], ◌∷◌, ◌++◌, length, Option, Some, None, append-nil, if◌then◌else◌, refl, sym, ◌∙◌, ap, subst, inl, inr}
 use Rattle.std.specs.List.{AllByRecursion}
 use Rattle.std.proofs.lemmas.Bool.{false≢true}
 use Rattle.std.proofs.lemmas.Option.{none-some}
-use Rattle.std.proofs.lemmas.List.Concat.{flat_map-append}
 use Rattle.tree_keys.specs.Path.{side, same_path}
 use Rattle.tree_keys.proofs.PathLaws.{same_path-self, same_path-true, same_path-apart}
 use Rattle.tree_keys.proofs.SideLaws.{side-self, side-trans}
@@ -14,11 +13,9 @@ use Rattle.record_text.specs.declared.request.Request.{Request}
 use Rattle.record_text.specs.declared.value.Node.{Node}
 use Rattle.record_text.specs.declared.value.Value.{Value}
 use Rattle.record_text.specs.declared.value.Value.TheVariants as values
-use Rattle.record_text.specs.Format.{Format, path_bits}
+use Rattle.record_text.specs.Format.{Format}
 use Rattle.record_text.specs.Value.{IsOf}
-use Rattle.log_codec.specs.declared.command.Command.{Command}
 use Rattle.merkle_records.specs.Merkle.{Digest, pointing, pointer_to}
-use Rattle.verifier_cache.specs.declared.entry.Entry.{Entry}
 use Rattle.verifier_cache.specs.declared.entry.Hold.{Hold}
 use Rattle.verifier_cache.specs.declared.entry.Hold.TheVariants.{M}
 use Rattle.verifier_cache.specs.Entry.{new_entry}
@@ -32,23 +29,13 @@ use Rattle.host_shard.specs.Chain.{IsChain, last_value, aimed_on, closed_value, 
 use Rattle.host_shard.specs.Content.{key_path}
 use Rattle.host_plan.specs.Visit.{visit}
 use Rattle.host_plan.specs.Request.{command_of, value_after}
-use Rattle.host_laws.specs.Running.{Told, added_told, evicted_told, accesses_by, accesses_told}
-use Rattle.host_laws.specs.Carried.{carrying, carried, IsVisited, IsCarried}
-use Rattle.host_laws.proofs.RunLaws.{added_told-append, evicted_told-append}
-use Rattle.host_laws.proofs.FamilyLemmas.{Fits, parent_of}
-use Rattle.host_laws.proofs.WorksLaws.{Works, told_visit, descend}
+use Rattle.host_laws.specs.Running.{Told, added_told, evicted_told, accesses_told}
+use Rattle.host_laws.specs.Carried.{carried, IsVisited, IsCarried}
+use Rattle.host_laws.proofs.ToldLaws.{added_told-append, evicted_told-append, accesses_told-append, carried-append, all-append}
+use Rattle.host_laws.proofs.FamilyLemmas.{parent_of}
+use Rattle.host_laws.proofs.WorksLemmas.{Works, told_visit, descend}
 use Rattle.host_laws.proofs.EndLemmas.{access_by, told_request, works_request}
 use Rattle.host_laws.proofs.ChainLaws.{LeadTo, AreOf, IsNext, next_fits}
-
-pub accesses_told-append : (first second : Told) → accesses_told (first ++ second) ≡ accesses_told first ++ accesses_told second
-accesses_told-append first second = flat_map-append (λ (one : Stamp × Change). accesses_by one.1) first second
-
-pub carried-append : (path : List Bool) (first second : Told) → carried path (first ++ second) ≡ carried path first ++ carried path second
-carried-append path first second = flat_map-append (λ (one : Stamp × Change). carrying path one.1) first second
-
-pub all-append : {A : Type 0} (P : A → Type 0) (xs ys : List A) → AllByRecursion P xs → AllByRecursion P ys → AllByRecursion P (xs ++ ys)
-all-append P [] ys first second = second
-all-append P (x ∷ xs) ys first second = (first.0, all-append P xs ys first.1 second)
 
 -- What a request does behind the entry at the head of its chain: it adds and evicts no element, it does its one access
 -- at the clock, and of each path at most one visit is told, which leads from the records before to those after it.
