@@ -28,7 +28,7 @@ use Rattle.host_shard.specs.Content.{Content, cold, hot, vacant, key_path, pendi
 use Rattle.host_plan.specs.Moments.{taking, renewing}
 use Rattle.host_plan.specs.Request.{value_after, served, served_hot}
 use Rattle.host_plan.specs.Plan.{IsServable, CanServe, IsPlan}
-use Rattle.host_plan.specs.declared.plan.Plan.{Plan}
+use Rattle.host_plan.specs.declared.plans.Plan.{Plan}
 use Rattle.host_laws.specs.Running.{Told, Access, run}
 use Rattle.host_laws.specs.Carried.{IsCarried, carried}
 use Rattle.host_laws.specs.Served.{CanTake, IsWithin, waiting, kept_in, PlanRuns}

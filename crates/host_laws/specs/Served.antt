@@ -15,7 +15,7 @@ use Rattle.verifier_commands.specs.declared.state.State.{State}
 use Rattle.verifier_commands.specs.Transition.{Rules}
 use Rattle.host_shard.specs.Content.{Content, cold, hot, vacant, key_path, pending}
 use Rattle.host_plan.specs.Plan.{IsOpenAt, clock_after}
-use Rattle.host_plan.specs.declared.plan.Plan.{Plan}
+use Rattle.host_plan.specs.declared.plans.Plan.{Plan}
 use Rattle.host_laws.specs.Running.{Told, Access, run, added_told, evicted_told, accesses_told}
 use Rattle.host_laws.specs.Carried.{IsCarried, carried}
 

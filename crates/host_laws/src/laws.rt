@@ -15,7 +15,7 @@ ghost use Rattle.verifier_commands.specs.Transition.{Rules};
 ghost use Rattle.soundness.specs.Typed.{IsTyped};
 ghost use Rattle.host_shard.specs.Content.{Content};
 ghost use Rattle.host_plan.specs.Plan.{CanServe, IsPlan};
-ghost use Rattle.host_plan.specs.declared.plan.Plan.{Plan};
+ghost use Rattle.host_plan.specs.declared.plans.Plan.{Plan};
 ghost use Rattle.host_laws.specs.Running.{Told, run, IsHistory};
 ghost use Rattle.host_laws.specs.Served.{CanTake, PlanRuns};
 ghost use Rattle.host_laws.specs.SettingUp.{CanSetUp, SetupRuns};

@@ -24,9 +24,9 @@ use Rattle.host_shard.specs.Content.{Content, cold, hot, vacant, key_path}
 use Rattle.host_shard.specs.Mirrors.{IsKeyOf}
 use Rattle.host_plan.specs.Request.{command_of, value_after, served}
 use Rattle.host_plan.specs.Visit.{visit}
-use Rattle.host_plan.specs.Plan.{CanServe, IsPlan}
-use Rattle.host_plan.specs.declared.plan.Plan.{Plan}
-use Rattle.host_mirrors.specs.Mirroring.{IsMirrored, ContentMirrors, Owns}
+use Rattle.host_plan.specs.Plan.{Owns, CanServe, IsPlan}
+use Rattle.host_plan.specs.declared.plans.Plan.{Plan}
+use Rattle.host_mirrors.specs.Mirroring.{IsMirrored, ContentMirrors, IsCold}
 use Rattle.host_laws.proofs.ChainLaws.{LeadTo, AreOf, next_fits}
 use Rattle.host_laws.proofs.ToldLaws.{all-append}
 use Rattle.host_laws.proofs.FrontierLaws.{leads, frontier_there, frontier_of}
@@ -123,26 +123,26 @@ served_mirrors format digest worker shard hot_keys links request clock digests f
 -- A content mirrors again once it served a request.
 pub plan_mirrors : (format : Format) (digest : Digest) (worker : ℕ) (hot_keys : List (List Bool)) (content after : Content) (request : Request)
     (clock later : Reading) (plan : Plan)
-    → GivesDigests digest → IsBlob format request.value → ContentMirrors format digest hot_keys content → Owns format hot_keys content request.key
+    → GivesDigests digest → IsBlob format request.value → ContentMirrors format digest hot_keys content → Owns format content request.key → IsCold format hot_keys content request.key
     → IsPlan format digest worker content request clock plan after later → ContentMirrors format digest hot_keys after
-plan_mirrors format digest worker hot_keys (cold shard) after request clock later plan digests fits_blob mirrored owns is =
+plan_mirrors format digest worker hot_keys (cold shard) after request clock later plan digests fits_blob mirrored owns not_hot is =
     subst (ContentMirrors format digest hot_keys) (sym is.content)
-    (served_mirrors format digest worker shard hot_keys is.links request clock digests fits_blob mirrored owns.0 owns.1 is.way)
-plan_mirrors format digest worker hot_keys (hot found) after request clock later plan digests fits_blob mirrored owns is =
+    (served_mirrors format digest worker shard hot_keys is.links request clock digests fits_blob mirrored owns.1 not_hot is.way)
+plan_mirrors format digest worker hot_keys (hot found) after request clock later plan digests fits_blob mirrored owns not_hot is =
     subst (ContentMirrors format digest hot_keys) (sym is.content) (go request.put)
   where
     go : (b : Bool) → IsBlob format (if b then request.value else found.value)
     go true = fits_blob
     go false = mirrored
-plan_mirrors format digest worker hot_keys vacant after request clock later plan digests fits_blob mirrored owns is = absurd owns
+plan_mirrors format digest worker hot_keys vacant after request clock later plan digests fits_blob mirrored owns not_hot is = absurd owns
 
 -- A content that mirrors can serve a key that it owns.
 pub mirrors_serve : (format : Format) (digest : Digest) (hot_keys : List (List Bool)) (content : Content) (key : ℕ)
-    → ContentMirrors format digest hot_keys content → Owns format hot_keys content key → CanServe format digest content key
-mirrors_serve format digest hot_keys (cold shard) key mirrored owns =
-    record { hot = hot_keys; fits = mirrored.fits; mirrors = mirrored.mirrors; own = owns.0; cold = owns.1 }
-mirrors_serve format digest hot_keys (hot found) key mirrored owns = owns
-mirrors_serve format digest hot_keys vacant key mirrored owns = absurd owns
+    → ContentMirrors format digest hot_keys content → Owns format content key → IsCold format hot_keys content key → CanServe format digest content key
+mirrors_serve format digest hot_keys (cold shard) key mirrored owns not_hot =
+    record { hot = hot_keys; fits = mirrored.fits; mirrors = mirrored.mirrors; own = owns.1; cold = not_hot }
+mirrors_serve format digest hot_keys (hot found) key mirrored owns not_hot = owns
+mirrors_serve format digest hot_keys vacant key mirrored owns not_hot = absurd owns
 
 -- ---- the kinds of what is logged
 
@@ -172,9 +172,9 @@ visit_typed format digest tree key lead inner typed path value (link ∷ links) 
 -- The commands of a plan are of their paths' kinds.
 pub plan_typed : (format : Format) (digest : Digest) (worker : ℕ) (hot_keys : List (List Bool)) (content after : Content) (request : Request)
     (clock later : Reading) (plan : Plan)
-    → IsBlob format request.value → ContentMirrors format digest hot_keys content → Owns format hot_keys content request.key
+    → IsBlob format request.value → ContentMirrors format digest hot_keys content → Owns format content request.key → IsCold format hot_keys content request.key
     → IsPlan format digest worker content request clock plan after later → AllByRecursion (IsTyped format) plan.commands
-plan_typed format digest worker hot_keys (cold shard) after request clock later plan fits_blob mirrored owns is =
+plan_typed format digest worker hot_keys (cold shard) after request clock later plan fits_blob mirrored owns not_hot is =
     subst (AllByRecursion (IsTyped format)) (sym is.commands) (
       kind,
       typed-append format (visit shard.frontier is.links inner) _
@@ -186,14 +186,14 @@ plan_typed format digest worker hot_keys (cold shard) after request clock later 
     key = key_path format request.key
 
     lead : LeadTo format digest (tree_of shard) key
-    lead = leads format digest shard key (record { hot = hot_keys; fits = mirrored.fits; mirrors = mirrored.mirrors; own = owns.0; cold = owns.1 })
+    lead = leads format digest shard key (record { hot = hot_keys; fits = mirrored.fits; mirrors = mirrored.mirrors; own = owns.1; cold = not_hot })
 
     kind : IsOf format shard.frontier shard.value
     kind = mirrored.fits.kinds shard.frontier shard.value (frontier_there shard)
 
     inner : List Command
     inner = command_of format request (last_value shard.value is.links) ∷ []
-plan_typed format digest worker hot_keys (hot found) after request clock later plan fits_blob mirrored owns is =
+plan_typed format digest worker hot_keys (hot found) after request clock later plan fits_blob mirrored owns not_hot is =
     subst (AllByRecursion (IsTyped format)) (sym is.commands)
     ((length-bits_of (path_bits format) found.key, mirrored), (command_typed format request _ fits_blob, (tt, tt)))
-plan_typed format digest worker hot_keys vacant after request clock later plan fits_blob mirrored owns is = absurd owns
+plan_typed format digest worker hot_keys vacant after request clock later plan fits_blob mirrored owns not_hot is = absurd owns

@@ -1,4 +1,4 @@
--- A content that mirrors what the verifiers hold of it, and the keys that it can serve.
+-- A content that mirrors what the verifiers hold of it, where some keys are hot.
 use Rattle.std.specs.Prelude.{◌≡◌, ℕ, Bool, List}
 use Rattle.std.specs.List.{IsAmong}
 use Rattle.record_text.specs.Format.{Format}
@@ -6,7 +6,7 @@ use Rattle.record_text.specs.Value.{IsBlob}
 use Rattle.merkle_records.specs.Merkle.{Digest}
 use Rattle.host_shard.specs.Shard.{Shard}
 use Rattle.host_shard.specs.Content.{Content, cold, hot, vacant, key_path}
-use Rattle.host_shard.specs.Mirrors.{IsShard, IsKeyOf, Mirrors}
+use Rattle.host_shard.specs.Mirrors.{IsShard, Mirrors}
 
 -- a shard that mirrors, where these keys of it are hot
 pub record IsMirrored (format : Format) (digest : Digest) (shard : Shard) (hot_keys : List (List Bool)) : Type 0 where
@@ -19,8 +19,8 @@ ContentMirrors format digest hot_keys (cold shard) = IsMirrored format digest sh
 ContentMirrors format digest hot_keys (hot record') = IsBlob format record'.value
 ContentMirrors format digest hot_keys vacant = Unit {0}
 
--- The content owns the key: a shard does where the key lies below its frontier and is not hot.
-abbrev pub Owns : Format → List (List Bool) → Content → ℕ → Type 0
-Owns format hot_keys (cold shard) key = IsKeyOf format shard (key_path format key) × (IsAmong hot_keys (key_path format key) → ⊥)
-Owns format hot_keys (hot record') key = record'.key ≡ key
-Owns format hot_keys vacant key = ⊥
+-- the key is none of the hot keys of the content, where that is a shard
+abbrev pub IsCold : Format → List (List Bool) → Content → ℕ → Type 0
+IsCold format hot_keys (cold shard) key = IsAmong hot_keys (key_path format key) → ⊥
+IsCold format hot_keys (hot record') key = Unit {0}
+IsCold format hot_keys vacant key = Unit {0}
