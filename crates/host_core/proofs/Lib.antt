@@ -1,0 +1,11 @@
+-- How the laws of the host's world are proved, in reading order.
+mod RunLemmas
+mod CountLemmas
+mod Books
+mod AccountLemmas
+mod RightLemmas
+mod EvenLemmas
+mod PermutedLemmas
+mod ScriptLemmas
+mod PromiseLemmas
+mod CoreLaws
