@@ -153,7 +153,7 @@ module _ {C R : Type 0} (host : Host C R) (i : ℕ) where
       ap (λ (b : Bool). timed {A = Option ℕ × Reading} (test b faults.ClockEnd (Ok (sealed_by_advancing clock, next_clock clock)))
       (λ turn. Ok (did_next_epoch turn.0, record { cache = host.cache i; clock = turn.1 }))) more
 
-  advance_events : (index : ℕ) (clock : Reading) → (clock.at.epoch == last_epoch) ≡ false
+  pub advance_events : (index : ℕ) (clock : Reading) → (clock.at.epoch == last_epoch) ≡ false
       → events_at index clock (NextEpoch ∷ [])
       ≡ record { verifier = i; index = index; at = (next_clock clock).at; change = did_next_epoch (sealed_by_advancing clock) } ∷ []
   unfolding events_from

@@ -173,7 +173,7 @@ module _ {C R : Type 0} (mirrors : ℕ → List C → Type 0) (host : Host C R) 
       (sym (pending-opened old.shards)))
 
 -- workers that logged nothing have no events
-none_of : {C R : Type 0} (host : Host C R) (n number : ℕ) → all_from host number (map account_of (replicate n (fresh host.header))) ≡ []
+pub none_of : {C R : Type 0} (host : Host C R) (n number : ℕ) → all_from host number (map account_of (replicate n (fresh host.header))) ≡ []
 unfolding events_from
 none_of host zero number = refl
 none_of host (suc n) number = none_of host n (suc number)

@@ -9,3 +9,7 @@ mod PermutedLemmas
 mod ScriptLemmas
 mod PromiseLemmas
 mod CoreLaws
+mod LastLemmas
+mod ClashLemmas
+mod ClearLemmas
+mod ExhibitLemmas

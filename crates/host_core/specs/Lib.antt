@@ -5,3 +5,4 @@ pub mod WorldEvent
 pub mod Accepted
 pub mod Deeds
 pub mod Core
+pub mod Clear

@@ -2,6 +2,7 @@
 //! workers, the shards and the numbers of the host. These functions do nothing: their contracts are the laws. What they
 //! take of the host is `IsFit` of `specs/Deeds.antt`.
 ghost use Rattle.host_core.specs.Host.{Host};
+ghost use Rattle.host_core.specs.Clear.{HoldsIfClear, HasNothingToShow, IsServedSerially};
 ghost use Rattle.host_core.specs.Core.{HoldsAlways, AreAccepted, AreAnswered, IsDone, IsEven, IsInPhase, IsBehindClose, AreSealed, SealedArePermuted, AllCertified, IsWhole};
 
 /// No verifier refuses a command of a log, and each is at rest behind its log, with the worker's clock.
@@ -36,4 +37,11 @@ pub fn sealed_epochs_are_certified<C, R>()
     ensures permuted { (host : Host C R) → HoldsAlways host (SealedArePermuted host) }
     ensures certified { (host : Host C R) → HoldsAlways host (AllCertified host) }
     ensures whole { (host : Host C R) → HoldsAlways host (IsWhole host) }
+{}
+
+/// Where each record comes back by its digest with the value that it left with, an audit of the certified epochs has
+/// nothing to show. So their answers are serial, without the case of a collision.
+pub fn certified_answers_are_serial<C, R>()
+    ensures exhibit { (host : Host C R) → HoldsIfClear host (HasNothingToShow host) }
+    ensures serial { (host : Host C R) → HoldsIfClear host (IsServedSerially host) }
 {}
