@@ -11,7 +11,7 @@ use Rattle.log_codec.specs.declared.command.Command.TheVariants.{NextEpoch}
 use Rattle.soundness.specs.History.{Event, histories_of}
 use Rattle.host_core.specs.Host.{Host, Done, scheme, asked}
 use Rattle.host_core.specs.World.{Worker, Seats, World, unmoved, fresh, worker_at, shard_at, logs_of, epoch_of}
-use Rattle.host_core.specs.WorldEvent.{WorldEvent, takes, loses, serves, gives, advances, moves, opens, with_worker, after_serve, after_move, next_clock, logging, serving, step, AllMoved, HasAdvanced, IsNext, IsLast, IsEnabled}
+use Rattle.host_core.specs.WorldEvent.{WorldEvent, takes, loses, serves, gives, advances, moves, opens, with_worker, after_serve, after_move, next_clock, logging, having_served, step, AllMoved, HasAdvanced, IsNext, IsLast, IsEnabled}
 
 -- ---- lists
 
@@ -218,7 +218,7 @@ module _ {C R : Type 0} (host : Host C R) where
             phase = world.phase;
             closing = world.closing;
           })
-          (map-set account_of world.workers i (serving (logging worker done.commands done.clock) place)
+          (map-set account_of world.workers i (having_served (logging worker done.commands done.clock) place)
           ∙ ap (λ (n : ℕ). set (map account_of world.workers) i
           (record { log = worker.log ++ done.commands; clock = done.clock; served = n })) (omega arith)))
   progress world (gives i place) may = stays (kept world i _ refl)

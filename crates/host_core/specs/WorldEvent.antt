@@ -38,14 +38,14 @@ abbrev pub logging : Worker → List Command → Reading → Worker
 logging worker commands clock = record worker { log = worker.log ++ commands; clock = clock }
 
 -- the worker has served one request more, at this place
-abbrev pub serving : Worker → Place → Worker
-serving worker place = record worker { served = suc worker.served; holds = Some (record { place = place; used = true }) }
+abbrev pub having_served : Worker → Place → Worker
+having_served worker place = record worker { served = suc worker.served; holds = Some (record { place = place; used = true }) }
 
 -- once a request was served, or the worker's clock would have passed its end
 abbrev pub after_serve : {C : Type 0} → World C → ℕ → Worker → Place → Seats C → Option (Done C) → World C
 after_serve world i worker place shard None = with_worker world i (record worker { stopped = true })
 after_serve world i worker place shard (Some done) =
-    with_shard (with_worker world i (serving (logging worker done.commands done.clock) place))
+    with_shard (with_worker world i (having_served (logging worker done.commands done.clock) place))
     place.shard (record shard { contents = set shard.contents place.seat done.after })
 
 -- the same of a shard that is moved
