@@ -1,5 +1,6 @@
 -- How the laws of the host's world are proved, in reading order.
 mod RunLemmas
+pub mod EventLaws
 mod CountLemmas
 mod Books
 mod AccountLemmas

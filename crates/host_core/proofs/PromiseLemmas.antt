@@ -77,6 +77,7 @@ module _ {C R : Type 0} (mirrors : ℕ → List C → Type 0) (host : Host C R) 
       λ i within. (clock_right i within).phase phase,
       λ s within. subst (λ (b : Bool). AreStamped host (epoch_at (epoch_of host world) b) (shard_at world s).contents)
           ((sound.right.shards s within).still phase) (sound.right.shards s within).stamped,
+      λ s within. (sound.right.shards s within).still phase,
     )
 
     -- Behind a whole close all pending elements are of the new epoch.

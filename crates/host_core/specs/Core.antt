@@ -40,11 +40,12 @@ module _ {C R : Type 0} (host : Host C R) (world : World C) where
   IsEven =
       is_permutation (evicted_among (all_events histories)) (added_among (all_events histories) ++ pending_in) ≡ true
 
-  -- in a phase each clock and each pending element is of its epoch
+  -- in a phase each clock and each pending element is of its epoch, and no shard is moved
   abbrev pub IsInPhase : Type 0
   IsInPhase = world.closing ≡ false
       → ((i : ℕ) → i < length world.workers → (worker_at host world i).clock.at.epoch ≡ epoch_of host world)
       × ((s : ℕ) → s < length world.shards → AreStamped host (epoch_of host world) (shard_at world s).contents)
+      × ((s : ℕ) → s < length world.shards → (shard_at world s).moved ≡ false)
 
   -- behind a whole close each pending element is of the new epoch
   abbrev pub IsBehindClose : Type 0

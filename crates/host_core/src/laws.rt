@@ -1,9 +1,20 @@
 //! What holds of a host's world behind every list of events that are enabled from the setup on, whatever the script, the
 //! workers, the shards and the numbers of the host. These functions do nothing: their contracts are the laws. What they
 //! take of the host is `IsFit` of `specs/Deeds.antt`.
+ghost use Rattle.std.specs.Prelude.{◌≡◌, List, ◌++◌};
 ghost use Rattle.host_core.specs.Host.{Host};
+ghost use Rattle.host_core.specs.World.{World};
+ghost use Rattle.host_core.specs.WorldEvent.{WorldEvent, AreEnabled, run_events};
 ghost use Rattle.host_core.specs.Clear.{HoldsIfClear, HasNothingToShow, IsServedSerially};
 ghost use Rattle.host_core.specs.Core.{HoldsAlways, AreAccepted, AreAnswered, IsDone, IsEven, IsInPhase, IsBehindClose, AreSealed, SealedArePermuted, AllCertified, IsWhole};
+
+/// Events that are enabled behind others are enabled with them, and lead where both lead, one behind the other.
+pub fn events_go_on<C, R>()
+    ensures enabled { (host : Host C R) (world : World C) (events more : List (WorldEvent R))
+        → AreEnabled host world events → AreEnabled host (run_events host world events) more → AreEnabled host world (events ++ more) }
+    ensures run { (host : Host C R) (world : World C) (events more : List (WorldEvent R))
+        → run_events host world (events ++ more) ≡ run_events host (run_events host world events) more }
+{}
 
 /// No verifier refuses a command of a log, and each is at rest behind its log, with the worker's clock.
 pub fn logs_are_accepted<C, R>()
@@ -22,8 +33,8 @@ pub fn evicted_elements_are_added_or_wait<C, R>()
     ensures even { (host : Host C R) → HoldsAlways host (IsEven host) }
 {}
 
-/// In a phase each clock and each pending element is of the phase's epoch, and behind a whole close each pending element
-/// is of the next one.
+/// In a phase each clock and each pending element is of the phase's epoch, and no shard is moved; behind a whole close
+/// each pending element is of the next epoch.
 pub fn pending_elements_are_of_the_epoch<C, R>()
     ensures phase { (host : Host C R) → HoldsAlways host (IsInPhase host) }
     ensures close { (host : Host C R) → HoldsAlways host (IsBehindClose host) }

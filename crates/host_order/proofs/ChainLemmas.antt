@@ -28,6 +28,7 @@ module _ {C R : Type 0} (host : Host C R) where
     pub clocks : (i : ℕ) → (worker_at host later i).clock ≡ clock_behind (worker_at host world i).clock (filter (is_by i) servings)
     pub served : (i : ℕ) → (worker_at host later i).served ≡ (worker_at host world i).served + length (filter (is_by i) servings)
     pub stopped : (i : ℕ) → (worker_at host later i).stopped ≡ (worker_at host world i).stopped
+    pub stuck : (i : ℕ) → (worker_at host later i).stuck ≡ (worker_at host world i).stuck
     pub still_open : (i : ℕ) (place : Place) (request : R) → IsOpenTo host world i place request → IsOpenTo host later i place request
     pub idle : IsIdle host later
     pub count : length later.workers ≡ length world.workers
@@ -105,7 +106,8 @@ module _ {C R : Type 0} (host : Host C R) where
       logs = λ i. logs i (cases_eq serving.worker i);
       clocks = λ i. clocks i (cases_eq serving.worker i);
       served = λ i. served i (cases_eq serving.worker i);
-      stopped = λ i. leads.stopped i ∙ stopped i (cases_eq serving.worker i);
+      stopped = λ i. leads.stopped i ∙ flag (λ w. w.stopped) (λ w. refl) i (cases_eq serving.worker i);
+      stuck = λ i. leads.stuck i ∙ flag (λ w. w.stuck) (λ w. refl) i (cases_eq serving.worker i);
       still_open = λ i place request is. leads.still_open i place request (open_after host world chained.idle serving first_next steady i place request is);
       idle = leads.idle;
       count = leads.count ∙ length-set world.workers serving.worker (done_worker host (worker_at host world serving.worker) serving.done);
@@ -181,10 +183,11 @@ module _ {C R : Type 0} (host : Host C R) where
               ap (λ (zs : List (Serving C R)). length zs) (other_filter i apart),
             )
 
-        stopped : (i : ℕ) → (serving.worker ≡ i) ⊎ (serving.worker ≡ i → ⊥)
-            → (worker_at host (after_one host world serving) i).stopped ≡ (worker_at host world i).stopped
-        stopped i (inl same) = ap (λ (w : Worker). w.stopped) (own_is i same)
-        stopped i (inr apart) = ap (λ (w : Worker). w.stopped) (other_is i apart)
+        -- a flag of a worker that a serving leaves
+        flag : (show : Worker → Bool) → ((w : Worker) → show (done_worker host w serving.done) ≡ show w) → (i : ℕ) → (serving.worker ≡ i) ⊎ (serving.worker ≡ i → ⊥)
+            → show (worker_at host (after_one host world serving) i) ≡ show (worker_at host world i)
+        flag show same i (inl own) = ap show (own_is i own) ∙ same (worker_at host world i)
+        flag show same i (inr apart) = ap show (other_is i apart)
 
   -- ---- all of them
 
@@ -205,6 +208,7 @@ module _ {C R : Type 0} (host : Host C R) where
     clocks = λ i. refl;
     served = λ i. omega arith;
     stopped = λ i. refl;
+    stuck = λ i. refl;
     still_open = λ i place request is. is;
     idle = chained.idle;
     count = refl;

@@ -1,4 +1,4 @@
--- The one order of what workers and places tell: it keeps each worker's list and each place's history.
+-- The one order of what workers and places tell: it keeps each worker's list and each place's past.
 use Rattle.std.proofs.Common.{◌≡◌, ◌≢◌, ◌⊎◌, ℕ, suc, ◌+◌, ◌<◌, ◌==◌, ◌&&◌, Bool, true, false, List, [], ◌∷◌, map, length, filter, get_or, refl, sym, ◌∙◌, ap, subst, inl, inr, arith}
 use Rattle.std.specs.List.{AllByRecursion}
 use Rattle.std.proofs.lemmas.Bool.{eq-eqb, ne_eqb, and_from}
@@ -12,13 +12,13 @@ use Rattle.host_core.specs.Host.{Host}
 use Rattle.host_core.specs.World.{Place, World, worker_at, epoch_of}
 use Rattle.host_order.specs.Serving.{Serving, serving_moment, is_at, is_by, IsPlaceChain, IsWorkerChain, content_at, in_one_order}
 use Rattle.host_order.specs.Steady.{IsSteady}
-use Rattle.host_order.specs.Told.{IsServed, IsAtRest, AreTold, joined, joined_places, list_of, history_of}
+use Rattle.host_order.specs.Told.{IsServed, IsAtRest, AreTold, joined, joined_pasts, list_of, past_of}
 use Rattle.host_order.proofs.ChainLemmas.{AreChained}
 use Rattle.host_order.proofs.RisingLemmas.{RisesFrom, rises-sorted, AreApart, rises-apart, apart-append, pairs-apart, IsOf, worker-of, worker-rises, place-rises}
 use Rattle.host_order.proofs.PartLemmas.{joined_up, every-joined, every-part, filter-all, picked, joined_twice, get_or-joined}
 
 module _ {C R : Type 0} (host : Host C R) (steady : IsSteady host) (world : World C) (rest : IsAtRest host world)
-    (lists : List (List (Serving C R))) (histories : List (List (List (Serving C R)))) (told : AreTold host world lists histories) where
+    (lists : List (List (Serving C R))) (pasts : List (List (List (Serving C R)))) (told : AreTold host world lists pasts) where
   abbrev epoch : ℕ
   epoch = epoch_of host world
 
@@ -98,22 +98,22 @@ module _ {C R : Type 0} (host : Host C R) (steady : IsSteady host) (world : Worl
       (list_of lists i) (told.own_worker i))
       (λ i. ((worker_at host world i).clock.at.counter, list_rises i))
 
-  -- ---- each place's history
+  -- ---- each place's past
 
   -- all servings are of the epoch
-  all_of : AllByRecursion (IsOf host steady world epoch) (joined_places histories)
+  all_of : AllByRecursion (IsOf host steady world epoch) (joined_pasts pasts)
   all_of =
-      recursion_from_All (IsOf host steady world epoch) (joined_places histories)
-      (All-permutation (IsOf host steady world epoch) (joined lists) (joined_places histories) told.same
+      recursion_from_All (IsOf host steady world epoch) (joined_pasts pasts)
+      (All-permutation (IsOf host steady world epoch) (joined lists) (joined_pasts pasts) told.same
       (All-from_recursion (IsOf host steady world epoch) (joined lists)
       (every-joined (IsOf host steady world epoch) lists list_of_epoch)))
 
-  pub history_of_epoch : (place : Place) → AllByRecursion (IsOf host steady world epoch) (history_of histories place)
-  history_of_epoch place =
-      every-part (IsOf host steady world epoch) (get_or histories place.shard []) place.seat
-      (subst (AllByRecursion (IsOf host steady world epoch)) (get_or-joined histories place.shard)
-      (every-part (IsOf host steady world epoch) (map joined_up histories) place.shard
-      (subst (AllByRecursion (IsOf host steady world epoch)) (joined_twice histories) all_of)))
+  pub past_of_epoch : (place : Place) → AllByRecursion (IsOf host steady world epoch) (past_of pasts place)
+  past_of_epoch place =
+      every-part (IsOf host steady world epoch) (get_or pasts place.shard []) place.seat
+      (subst (AllByRecursion (IsOf host steady world epoch)) (get_or-joined pasts place.shard)
+      (every-part (IsOf host steady world epoch) (map joined_up pasts) place.shard
+      (subst (AllByRecursion (IsOf host steady world epoch)) (joined_twice pasts) all_of)))
 
   -- a serving at another place
   elsewhere : (place : Place) (serving : Serving C R) (s seat : ℕ) → serving.place ≡ record { shard = s; seat = seat }
@@ -130,44 +130,44 @@ module _ {C R : Type 0} (host : Host C R) (steady : IsSteady host) (world : Worl
       neither true = refl
       neither false = refl
 
-  history_picked : (place : Place) → filter (is_at place) (joined_places histories) ≡ history_of histories place
-  history_picked place =
-      ap (filter (is_at place)) (joined_twice histories)
-      ∙ picked (is_at place) (map joined_up histories) place.shard
-      (λ s apart. subst (AllByRecursion (λ serving. is_at place serving ≡ false)) (sym (get_or-joined histories s))
-      (every-joined (λ serving. is_at place serving ≡ false) (get_or histories s [])
+  past_picked : (place : Place) → filter (is_at place) (joined_pasts pasts) ≡ past_of pasts place
+  past_picked place =
+      ap (filter (is_at place)) (joined_twice pasts)
+      ∙ picked (is_at place) (map joined_up pasts) place.shard
+      (λ s apart. subst (AllByRecursion (λ serving. is_at place serving ≡ false)) (sym (get_or-joined pasts s))
+      (every-joined (λ serving. is_at place serving ≡ false) (get_or pasts s [])
       (λ seat. every-weaker (λ serving. serving.place ≡ record { shard = s; seat = seat }) (λ serving. is_at place serving ≡ false)
-      (λ serving own. elsewhere place serving s seat own (inl apart)) (get_or (get_or histories s []) seat [])
+      (λ serving own. elsewhere place serving s seat own (inl apart)) (get_or (get_or pasts s []) seat [])
       (told.own_place (record { shard = s; seat = seat })))))
-      ∙ ap (filter (is_at place)) (get_or-joined histories place.shard)
-      ∙ picked (is_at place) (get_or histories place.shard []) place.seat
+      ∙ ap (filter (is_at place)) (get_or-joined pasts place.shard)
+      ∙ picked (is_at place) (get_or pasts place.shard []) place.seat
       (λ seat apart. every-weaker (λ serving. serving.place ≡ record { shard = place.shard; seat = seat }) (λ serving. is_at place serving ≡ false)
-      (λ serving own. elsewhere place serving place.shard seat own (inr apart)) (get_or (get_or histories place.shard []) seat [])
+      (λ serving own. elsewhere place serving place.shard seat own (inr apart)) (get_or (get_or pasts place.shard []) seat [])
       (told.own_place (record { shard = place.shard; seat = seat })))
-      ∙ filter-all (is_at place) (history_of histories place)
+      ∙ filter-all (is_at place) (past_of pasts place)
       (every-weaker (λ serving. serving.place ≡ place) (λ serving. is_at place serving ≡ true)
       (λ serving own. and_from (serving.place.shard == place.shard) (serving.place.seat == place.seat)
       (eq-eqb serving.place.shard place.shard (ap (λ (p : Place). p.shard) own))
       (eq-eqb serving.place.seat place.seat (ap (λ (p : Place). p.seat) own)))
-      (history_of histories place) (told.own_place place))
+      (past_of pasts place) (told.own_place place))
 
   -- the one order is that of the places as well
-  same_order : in_one_order (joined_places histories) ≡ in_one_order (joined lists)
+  same_order : in_one_order (joined_pasts pasts) ≡ in_one_order (joined lists)
   same_order =
-      merged-one serving_moment (joined lists) (in_one_order (joined_places histories)) (pairs-apart (joined lists) all_apart)
-      (IsPermutation-trans (joined lists) (joined_places histories) (in_one_order (joined_places histories)) told.same
-      (merged-permutation serving_moment (joined_places histories)))
-      (merged-sorts serving_moment (joined_places histories))
+      merged-one serving_moment (joined lists) (in_one_order (joined_pasts pasts)) (pairs-apart (joined lists) all_apart)
+      (IsPermutation-trans (joined lists) (joined_pasts pasts) (in_one_order (joined_pasts pasts)) told.same
+      (merged-permutation serving_moment (joined_pasts pasts)))
+      (merged-sorts serving_moment (joined_pasts pasts))
 
-  -- Each place's part of the one order is its history.
-  pub place_part : (place : Place) → filter (is_at place) (in_one_order (joined lists)) ≡ history_of histories place
+  -- Each place's part of the one order is its past.
+  pub place_part : (place : Place) → filter (is_at place) (in_one_order (joined lists)) ≡ past_of pasts place
   place_part place =
       ap (filter (is_at place)) (sym same_order)
-      ∙ merged-keeps serving_moment (is_at place) (joined_places histories)
-      (subst (IsMerged serving_moment) (sym (history_picked place))
-      (rises-sorted epoch 0 (history_of histories place)
-      (place-rises host steady world epoch (content_at host world place) (history_of histories place) (told.places place) (history_of_epoch place))))
-      ∙ history_picked place
+      ∙ merged-keeps serving_moment (is_at place) (joined_pasts pasts)
+      (subst (IsMerged serving_moment) (sym (past_picked place))
+      (rises-sorted epoch 0 (past_of pasts place)
+      (place-rises host steady world epoch (content_at host world place) (past_of pasts place) (told.places place) (past_of_epoch place))))
+      ∙ past_picked place
 
   -- The one order is chained.
   pub order_chained : AreChained host world (in_one_order (joined lists))

@@ -1,5 +1,5 @@
 -- Stops, replayed: each a take, a serve that ends its worker's clock, and a give.
-use Rattle.std.proofs.Common.{◌≡◌, ◌≢◌, ◌⊎◌, ℕ, ◌<◌, ◌==◌, ◌||◌, Bool, true, false, List, [], ◌∷◌, ◌++◌, length, slice_get, Option, Some, None, refl, sym, ◌∙◌, ap, subst, inl, inr}
+use Rattle.std.proofs.Common.{◌≡◌, ◌≢◌, ◌⊎◌, ℕ, ◌<◌, ◌==◌, ◌||◌, Bool, true, false, List, [], ◌∷◌, length, slice_get, Option, Some, None, refl, sym, ◌∙◌, ap, subst, inl, inr}
 use Rattle.std.specs.List.{AllByRecursion}
 use Rattle.std.proofs.lemmas.Bool.{cases_eq, eq-eqb, ne_eqb}
 use Rattle.std.proofs.lemmas.Option.{none-some}
@@ -11,18 +11,7 @@ use Rattle.host_order.specs.Serving.{content_at}
 use Rattle.host_order.specs.Told.{IsOpenTo, Stop, AreOfOthers, replay_stops, stops_by}
 use Rattle.host_order.proofs.ReplayLemmas.{IsIdle}
 
--- ---- events behind events
-
 module _ {C R : Type 0} (host : Host C R) where
-  pub enabled-append : (world : World C) (xs ys : List (WorldEvent R)) → AreEnabled host world xs
-      → AreEnabled host (run_events host world xs) ys → AreEnabled host world (xs ++ ys)
-  enabled-append world [] ys first more = more
-  enabled-append world (x ∷ xs) ys first more = (first.0, enabled-append (step host world x) xs ys first.1 more)
-
-  pub run-append : (world : World C) (xs ys : List (WorldEvent R)) → run_events host world (xs ++ ys) ≡ run_events host (run_events host world xs) ys
-  run-append world [] ys = refl
-  run-append world (x ∷ xs) ys = run-append (step host world x) xs ys
-
   -- ---- one stop
 
   -- the worker's next request ends its clock, here and now
@@ -170,6 +159,7 @@ module _ {C R : Type 0} (host : Host C R) where
     pub clocks : (i : ℕ) → (worker_at host later i).clock ≡ (worker_at host world i).clock
     pub served : (i : ℕ) → (worker_at host later i).served ≡ (worker_at host world i).served
     pub stopped : (i : ℕ) → (worker_at host later i).stopped ≡ ((worker_at host world i).stopped || stops_by i stops)
+    pub stuck : (i : ℕ) → (worker_at host later i).stuck ≡ (worker_at host world i).stuck
     pub idle : IsIdle host later
     pub count : length later.workers ≡ length world.workers
     pub phase : later.phase ≡ world.phase
@@ -182,6 +172,7 @@ module _ {C R : Type 0} (host : Host C R) where
     clocks = λ i. refl;
     served = λ i. refl;
     stopped = λ i. or_false (worker_at host world i).stopped;
+    stuck = λ i. refl;
     idle = idle;
     count = refl;
     phase = refl;
@@ -233,6 +224,7 @@ module _ {C R : Type 0} (host : Host C R) where
         clocks = λ i. leads.clocks i ∙ keeps (λ w. w.clock) (λ w. refl) i;
         served = λ i. leads.served i ∙ keeps (λ w. w.served) (λ w. refl) i;
         stopped = λ i. leads.stopped i ∙ stopped i (cases_eq stop.worker i);
+        stuck = λ i. leads.stuck i ∙ keeps (λ w. w.stuck) (λ w. refl) i;
         idle = leads.idle;
         count = leads.count ∙ length-set world.workers stop.worker (stopped_worker (worker_at host world stop.worker));
         phase = leads.phase;
