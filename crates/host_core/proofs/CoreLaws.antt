@@ -1,0 +1,49 @@
+-- The laws of the world, for whatever says that a shard mirrors: a type of its contents, or a test.
+use Rattle.std.proofs.Common.{ℕ, List}
+use Rattle.host_core.specs.Host.{Host}
+use Rattle.host_core.specs.World.{set_up}
+use Rattle.host_core.specs.WorldEvent.{run_events}
+use Rattle.host_core.specs.Core.{HoldsBehind, AreAccepted, AreAnswered, IsDone, IsEven, IsInPhase, IsBehindClose, AreSealed, SealedArePermuted, AllCertified, IsWhole}
+use Rattle.host_core.proofs.RightLemmas.{behind}
+use Rattle.host_core.proofs.ScriptLemmas.{AreLeft, progress_left, setup_left, is_done}
+use Rattle.host_core.proofs.PromiseLemmas.{sound_behind, some_worker, are_accepted, are_answered, are_sealed, is_even, is_in_phase, is_behind_close, sealed_permuted, all_certified, is_whole}
+
+module _ {C R : Type 0} (mirrors : ℕ → List C → Type 0) (host : Host C R) where
+  pub always_accepted : HoldsBehind mirrors host (AreAccepted host)
+  always_accepted fit events enabled = are_accepted mirrors host _ (sound_behind mirrors host fit events enabled)
+
+  pub always_answered : HoldsBehind mirrors host (AreAnswered host)
+  always_answered fit events enabled = are_answered mirrors host _ (sound_behind mirrors host fit events enabled)
+
+  pub always_done : HoldsBehind mirrors host (IsDone host)
+  always_done fit events enabled =
+      is_done host (run_events host (set_up host) events)
+      (behind mirrors host fit (AreLeft host) (setup_left host) (λ old new right did left. progress_left host old new did left) events enabled).1
+      (always_answered fit events enabled)
+
+  pub always_even : HoldsBehind mirrors host (IsEven host)
+  always_even fit events enabled = is_even mirrors host _ (sound_behind mirrors host fit events enabled)
+
+  pub always_in_phase : HoldsBehind mirrors host (IsInPhase host)
+  always_in_phase fit events enabled = is_in_phase mirrors host _ (sound_behind mirrors host fit events enabled)
+
+  pub always_behind_close : HoldsBehind mirrors host (IsBehindClose host)
+  always_behind_close fit events enabled = is_behind_close mirrors host _ (sound_behind mirrors host fit events enabled)
+
+  pub always_sealed : HoldsBehind mirrors host (AreSealed host)
+  always_sealed fit events enabled = are_sealed mirrors host _ (sound_behind mirrors host fit events enabled)
+
+  pub always_permuted : HoldsBehind mirrors host (SealedArePermuted host)
+  always_permuted fit events enabled =
+      let sound = sound_behind mirrors host fit events enabled in
+      sealed_permuted mirrors host _ sound (some_worker mirrors host fit _ sound)
+
+  pub always_certified : HoldsBehind mirrors host (AllCertified host)
+  always_certified fit events enabled =
+      let sound = sound_behind mirrors host fit events enabled in
+      all_certified mirrors host _ sound (some_worker mirrors host fit _ sound)
+
+  pub always_whole : HoldsBehind mirrors host (IsWhole host)
+  always_whole fit events enabled =
+      let sound = sound_behind mirrors host fit events enabled in
+      is_whole mirrors host _ sound (some_worker mirrors host fit _ sound)

@@ -1,0 +1,16 @@
+-- How the laws of the host's world are proved, in reading order.
+mod RunLemmas
+pub mod EventLaws
+mod CountLemmas
+mod Books
+mod AccountLemmas
+mod RightLemmas
+mod EvenLemmas
+mod PermutedLemmas
+mod ScriptLemmas
+mod PromiseLemmas
+mod CoreLaws
+mod LastLemmas
+mod ClashLemmas
+mod ClearLemmas
+mod ExhibitLemmas

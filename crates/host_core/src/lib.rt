@@ -1,0 +1,20 @@
+//! Why no log of the shipped host is ever refused, whatever its workers do and in whatever order.
+//!
+//! The world is a machine: workers take places, serve the requests that a script asks of them, give the places back, and
+//! move the shards at a close. What a worker logs for a request and for a shard is left open; it is a host's, of which
+//! the laws take that each such deed fits: a verifier at rest accepts it, it adds the elements that waited at its places,
+//! evicts those that wait there then, and leaves the verifier at rest (`IsFit`). From this it follows of every list of
+//! enabled events that each log is accepted, answers what the script asks, and that each epoch that all have sealed is
+//! certified.
+//!
+//! The crate stands on `soundness`, whose histories it speaks of; it has no code to run. Begin with `laws.rt`, then read
+//! `specs/` in the order of its `Lib.antt`.
+#![tactic(auto)]
+
+mod laws;
+
+pub use laws::{
+    answers_follow_the_script, certified_answers_are_serial, events_go_on,
+    evicted_elements_are_added_or_wait, logs_are_accepted, pending_elements_are_of_the_epoch,
+    sealed_epochs_are_certified,
+};

@@ -1,0 +1,242 @@
+-- The plan of a request runs, for a key of a shard and for a hot key.
+use Rattle.std.proofs.Common.{◌≡◌, ℕ, suc, ◌+◌, ◌*◌, ◌<◌, ◌≤◌, Bool, true, false, List, [], ◌∷◌, ◌++◌, length, Option, Some, None, IsSome, Ok, append-nil, if◌then◌else◌, refl, sym, ◌∙◌, ap, subst, inl, inr, arith}
+use Rattle.std.specs.Int.{Width, w8, w16, w32, w64, w128, byte_len}
+use Rattle.std.specs.List.{AllByRecursion}
+use Rattle.tree_keys.specs.Path.{side, IsBelow}
+use Rattle.tree_keys.specs.BitsLaws.{length-bits_of}
+use Rattle.lamport_clocks.specs.declared.stamp.Stamp.{Stamp}
+use Rattle.lamport_clocks.specs.Stamp.{IsLater}
+use Rattle.lamport_clocks.specs.Reading.{Reading}
+use Rattle.lamport_clocks.specs.Clock.{is_open}
+use Rattle.lamport_clocks.proofs.ClockLaws.{received-above, sent-later}
+use Rattle.record_text.specs.declared.element.Element.{Element}
+use Rattle.record_text.specs.declared.request.Request.{Request}
+use Rattle.record_text.specs.declared.value.Value.{Value}
+use Rattle.record_text.specs.declared.value.Value.TheVariants as values
+use Rattle.record_text.specs.Format.{Format, path_bits}
+use Rattle.record_text.specs.Value.{IsOf}
+use Rattle.log_codec.specs.declared.command.Command.{Command}
+use Rattle.verifier_cache.specs.declared.entry.Hold.TheVariants.{B}
+use Rattle.verifier_commands.specs.declared.state.State.{State}
+use Rattle.verifier_commands.specs.Change.{Change}
+use Rattle.verifier_commands.specs.Transition.{Rules, is_root}
+use Rattle.soundness.specs.Certified.{evicted_by}
+use Rattle.host_shard.specs.declared.content.HotRecord.{HotRecord}
+use Rattle.host_shard.specs.Chain.{last_value, closed_value}
+use Rattle.host_shard.specs.Shard.{Shard, tree_of, pending_shard}
+use Rattle.host_shard.specs.Content.{Content, cold, hot, vacant, key_path, pending, pending_hot}
+use Rattle.host_plan.specs.Moments.{taking, renewing}
+use Rattle.host_plan.specs.Request.{value_after, served, served_hot}
+use Rattle.host_plan.specs.Plan.{IsServable, CanServe, IsPlan}
+use Rattle.host_plan.specs.declared.plans.Plan.{Plan}
+use Rattle.host_laws.specs.Running.{Told, Access, run}
+use Rattle.host_laws.specs.Carried.{IsCarried, carried}
+use Rattle.host_laws.specs.Served.{CanTake, IsWithin, waiting, kept_in, PlanRuns}
+use Rattle.host_laws.proofs.ToldLaws.{added_told-append, evicted_told-append, accesses_told-append, carried-append, all-append}
+use Rattle.host_laws.proofs.EndLemmas.{IsEnd, change_by, told_request, works_request}
+use Rattle.host_laws.proofs.ChainLaws.{LeadTo}
+use Rattle.host_laws.proofs.VisitLemmas.{Visited, visited}
+use Rattle.host_laws.proofs.MomentLemmas.{received-taken, sent-given}
+use Rattle.host_laws.proofs.FrontierLaws.{leads, frontier_there, frontier_of, frontier_based, chain_length}
+use Rattle.host_laws.proofs.BetweenLemmas.{clear-bare, length-bare, told_between, between_runs}
+
+not_root : (path : List Bool) → 0 < length path → is_root path ≡ false
+not_root [] some = absurd (omega (arith, some))
+not_root (bit ∷ path) some = refl
+
+-- ---- stamps
+
+later-trans : (s t u : Stamp) → IsLater t s → IsLater u t → IsLater u s
+later-trans s t u (inl a) (inl b) = inl (omega arith)
+later-trans s t u (inl a) (inr b) = inl (omega arith)
+later-trans s t u (inr a) (inl b) = inl (omega arith)
+later-trans s t u (inr a) (inr b) = inr (a.0 ∙ b.0, omega arith)
+
+-- what is told of an element that is taken in and handed out is within its stamps
+within_between : (rules : Rules) (element left : Element) (new : Value) (clock : Reading) (told : Told) → is_open clock element.stamp.epoch ≡ true
+    → (renewing clock element.stamp).at.counter ≤ clock.end → left.stamp ≡ (renewing clock element.stamp).at
+    → AllByRecursion (λ (one : Stamp × Change). one.0 ≡ (taking clock element.stamp).at) told
+    → AllByRecursion (λ (one : Stamp × Change). IsWithin (Some element) (Some left) one.0) (told_between rules element new clock told)
+within_between rules element left new clock told is_taken within is_left at_clock =
+    (here, all-append (λ (one : Stamp × Change). IsWithin (Some element) (Some left) one.0) told _ (inside told at_clock) (last, tt))
+  where
+    taken : Reading
+    taken = taking clock element.stamp
+
+    first : IsLater taken.at element.stamp
+    first = received-above clock taken element.stamp (received-taken clock element.stamp is_taken (omega arith))
+
+    second : IsLater (renewing clock element.stamp).at taken.at
+    second = sent-later taken (renewing clock element.stamp) (renewing clock element.stamp).at (sent-given taken within)
+
+    here : IsWithin (Some element) (Some left) taken.at
+    here = (first, inl (subst (λ (s : Stamp). IsLater s taken.at) (sym is_left) second))
+
+    last : IsWithin (Some element) (Some left) (renewing clock element.stamp).at
+    last = (later-trans element.stamp taken.at (renewing clock element.stamp).at first second, inr is_left)
+
+    inside : (told : Told) → AllByRecursion (λ (one : Stamp × Change). one.0 ≡ taken.at) told
+        → AllByRecursion (λ (one : Stamp × Change). IsWithin (Some element) (Some left) one.0) told
+    inside [] all = tt
+    inside (one ∷ more) all = (subst (IsWithin (Some element) (Some left)) (sym all.0) here, inside more all.1)
+
+-- the access of a request with this answer
+abbrev answered : Format → Request → Value → List Access
+answered format request value = record { put = request.put; path = key_path format request.key; value = value } ∷ []
+
+-- an element alone
+abbrev handed_out : List Bool → Stamp → ℕ → Value → List Element
+handed_out path stamp number value = record { path = path; value = value; stamp = stamp; verifier = number } ∷ []
+
+-- ---- a key of a shard
+
+cold_runs : (rules : Rules) (state : State) (shard : Shard) (after : Content) (request : Request) (plan : Plan) (later : Reading)
+    → CanTake rules state (cold shard) → IsServable rules.scheme.format rules.scheme.digest shard (key_path rules.scheme.format request.key)
+    → IsPlan rules.scheme.format rules.scheme.digest rules.number (cold shard) request state.clock plan after later
+    → PlanRuns rules state (cold shard) after request plan later
+cold_runs rules state shard after request plan later can servable is = record {
+  told = told;
+  runs = ap (λ (c : List Command). run rules state c) is.commands
+      ∙ (between_runs rules state (pending_shard shard) (length is.links) _ way.told new apart (clear-bare state.cache.entries shard.frontier can.bare apart) roomy
+      (can.known (pending_shard shard) refl) can.open_epoch can.counters way.works
+      ∙ ap (λ (r : Reading). Ok (told, record state { clock = r })) (sym is.clock));
+  added = ap (λ (xs : List Element). pending_shard shard ∷ xs) (added_told-append way.told _ ∙ ap (λ (xs : List Element). xs ++ []) way.added);
+  evicted = evicted_told-append way.told _
+      ∙ (ap (λ (xs : List Element). xs ++ pending_shard left ∷ []) way.evicted
+      ∙ ap (λ (c : Content). waiting (pending format c)) (sym is.content));
+  access = accesses_told-append way.told _
+      ∙ (ap (λ (xs : List Access). xs ++ []) way.accesses
+      ∙ ap (answered format request) (sym is.answer));
+  once = λ path. subst (λ (c : Content). IsCarried path (shard.records path) (kept_in c path) (carried path told)) (sym is.content)
+      (subst (IsCarried path (shard.records path) (left.records path)) (sym (carried_way path)) (way.once path));
+  own = λ path not_below. carried_way path ∙ way.outside path (not_there path not_below);
+  within = subst (λ (c : Content). AllByRecursion (λ (one : Stamp × Change). IsWithin (Some (pending_shard shard)) (pending format c) one.0) told) (sym is.content)
+      (within_between rules (pending_shard shard) (pending_shard left) new state.clock way.told can.open_epoch can.counters refl way.at_clock);
+}
+  where
+    format : Format
+    format = rules.scheme.format
+
+    key : List Bool
+    key = key_path format request.key
+
+    lead : LeadTo format rules.scheme.digest (tree_of shard) key
+    lead = leads format rules.scheme.digest shard key servable
+
+    kind : IsOf format shard.frontier shard.value
+    kind = servable.fits.kinds shard.frontier shard.value (frontier_there shard)
+
+    apart : is_root shard.frontier ≡ false
+    apart = not_root shard.frontier servable.fits.below_root
+
+    way : Visited rules shard.records shard.frontier B shard.value is.links (taking state.clock shard.stamp) request (last_value shard.value is.links)
+    way = visited rules (tree_of shard) shard.records (taking state.clock shard.stamp) request lead shard.frontier B shard.value is.links kind
+        (frontier_of shard) (frontier_based shard) is.way
+
+    new : Value
+    new = closed_value format rules.scheme.digest false shard.frontier shard.value is.links (value_after request (last_value shard.value is.links))
+
+    left : Shard
+    left = served format rules.scheme.digest rules.number shard is.links request state.clock
+
+    told : Told
+    told = told_between rules (pending_shard shard) new state.clock way.told
+
+    roomy : suc (length state.cache.entries + length is.links) ≤ state.cache.room
+    roomy =
+        let few = length-bare state.cache.entries can.bare in
+        let short = chain_length format rules.scheme.digest (tree_of shard) key lead shard.frontier shard.value is.links kind (frontier_of shard) is.way in
+        omega (arith, servable.fits.below_root, servable.own.whole, can.room)
+
+    carried_way : (path : List Bool) → carried path told ≡ carried path way.told
+    carried_way path = carried-append path way.told _ ∙ append-nil (carried path way.told)
+
+    not_there : (path : List Bool) → (IsBelow shard.frontier path → ⊥) → side shard.frontier path ≡ None
+    not_there path not_below = go (side shard.frontier path) not_below
+      where
+        go : (s : Option Bool) → (IsSome s → ⊥) → s ≡ None
+        go None none = refl
+        go (Some on) none = absurd (none refl)
+
+-- ---- a hot key
+
+some_bits : (word : Width) → 0 < 8 * byte_len word
+some_bits w8 = omega arith
+some_bits w16 = omega arith
+some_bits w32 = omega arith
+some_bits w64 = omega arith
+some_bits w128 = omega arith
+
+put_or_stay : (b : Bool) (new old : Option (List ℕ)) → ◌≡◌ {A = Value} (if b then values.Blob new else values.Blob old) (values.Blob (if b then new else old))
+put_or_stay true new old = refl
+put_or_stay false new old = refl
+
+hot_runs : (rules : Rules) (state : State) (found : HotRecord) (after : Content) (request : Request) (plan : Plan) (later : Reading)
+    → CanTake rules state (hot found) → found.key ≡ request.key
+    → IsPlan rules.scheme.format rules.scheme.digest rules.number (hot found) request state.clock plan after later
+    → PlanRuns rules state (hot found) after request plan later
+hot_runs rules state found after request plan later can same is = record {
+  told = told;
+  runs = ap (λ (c : List Command). run rules state c) is.commands
+      ∙ (between_runs rules state element 0 _ inner new apart (clear-bare state.cache.entries path can.bare apart) roomy
+      (can.known element refl) can.open_epoch can.counters at_end.works
+      ∙ ap (λ (r : Reading). Ok (told, record state { clock = r })) (sym is.clock));
+  added = ap (λ (xs : List Element). element ∷ xs) at_end.added;
+  evicted = ap (λ (xs : List Element). xs ++ handed_out path (renewing state.clock found.stamp).at rules.number new) (sym (append-nil (evicted_by (change_by request path B (values.Blob found.value)))) ∙ at_end.evicted)
+      ∙ (ap (handed_out path (renewing state.clock found.stamp).at rules.number) (put_or_stay request.put request.value found.value)
+      ∙ ap (λ (c : Content). waiting (pending format c)) (sym is.content));
+  access = at_end.accesses ∙ ap (answered format request) (sym is.answer);
+  once = λ k. subst (λ (c : Content). IsCarried k None (kept_in c k) (carried k told)) (sym is.content) (inl (carried_none k, refl));
+  own = λ k not_below. carried_none k;
+  within = subst (λ (c : Content). AllByRecursion (λ (one : Stamp × Change). IsWithin (Some element) (pending format c) one.0) told) (sym is.content)
+      (within_between rules element (pending_hot format left) new state.clock inner can.open_epoch can.counters refl (refl, tt));
+}
+  where
+    format : Format
+    format = rules.scheme.format
+
+    element : Element
+    element = pending_hot format found
+
+    path : List Bool
+    path = key_path format found.key
+
+    whole : (key : ℕ) → length (key_path format key) ≡ path_bits format
+    whole key = length-bits_of (path_bits format) key
+
+    apart : is_root path ≡ false
+    apart = not_root path (omega (arith, whole found.key, some_bits format.word))
+
+    at_end : IsEnd rules path (values.Blob found.value) (taking state.clock found.stamp) request B
+    at_end =
+        subst (λ (key : ℕ). IsEnd rules (key_path format key) (values.Blob found.value) (taking state.clock found.stamp) request B) (sym same)
+        (works_request rules (values.Blob found.value) (taking state.clock found.stamp) request B (whole request.key))
+
+    inner : Told
+    inner = told_request request path B (values.Blob found.value) (taking state.clock found.stamp)
+
+    new : Value
+    new = value_after request (values.Blob found.value)
+
+    left : HotRecord
+    left = served_hot rules.number found request state.clock
+
+    told : Told
+    told = told_between rules element new state.clock inner
+
+    roomy : suc (length state.cache.entries + 0) ≤ state.cache.room
+    roomy =
+        let few = length-bare state.cache.entries can.bare in
+        omega (arith, some_bits format.word, can.room)
+
+    carried_none : (k : List Bool) → carried k told ≡ []
+    carried_none k = at_end.carried_none k
+
+-- The plan of a request runs.
+pub plan_runs : (rules : Rules) (state : State) (content after : Content) (request : Request) (plan : Plan) (later : Reading)
+    → CanTake rules state content → CanServe rules.scheme.format rules.scheme.digest content request.key
+    → IsPlan rules.scheme.format rules.scheme.digest rules.number content request state.clock plan after later
+    → PlanRuns rules state content after request plan later
+plan_runs rules state (cold shard) after request plan later can serves is = cold_runs rules state shard after request plan later can serves is
+plan_runs rules state (hot found) after request plan later can serves is = hot_runs rules state found after request plan later can serves is
+plan_runs rules state vacant after request plan later can serves is = absurd serves

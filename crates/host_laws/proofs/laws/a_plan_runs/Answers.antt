@@ -1,0 +1,5 @@
+use Rattle.host_laws.proofs.RequestLemmas.{plan_runs}
+use Rattle.host_laws.proofs.laws.a_plan_runs.Goals as goal
+
+pub returns : goal.returns
+returns c = record { runs = plan_runs }

@@ -1,0 +1,5 @@
+use Rattle.host_laws.proofs.SetUpLemmas.{setup_runs}
+use Rattle.host_laws.proofs.laws.the_setup_runs.Goals as goal
+
+pub returns : goal.returns
+returns c = record { runs = setup_runs }

@@ -1,0 +1,5 @@
+-- What the laws of the host cite, in reading order.
+pub mod Running
+pub mod Carried
+pub mod Served
+pub mod SettingUp

@@ -1,0 +1,15 @@
+//! What the host's commands do to the verifier of their worker: it accepts them, and they do what the host meant.
+//!
+//! A run is a list of commands that are all accepted, with what each did (`Running.antt`). What comes in under a path's
+//! entry and leaves again does the same whatever entries stand before that one; so a chain is gone down and up again by
+//! induction on its links, and a setup by induction on its levels. That the digest of a record is the one that its
+//! parent's pointer has is where mirroring is needed, and nothing else is asked of digests.
+//!
+//! The crate stands on `host_plan`, which says the commands, and on `verifier_commands` and `soundness`, which say what
+//! the verifiers make of them; it has no code to run. Begin with `laws.rt`, then read `specs/` in the order of its
+//! `Lib.antt`.
+#![tactic(auto)]
+
+mod laws;
+
+pub use laws::{a_plan_runs, a_run_is_the_history, the_setup_runs};

@@ -1,0 +1,2 @@
+-- What the laws of mirroring cite.
+pub mod Mirroring

@@ -1,0 +1,8 @@
+-- How the one order of a phase is proved, in reading order.
+mod ReplayLemmas
+mod ChainLemmas
+mod RisingLemmas
+mod PartLemmas
+mod OrderLemmas
+mod StopLemmas
+mod PhaseLaws
