@@ -5,5 +5,5 @@ use Rattle.verifier_run.proofs.run.run_log.Goals as goal
 
 pub returns-clause-course : goal.returns-clause-course
 returns-clause-course g c =
-    whole_log_run (scheme_of (g.D.Digests.functions c.args.d.now) c.args.header.now) (opening_machine c.args.number c.args.header.now) c.args.log.now
+    whole_log_run g.T.Kept.keeps (scheme_of (g.D.Digests.functions c.args.d.now) c.args.header.now) (opening_machine c.args.number c.args.header.now) c.args.log.now
     c.in_ok-run.run' c.feed.new.self c.end.new.self c.in_ok-run.ensures.opening c.in-Ok.ensures.ok c.end.ensures.ended

@@ -1,0 +1,53 @@
+-- A verifier's answer to a command tells what it has done.
+use Rattle.std.proofs.Common.{◌≡◌, ◌+◌, Ok, Err, refl, ap}
+use Rattle.std.proofs.lemmas.Result.{IfOk-at_ok}
+use Rattle.log_codec.specs.declared.command.Command.{Command}
+use Rattle.merkle_records.specs.Scheme.{Scheme}
+use Rattle.verifier_commands.specs.declared.effect.Effect.{Effect}
+use Rattle.verifier_commands.specs.declared.state.State.{State}
+use Rattle.verifier_commands.specs.Change.{Change}
+use Rattle.verifier_commands.specs.Outcome.{outcome_of, told}
+use Rattle.verifier_commands.specs.Transition.{Step, transition}
+use Rattle.verifier_commands.specs.Machine.{Machine, machine_after, concluded, stepped, rules_for}
+use Rattle.verifier_commands.specs.Trace.{Done, done_with, done_by, performed}
+
+-- A command was accepted with this change, which left this state; so it was performed, with this effect.
+pub record WasPerformed (scheme : Scheme) (machine : Machine) (command : Command) (effect : Effect) (after : Machine) : Type 0 where
+  pub change : Change
+  pub state : State
+  pub accepted : transition (rules_for scheme machine) machine.state command ≡ Ok (change, state)
+  pub after_is : after ≡ machine_after scheme machine (outcome_of change) state
+  pub effect_is : effect ≡ (done_with machine change state).effect
+  pub step : performed scheme machine command ≡ Ok (done_with machine change state, after)
+
+performed_by : (scheme : Scheme) (machine : Machine) (command : Command) (effect : Effect) (after : Machine) (step : Step)
+    → transition (rules_for scheme machine) machine.state command ≡ step
+    → concluded scheme machine (told step) ≡ Ok (effect, after) → WasPerformed scheme machine command effect after
+performed_by scheme machine command effect after (Ok done) is answers =
+    IfOk-at_ok (λ (answer : Effect × Machine). WasPerformed scheme machine command answer.0 answer.1) answers (record {
+      change = done.0;
+      state = done.1;
+      accepted = is;
+      after_is = refl;
+      effect_is = refl;
+      step = ap (done_by scheme machine) is;
+    })
+performed_by scheme machine command effect after (Err refusal) is answers = absurd (cc)
+
+-- What a verifier answers with an effect, it has performed.
+pub was_performed : (scheme : Scheme) (machine : Machine) (command : Command) (effect : Effect) (after : Machine)
+    → stepped scheme machine command ≡ Ok (effect, after) → WasPerformed scheme machine command effect after
+was_performed scheme machine command effect after answers =
+    performed_by scheme machine command effect after (transition (rules_for scheme machine) machine.state command) refl answers
+
+next_by : (scheme : Scheme) (machine : Machine) (done : Done) (after : Machine) (step : Step)
+    → done_by scheme machine step ≡ Ok (done, after) → after.accepted ≡ machine.accepted + 1
+next_by scheme machine done after (Ok found) is =
+    IfOk-at_ok (λ (answer : Done × Machine). answer.1.accepted ≡ machine.accepted + 1) is refl
+next_by scheme machine done after (Err refusal) is = absurd (cc)
+
+-- With a command that was performed, one more is accepted.
+pub performed-accepted : (scheme : Scheme) (machine : Machine) (command : Command) (done : Done) (after : Machine)
+    → performed scheme machine command ≡ Ok (done, after) → after.accepted ≡ machine.accepted + 1
+performed-accepted scheme machine command done after is =
+    next_by scheme machine done after (transition (rules_for scheme machine) machine.state command) is
