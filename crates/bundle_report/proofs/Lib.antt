@@ -1,5 +1,4 @@
 -- That a run comes to what its history says, what is certified, and the headline.
-mod HistoryRunLemmas
 mod CountedLemmas
 mod SealedLemmas
 mod PartLemmas

@@ -1,5 +1,6 @@
--- A verifier's answer to a command tells what it has done.
-use Rattle.std.proofs.Common.{◌≡◌, ◌+◌, Ok, Err, refl, ap}
+-- A verifier's answer to a command tells what it has done, and it accepts as many as there are events.
+use Rattle.std.proofs.Common.{◌≡◌, suc, ◌+◌, List, [], ◌∷◌, length, Ok, Err, refl, sym, ◌∙◌, ap, add-zero, arith}
+use Rattle.step_words.specs.Traced.{traced}
 use Rattle.std.proofs.lemmas.Result.{IfOk-at_ok}
 use Rattle.log_codec.specs.declared.command.Command.{Command}
 use Rattle.merkle_records.specs.Scheme.{Scheme}
@@ -9,7 +10,7 @@ use Rattle.verifier_commands.specs.Change.{Change}
 use Rattle.verifier_commands.specs.Outcome.{outcome_of, told}
 use Rattle.verifier_commands.specs.Transition.{Step, transition}
 use Rattle.verifier_commands.specs.Machine.{Machine, machine_after, concluded, stepped, rules_for}
-use Rattle.verifier_commands.specs.Trace.{Done, done_with, done_by, performed}
+use Rattle.verifier_commands.specs.Trace.{Done, done_with, changed, done_by, performed, trace, trace_behind, events_from, events_behind}
 
 -- A command was accepted with this change, which left this state; so it was performed, with this effect.
 pub record WasPerformed (scheme : Scheme) (machine : Machine) (command : Command) (effect : Effect) (after : Machine) : Type 0 where
@@ -51,3 +52,21 @@ pub performed-accepted : (scheme : Scheme) (machine : Machine) (command : Comman
     → performed scheme machine command ≡ Ok (done, after) → after.accepted ≡ machine.accepted + 1
 performed-accepted scheme machine command done after is =
     next_by scheme machine done after (transition (rules_for scheme machine) machine.state command) is
+
+accepted_behind : (scheme : Scheme) (machine : Machine) (commands : List Command) (step : Step)
+    → ((after : Machine) → (trace scheme after commands).state.accepted ≡ after.accepted + length (events_from scheme after commands))
+    → (trace_behind scheme machine commands step).state.accepted ≡ machine.accepted + length (events_behind scheme machine commands step)
+accepted_behind scheme machine commands (Ok done) further =
+    let later = length (events_from scheme (changed scheme machine done) commands) in
+    let count : machine.accepted + 1 + later ≡ machine.accepted + suc later = omega arith in
+    further (changed scheme machine done) ∙ count
+accepted_behind scheme machine commands (Err refusal) further = sym (add-zero machine.accepted)
+
+-- As many commands are accepted as there are events.
+pub trace-accepted : (scheme : Scheme) (machine : Machine) (commands : List Command)
+    → (trace scheme machine commands).state.accepted ≡ machine.accepted + length (events_from scheme machine commands)
+unfolding traced
+trace-accepted scheme machine [] = sym (add-zero machine.accepted)
+trace-accepted scheme machine (command ∷ commands) =
+    accepted_behind scheme machine commands (transition (rules_for scheme machine) machine.state command)
+    (λ after. trace-accepted scheme after commands)

@@ -45,10 +45,14 @@ trace scheme machine commands = traced (performed scheme) machine commands
 abbrev pub events_in : Traced Done Machine Refusal → List Event
 events_in trace = map (λ command. command.event) trace.done
 
+-- what a step and the commands behind it come to
+abbrev pub trace_behind : Scheme → Machine → List Command → Step → Traced Done Machine Refusal
+trace_behind scheme machine commands step =
+    traced_behind machine (done_by scheme machine step) (λ after. trace scheme after commands)
+
 -- the events of a step and of the commands behind it
 abbrev pub events_behind : Scheme → Machine → List Command → Step → List Event
-events_behind scheme machine commands step =
-    events_in (traced_behind machine (done_by scheme machine step) (λ after. trace scheme after commands))
+events_behind scheme machine commands step = events_in (trace_behind scheme machine commands step)
 
 -- the events of a verifier's commands, from where it stands
 abbrev pub events_from : Scheme → Machine → List Command → List Event
