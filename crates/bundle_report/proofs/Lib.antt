@@ -11,6 +11,7 @@ mod EpochPartLemmas
 mod EpochVerdictLemmas
 mod CertifiedCountLemmas
 pub mod CertifyLaws
+pub mod KeepingLaws
 pub mod LeftLaws
 mod MoreLaws
 pub mod SoFarLaws

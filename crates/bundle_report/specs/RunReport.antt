@@ -7,22 +7,14 @@ use Rattle.lamport_clocks.specs.declared.header.Header.{Header}
 use Rattle.multiset_sum.specs.declared.part.Part.{Part}
 use Rattle.record_text.specs.declared.operation.Operation.{Operation}
 use Rattle.stamp_order.specs.Operations.{merged_up_to}
-use Rattle.verifier_commands.specs.Event.{Event}
-use Rattle.verifier_commands.specs.Machine.{opening_machine}
 use Rattle.verifier_run.specs.Kept.{keeps_operations}
 use Rattle.verifier_run.specs.Course.{Course}
-use Rattle.verifier_run.specs.LogCourse.{log_course}
+use Rattle.verifier_run.specs.LogCourse.{courses_keeping}
 use Rattle.report_text.specs.declared.ending.BundleEnd.{BundleEnd}
 use Rattle.bundle_report.specs.BundleReport.{refused_end}
 use Rattle.bundle_report.specs.Report.{front_count, epoch_text}
 
--- what the logs of verifiers come to, the first of which has this number, where so much is kept of each event
-abbrev pub courses_keeping : {A : Type 0} → (Event → List A) → Scheme → Header → ℕ → List (List ℕ) → List (Course A)
-courses_keeping keeps scheme header number [] = []
-courses_keeping keeps scheme header number (log ∷ logs) =
-    log_course keeps scheme (opening_machine number header) log ∷ courses_keeping keeps scheme header (suc number) logs
-
--- the same, where operations are kept
+-- what the logs of verifiers come to, the first of which has this number, where operations are kept
 abbrev pub courses_from : Scheme → Header → ℕ → List (List ℕ) → List (Course Operation)
 courses_from scheme header number logs = courses_keeping keeps_operations scheme header number logs
 

@@ -41,18 +41,6 @@ pub was_performed : (scheme : Scheme) (machine : Machine) (command : Command) (e
 was_performed scheme machine command effect after answers =
     performed_by scheme machine command effect after (transition (rules_for scheme machine) machine.state command) refl answers
 
-next_by : (scheme : Scheme) (machine : Machine) (done : Done) (after : Machine) (step : Step)
-    → done_by scheme machine step ≡ Ok (done, after) → after.accepted ≡ machine.accepted + 1
-next_by scheme machine done after (Ok found) is =
-    IfOk-at_ok (λ (answer : Done × Machine). answer.1.accepted ≡ machine.accepted + 1) is refl
-next_by scheme machine done after (Err refusal) is = absurd (cc)
-
--- With a command that was performed, one more is accepted.
-pub performed-accepted : (scheme : Scheme) (machine : Machine) (command : Command) (done : Done) (after : Machine)
-    → performed scheme machine command ≡ Ok (done, after) → after.accepted ≡ machine.accepted + 1
-performed-accepted scheme machine command done after is =
-    next_by scheme machine done after (transition (rules_for scheme machine) machine.state command) is
-
 accepted_behind : (scheme : Scheme) (machine : Machine) (commands : List Command) (step : Step)
     → ((after : Machine) → (trace scheme after commands).state.accepted ≡ after.accepted + length (events_from scheme after commands))
     → (trace_behind scheme machine commands step).state.accepted ≡ machine.accepted + length (events_behind scheme machine commands step)

@@ -30,16 +30,14 @@ pub trait Kept: Drop {
     /// The epoch of what is kept.
     ghost epoch: { Self → ℕ };
 
-    /// Has a verifier take a command, whose number in its log this is. After a refusal the verifier is as before.
+    /// Has a verifier take a command. After a refusal the verifier is as before.
     fn perform<D: Digests>(
         verifier: &mut Verifier,
         d: &D,
-        index: u64,
         command: &Command,
     ) -> Result<Yield<Self>, Refusal>
         requires kind { IsCommand (format_of verifier.old.header) command.now }
         requires room { verifier.old.accepted < 2 ^ 63 }
-        requires index { index ≡ verifier.old.accepted }
         ensures yields { IfOk result (λ yield. Yields keeps yield
             (performed (scheme_of (D.functions d.now) verifier.old.header) verifier.old command.now) verifier.new) }
         ensures refused { IfErr result (λ refusal.
@@ -65,7 +63,6 @@ impl Kept for Operation {
     fn perform<D: Digests>(
         verifier: &mut Verifier,
         d: &D,
-        _index: u64,
         command: &Command,
     ) -> Result<Yield<Operation>, Refusal> {
         let effect = verifier.step(d, command)?;

@@ -9,6 +9,7 @@
 
 mod kept;
 mod laws;
+mod logs;
 mod queue;
 mod run;
 mod tracer;
@@ -18,4 +19,5 @@ pub use laws::{
     logs_are_handed_out_in_order, logs_come_to_their_course, pieces_do_not_matter, runs_go_on,
     what_was_taken_leaves_no_trace,
 };
-pub use run::{FeedStop, Run, run_log};
+pub use logs::{run_log, run_logs};
+pub use run::{FeedStop, Run};

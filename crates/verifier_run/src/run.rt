@@ -5,7 +5,6 @@ ghost use Rattle.lamport_clocks.specs.Header.{IsHeader};
 ghost use Rattle.merkle_records.specs.Scheme.{scheme_of};
 ghost use Rattle.verifier_commands.specs.Machine.{opening_machine};
 ghost use Rattle.verifier_run.specs.Progress.{Progress, between_commands, opening_progress, progress_over, fed, ended, weight};
-ghost use Rattle.verifier_run.specs.LogCourse.{log_course};
 ghost use Rattle.verifier_run.specs.Taken.{taken_by, left_of};
 
 use crate::kept::Kept;
@@ -269,27 +268,4 @@ fn behind(bytes: &[u8], taken: usize) -> &[u8]
     ensures value { result.now ≡ drop taken bytes.now }
 {
     &bytes[taken..]
-}
-
-/// The run of the verifier of this number over a whole log.
-pub fn run_log<T: Kept, D: Digests>(
-    alloc: Global,
-    d: &D,
-    number: u16,
-    header: &Header,
-    log: &[u8],
-) -> Result<Run<T>, Memory>
-    requires header { IsHeader header.now }
-    requires number { number < header.now.verifiers }
-    ensures course { IfOk result (λ run. run.course
-        ≡ log_course T.keeps (scheme_of (D.functions d.now) header.now) (opening_machine number header.now) log.now) }
-    ensures none_held { IfOk result (λ run. run.held ≡ []) }
-{
-    let mut run = Run::new(alloc, number, header)?;
-    match run.feed(d, log) {
-        Ok(()) => {}
-        Err(_) => return Err(Memory),
-    }
-    run.end();
-    Ok(run)
 }

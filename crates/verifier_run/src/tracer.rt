@@ -26,7 +26,6 @@ use want_of_memory::Memory;
 #[derive(Drop)]
 pub(crate) struct Tracer<T: Kept> {
     verifier: Verifier,
-    accepted: u64,
     items: Queue<T>,
     parts: Queue<Part>,
     refused: Option<(u64, Refusal)>,
@@ -34,7 +33,6 @@ pub(crate) struct Tracer<T: Kept> {
 
 impl<T: Kept> Model for Tracer<T> {
     ghost use Rattle.std.specs.Option.{option_to_list};
-    ghost use Rattle.std.specs.Prelude.{◌≡◌};
     ghost use Rattle.verifier_run.specs.Course.{Course};
     ghost use Rattle.verifier_run.specs.Order.{StandsInOrder};
     ghost use Rattle.verifier_run.specs.Queue.{queued};
@@ -43,7 +41,7 @@ impl<T: Kept> Model for Tracer<T> {
 
     ghost view = { λ t. record { machine = t.verifier; items = queued t.items; parts = queued t.parts; refused = t.refused } };
 
-    ghost invariant = { λ t. (t.accepted ≡ t.verifier.accepted) × StandsInOrder T.epoch t.verifier.state.clock (queued t.items) (queued t.parts) };
+    ghost invariant = { λ t. StandsInOrder T.epoch t.verifier.state.clock (queued t.items) (queued t.parts) };
 }
 
 impl<T: Kept> Tracer<T> {
@@ -56,7 +54,6 @@ impl<T: Kept> Tracer<T> {
         let verifier = Verifier::new(alloc, number, header)?;
         Ok(Tracer {
             verifier,
-            accepted: 0,
             items: Queue::new(alloc),
             parts: Queue::new(alloc),
             refused: None,
@@ -87,7 +84,6 @@ impl<T: Kept> Tracer<T> {
     {
         let Tracer {
             verifier: _,
-            accepted: _,
             items,
             parts: _,
             refused: _,
@@ -105,7 +101,7 @@ impl<T: Kept> Tracer<T> {
     pub(crate) fn refuse(&mut self, refusal: Refusal)
         ensures refused { self.new ≡ refuse self.old refusal }
     {
-        self.refused = Some((self.accepted, refusal));
+        self.refused = Some((self.verifier.accepted(), refusal));
     }
 
     /// Takes one command. For want of memory nothing of it is done.
@@ -120,13 +116,12 @@ impl<T: Kept> Tracer<T> {
         // The room first: a step can't be taken back.
         self.items.reserve()?;
         self.parts.reserve()?;
-        match T::perform(&mut self.verifier, d, self.accepted, command) {
+        match T::perform(&mut self.verifier, d, command) {
             Ok(left) => {
-                self.accepted += 1;
                 keep(left.item, &mut self.items);
                 keep(left.part, &mut self.parts);
             }
-            Err(refusal) => self.refused = Some((self.accepted, refusal)),
+            Err(refusal) => self.refuse(refusal),
         }
         Ok(())
     }

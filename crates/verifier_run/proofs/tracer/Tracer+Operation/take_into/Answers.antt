@@ -13,12 +13,10 @@ pub invariant_of-self : goal.invariant_of-self
 invariant_of-self c =
     let clock = c.self.inside.verifier.state.clock in
     let operations = queued c.self.inside.items in
-    let parts = queued c.self.inside.parts in (
-      c.self.invariant.0,
+    let parts = queued c.self.inside.parts in
       subst (λ (ops : List Operation). StandsInOrder operation_epoch clock ops (queued c.pass-2.new.self)) (sym c.pass.ensures.items)
           (subst (λ (kept : List Part). StandsInOrder operation_epoch clock (drop c.operations_through-operations.result operations) kept) (sym c.pass-2.ensures.items)
-          (in_order-dropped clock c.operations_through-operations.result c.parts_through-parts.result operations parts c.self.invariant.1)),
-    )
+          (in_order-dropped clock c.operations_through-operations.result c.parts_through-parts.result operations parts c.self.invariant))
 
 pub returns-clause-taken : goal.returns-clause-taken
 returns-clause-taken c =
@@ -35,7 +33,7 @@ returns-clause-taken c =
     (c.front.ensures.value
     ∙ (ap (take c.operations_through-operations.result) c.as_slice-2.ensures.value
     ∙ (ap (λ (n : ℕ). take n (queued c.self.inside.items)) count
-    ∙ (taken_front c.args.through course c.self.invariant.1 ∙ ap (taken_by c.args.through) c.self.view_is)))))
+    ∙ (taken_front c.args.through course c.self.invariant ∙ ap (taken_by c.args.through) c.self.view_is)))))
 
 pub returns-clause-left : goal.returns-clause-left
 returns-clause-left c =
@@ -51,4 +49,4 @@ returns-clause-left c =
     let number = counted part_epoch c.args.through others c.as_slice-3.result.now (queued c.self.inside.parts) c.parts_through-parts.ensures.value c.as_slice-3.ensures.value in
     ap (λ (ops : List Operation). record course { items = ops; parts = queued c.pass-2.new.self }) c.pass.ensures.items
     ∙ (ap (λ (parts : List Part). record course { items = drop some (queued c.self.inside.items); parts = parts }) c.pass-2.ensures.items
-    ∙ (left_queues c.args.through some others course c.self.invariant.1 count number ∙ ap (left_behind c.args.through) c.self.view_is))
+    ∙ (left_queues c.args.through some others course c.self.invariant count number ∙ ap (left_behind c.args.through) c.self.view_is))

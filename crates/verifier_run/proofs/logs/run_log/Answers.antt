@@ -1,7 +1,7 @@
 use Rattle.verifier_commands.specs.Machine.{opening_machine}
 use Rattle.verifier_run.proofs.TraceLemmas.{whole_log_run}
 use Rattle.merkle_records.specs.Scheme.{scheme_of}
-use Rattle.verifier_run.proofs.run.run_log.Goals as goal
+use Rattle.verifier_run.proofs.logs.run_log.Goals as goal
 
 pub returns-clause-course : goal.returns-clause-course
 returns-clause-course g c =
