@@ -14,9 +14,9 @@ invariant_of-self c =
     let clock = c.self.inside.verifier.state.clock in
     let operations = queued c.self.inside.items in
     let parts = queued c.self.inside.parts in
-      subst (λ (ops : List Operation). StandsInOrder operation_epoch clock ops (queued c.pass-2.new.self)) (sym c.pass.ensures.items)
-          (subst (λ (kept : List Part). StandsInOrder operation_epoch clock (drop c.operations_through-operations.result operations) kept) (sym c.pass-2.ensures.items)
-          (in_order-dropped clock c.operations_through-operations.result c.parts_through-parts.result operations parts c.self.invariant))
+    subst (λ (ops : List Operation). StandsInOrder operation_epoch clock ops (queued c.pass-2.new.self)) (sym c.pass.ensures.items)
+    (subst (λ (kept : List Part). StandsInOrder operation_epoch clock (drop c.operations_through-operations.result operations) kept) (sym c.pass-2.ensures.items)
+    (in_order-dropped clock c.operations_through-operations.result c.parts_through-parts.result operations parts c.self.invariant))
 
 pub returns-clause-taken : goal.returns-clause-taken
 returns-clause-taken c =

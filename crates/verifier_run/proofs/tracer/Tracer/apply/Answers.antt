@@ -1,4 +1,4 @@
-use Rattle.std.proofs.Common.{◌+◌, ◌++◌, ℕ, List, ap, sym, ◌∙◌}
+use Rattle.std.proofs.Common.{◌++◌, List, ap, ◌∙◌}
 use Rattle.std.specs.Option.{option_to_list}
 use Rattle.merkle_records.specs.Scheme.{scheme_of}
 use Rattle.multiset_sum.specs.declared.part.Part.{Part}
