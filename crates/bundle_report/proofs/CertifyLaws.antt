@@ -73,7 +73,7 @@ module _ (scheme : Scheme) (number : ℕ) (events : List Event) where
       ∙ ap (option_map (λ (part : Part). part.epoch)) (part_there count (suc count) epoch (omega arith))
 
   -- The operations up to it are those of so many epochs.
-  operations-parts : (count epoch : ℕ) (courses : List Course)
+  operations-parts : (count epoch : ℕ) (courses : List (Course Operation))
       → operations_by (last_epoch (parts_in epoch count)) courses
       ≡ operations_within epoch count (operations_among courses)
   operations-parts zero epoch courses = refl
@@ -91,7 +91,7 @@ module _ (scheme : Scheme) (number : ℕ) (events : List Event) where
 -- ---- the first refused log
 
 -- How it ends where no epoch is unbalanced: with the status of the first refused course, if there is one.
-ends-even : (count number : ℕ) (courses : List Course) (bad : Option ℕ)
+ends-even : (count number : ℕ) (courses : List (Course Operation)) (bad : Option ℕ)
     → end_by count None (refused_log number courses) bad
     ≡ end_or (first_refused number courses) (done_or_bad count bad)
 ends-even count number [] None = refl
@@ -138,7 +138,7 @@ sealed_first history [] = omega arith
 sealed_first history (other ∷ histories) = omega arith
 
 -- the first course is judged
-judged-first : (verifiers : ℕ) (courses : List Course)
+judged-first : (verifiers : ℕ) (courses : List (Course Operation))
     → judged verifiers courses ≡ judged_from verifiers 0 (first_parts courses) courses
 judged-first verifiers [] = refl
 judged-first verifiers (course ∷ courses) = refl
@@ -153,7 +153,7 @@ module _ (scheme : Scheme) (header : Header) (logs : List (List ℕ)) where
   abbrev histories : List (List Event)
   histories = histories_in scheme header read
 
-  abbrev courses : List Course
+  abbrev courses : List (Course Operation)
   courses = courses_of scheme header logs
 
   -- how many epochs are certified
@@ -265,7 +265,7 @@ module _ (scheme : Scheme) (header : Header) (logs : List (List ℕ)) where
 
 module _ (scheme : Scheme) (header : Header) (log : List ℕ) (logs : List (List ℕ)) (good : IsHeader header) (whole : length (log ∷ logs) ≡ header.verifiers) where
   -- what the logs come to
-  abbrev all_courses : List Course
+  abbrev all_courses : List (Course Operation)
   all_courses = courses_of scheme header (log ∷ logs)
 
   -- the history of the first log

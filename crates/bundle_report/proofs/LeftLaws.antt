@@ -1,5 +1,5 @@
 -- What is left of the runs of logs, once so many epochs are taken out of them.
-use Rattle.std.proofs.Common.{◌≡◌, ℕ, zero, suc, ◌+◌, ◌-◌, ◌<◌, ◌≤◌, ◌==◌, nat_le, nat_lt, Bool, true, false, cond, List, [], ◌∷◌, ◌++◌, length, map, drop, slice_get, Option, refl, sym, ◌∙◌, ap, subst, arith}
+use Rattle.std.proofs.Common.{◌≡◌, ℕ, zero, suc, ◌+◌, ◌<◌, ◌≤◌, ◌==◌, nat_le, nat_lt, Bool, true, false, cond, List, [], ◌∷◌, ◌++◌, length, map, drop, slice_get, Option, refl, sym, ◌∙◌, ap, subst, arith}
 use Rattle.std.specs.Prelude.{filter}
 use Rattle.std.specs.Option.{option_to_list}
 use Rattle.std.proofs.lemmas.Bool.{cond-true, cond-false, ne_eqb, eq-eqb}
@@ -12,6 +12,7 @@ use Rattle.record_text.specs.declared.operation.Operation.{Operation}
 use Rattle.stamp_order.specs.Merged.{up_to, of_epoch}
 use Rattle.stamp_order.specs.Operations.{moment_of}
 use Rattle.verifier_commands.specs.Machine.{opening_machine}
+use Rattle.verifier_run.specs.Kept.{keeps_operations}
 use Rattle.verifier_run.specs.Course.{Course}
 use Rattle.verifier_run.specs.Progress.{Progress, opening_progress, course_at_end, fed}
 use Rattle.verifier_run.specs.LogCourse.{log_course}
@@ -52,15 +53,15 @@ get_front (suc index) (x ∷ xs) more below = get_front index xs more (omega (ar
 
 module _ (scheme : Scheme) (header : Header) (number : ℕ) (log : List ℕ) where
   -- the run over a log so far
-  abbrev pub run_of : Progress
-  run_of = fed scheme (opening_progress number header) log
+  abbrev pub run_of : Progress Operation
+  run_of = fed keeps_operations scheme (opening_progress number header) log
 
   -- what a whole log comes to
-  abbrev pub whole_of : Course
-  whole_of = log_course scheme (opening_machine number header) log
+  abbrev pub whole_of : Course Operation
+  whole_of = log_course keeps_operations scheme (opening_machine number header) log
 
   -- what was handed out so far
-  pub out_of : HandsOut (opening_machine number header).state.clock (clock_of run_of.course) run_of.course.operations run_of.course.parts
+  pub out_of : HandsOut operation_epoch (opening_machine number header).state.clock (clock_of run_of.course) run_of.course.items run_of.course.parts
   out_of = fed_out scheme (opening_machine number header) log
 
   -- one part of each epoch from the first on
@@ -73,15 +74,15 @@ module _ (scheme : Scheme) (header : Header) (number : ℕ) (log : List ℕ) whe
   same_parts [] = refl
   same_parts (byte ∷ held) = refl
 
-  same_operations : (held : List ℕ) → (course_at_end run_of.course held).operations ≡ run_of.course.operations
+  same_operations : (held : List ℕ) → (course_at_end run_of.course held).items ≡ run_of.course.items
   same_operations [] = refl
   same_operations (byte ∷ held) = refl
 
   pub whole-parts : whole_of.parts ≡ run_of.course.parts
-  whole-parts = ap (λ (c : Course). c.parts) (sym (log_is_ended scheme number header log)) ∙ same_parts run_of.held
+  whole-parts = ap (λ (c : Course Operation). c.parts) (sym (log_is_ended scheme number header log)) ∙ same_parts run_of.held
 
-  pub whole-operations : whole_of.operations ≡ run_of.course.operations
-  whole-operations = ap (λ (c : Course). c.operations) (sym (log_is_ended scheme number header log)) ∙ same_operations run_of.held
+  pub whole-operations : whole_of.items ≡ run_of.course.items
+  whole-operations = ap (λ (c : Course Operation). c.items) (sym (log_is_ended scheme number header log)) ∙ same_operations run_of.held
 
   -- The parts that are left are those behind the first so many.
   pub left-parts : (count : ℕ) → (left_from header.first count run_of).course.parts ≡ drop count run_of.course.parts
@@ -168,21 +169,21 @@ from_epoch first high (op ∷ ops) is =
 module _ (scheme : Scheme) (header : Header) where
   -- What is left of a run has the operations of the next epoch in front.
   left-operations : (number : ℕ) (log : List ℕ) (count : ℕ)
-      → up_to moment_of (header.first + count) (left_from header.first count (run_of scheme header number log)).course.operations
-      ≡ of_epoch moment_of (header.first + count) (whole_of scheme header number log).operations
+      → up_to moment_of (header.first + count) (left_from header.first count (run_of scheme header number log)).course.items
+      ≡ of_epoch moment_of (header.first + count) (whole_of scheme header number log).items
   left-operations number log zero =
       let own = run_of scheme header number log in
       let same : header.first + 0 ≡ header.first = omega arith in
-      ap (λ (e : ℕ). up_to moment_of e own.course.operations) same
-      ∙ from_epoch header.first (clock_of own.course).at.epoch own.course.operations (out_of scheme header number log).operations
-      ∙ ap (λ (e : ℕ). of_epoch moment_of e own.course.operations) (sym same)
+      ap (λ (e : ℕ). up_to moment_of e own.course.items) same
+      ∙ from_epoch header.first (clock_of own.course).at.epoch own.course.items (out_of scheme header number log).items
+      ∙ ap (λ (e : ℕ). of_epoch moment_of e own.course.items) (sym same)
       ∙ ap (of_epoch moment_of (header.first + 0)) (sym (whole-operations scheme header number log))
   left-operations number log (suc count) =
       let own = run_of scheme header number log in
       let same : header.first + suc count ≡ suc (header.first + count) = omega arith in
-      ap (λ (e : ℕ). up_to moment_of e (left_from header.first (suc count) own).course.operations) same
-      ∙ next_epoch (header.first + count) own.course.operations
-      ∙ ap (λ (e : ℕ). of_epoch moment_of e own.course.operations) (sym same)
+      ap (λ (e : ℕ). up_to moment_of e (left_from header.first (suc count) own).course.items) same
+      ∙ next_epoch (header.first + count) own.course.items
+      ∙ ap (λ (e : ℕ). of_epoch moment_of e own.course.items) (sym same)
       ∙ ap (of_epoch moment_of (header.first + suc count)) (sym (whole-operations scheme header number log))
 
   -- The operations of the next epoch, of what is left of all runs, are those of the epoch.
@@ -196,10 +197,10 @@ module _ (scheme : Scheme) (header : Header) where
       let others = operations_among (map (λ run. run.course) (runs_from scheme header count (suc number) logs)) in
       let whole = whole_of scheme header number log in
       let rest = operations_among (courses_from scheme header (suc number) logs) in
-      filter-append (λ (op : Operation). nat_le op.stamp.epoch epoch) own.course.operations others
+      filter-append (λ (op : Operation). nat_le op.stamp.epoch epoch) own.course.items others
       ∙ ap (λ (ops : List Operation). ops ++ up_to moment_of epoch others) (left-operations number log count)
-      ∙ ap (λ (ops : List Operation). of_epoch moment_of epoch whole.operations ++ ops) (next-operations count (suc number) logs)
-      ∙ sym (filter-append (λ (op : Operation). op.stamp.epoch == epoch) whole.operations rest)
+      ∙ ap (λ (ops : List Operation). of_epoch moment_of epoch whole.items ++ ops) (next-operations count (suc number) logs)
+      ∙ sym (filter-append (λ (op : Operation). op.stamp.epoch == epoch) whole.items rest)
 
 -- ---- one epoch more is taken
 
@@ -222,21 +223,21 @@ later_left {X = X} epoch low high (x ∷ xs) below = go (nat_lt low (epoch x)) r
         rest ∙ sym (cond-false (nat_lt high (epoch x)) _ _ not_past)
 
 -- The next epoch is taken of a run.
-left_more : (first count : ℕ) (run : Progress) → left_of (first + count) (left_from first count run) ≡ left_from first (suc count) run
+left_more : (first count : ℕ) (run : Progress Operation) → left_of (first + count) (left_from first count run) ≡ left_from first (suc count) run
 left_more first zero run = refl
 left_more first (suc count) run =
     let low = first + count in
     let high = first + suc count in
     ap (λ (ops : List Operation). record run {
       course = record run.course {
-        operations = ops;
+        items = ops;
         parts = filter (λ (p : Part). nat_lt high p.epoch) (filter (λ (p : Part). nat_lt low p.epoch) run.course.parts);
       };
     })
-    (later_left operation_epoch low high run.course.operations (omega arith))
+    (later_left operation_epoch low high run.course.items (omega arith))
     ∙ ap (λ (ps : List Part). record run {
       course = record run.course {
-        operations = filter (λ (op : Operation). nat_lt high op.stamp.epoch) run.course.operations;
+        items = filter (λ (op : Operation). nat_lt high op.stamp.epoch) run.course.items;
         parts = ps;
       };
     })
@@ -247,7 +248,7 @@ pub runs-more : (scheme : Scheme) (header : Header) (count number : ℕ) (logs :
     → map (left_of (header.first + count)) (runs_from scheme header count number logs) ≡ runs_from scheme header (suc count) number logs
 runs-more scheme header count number [] = refl
 runs-more scheme header count number (log ∷ logs) =
-    ap (λ (run : Progress). run ∷ map (left_of (header.first + count)) (runs_from scheme header count (suc number) logs))
+    ap (λ (run : Progress Operation). run ∷ map (left_of (header.first + count)) (runs_from scheme header count (suc number) logs))
     (left_more header.first count (run_of scheme header number log))
-    ∙ ap (λ (runs : List Progress). left_from header.first (suc count) (run_of scheme header number log) ∷ runs)
+    ∙ ap (λ (runs : List (Progress Operation)). left_from header.first (suc count) (run_of scheme header number log) ∷ runs)
     (runs-more scheme header count (suc number) logs)

@@ -1,5 +1,4 @@
 -- That a run comes to what its history says, what is certified, and the headline.
-mod HistoryRunLemmas
 mod CountedLemmas
 mod SealedLemmas
 mod PartLemmas
@@ -12,6 +11,7 @@ mod EpochPartLemmas
 mod EpochVerdictLemmas
 mod CertifiedCountLemmas
 pub mod CertifyLaws
+pub mod KeepingLaws
 pub mod LeftLaws
 mod MoreLaws
 pub mod SoFarLaws

@@ -20,7 +20,7 @@ use Rattle.bundle_report.proofs.EpochTextLemmas.{operations-within}
 use Rattle.bundle_report.proofs.RunReportLemmas.{block_moment, operations-among}
 
 module _ (scheme : Scheme) (header : Header) (logs : List (List ℕ)) where
-  abbrev courses : List Course
+  abbrev courses : List (Course Operation)
   courses = courses_of scheme header logs
 
   abbrev histories : List (List Event)
@@ -69,7 +69,7 @@ epochs-more epoch (suc count) =
     ap (λ (es : List ℕ). epoch ∷ es) (epochs-more (suc epoch) count ∙ ap (λ (e : ℕ). epochs_from (suc epoch) count ++ e ∷ []) same)
 
 -- the lines of one epoch more
-pub lines-more : (courses : List Course) (epoch count : ℕ)
+pub lines-more : (courses : List (Course Operation)) (epoch count : ℕ)
     → lines_from courses epoch (suc count) ≡ lines_from courses epoch count ++ lines_told courses (epoch + count)
 lines-more courses epoch count =
     ap (flat_map (lines_told courses)) (epochs-more epoch count)
@@ -77,7 +77,7 @@ lines-more courses epoch count =
     ∙ ap (λ (text : List ℕ). lines_from courses epoch count ++ text) (append-nil (lines_told courses (epoch + count)))
 
 -- the lines of so many epochs, and then of those behind them
-pub lines-behind : (courses : List Course) (epoch count more : ℕ)
+pub lines-behind : (courses : List (Course Operation)) (epoch count more : ℕ)
     → lines_from courses epoch (count + more) ≡ lines_from courses epoch count ++ lines_from courses (epoch + count) more
 lines-behind courses epoch zero more =
     let count : 0 + more ≡ more = omega arith in

@@ -1,5 +1,5 @@
 -- Runs go on with more of their logs: what is certified of them stays, and so do its lines.
-use Rattle.std.proofs.Common.{◌≡◌, ℕ, zero, suc, ◌+◌, ◌-◌, ◌<◌, ◌≤◌, ◌==◌, Bool, true, false, if◌then◌else◌, List, [], ◌∷◌, ◌++◌, length, slice_get, Option, refl, sym, ◌∙◌, ap, subst, append-nil, append_assoc, length-append, arith}
+use Rattle.std.proofs.Common.{◌≡◌, ℕ, zero, suc, ◌+◌, ◌<◌, ◌≤◌, ◌==◌, Bool, true, false, if◌then◌else◌, List, [], ◌∷◌, ◌++◌, length, slice_get, Option, refl, sym, ◌∙◌, ap, subst, append-nil, append_assoc, length-append, arith}
 use Rattle.std.specs.Prelude.{⊤}
 use Rattle.std.specs.List.{AllByRecursion}
 use Rattle.std.specs.Option.{option_to_list}
@@ -14,6 +14,7 @@ use Rattle.record_text.specs.declared.operation.Operation.{Operation}
 use Rattle.log_codec.specs.Log.{read_log}
 use Rattle.stamp_order.specs.Merged.{merged, of_epoch}
 use Rattle.stamp_order.specs.Operations.{moment_of}
+use Rattle.verifier_run.specs.Kept.{keeps_operations}
 use Rattle.verifier_run.specs.Progress.{Progress, opening_progress, fed}
 use Rattle.verifier_run.specs.Order.{operation_epoch, NeverFalls, clock_of, GoesOn}
 use Rattle.verifier_run.proofs.RunLaws.{fed_joined, fed_goes_on, fed_left, clock_of_fed}
@@ -65,19 +66,19 @@ module _ (scheme : Scheme) (header : Header) where
 
 module _ (scheme : Scheme) (header : Header) (number : ℕ) (log piece : List ℕ) where
   -- the run before and after
-  abbrev old : Progress
+  abbrev old : Progress Operation
   old = run_of scheme header number log
 
-  abbrev new : Progress
+  abbrev new : Progress Operation
   new = run_of scheme header number (log ++ piece)
 
   -- the run takes the piece
-  new_is : fed scheme old piece ≡ new
+  new_is : fed keeps_operations scheme old piece ≡ new
   new_is = fed_joined scheme (opening_progress number header) log piece
 
   -- and goes on
-  goes_on : GoesOn old.course new.course
-  goes_on = subst (λ (run : Progress). GoesOn old.course run.course) new_is (fed_goes_on scheme old piece)
+  goes_on : GoesOn operation_epoch old.course new.course
+  goes_on = subst (λ (run : Progress Operation). GoesOn operation_epoch old.course run.course) new_is (fed_goes_on scheme old piece)
 
   -- a part that was handed in stays
   part_stays : (index : ℕ) → index < length old.course.parts
@@ -96,19 +97,19 @@ module _ (scheme : Scheme) (header : Header) (number : ℕ) (log piece : List �
       ∙ none_of epoch op.stamp.epoch high ops (omega (arith, is.0)) is.1
 
   operations_stay : (epoch : ℕ) → epoch < (clock_of old.course).at.epoch
-      → of_epoch moment_of epoch (whole_of scheme header number (log ++ piece)).operations
-      ≡ of_epoch moment_of epoch (whole_of scheme header number log).operations
+      → of_epoch moment_of epoch (whole_of scheme header number (log ++ piece)).items
+      ≡ of_epoch moment_of epoch (whole_of scheme header number log).items
   operations_stay epoch below =
-      ap (of_epoch moment_of epoch) (whole-operations scheme header number (log ++ piece) ∙ goes_on.operations_behind)
-      ∙ filter-append (λ (op : Operation). op.stamp.epoch == epoch) old.course.operations goes_on.operations
-      ∙ ap (λ (ops : List Operation). of_epoch moment_of epoch old.course.operations ++ ops)
-      (none_of epoch (clock_of old.course).at.epoch (clock_of new.course).at.epoch goes_on.operations below goes_on.hands_out.operations)
-      ∙ append-nil (of_epoch moment_of epoch old.course.operations)
+      ap (of_epoch moment_of epoch) (whole-operations scheme header number (log ++ piece) ∙ goes_on.items_behind)
+      ∙ filter-append (λ (op : Operation). op.stamp.epoch == epoch) old.course.items goes_on.items
+      ∙ ap (λ (ops : List Operation). of_epoch moment_of epoch old.course.items ++ ops)
+      (none_of epoch (clock_of old.course).at.epoch (clock_of new.course).at.epoch goes_on.items below goes_on.hands_out.items)
+      ∙ append-nil (of_epoch moment_of epoch old.course.items)
       ∙ ap (of_epoch moment_of epoch) (sym (whole-operations scheme header number log))
 
   -- the run without the first so many epochs takes the piece as the run does
   left_stays : (count : ℕ) → count ≤ length old.course.parts
-      → fed scheme (left_from header.first count old) piece ≡ left_from header.first count new
+      → fed keeps_operations scheme (left_from header.first count old) piece ≡ left_from header.first count new
   left_stays zero within = new_is
   left_stays (suc count) within =
       let clock = clock_of_fed scheme number header log (omega (arith, within)) in
@@ -132,17 +133,17 @@ took-left scheme header number count log (frame ∷ frames) within =
     (took-left scheme header number count (log ++ frame.body) frames (long_stays scheme header number log frame.body count within))
     (took-left scheme header number count log frames within)
   where
-    run : Progress
+    run : Progress Operation
     run = left_from header.first count (run_of scheme header number log)
 
     go : (b : Bool) → (frame.verifier == number) ≡ b
         → took scheme number (left_from header.first count (run_of scheme header number (log ++ frame.body))) frames
         ≡ left_from header.first count (run_of scheme header number ((log ++ frame.body) ++ log_of number frames))
         → took scheme number run frames ≡ left_from header.first count (run_of scheme header number (log ++ log_of number frames))
-        → took scheme number (if b then fed scheme run frame.body else run) frames
+        → took scheme number (if b then fed keeps_operations scheme run frame.body else run) frames
         ≡ left_from header.first count (run_of scheme header number (log ++ ((if frame.verifier == number then frame.body else []) ++ log_of number frames)))
     go true own mine others =
-        ap (λ (r : Progress). took scheme number r frames) (left_stays scheme header number log frame.body count within)
+        ap (λ (r : Progress Operation). took scheme number r frames) (left_stays scheme header number log frame.body count within)
         ∙ mine
         ∙ ap (λ (bytes : List ℕ). left_from header.first count (run_of scheme header number bytes))
         (append_assoc log frame.body (log_of number frames))
@@ -180,11 +181,11 @@ module _ (scheme : Scheme) (header : Header) (frames : List Frame) where
       let whole = whole_of scheme header number log in
       let others = operations_among (courses_from scheme header (suc number) (joined_from (suc number) logs frames)) in
       let rest = operations_among (courses_from scheme header (suc number) logs) in
-      filter-append (λ (op : Operation). op.stamp.epoch == epoch) more.operations others
+      filter-append (λ (op : Operation). op.stamp.epoch == epoch) more.items others
       ∙ ap (λ (ops : List Operation). ops ++ of_epoch moment_of epoch others)
       (operations_stay scheme header number log (log_of number frames) epoch (omega (arith, clock, long.0, within)))
-      ∙ ap (λ (ops : List Operation). of_epoch moment_of epoch whole.operations ++ ops) (operations-stay count epoch (suc number) logs long.1 within)
-      ∙ sym (filter-append (λ (op : Operation). op.stamp.epoch == epoch) whole.operations rest)
+      ∙ ap (λ (ops : List Operation). of_epoch moment_of epoch whole.items ++ ops) (operations-stay count epoch (suc number) logs long.1 within)
+      ∙ sym (filter-append (λ (op : Operation). op.stamp.epoch == epoch) whole.items rest)
 
   -- Runs without the first so many epochs take frames as the runs do.
   pub runs-stay : (count number : ℕ) (logs : List (List ℕ)) → AreLong scheme header count number logs
@@ -192,9 +193,9 @@ module _ (scheme : Scheme) (header : Header) (frames : List Frame) where
       ≡ runs_from scheme header count number (joined_from number logs frames)
   runs-stay count number [] long = refl
   runs-stay count number (log ∷ logs) long =
-      ap (λ (run : Progress). run ∷ runs_behind scheme (suc number) (runs_from scheme header count (suc number) logs) frames)
+      ap (λ (run : Progress Operation). run ∷ runs_behind scheme (suc number) (runs_from scheme header count (suc number) logs) frames)
       (took-left scheme header number count log frames long.0)
-      ∙ ap (λ (runs : List Progress). left_from header.first count (run_of scheme header number (log ++ log_of number frames)) ∷ runs)
+      ∙ ap (λ (runs : List (Progress Operation)). left_from header.first count (run_of scheme header number (log ++ log_of number frames)) ∷ runs)
       (runs-stay count (suc number) logs long.1)
 
   -- The lines of the epochs that all have sealed stay.

@@ -1,11 +1,13 @@
 -- The parts that a verifier hands in are those of the epochs that its events seal, each with the sums of the elements
 -- of its epoch among all events.
 use Rattle.std.proofs.Common.{◌≡◌, ℕ, ◌+◌, ◌<◌, List, [], ◌∷◌, ◌++◌, map, Option, Some, None, Ok, Err, refl, sym, ◌∙◌, ap, subst, append-nil, append_assoc, arith}
+use Rattle.step_words.specs.Traced.{traced}
 use Rattle.merkle_records.specs.Scheme.{Scheme}
 use Rattle.std.specs.List.{flat_map}
 use Rattle.std.proofs.lemmas.List.{map-append}
 use Rattle.std.proofs.lemmas.Grind.{flat_map-append}
 use Rattle.lamport_clocks.specs.declared.header.Header.{Header}
+use Rattle.lamport_clocks.specs.declared.stamp.Stamp.{Stamp}
 use Rattle.lamport_clocks.specs.Reading.{Reading}
 use Rattle.lamport_clocks.specs.Clock.{advanced}
 use Rattle.lamport_clocks.proofs.ClockLaws.{advanced-ok, sealed_epoch}
@@ -18,12 +20,12 @@ use Rattle.verifier_commands.specs.Change.{Change, did_add_m, did_evict_m, did_a
 use Rattle.verifier_commands.specs.Outcome.{outcome_of}
 use Rattle.verifier_commands.specs.Transition.{Step, transition}
 use Rattle.verifier_commands.specs.Machine.{Machine, opening_machine, effect_of, rules_for}
-use Rattle.verifier_run.specs.Trace.{trace, parts_of, part_in}
-use Rattle.soundness.specs.History.{Event, events_from, log_events}
+use Rattle.verifier_commands.specs.Trace.{changed, trace, trace_behind, events_from, events_behind}
+use Rattle.verifier_run.specs.Kept.{parts_of, part_in}
+use Rattle.soundness.specs.History.{Event, log_events}
 use Rattle.soundness.specs.Certified.{added_by, evicted_by, added_in, evicted_in, sum_over, epochs_in, sealed_by, sealed_count, epochs_from}
 use Rattle.verifier_commands.proofs.TickLaws.{Ticks, ticks_step}
 use Rattle.soundness.proofs.HistoryLaws.{IsTicking, events-tick}
-use Rattle.bundle_report.proofs.HistoryRunLemmas.{next_event, changed, machine_events, step_events, step_trace, events-accepted}
 use Rattle.bundle_report.proofs.CountedLemmas.{Keeps, keeps-opening, keeps-after}
 use Rattle.bundle_report.proofs.SealedLemmas.{sealed_in, log-sealed, closed-added, closed-evicted, of_epoch-front}
 
@@ -37,6 +39,10 @@ part_of scheme number events epoch = record {
 }
 
 -- ---- a step
+
+-- the event of a machine's next command, where the clock then stands so and this was done
+abbrev next_event : Machine → Stamp → Change → Event
+next_event machine at change = record { verifier = machine.number; index = machine.accepted; at = at; change = change }
 
 -- the elements among events
 abbrev added_among : List Event → List Element
@@ -127,34 +133,33 @@ parts_behind : (scheme : Scheme) (machine : Machine) (command : Command) (comman
     (before : List Event) (step : Step)
     → transition (rules_for scheme machine) machine.state command ≡ step → HasCounted scheme machine before
     → ((after : Machine) (so_far : List Event) → HasCounted scheme after so_far
-    → parts_of (trace scheme after commands).effects
-    ≡ parts_from scheme after.number so_far (machine_events scheme after commands))
-    → parts_of (step_trace scheme machine commands step).effects
-    ≡ parts_from scheme machine.number before (step_events scheme machine commands step)
+    → parts_of (trace scheme after commands).done
+    ≡ parts_from scheme after.number so_far (events_from scheme after commands))
+    → parts_of (trace_behind scheme machine commands step).done
+    ≡ parts_from scheme machine.number before (events_behind scheme machine commands step)
 parts_behind scheme machine command commands before (Ok done) is counted further =
     let after = changed scheme machine done in
     let event = next_event machine done.1.clock.at done.0 in
-    let later = machine_events scheme after commands in
+    let later = events_from scheme after commands in
     let ticks = ticks_step (rules_for scheme machine) machine.state command done is in
-    let ticking = events-tick (rules_for scheme after) machine.number (machine.accepted + 1) done.1 commands in
+    let ticking = events-tick scheme after commands in
     let all = before ++ event ∷ later in
     let part : ℕ → Part = part_of scheme machine.number all in
-    ap (λ (parts : List Part). parts ++ parts_of (trace scheme after commands).effects)
+    ap (λ (parts : List Part). parts ++ parts_of (trace scheme after commands).done)
     (part_told scheme machine before counted done.1.clock later (machine.accepted + 1) ticking done.0 ticks)
     ∙ ap (λ (parts : List Part). map part (sealed_by done.0) ++ parts)
     (further after (before ++ event ∷ []) (counted-step scheme machine before done ticks counted)
     ∙ ap (λ (events : List Event). map (part_of scheme machine.number events) (sealed_in later))
     (append_assoc before (event ∷ []) later))
     ∙ sym (map-append part (sealed_by done.0) (sealed_in later))
-    ∙ ap (parts_from scheme machine.number before) (sym (events-accepted scheme machine commands done))
 parts_behind scheme machine command commands before (Err refusal) is counted further = refl
 
 -- The parts of a trace, from any machine whose sums are those of the events before.
 pub trace-parts : (scheme : Scheme) (machine : Machine) (commands : List Command) (before : List Event)
     → HasCounted scheme machine before
-    → parts_of (trace scheme machine commands).effects
-    ≡ parts_from scheme machine.number before (machine_events scheme machine commands)
-unfolding trace events_from
+    → parts_of (trace scheme machine commands).done
+    ≡ parts_from scheme machine.number before (events_from scheme machine commands)
+unfolding traced
 trace-parts scheme machine [] before counted = refl
 trace-parts scheme machine (command ∷ commands) before counted =
     parts_behind scheme machine command commands before
@@ -163,7 +168,7 @@ trace-parts scheme machine (command ∷ commands) before counted =
 
 -- The parts of a whole log are those of the epochs that its events seal.
 pub log-parts_sealed : (scheme : Scheme) (header : Header) (number : ℕ) (commands : List Command)
-    → parts_of (trace scheme (opening_machine number header) commands).effects
+    → parts_of (trace scheme (opening_machine number header) commands).done
     ≡ map (part_of scheme number (log_events scheme header number commands))
     (flat_map (λ event. sealed_by event.change) (log_events scheme header number commands))
 log-parts_sealed scheme header number commands =
@@ -171,7 +176,7 @@ log-parts_sealed scheme header number commands =
 
 -- They are the epochs from the header's first on.
 pub log-parts : (scheme : Scheme) (header : Header) (number : ℕ) (commands : List Command)
-    → parts_of (trace scheme (opening_machine number header) commands).effects
+    → parts_of (trace scheme (opening_machine number header) commands).done
     ≡ map (part_of scheme number (log_events scheme header number commands))
     (epochs_from header.first (sealed_count (log_events scheme header number commands)))
 log-parts scheme header number commands =

@@ -15,13 +15,14 @@ use Rattle.stamp_order.specs.Operations.{moment_of, merged_up_to}
 use Rattle.stamp_order.proofs.MergedLaws.{merged-filter, merged-flat_map}
 use Rattle.verifier_commands.specs.Change.{Change, did_add_m, did_evict_m, did_add_b, did_evict_b, did_evict_bm, did_get, did_put, did_next_epoch}
 use Rattle.verifier_commands.specs.Machine.{opening_machine}
-use Rattle.verifier_run.specs.Trace.{Trace, trace}
+use Rattle.verifier_commands.specs.Trace.{trace}
+use Rattle.verifier_commands.proofs.TraceLaws.{trace-accepted}
+use Rattle.verifier_run.specs.Kept.{keeps_operations}
 use Rattle.verifier_run.specs.LogCourse.{refusal_by, log_course}
 use Rattle.soundness.specs.History.{Event, log_events, histories_from}
 use Rattle.soundness.specs.Certified.{event_moment, all_events, order_up_to, order_within, operations_by, operations_in}
 use Rattle.bundle_report.specs.BundleReport.{refused_in, refused_end, refused_among, histories_in}
 use Rattle.bundle_report.specs.RunReport.{courses_from, courses_of, operations_among, operations_within, first_refused}
-use Rattle.bundle_report.proofs.HistoryRunLemmas.{trace-operations, trace-accepted, trace-refused}
 
 -- ---- operations
 
@@ -111,9 +112,7 @@ module _ (scheme : Scheme) (header : Header) where
   operations-among number [] = refl
   operations-among number (log ∷ logs) =
       let commands = (read_log scheme.format log).commands in
-      ap (λ (ops : List Operation). ops ++ operations_among (courses_from scheme header (suc number) logs))
-      (trace-operations scheme (opening_machine number header) commands)
-      ∙ ap (λ (ops : List Operation). operations_in (log_events scheme header number commands) ++ ops)
+      ap (λ (ops : List Operation). operations_in (log_events scheme header number commands) ++ ops)
       (operations-among (suc number) logs)
       ∙ sym (flat_map-append (λ (event : Event). operations_by event event.change)
       (log_events scheme header number commands) (all_events (told_from (suc number) logs)))
@@ -138,17 +137,14 @@ module _ (scheme : Scheme) (header : Header) where
 
   -- the refusal of a course is the one of its log
   course-refused : (number : ℕ) (log : List ℕ)
-      → (log_course scheme (opening_machine number header) log).refused
+      → (log_course keeps_operations scheme (opening_machine number header) log).refused
       ≡ refused_in scheme header number (read_log scheme.format log)
   course-refused number log =
       let machine = opening_machine number header in
       let read = read_log scheme.format log in
       let events = log_events scheme header number read.commands in
-      let ran : Trace = trace scheme machine read.commands in
-      ap (λ (count : ℕ). option_map (λ (why : Refusal). (count, why)) (refusal_by ran.refused read.end))
+      ap (λ (count : ℕ). option_map (λ (why : Refusal). (count, why)) (refusal_by (trace scheme machine read.commands).refused read.end))
       (trace-accepted scheme machine read.commands ∙ zero-add (length events))
-      ∙ ap (λ (last : Option Refusal). option_map (λ (why : Refusal). (length events, why)) (refusal_by last read.end))
-      (trace-refused scheme machine read.commands)
 
   -- The first course that is refused is the first log that is.
   pub refused-courses : (number : ℕ) (logs : List (List ℕ))

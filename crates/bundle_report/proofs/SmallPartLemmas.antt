@@ -1,5 +1,6 @@
 -- The parts that a verifier hands in under a good header are small: each element that it counts raises its clock.
 use Rattle.std.proofs.Common.{◌≡◌, ℕ, zero, suc, ◌<◌, ◌^◌, ◌==◌, List, [], ◌∷◌, slice_get, Option, Some, None, Ok, Err, inl, inr, refl, sym, ap, subst, arith}
+use Rattle.step_words.specs.Traced.{traced}
 use Rattle.merkle_records.specs.Scheme.{lanes_of, Scheme}
 use Rattle.std.specs.List.{AllByRecursion}
 use Rattle.std.specs.Option.{option_to_list}
@@ -24,10 +25,10 @@ use Rattle.verifier_commands.specs.Transition.{Step, transition}
 use Rattle.verifier_commands.specs.Machine.{Machine, AreBounded, CountsAdd, opening_machine, effect_of, rules_for}
 use Rattle.verifier_commands.proofs.BoundLaws.{bounded_add, bounded_evict, bounded_turn}
 use Rattle.multiset_sum.specs.Sum.{with_lanes}
-use Rattle.verifier_run.specs.Trace.{trace, parts_of, part_in}
+use Rattle.verifier_commands.specs.Trace.{changed, trace, trace_behind}
+use Rattle.verifier_run.specs.Kept.{parts_of, part_in}
 use Rattle.verifier_commands.proofs.TickLaws.{Ticks, ticks_step}
 use Rattle.bundle_report.specs.RunReport.{courses_from, parts_at}
-use Rattle.bundle_report.proofs.HistoryRunLemmas.{changed, step_trace}
 
 -- there is room for the sums of a part
 abbrev pub IsSmall : Part → Type 0
@@ -121,12 +122,12 @@ module _ (scheme : Scheme) where
       → transition (rules_for scheme machine) machine.state command ≡ step
       → AreBounded machine.sums machine.state.clock
       → ((after : Machine) → AreBounded after.sums after.state.clock
-      → AllByRecursion IsSmall (parts_of (trace scheme after commands).effects))
-      → AllByRecursion IsSmall (parts_of (step_trace scheme machine commands step).effects)
+      → AllByRecursion IsSmall (parts_of (trace scheme after commands).done))
+      → AllByRecursion IsSmall (parts_of (trace_behind scheme machine commands step).done)
   small_behind machine command commands (Ok done) is bounded further =
       let after = changed scheme machine done in
       every-append IsSmall (part_in (effect_of machine done.1.clock.at (outcome_of done.0)))
-      (parts_of (trace scheme after commands).effects)
+      (parts_of (trace scheme after commands).done)
       (small_told machine done.1.clock.at bounded done.0)
       (further after (bounded-after scheme machine.state.clock done.1.clock machine.sums
       bounded done.0 (ticks_step (rules_for scheme machine) machine.state command done is)))
@@ -134,8 +135,8 @@ module _ (scheme : Scheme) where
 
   -- The parts of a trace are small, from any machine whose sums are bounded.
   trace-small : (machine : Machine) (commands : List Command) → AreBounded machine.sums machine.state.clock
-      → AllByRecursion IsSmall (parts_of (trace scheme machine commands).effects)
-  unfolding trace
+      → AllByRecursion IsSmall (parts_of (trace scheme machine commands).done)
+  unfolding traced
   trace-small machine [] bounded = tt
   trace-small machine (command ∷ commands) bounded =
       small_behind machine command commands (transition (rules_for scheme machine) machine.state command) refl
@@ -156,7 +157,7 @@ module _ (scheme : Scheme) where
   parts-small header good index number [] = tt
   parts-small header good index number (log ∷ logs) =
       let machine = opening_machine number header in
-      let parts = parts_of (trace scheme machine (read_log scheme.format log).commands).effects in
+      let parts = parts_of (trace scheme machine (read_log scheme.format log).commands).done in
       let end = good.end in
       every-append IsSmall (option_to_list (slice_get parts index))
       (parts_at index (courses_from scheme header (suc number) logs))

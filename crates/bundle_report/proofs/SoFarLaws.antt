@@ -10,6 +10,7 @@ use Rattle.multiset_sum.specs.declared.part.Part.{Part}
 use Rattle.epoch_gather.specs.declared.outcome.Verdict.{Verdict}
 use Rattle.epoch_gather.specs.declared.outcome.Verdict.TheVariants.{Balanced}
 use Rattle.epoch_gather.specs.Verdict.{verdict_of}
+use Rattle.record_text.specs.declared.operation.Operation.{Operation}
 use Rattle.verifier_run.specs.Course.{Course}
 use Rattle.record_text.specs.declared.refusal.Refusal.{Refusal}
 use Rattle.log_codec.specs.Log.{read_log}
@@ -59,7 +60,7 @@ abbrev pub behind : ℕ → Judged → Judged
 behind count more = record { count = count + more.count; unbalanced = more.unbalanced }
 
 module _ (scheme : Scheme) (header : Header) (logs : List (List ℕ)) where
-  abbrev courses : List Course
+  abbrev courses : List (Course Operation)
   courses = courses_of scheme header logs
 
   -- one part of each epoch, of which the first so many are balanced
@@ -99,7 +100,7 @@ module _ (scheme : Scheme) (header : Header) (logs : List (List ℕ)) where
 -- ---- where so many epochs are balanced
 
 -- each log has handed in a part of each epoch that is counted
-pub taken-long : (scheme : Scheme) (header : Header) (logs : List (List ℕ)) (so_far : Judged) (runs : List Progress)
+pub taken-long : (scheme : Scheme) (header : Header) (logs : List (List ℕ)) (so_far : Judged) (runs : List (Progress Operation))
     → HaveTaken scheme header logs so_far runs → AreLong scheme header so_far.count 0 logs
 taken-long scheme header logs so_far runs taken = go so_far.count taken.balanced
   where
@@ -110,7 +111,7 @@ taken-long scheme header logs so_far runs taken = go so_far.count taken.balanced
         long-sealed scheme header count 0 logs (all_seal count (told_from scheme header 0 logs) told.0)
 
 -- What all logs come to stands behind the epochs that are counted.
-pub judged-taken : (scheme : Scheme) (header : Header) (log : List ℕ) (logs : List (List ℕ)) (so_far : Judged) (runs : List Progress)
+pub judged-taken : (scheme : Scheme) (header : Header) (log : List ℕ) (logs : List (List ℕ)) (so_far : Judged) (runs : List (Progress Operation))
     → HaveTaken scheme header (log ∷ logs) so_far runs
     → judged header.verifiers (courses_of scheme header (log ∷ logs))
     ≡ behind so_far.count (judged_from header.verifiers so_far.count (drop so_far.count (run_of scheme header 0 log).course.parts)
@@ -131,7 +132,7 @@ judged-taken scheme header log logs so_far runs taken =
     ∙ ap (λ (n : ℕ). behind so_far.count (judged_from header.verifiers n (drop so_far.count parts) all)) at
 
 -- No more are counted than are certified.
-pub counted-within : (scheme : Scheme) (header : Header) (logs : List (List ℕ)) (so_far : Judged) (runs : List Progress)
+pub counted-within : (scheme : Scheme) (header : Header) (logs : List (List ℕ)) (so_far : Judged) (runs : List (Progress Operation))
     → HaveTaken scheme header logs so_far runs → so_far.count ≤ (judged header.verifiers (courses_of scheme header logs)).count
 counted-within scheme header [] so_far runs taken = absurd (omega (arith, taken.whole, taken.header_good.some_verifiers))
 counted-within scheme header (log ∷ logs) so_far runs taken =
@@ -148,7 +149,7 @@ NextTells scheme header logs count (part ∷ parts) =
     × ((more : Judged) × (judged header.verifiers (courses_of scheme header logs)
     ≡ behind count (judged_by (header.first + count) (verdict_at scheme header logs count) more)))
 
-pub next-tells : (scheme : Scheme) (header : Header) (log : List ℕ) (logs : List (List ℕ)) (so_far : Judged) (runs : List Progress)
+pub next-tells : (scheme : Scheme) (header : Header) (log : List ℕ) (logs : List (List ℕ)) (so_far : Judged) (runs : List (Progress Operation))
     → HaveTaken scheme header (log ∷ logs) so_far runs → (parts : List Part)
     → drop so_far.count (run_of scheme header 0 log).course.parts ≡ parts
     → NextTells scheme header (log ∷ logs) so_far.count parts
@@ -172,7 +173,7 @@ next-tells scheme header log logs so_far runs taken (part ∷ parts) is =
     )
 
 -- Where the next epoch is said to be unbalanced, that is what all logs come to.
-pub uneven-judged : (scheme : Scheme) (header : Header) (logs : List (List ℕ)) (so_far : Judged) (runs : List Progress) (uneven : Uneven)
+pub uneven-judged : (scheme : Scheme) (header : Header) (logs : List (List ℕ)) (so_far : Judged) (runs : List (Progress Operation)) (uneven : Uneven)
     → HaveTaken scheme header logs so_far runs → so_far.unbalanced ≡ Some uneven
     → so_far ≡ judged header.verifiers (courses_of scheme header logs)
 uneven-judged scheme header [] so_far runs uneven taken is = absurd (omega (arith, taken.whole, taken.header_good.some_verifiers))
@@ -216,7 +217,7 @@ joined-length number [] frames = refl
 joined-length number (log ∷ logs) frames = ap suc (joined-length (suc number) logs frames)
 
 -- Runs that take frames have taken the logs with what these add.
-pub taken-more : (scheme : Scheme) (header : Header) (logs : List (List ℕ)) (so_far : Judged) (runs : List Progress) (frames : List Frame)
+pub taken-more : (scheme : Scheme) (header : Header) (logs : List (List ℕ)) (so_far : Judged) (runs : List (Progress Operation)) (frames : List Frame)
     → HaveTaken scheme header logs so_far runs
     → HaveTaken scheme header (joined_from 0 logs frames) so_far (runs_behind scheme 0 runs frames)
 taken-more scheme header logs so_far runs frames taken =
@@ -225,7 +226,7 @@ taken-more scheme header logs so_far runs frames taken =
       header_good = taken.header_good;
       whole = joined-length 0 logs frames ∙ taken.whole;
       runs_are =
-          ap (λ (rs : List Progress). runs_behind scheme 0 rs frames) taken.runs_are
+          ap (λ (rs : List (Progress Operation)). runs_behind scheme 0 rs frames) taken.runs_are
           ∙ runs-stay scheme header frames so_far.count 0 logs long;
       balanced = λ index below.
           verdict-stays scheme header logs frames index (sealed_at index (taken.balanced index below)) ∙ taken.balanced index below;
@@ -246,7 +247,7 @@ taken-more scheme header logs so_far runs frames taken =
         (said.0, verdict-stays scheme header logs frames so_far.count long ∙ said.1)
 
 -- The lines of the epochs that are counted stay.
-pub lines-taken : (scheme : Scheme) (header : Header) (logs : List (List ℕ)) (so_far : Judged) (runs : List Progress) (frames : List Frame)
+pub lines-taken : (scheme : Scheme) (header : Header) (logs : List (List ℕ)) (so_far : Judged) (runs : List (Progress Operation)) (frames : List Frame)
     → HaveTaken scheme header logs so_far runs
     → lines_from (courses_of scheme header (joined_from 0 logs frames)) header.first so_far.count
     ≡ lines_from (courses_of scheme header logs) header.first so_far.count
@@ -258,10 +259,10 @@ lines-taken scheme header logs so_far runs frames taken =
 -- a run that has ended is refused as the whole log is
 refused_at_end : (scheme : Scheme) (header : Header) (number count : ℕ) (log : List ℕ)
     → (ended (left_from header.first count (run_of scheme header number log))).course.refused ≡ (whole_of scheme header number log).refused
-refused_at_end scheme header number zero log = ap (λ (c : Course). c.refused) (log_is_ended scheme number header log)
+refused_at_end scheme header number zero log = ap (λ (c : Course Operation). c.refused) (log_is_ended scheme number header log)
 refused_at_end scheme header number (suc count) log =
-    ap (λ (run : Progress). run.course.refused) (ended_left (header.first + count) (run_of scheme header number log))
-    ∙ ap (λ (c : Course). c.refused) (log_is_ended scheme number header log)
+    ap (λ (run : Progress Operation). run.course.refused) (ended_left (header.first + count) (run_of scheme header number log))
+    ∙ ap (λ (c : Course Operation). c.refused) (log_is_ended scheme number header log)
 
 -- The first run that is refused at its end is the first of the whole logs.
 refused_from : (scheme : Scheme) (header : Header) (count number : ℕ) (logs : List (List ℕ))
@@ -275,12 +276,12 @@ refused_from scheme header count number (log ∷ logs) =
     ∙ ap (refused_log_by number (whole_of scheme header number log).refused) (refused_from scheme header count (suc number) logs)
 
 -- How the report ends, by the runs at the ends of their logs.
-pub end-taken : (scheme : Scheme) (header : Header) (logs : List (List ℕ)) (so_far : Judged) (runs : List Progress) (bad : Option ℕ)
+pub end-taken : (scheme : Scheme) (header : Header) (logs : List (List ℕ)) (so_far : Judged) (runs : List (Progress Operation)) (bad : Option ℕ)
     → HaveTaken scheme header logs so_far runs → so_far ≡ judged header.verifiers (courses_of scheme header logs)
     → end_by so_far.count so_far.unbalanced (refused_log 0 (map (λ run. run.course) (runs_ended runs))) bad
     ≡ end_of scheme header (map (read_log scheme.format) logs) (histories_in scheme header (map (read_log scheme.format) logs)) bad
 end-taken scheme header logs so_far runs bad taken all =
-    ap (λ (rs : List Progress). end_by so_far.count so_far.unbalanced (refused_log 0 (map (λ run. run.course) (runs_ended rs))) bad) taken.runs_are
+    ap (λ (rs : List (Progress Operation)). end_by so_far.count so_far.unbalanced (refused_log 0 (map (λ run. run.course) (runs_ended rs))) bad) taken.runs_are
     ∙ ap (λ (refused : Option RefusedLog). end_by so_far.count so_far.unbalanced refused bad) (refused_from scheme header so_far.count 0 logs)
     ∙ ap (λ (j : Judged). end_by j.count j.unbalanced (refused_log 0 (courses_of scheme header logs)) bad) all
     ∙ judged-end scheme header logs bad taken.header_good taken.whole

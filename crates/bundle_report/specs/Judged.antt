@@ -33,13 +33,13 @@ judged_by epoch (verdicts.Unbalanced added evicted) more =
 judged_by epoch (verdicts.Missing verifier) more = none_judged
 
 -- the epochs of these parts of one course, which stand there from this index on
-abbrev pub judged_from : ℕ → ℕ → List Part → List Course → Judged
+abbrev pub judged_from : {A : Type 0} → ℕ → ℕ → List Part → List (Course A) → Judged
 judged_from verifiers index [] courses = none_judged
 judged_from verifiers index (part ∷ parts) courses =
     judged_by part.epoch (verdict_of verifiers part.epoch (parts_at index courses)) (judged_from verifiers (suc index) parts courses)
 
 -- the epochs of all courses, by those that the first has sealed
-abbrev pub judged : ℕ → List Course → Judged
+abbrev pub judged : {A : Type 0} → ℕ → List (Course A) → Judged
 judged verifiers [] = none_judged
 judged verifiers (course ∷ courses) = judged_from verifiers 0 course.parts (course ∷ courses)
 
@@ -52,7 +52,7 @@ pub record CanBeJudged (verifiers : ℕ) (parts : List Part) : Type 0 where
 -- ---- the report
 
 -- the parts of the sealed epochs of the first course
-abbrev pub first_parts : List Course → List Part
+abbrev pub first_parts : {A : Type 0} → List (Course A) → List Part
 first_parts [] = []
 first_parts (course ∷ courses) = course.parts
 
@@ -61,7 +61,7 @@ abbrev pub last_epoch : List Part → Option ℕ
 last_epoch parts = option_map (λ part. part.epoch) (slice_get parts (length parts - 1))
 
 -- the operations of all courses up to an epoch, in the one order
-abbrev pub operations_by : Option ℕ → List Course → List Operation
+abbrev pub operations_by : Option ℕ → List (Course Operation) → List Operation
 operations_by None courses = []
 operations_by (Some epoch) courses = merged_up_to epoch (operations_among courses)
 
@@ -71,7 +71,7 @@ refused_log_by number None more = more
 refused_log_by number (Some refused) more = Some (record { verifier = number; index = refused.0; refusal = refused.1 })
 
 -- the first course that is refused, if one is, where the first course is of the verifier of this number
-abbrev pub refused_log : ℕ → List Course → Option RefusedLog
+abbrev pub refused_log : {A : Type 0} → ℕ → List (Course A) → Option RefusedLog
 refused_log number [] = None
 refused_log number (course ∷ courses) = refused_log_by number course.refused (refused_log (suc number) courses)
 
@@ -83,12 +83,12 @@ end_by count None None (Some offset) = BadBundle offset
 end_by count None None None = Done count
 
 -- of what was judged
-abbrev pub answer_judged : Judged → List Course → Option ℕ → Answer
+abbrev pub answer_judged : Judged → List (Course Operation) → Option ℕ → Answer
 answer_judged judged courses bad =
     answer_with (take judged.count (first_parts courses))
     (operations_by (last_epoch (take judged.count (first_parts courses))) courses)
     (status_of (end_by judged.count judged.unbalanced (refused_log 0 courses) bad))
 
 -- of what all logs came to, in a bundle in which so much is bad
-abbrev pub answer_of_runs : List Course → Option ℕ → Answer
+abbrev pub answer_of_runs : List (Course Operation) → Option ℕ → Answer
 answer_of_runs courses bad = answer_judged (judged (length courses) courses) courses bad

@@ -11,6 +11,7 @@ use Rattle.record_text.specs.declared.operation.Operation.{Operation}
 use Rattle.stamp_order.specs.Merged.{merged, of_epoch}
 use Rattle.stamp_order.specs.Operations.{moment_of}
 use Rattle.bundle_frames.specs.Bundle.{Frame}
+use Rattle.verifier_run.specs.Kept.{keeps_operations}
 use Rattle.verifier_run.specs.Course.{Course}
 use Rattle.verifier_run.specs.Taken.{left_of}
 use Rattle.verifier_run.specs.Progress.{Progress, opening_progress, fed, ended}
@@ -23,29 +24,29 @@ use Rattle.bundle_report.specs.RunReport.{courses_of, parts_at, operations_among
 -- ---- the lines of an epoch
 
 -- the operations of an epoch, of all courses, in the one order of their moments
-abbrev pub epoch_operations : ℕ → List Course → List Operation
+abbrev pub epoch_operations : ℕ → List (Course Operation) → List Operation
 epoch_operations epoch courses = merged moment_of (of_epoch moment_of epoch (operations_among courses))
 
 -- the lines of an epoch: how many operations it has, and then these
-abbrev pub lines_told : List Course → ℕ → List ℕ
+abbrev pub lines_told : List (Course Operation) → ℕ → List ℕ
 lines_told courses epoch = epoch_text epoch (epoch_operations epoch courses)
 
 -- the lines of so many epochs from this one on
-abbrev pub lines_from : List Course → ℕ → ℕ → List ℕ
+abbrev pub lines_from : List (Course Operation) → ℕ → ℕ → List ℕ
 lines_from courses epoch count = flat_map (lines_told courses) (epochs_from epoch count)
 
 -- ---- runs
 
 -- a run with so many epochs from this one on taken out of it
-abbrev pub left_from : ℕ → ℕ → Progress → Progress
+abbrev pub left_from : ℕ → ℕ → Progress Operation → Progress Operation
 left_from first zero progress = progress
 left_from first (suc count) progress = left_of (first + count) progress
 
 -- the runs of logs so far, the first of which is of the verifier of this number, with so many epochs taken out of each
-abbrev pub runs_from : Scheme → Header → ℕ → ℕ → List (List ℕ) → List Progress
+abbrev pub runs_from : Scheme → Header → ℕ → ℕ → List (List ℕ) → List (Progress Operation)
 runs_from scheme header count number [] = []
 runs_from scheme header count number (log ∷ logs) =
-    left_from header.first count (fed scheme (opening_progress number header) log) ∷ runs_from scheme header count (suc number) logs
+    left_from header.first count (fed keeps_operations scheme (opening_progress number header) log) ∷ runs_from scheme header count (suc number) logs
 
 -- the verdict on an epoch, by its number from the first on, as the courses of logs tell it
 abbrev pub verdict_at : Scheme → Header → List (List ℕ) → ℕ → Verdict
@@ -59,7 +60,7 @@ IsUneven scheme header logs index uneven =
 
 -- The runs have taken these logs so far. The epochs that are counted are balanced, and taken out of the runs; and where
 -- the next is said to be unbalanced, it is.
-pub record HaveTaken (scheme : Scheme) (header : Header) (logs : List (List ℕ)) (so_far : Judged) (runs : List Progress) : Type 0 where
+pub record HaveTaken (scheme : Scheme) (header : Header) (logs : List (List ℕ)) (so_far : Judged) (runs : List (Progress Operation)) : Type 0 where
   pub header_good : IsHeader header
   pub whole : length logs ≡ header.verifiers
   pub runs_are : runs ≡ runs_from scheme header so_far.count 0 logs
@@ -67,26 +68,26 @@ pub record HaveTaken (scheme : Scheme) (header : Header) (logs : List (List ℕ)
   pub uneven : IfSome so_far.unbalanced (IsUneven scheme header logs so_far.count)
 
 -- there are logs that the runs have taken so far
-abbrev pub HaveLogs : Judged → List Progress → Type 0
+abbrev pub HaveLogs : Judged → List (Progress Operation) → Type 0
 HaveLogs so_far runs =
     (scheme : Scheme) × (header : Header) × (logs : List (List ℕ)) × HaveTaken scheme header logs so_far runs
 
 -- ---- more of the logs
 
 -- the run of a verifier once it took a frame: one of another verifier is passed by
-abbrev pub took_one : Scheme → ℕ → Progress → Frame → Progress
-took_one scheme number run frame = if frame.verifier == number then fed scheme run frame.body else run
+abbrev pub took_one : Scheme → ℕ → Progress Operation → Frame → Progress Operation
+took_one scheme number run frame = if frame.verifier == number then fed keeps_operations scheme run frame.body else run
 
 -- and once it took these frames
-abbrev pub took : Scheme → ℕ → Progress → List Frame → Progress
+abbrev pub took : Scheme → ℕ → Progress Operation → List Frame → Progress Operation
 took scheme number run [] = run
 took scheme number run (frame ∷ frames) = took scheme number (took_one scheme number run frame) frames
 
 -- the runs of verifiers, the first of which has this number, once they took frames
-abbrev pub runs_behind : Scheme → ℕ → List Progress → List Frame → List Progress
+abbrev pub runs_behind : Scheme → ℕ → List (Progress Operation) → List Frame → List (Progress Operation)
 runs_behind scheme number [] frames = []
 runs_behind scheme number (run ∷ runs) frames = took scheme number run frames ∷ runs_behind scheme (suc number) runs frames
 
 -- the runs at the ends of their logs
-abbrev pub runs_ended : List Progress → List Progress
+abbrev pub runs_ended : List (Progress Operation) → List (Progress Operation)
 runs_ended runs = map ended runs

@@ -29,7 +29,7 @@ all_changed f xs ys i past is =
 
 map_ended : (xs : List FedRun) → map (λ fed. fed.run) (map ended_fed xs) ≡ runs_ended (map (λ fed. fed.run) xs)
 map_ended [] = refl
-map_ended (x ∷ xs) = ap (λ (rest : List Progress). (ended_fed x).run ∷ rest) (map_ended xs)
+map_ended (x ∷ xs) = ap (λ (rest : List (Progress Operation)). (ended_fed x).run ∷ rest) (map_ended xs)
 
 pub ended-all : (xs ys : List FedRun) (i : ℕ) → length xs ≤ i → ys ≡ map ended_fed (take i xs) ++ drop i xs
     → map (λ fed. fed.run) ys ≡ runs_ended (map (λ fed. fed.run) xs)
@@ -37,7 +37,7 @@ ended-all xs ys i past is = ap (map (λ fed. fed.run)) (all_changed ended_fed xs
 
 map_left : (epoch : ℕ) (xs : List FedRun) → map (λ fed. fed.run) (map (left_fed epoch) xs) ≡ map (λ fed. left_of epoch fed.run) xs
 map_left epoch [] = refl
-map_left epoch (x ∷ xs) = ap (λ (rest : List Progress). left_of epoch x.run ∷ rest) (map_left epoch xs)
+map_left epoch (x ∷ xs) = ap (λ (rest : List (Progress Operation)). left_of epoch x.run ∷ rest) (map_left epoch xs)
 
 pub left-all : (epoch : ℕ) (xs ys : List FedRun) (i : ℕ) → length xs ≤ i → ys ≡ map (left_fed epoch) (take i xs) ++ drop i xs
     → map (λ fed. fed.run) ys ≡ map (λ fed. left_of epoch fed.run) xs
@@ -80,7 +80,7 @@ taken-more epoch i ops into whole runs d y below taken left =
     (drop-set-lt (i + 1) runs i y (omega arith))
     ∙ ap (λ (os : List Operation). os ++ up_to moment_of epoch rest) taken
     ∙ append_assoc ops (taken_by epoch fed.run.course) (up_to moment_of epoch rest)
-    ∙ ap (λ (os : List Operation). ops ++ os) (sym (filter-append (λ (op : Operation). nat_le op.stamp.epoch epoch) fed.run.course.operations rest))
+    ∙ ap (λ (os : List Operation). ops ++ os) (sym (filter-append (λ (op : Operation). nat_le op.stamp.epoch epoch) fed.run.course.items rest))
     ∙ ap (λ (rs : List FedRun). ops ++ up_to moment_of epoch (operations_among (map (λ (f : FedRun). f.run.course) rs))) (sym next)
     ∙ left
 

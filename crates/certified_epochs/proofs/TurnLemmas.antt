@@ -56,7 +56,7 @@ TellsBy false scheme header logs so_far turned = IsDone scheme header logs so_fa
 abbrev pub Tells : Scheme → Header → List (List ℕ) → Judged → Turned → Type 0
 Tells scheme header logs so_far turned = TellsBy turned.more scheme header logs so_far turned
 
-module _ (scheme : Scheme) (header : Header) (log : List ℕ) (logs : List (List ℕ)) (so_far : Judged) (runs : List Progress)
+module _ (scheme : Scheme) (header : Header) (log : List ℕ) (logs : List (List ℕ)) (so_far : Judged) (runs : List (Progress Operation))
     (taken : HaveTaken scheme header (log ∷ logs) so_far runs) (even : so_far.unbalanced ≡ None) where
   abbrev all : List (List ℕ)
   all = log ∷ logs
@@ -64,7 +64,7 @@ module _ (scheme : Scheme) (header : Header) (log : List ℕ) (logs : List (List
   abbrev parts : List Part
   parts = (run_of scheme header 0 log).course.parts
 
-  abbrev courses : List Course
+  abbrev courses : List (Course Operation)
   courses = courses_of scheme header all
 
   -- the next epoch, if there is one
@@ -79,7 +79,7 @@ module _ (scheme : Scheme) (header : Header) (log : List ℕ) (logs : List (List
   -- the verdict on it
   verdict_is : verdict_of (length runs) epoch (parts_at 0 (courses_in runs)) ≡ verdict_at scheme header all so_far.count
   verdict_is =
-      ap (λ (rs : List Progress). verdict_of (length rs) epoch (parts_at 0 (courses_in rs))) taken.runs_are
+      ap (λ (rs : List (Progress Operation)). verdict_of (length rs) epoch (parts_at 0 (courses_in rs))) taken.runs_are
       ∙ ap (λ (n : ℕ). verdict_of n epoch (parts_at 0 (courses_in (runs_from scheme header so_far.count 0 all))))
       (runs-length scheme header so_far.count 0 all ∙ taken.whole)
       ∙ ap (verdict_of header.verifiers epoch) (next-parts scheme header so_far.count 0 all)
@@ -87,7 +87,7 @@ module _ (scheme : Scheme) (header : Header) (log : List ℕ) (logs : List (List
   -- its lines
   text_is : epoch_text epoch (merged_up_to epoch (operations_among (courses_in runs))) ≡ lines_told courses epoch
   text_is =
-      ap (λ (rs : List Progress). epoch_text epoch (merged_up_to epoch (operations_among (courses_in rs)))) taken.runs_are
+      ap (λ (rs : List (Progress Operation)). epoch_text epoch (merged_up_to epoch (operations_among (courses_in rs)))) taken.runs_are
       ∙ ap (λ (ops : List Operation). epoch_text epoch (merged moment_of ops)) (next-operations scheme header so_far.count 0 all)
 
   -- it is balanced
@@ -162,7 +162,7 @@ module _ (scheme : Scheme) (header : Header) (log : List ℕ) (logs : List (List
       (by_verdict next.1.0 next.1.1 (verdict_at scheme header all so_far.count) refl))
 
 -- One turn: the next epoch is certified, or all that is certified is counted.
-pub turn-tells : (scheme : Scheme) (header : Header) (logs : List (List ℕ)) (so_far : Judged) (runs : List Progress)
+pub turn-tells : (scheme : Scheme) (header : Header) (logs : List (List ℕ)) (so_far : Judged) (runs : List (Progress Operation))
     → HaveTaken scheme header logs so_far runs → so_far.unbalanced ≡ None
     → Tells scheme header logs so_far (turn so_far runs)
 turn-tells scheme header [] so_far runs taken even = absurd (omega (arith, taken.whole, taken.header_good.some_verifiers))
@@ -172,14 +172,14 @@ turn-tells scheme header (log ∷ logs) so_far runs taken even =
     (by_parts scheme header log logs so_far runs taken even (drop so_far.count (run_of scheme header 0 log).course.parts) refl)
 
 -- The parts of the next epoch can be judged.
-pub next-judged : (so_far : Judged) (runs : List Progress) → HaveLogs so_far runs
+pub next-judged : (so_far : Judged) (runs : List (Progress Operation)) → HaveLogs so_far runs
     → CanBeJudged (length runs) (parts_at 0 (courses_in runs))
 next-judged so_far runs have =
     let scheme = have.0 in
     let header = have.1 in
     let logs = have.2 in
     let taken = have.3 in
-    subst (λ (rs : List Progress). CanBeJudged (length rs) (parts_at 0 (courses_in rs))) (sym taken.runs_are)
+    subst (λ (rs : List (Progress Operation)). CanBeJudged (length rs) (parts_at 0 (courses_in rs))) (sym taken.runs_are)
     (subst (λ (parts : List Part). CanBeJudged (length (runs_from scheme header so_far.count 0 logs)) parts)
     (sym (next-parts scheme header so_far.count 0 logs))
     (subst (λ (n : ℕ). CanBeJudged n (parts_at so_far.count (courses_of scheme header logs)))
@@ -189,19 +189,19 @@ next-judged so_far runs have =
 -- ---- the turn that the code makes
 
 -- the courses of runs that are fed
-abbrev pub fed_courses : List FedRun → List Course
+abbrev pub fed_courses : List FedRun → List (Course Operation)
 fed_courses runs = map (λ fed. fed.run.course) runs
 
-abbrev pub runs_of : List FedRun → List Progress
+abbrev pub runs_of : List FedRun → List (Progress Operation)
 runs_of runs = map (λ fed. fed.run) runs
 
 courses_same : (runs : List FedRun) → courses_in (runs_of runs) ≡ fed_courses runs
 courses_same [] = refl
-courses_same (fed ∷ runs) = ap (λ (courses : List Course). fed.run.course ∷ courses) (courses_same runs)
+courses_same (fed ∷ runs) = ap (λ (courses : List (Course Operation)). fed.run.course ∷ courses) (courses_same runs)
 
 left_same : (epoch : ℕ) (runs : List FedRun) → map (left_of epoch) (runs_of runs) ≡ map (λ fed. left_of epoch fed.run) runs
 left_same epoch [] = refl
-left_same epoch (fed ∷ runs) = ap (λ (rs : List Progress). left_of epoch fed.run ∷ rs) (left_same epoch runs)
+left_same epoch (fed ∷ runs) = ap (λ (rs : List (Progress Operation)). left_of epoch fed.run ∷ rs) (left_same epoch runs)
 
 runs_many : (runs : List FedRun) → length (runs_of runs) ≡ length runs
 runs_many [] = refl
@@ -211,11 +211,11 @@ runs_many (fed ∷ runs) = ap suc (runs_many runs)
 pub fed-judged : (so_far : Judged) (runs : List FedRun) → HaveLogs so_far (runs_of runs) → CanBeJudged (length runs) (parts_at 0 (fed_courses runs))
 fed-judged so_far runs have =
     subst (λ (n : ℕ). CanBeJudged n (parts_at 0 (fed_courses runs))) (runs_many runs)
-    (subst (λ (courses : List Course). CanBeJudged (length (runs_of runs)) (parts_at 0 courses)) (courses_same runs)
+    (subst (λ (courses : List (Course Operation)). CanBeJudged (length (runs_of runs)) (parts_at 0 courses)) (courses_same runs)
     (next-judged so_far (runs_of runs) have))
 
 -- a turn with its text
-pub with_text : (t : Turned) (more : Bool) (now : Judged) (runs : List Progress) (text : List ℕ)
+pub with_text : (t : Turned) (more : Bool) (now : Judged) (runs : List (Progress Operation)) (text : List ℕ)
     → t ≡ record { more = more; judged = now; runs = runs; text = text } → t ≡ record { more = more; judged = now; runs = runs; text = t.text }
 with_text t more now runs text is =
     is ∙ ap (λ (line : List ℕ). record { more = more; judged = now; runs = runs; text = line }) (sym (ap (λ (u : Turned). u.text) is))
@@ -229,7 +229,7 @@ module _ (so_far : Judged) (runs : List FedRun) (found : Option ℕ) (epoch : �
       ap (turn_at so_far (runs_of runs)) (sym next ∙ is)
       ∙ ap (turn_by so_far (runs_of runs) epoch)
       (ap (λ (n : ℕ). verdict_of n epoch (parts_at 0 (courses_in (runs_of runs)))) (runs_many runs)
-      ∙ ap (λ (courses : List Course). verdict_of (length runs) epoch (parts_at 0 courses)) (courses_same runs)
+      ∙ ap (λ (courses : List (Course Operation)). verdict_of (length runs) epoch (parts_at 0 courses)) (courses_same runs)
       ∙ ap (verdict_of (length runs) epoch) (sym gathered)
       ∙ sym judged_is)
 
@@ -240,13 +240,13 @@ module _ (so_far : Judged) (runs : List FedRun) (found : Option ℕ) (epoch : �
       turn-is ∙ ap (turn_by so_far (runs_of runs) epoch) is_so ∙ ap (λ (j : Judged). turn_by j (runs_of runs) epoch found_so) same
 
   -- a balanced one
-  pub turn-balanced : (now : Judged) (count : ℕ) (left : List Progress) (operations : List Operation) → so_far ≡ now → count ≡ suc now.count → verdict ≡ Balanced
+  pub turn-balanced : (now : Judged) (count : ℕ) (left : List (Progress Operation)) (operations : List Operation) → so_far ≡ now → count ≡ suc now.count → verdict ≡ Balanced
       → left ≡ map (λ fed. left_of epoch fed.run) runs → operations ≡ merged_up_to epoch (operations_among (fed_courses runs))
       → turn so_far (runs_of runs)
       ≡ record { more = true; judged = record { count = count; unbalanced = now.unbalanced }; runs = left; text = epoch_text epoch operations }
   turn-balanced now count left operations same counted balanced left_is ops_are =
       turn-is ∙ ap (turn_by so_far (runs_of runs) epoch) balanced
-      ∙ ap (λ (rs : List Progress). record {
+      ∙ ap (λ (rs : List (Progress Operation)). record {
         more = true;
         judged = record so_far { count = suc so_far.count };
         runs = rs;
@@ -259,12 +259,12 @@ module _ (so_far : Judged) (runs : List FedRun) (found : Option ℕ) (epoch : �
         runs = left;
         text = epoch_text epoch ops;
       })
-      (ap (λ (courses : List Course). merged_up_to epoch (operations_among courses)) (courses_same runs) ∙ sym ops_are)
+      (ap (λ (courses : List (Course Operation)). merged_up_to epoch (operations_among courses)) (courses_same runs) ∙ sym ops_are)
       ∙ ap (λ (j : Judged). record { more = true; judged = record j { count = suc j.count }; runs = left; text = epoch_text epoch operations }) same
       ∙ ap (λ (n : ℕ). record { more = true; judged = record now { count = n }; runs = left; text = epoch_text epoch operations }) (sym counted)
 
 -- where there is no next epoch
-pub turn-none : (so_far : Judged) (runs : List Progress) (found : Option ℕ) → found ≡ None → found ≡ next_epoch runs
+pub turn-none : (so_far : Judged) (runs : List (Progress Operation)) (found : Option ℕ) → found ≡ None → found ≡ next_epoch runs
     → turn so_far runs ≡ no_turn so_far runs
 turn-none so_far runs found is next = ap (turn_at so_far runs) (sym next ∙ is)
 
@@ -297,14 +297,14 @@ less-left epoch (fed ∷ old) new found is next left =
         let dropped : nat_lt epoch part.epoch ≡ false = grind (arith, nat_tests, own) in
         let rest = filtered epoch parts in
         let new_parts : parts_left new ≡ length (filter (λ (p : Part). nat_lt epoch p.epoch) (part ∷ parts)) =
-        ap (λ (rs : List Progress). length (first_parts (courses_in rs))) left
+        ap (λ (rs : List (Progress Operation)). length (first_parts (courses_in rs))) left
         ∙ ap (λ (ps : List Part). length (filter (λ (p : Part). nat_lt epoch p.epoch) ps)) some in
         let fewer : length (filter (λ (p : Part). nat_lt epoch p.epoch) (part ∷ parts)) ≡ length (filter (λ (p : Part). nat_lt epoch p.epoch) parts) =
         ap length (cond-false (nat_lt epoch part.epoch) _ _ dropped) in
         omega (arith, new_parts, fewer, rest, ap length some)
 
 -- The epoch of the next part is as many behind the first as are counted.
-next_count : (scheme : Scheme) (header : Header) (logs : List (List ℕ)) (so_far : Judged) (runs : List Progress) (epoch : ℕ)
+next_count : (scheme : Scheme) (header : Header) (logs : List (List ℕ)) (so_far : Judged) (runs : List (Progress Operation)) (epoch : ℕ)
     → HaveTaken scheme header logs so_far runs → so_far.unbalanced ≡ None → next_epoch runs ≡ Some epoch → so_far.count ≤ epoch
 next_count scheme header [] so_far runs epoch taken even is = absurd (omega (arith, taken.whole, taken.header_good.some_verifiers))
 next_count scheme header (log ∷ logs) so_far runs epoch taken even is =
@@ -340,7 +340,7 @@ ok_holds P (Err fault) is holds = absurd (false≢true (sym is))
 -- ---- turn after turn
 
 -- a turn that certified an epoch
-pub certified-turn : (scheme : Scheme) (header : Header) (logs : List (List ℕ)) (so_far now : Judged) (runs next : List Progress) (more : Bool)
+pub certified-turn : (scheme : Scheme) (header : Header) (logs : List (List ℕ)) (so_far now : Judged) (runs next : List (Progress Operation)) (more : Bool)
     (text : List ℕ) → HaveTaken scheme header logs so_far runs → so_far.unbalanced ≡ None
     → turn so_far runs ≡ record { more = more; judged = now; runs = next; text = text } → more ≡ true
     → IsCertified scheme header logs so_far (record { more = true; judged = now; runs = next; text = text })
@@ -350,7 +350,7 @@ certified-turn scheme header logs so_far now runs next more text taken even is i
     (turn-tells scheme header logs so_far runs taken even)
 
 -- and the last
-pub done-turn : (scheme : Scheme) (header : Header) (logs : List (List ℕ)) (so_far now : Judged) (runs next : List Progress) (more : Bool)
+pub done-turn : (scheme : Scheme) (header : Header) (logs : List (List ℕ)) (so_far now : Judged) (runs next : List (Progress Operation)) (more : Bool)
     (text : List ℕ) → HaveTaken scheme header logs so_far runs → so_far.unbalanced ≡ None
     → turn so_far runs ≡ record { more = more; judged = now; runs = next; text = text } → more ≡ false
     → IsDone scheme header logs so_far (record { more = false; judged = now; runs = next; text = text })
@@ -360,14 +360,14 @@ done-turn scheme header logs so_far now runs next more text taken even is not_mo
     (turn-tells scheme header logs so_far runs taken even)
 
 -- where an epoch is unbalanced nothing is left to judge
-pub same-judged : (scheme : Scheme) (header : Header) (logs : List (List ℕ)) (so_far : Judged) (runs : List Progress) (now : Judged) (uneven : Uneven)
+pub same-judged : (scheme : Scheme) (header : Header) (logs : List (List ℕ)) (so_far : Judged) (runs : List (Progress Operation)) (now : Judged) (uneven : Uneven)
     → HaveTaken scheme header logs so_far runs → now ≡ so_far → now.unbalanced ≡ Some uneven
     → so_far ≡ judged header.verifiers (courses_of scheme header logs)
 same-judged scheme header logs so_far runs now uneven taken same is =
     uneven-judged scheme header logs so_far runs uneven taken (sym (ap (λ (j : Judged). j.unbalanced) same) ∙ is)
 
 -- the lines of one epoch more
-pub lines-step : (courses : List Course) (first start count next : ℕ) (text line : List ℕ) → start ≤ count → next ≡ suc count
+pub lines-step : (courses : List (Course Operation)) (first start count next : ℕ) (text line : List ℕ) → start ≤ count → next ≡ suc count
     → text ≡ lines_from courses (first + start) (count - start) → line ≡ lines_told courses (first + count)
     → text ++ line ≡ lines_from courses (first + start) (next - start)
 lines-step courses first start count next text line within is so_far own =
@@ -379,7 +379,7 @@ lines-step courses first start count next text line within is so_far own =
     ∙ ap (lines_from courses (first + start)) many
 
 -- the lines of so many epochs are a front of those of more
-lines_front : (courses : List Course) (epoch start count all : ℕ) → start ≤ count → count ≤ all
+lines_front : (courses : List (Course Operation)) (epoch start count all : ℕ) → start ≤ count → count ≤ all
     → (more : List ℕ) × (lines_from courses epoch (count - start) ++ more ≡ lines_from courses epoch (all - start))
 lines_front courses epoch start count all within below =
     let sum : (count - start) + (all - count) ≡ all - start = omega (arith, within, below) in (
@@ -388,7 +388,7 @@ lines_front courses epoch start count all within below =
     )
 
 -- What was written and what the turn writes are a front of all lines.
-pub turn-front : (scheme : Scheme) (header : Header) (logs : List (List ℕ)) (so_far : Judged) (runs : List Progress) (start : ℕ) (text : List ℕ)
+pub turn-front : (scheme : Scheme) (header : Header) (logs : List (List ℕ)) (so_far : Judged) (runs : List (Progress Operation)) (start : ℕ) (text : List ℕ)
     → HaveTaken scheme header logs so_far runs → so_far.unbalanced ≡ None → start ≤ so_far.count
     → text ≡ lines_from (courses_of scheme header logs) (header.first + start) (so_far.count - start)
     → (more : List ℕ) × ((text ++ (turn so_far runs).text) ++ more
@@ -396,7 +396,7 @@ pub turn-front : (scheme : Scheme) (header : Header) (logs : List (List ℕ)) (s
 turn-front scheme header logs so_far runs start text taken even within so_far_is =
     go (turn so_far runs).more refl (turn-tells scheme header logs so_far runs taken even)
   where
-    courses : List Course
+    courses : List (Course Operation)
     courses = courses_of scheme header logs
 
     all : ℕ
@@ -424,7 +424,7 @@ turn-front scheme header logs so_far runs start text taken even within so_far_is
 -- ---- the end
 
 -- How the report ends, as the code finds it.
-pub finish-end : (scheme : Scheme) (header : Header) (logs : List (List ℕ)) (so_far now : Judged) (runs : List Progress) (fed : List FedRun)
+pub finish-end : (scheme : Scheme) (header : Header) (logs : List (List ℕ)) (so_far now : Judged) (runs : List (Progress Operation)) (fed : List FedRun)
     (refused : Option RefusedLog) (bad : Option ℕ) (end : BundleEnd) → HaveTaken scheme header logs so_far runs
     → so_far ≡ judged header.verifiers (courses_of scheme header logs) → now ≡ so_far → runs_of fed ≡ runs_ended runs
     → refused ≡ refused_log 0 (fed_courses fed) → end ≡ end_by now.count now.unbalanced refused bad
@@ -432,6 +432,6 @@ pub finish-end : (scheme : Scheme) (header : Header) (logs : List (List ℕ)) (s
 finish-end scheme header logs so_far now runs fed refused bad end taken all same ended found is =
     is
     ∙ ap (λ (r : Option RefusedLog). end_by now.count now.unbalanced r bad)
-    (found ∙ ap (refused_log 0) (sym (courses_same fed)) ∙ ap (λ (rs : List Progress). refused_log 0 (courses_in rs)) ended)
+    (found ∙ ap (refused_log 0) (sym (courses_same fed)) ∙ ap (λ (rs : List (Progress Operation)). refused_log 0 (courses_in rs)) ended)
     ∙ ap (λ (j : Judged). end_by j.count j.unbalanced (refused_log 0 (courses_in (runs_ended runs))) bad) same
     ∙ end-taken scheme header logs so_far runs bad taken all

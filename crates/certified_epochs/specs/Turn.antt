@@ -6,6 +6,7 @@ use Rattle.epoch_gather.specs.declared.outcome.Verdict.{Verdict}
 use Rattle.epoch_gather.specs.declared.outcome.Verdict.TheVariants as verdicts
 use Rattle.epoch_gather.specs.Verdict.{verdict_of}
 use Rattle.stamp_order.specs.Operations.{merged_up_to}
+use Rattle.record_text.specs.declared.operation.Operation.{Operation}
 use Rattle.verifier_run.specs.Course.{Course}
 use Rattle.verifier_run.specs.Progress.{Progress, ended}
 use Rattle.verifier_run.specs.Taken.{left_of}
@@ -28,11 +29,11 @@ abbrev pub left_fed : ℕ → FedRun → FedRun
 left_fed epoch fed = record fed { run = left_of epoch fed.run }
 
 -- the courses of runs
-abbrev pub courses_in : List Progress → List Course
+abbrev pub courses_in : List (Progress Operation) → List (Course Operation)
 courses_in runs = map (λ run. run.course) runs
 
 -- the epoch of the first part that the first run still has
-abbrev pub next_epoch : List Progress → Option ℕ
+abbrev pub next_epoch : List (Progress Operation) → Option ℕ
 next_epoch runs = option_map (λ part. part.epoch) (slice_get (first_parts (courses_in runs)) 0)
 
 -- how many parts the first run still has
@@ -43,15 +44,15 @@ parts_left runs = length (first_parts (courses_in (map (λ fed. fed.run) runs)))
 pub record Turned : Type 0 where
   pub more : Bool
   pub judged : Judged
-  pub runs : List Progress
+  pub runs : List (Progress Operation)
   pub text : List ℕ
 
 -- nothing changes
-abbrev pub no_turn : Judged → List Progress → Turned
+abbrev pub no_turn : Judged → List (Progress Operation) → Turned
 no_turn judged runs = record { more = false; judged = judged; runs = runs; text = [] }
 
 -- the next epoch by its verdict: a balanced one is counted, written and taken out of the runs
-abbrev pub turn_by : Judged → List Progress → ℕ → Verdict → Turned
+abbrev pub turn_by : Judged → List (Progress Operation) → ℕ → Verdict → Turned
 turn_by judged runs epoch verdicts.Balanced = record {
   more = true;
   judged = record judged { count = suc judged.count };
@@ -63,10 +64,10 @@ turn_by judged runs epoch (verdicts.Unbalanced added evicted) =
 turn_by judged runs epoch (verdicts.Missing verifier) = no_turn judged runs
 
 -- the next epoch, if the first run has sealed one
-abbrev pub turn_at : Judged → List Progress → Option ℕ → Turned
+abbrev pub turn_at : Judged → List (Progress Operation) → Option ℕ → Turned
 turn_at judged runs None = no_turn judged runs
 turn_at judged runs (Some epoch) = turn_by judged runs epoch (verdict_of (length runs) epoch (parts_at 0 (courses_in runs)))
 
 -- One turn, where no epoch is unbalanced so far.
-abbrev pub turn : Judged → List Progress → Turned
+abbrev pub turn : Judged → List (Progress Operation) → Turned
 turn judged runs = turn_at judged runs (next_epoch runs)

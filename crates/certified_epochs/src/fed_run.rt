@@ -3,6 +3,7 @@ ghost use Rattle.std.specs.Prelude.{◌≡◌, ◌+◌, ◌<◌, ◌≤◌, ◌^
 ghost use Rattle.lamport_clocks.specs.Header.{IsHeader};
 ghost use Rattle.merkle_records.specs.Scheme.{scheme_of};
 ghost use Rattle.verifier_commands.specs.Machine.{opening_machine};
+ghost use Rattle.verifier_run.specs.Kept.{keeps_operations};
 ghost use Rattle.verifier_run.specs.LogCourse.{log_course};
 ghost use Rattle.verifier_run.specs.Progress.{opening_progress, fed, weight};
 
@@ -46,7 +47,7 @@ impl FedRun {
         requires header { IsHeader header.now }
         requires number { number < header.now.verifiers }
         ensures course { IfOk result (λ fed. fed.run.course
-            ≡ log_course (scheme_of (D.functions d.now) header.now) (opening_machine number header.now) log.now) }
+            ≡ log_course keeps_operations (scheme_of (D.functions d.now) header.now) (opening_machine number header.now) log.now) }
         ensures not_starved { IfOk result (λ fed. fed.is_starved ≡ false) }
     {
         Ok(FedRun {
@@ -59,7 +60,7 @@ impl FedRun {
     pub fn feed<D: Digests>(&mut self, d: &D, piece: &[u8])
         requires room { weight self.old.run + length piece.now < 2 ^ 63 }
         ensures taken { self.new.is_starved ≡ false
-            → self.new.run ≡ fed (scheme_of (D.functions d.now) self.old.run.course.machine.header) self.old.run piece.now }
+            → self.new.run ≡ fed keeps_operations (scheme_of (D.functions d.now) self.old.run.course.machine.header) self.old.run piece.now }
         ensures starved { self.old.is_starved ≡ true → self.new.is_starved ≡ true }
         ensures header { self.new.run.course.machine.header ≡ self.old.run.course.machine.header }
         ensures weight { weight self.new.run ≤ weight self.old.run + length piece.now }

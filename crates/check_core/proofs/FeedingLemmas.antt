@@ -6,6 +6,8 @@ use Rattle.lamport_clocks.specs.declared.header.Header.{Header}
 use Rattle.record_hash.specs.Functions.{DigestFunctions}
 use Rattle.merkle_records.specs.Scheme.{scheme_of}
 use Rattle.bundle_frames.specs.Bundle.{Frame}
+use Rattle.record_text.specs.declared.operation.Operation.{Operation}
+use Rattle.verifier_run.specs.Kept.{keeps_operations}
 use Rattle.verifier_run.specs.Progress.{Progress, fed, weight}
 use Rattle.bundle_report.specs.SoFar.{took, runs_behind}
 use Rattle.certified_epochs.specs.declared.fed_run.FedRun.{FedRun}
@@ -53,7 +55,7 @@ takes-other functions number slots left rest slot old now is other on =
     record {
       fed = on.fed;
       taken = λ fine. sym (ap (λ (l : List Slot). took scheme number now.run (map frame_in l)) is
-          ∙ ap (λ (t : Bool). took scheme number (if t then fed scheme now.run slot.body else now.run) (map frame_in rest)) (ne_eqb slot.verifier number other))
+          ∙ ap (λ (t : Bool). took scheme number (if t then fed keeps_operations scheme now.run slot.body else now.run) (map frame_in rest)) (ne_eqb slot.verifier number other))
           ∙ on.taken fine;
       header = on.header;
       weight = omega (arith, weights);
@@ -66,7 +68,7 @@ starved-back false is stays fine = refl
 -- one of its own is taken
 pub takes-own : (functions : DigestFunctions) (number : ℕ) (slots left rest : List Slot) (slot : Slot) (old now new : FedRun) → left ≡ slot ∷ rest
     → slot.verifier ≡ number
-    → (new.is_starved ≡ false → new.run ≡ fed (scheme_of functions now.run.course.machine.header) now.run slot.body)
+    → (new.is_starved ≡ false → new.run ≡ fed keeps_operations (scheme_of functions now.run.course.machine.header) now.run slot.body)
     → (now.is_starved ≡ true → new.is_starved ≡ true)
     → new.run.course.machine.header ≡ now.run.course.machine.header
     → weight new.run ≤ weight now.run + length slot.body
@@ -77,10 +79,10 @@ takes-own functions number slots left rest slot old now new is own taken starved
     record {
       fed = λ fine. on.fed (starved-back now.is_starved new.is_starved starved fine);
       taken = λ fine.
-          ap (λ (run : Progress). took scheme number run (map frame_in rest))
+          ap (λ (run : Progress Operation). took scheme number run (map frame_in rest))
           (taken fine ∙ ap (λ (h : Header). fed (scheme_of functions h) now.run slot.body) on.header)
           ∙ sym (ap (λ (l : List Slot). took scheme number now.run (map frame_in l)) is
-          ∙ ap (λ (t : Bool). took scheme number (if t then fed scheme now.run slot.body else now.run) (map frame_in rest)) (eq-eqb slot.verifier number own))
+          ∙ ap (λ (t : Bool). took scheme number (if t then fed keeps_operations scheme now.run slot.body else now.run) (map frame_in rest)) (eq-eqb slot.verifier number own))
           ∙ on.taken (starved-back now.is_starved new.is_starved starved fine);
       header = header ∙ on.header;
       weight = omega (arith, weights, heavy);
@@ -133,8 +135,8 @@ module _ (functions : DigestFunctions) (frames : List Frame) where
   taken_by_all number header (old ∷ olds) (new ∷ news) each headers fine =
       let rest = taken_by_all (suc number) header olds news each.1 headers.1 fine.1 in (
         (each.0.fed fine.0, rest.0),
-        ap (λ (run : Progress). run ∷ map (λ fed. fed.run) news) (each.0.taken fine.0 ∙ ap (λ (h : Header). took (scheme_of functions h) number old.run frames) headers.0)
-            ∙ ap (λ (runs : List Progress). took (scheme_of functions header) number old.run frames ∷ runs) rest.1,
+        ap (λ (run : Progress Operation). run ∷ map (λ fed. fed.run) news) (each.0.taken fine.0 ∙ ap (λ (h : Header). took (scheme_of functions h) number old.run frames) headers.0)
+            ∙ ap (λ (runs : List (Progress Operation)). took (scheme_of functions header) number old.run frames ∷ runs) rest.1,
       )
 
   pub headers_of_all : (number : ℕ) (header : Header) (olds news : List FedRun) → AllTake functions number frames olds news

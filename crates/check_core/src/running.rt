@@ -3,6 +3,7 @@ ghost use Rattle.std.specs.Prelude.{◌≡◌, ◌<◌, ℕ, IfOk, Ok, length, m
 ghost use Rattle.merkle_records.specs.Scheme.{scheme_of};
 ghost use Rattle.lamport_clocks.specs.Header.{IsHeader};
 ghost use Rattle.verifier_commands.specs.Machine.{opening_machine};
+ghost use Rattle.verifier_run.specs.Kept.{keeps_operations};
 ghost use Rattle.verifier_run.specs.LogCourse.{log_course};
 ghost use Rattle.bundle_report.specs.RunReport.{courses_of};
 
@@ -43,7 +44,7 @@ fn run_each<R: Threads + Sync, D: Digests + Sync>(
     ensures len { IfOk result (λ outcomes. vec_len outcomes ≡ length logs.now) }
     ensures each { IfOk result (λ outcomes. (index : ℕ) (outcome : _) (log : _) → index < length logs.now
         → IfOk (slice_index_or outcomes.items index outcome) (λ fed. fed.run.course
-        ≡ log_course (scheme_of (D.functions d.now) header.now) (opening_machine index header.now) (slice_index_or logs.now index log).items)) }
+        ≡ log_course keeps_operations (scheme_of (D.functions d.now) header.now) (opening_machine index header.now) (slice_index_or logs.now index log).items)) }
 {
     map_indices(
         rt,
@@ -51,7 +52,7 @@ fn run_each<R: Threads + Sync, D: Digests + Sync>(
         logs.len(),
         &|index: usize| -> Result<FedRun, Memory>
             requires { IsHeader header.now × (index < length logs.now) × (index < header.now.verifiers) }
-            ensures { IfOk result (λ fed. (log : _) → fed.run.course ≡ log_course (scheme_of (D.functions d.entry.now) header.entry.now)
+            ensures { IfOk result (λ fed. (log : _) → fed.run.course ≡ log_course keeps_operations (scheme_of (D.functions d.entry.now) header.entry.now)
                 (opening_machine index header.entry.now) (slice_index_or logs.entry.now index log).items) }
         { FedRun::over(alloc, d, index as u16, header, &logs[index]) },
     )

@@ -1,9 +1,8 @@
 -- How what an audit shows is proved, in reading order.
 mod AuditEventLemmas
 mod AuditChangeLemmas
-mod TellLemmas
+mod PerformLemmas
 mod OrderedLemmas
-mod LaneLemmas
 mod ElementLemmas
 mod PartingLemmas
 mod OwnStampLemmas

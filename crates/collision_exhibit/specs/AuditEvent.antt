@@ -1,5 +1,5 @@
 -- What of a log an audit looks at: the part of each event that an exhibit can be made of.
-use Rattle.std.specs.Prelude.{List, [], ◌∷◌, map, if◌then◌else◌}
+use Rattle.std.specs.Prelude.{ℕ, List, [], ◌∷◌, map, if◌then◌else◌}
 use Rattle.std.specs.List.{flat_map}
 use Rattle.stamp_order.specs.declared.moment.Moment.{Moment}
 use Rattle.verifier_commands.specs.Changes.{above}
@@ -29,6 +29,10 @@ audit_event_at event change = record { moment = event_moment event; change = cha
 -- the audit events of an event
 abbrev pub audit_events_by : Event → List AuditEvent
 audit_events_by event = map (audit_event_at event) (audit_changes_by event.change)
+
+-- the epoch of an audit event
+abbrev pub audit_epoch : AuditEvent → ℕ
+audit_epoch item = item.moment.at.epoch
 
 -- the audit events among events, in their order
 abbrev pub audit_events_in : List Event → List AuditEvent

@@ -1,8 +1,8 @@
 -- What the clauses on an audit cite, in reading order.
 pub mod AuditEvent
+pub mod AuditEventLaws
 pub mod AuditChange
-pub mod Telling
-pub mod Lanes
+pub mod Audited
 pub mod Shown
 pub mod Elements
 pub mod LastEvicted

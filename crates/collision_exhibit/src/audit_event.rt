@@ -1,7 +1,17 @@
 //! What of a log an audit looks at.
-use record_text::{Element, Value};
+ghost use Rattle.std.specs.Prelude.{◌≡◌};
+ghost use Rattle.std.specs.Option.{option_map, option_to_list};
+ghost use Rattle.verifier_run.specs.Kept.{part_in};
+
+use crate::audit_change::audit_change_of;
+use log_codec::Command;
+use multiset_sum::Part;
+use record_hash::Digests;
+use record_text::{Element, Refusal, Value};
 use stamp_order::Moment;
 use tree_keys::Path;
+use verifier_commands::{Effect, Verifier};
+use verifier_run::{Kept, Yield};
 
 /// What of an accepted command an exhibit can be made of, named after the command.
 #[derive(Debug, Drop)]
@@ -21,4 +31,56 @@ pub enum AuditChange {
 pub struct AuditEvent {
     pub moment: Moment,
     pub change: AuditChange,
+}
+
+// An audit keeps what an exhibit can be made of. That is told from the cache before the command is taken.
+impl Kept for AuditEvent {
+    ghost use Rattle.collision_exhibit.specs.AuditEvent.{audit_events_by, audit_epoch};
+    ghost use Rattle.collision_exhibit.specs.AuditEventLaws.{audit_events-of_epoch};
+
+    ghost keeps = { audit_events_by };
+
+    ghost epoch = { audit_epoch };
+
+    ghost of_epoch = { audit_events-of_epoch };
+
+    fn perform<D: Digests>(
+        verifier: &mut Verifier,
+        d: &D,
+        command: &Command,
+    ) -> Result<Yield<AuditEvent>, Refusal> {
+        let number = verifier.number();
+        let index = verifier.accepted();
+        let change = audit_change_of(number, verifier.entries(), command);
+        let effect = verifier.step(d, command)?;
+        let moment = Moment {
+            at: verifier.clock(),
+            verifier: number,
+            index,
+        };
+        Ok(Yield {
+            item: at_moment(moment, change),
+            part: part_of(effect),
+        })
+    }
+}
+
+// A change of this moment, if there is one.
+fn at_moment(moment: Moment, change: Option<AuditChange>) -> Option<AuditEvent>
+    ensures value { result ≡ option_map (λ change. record { moment = moment; change = change }) change }
+{
+    match change {
+        Some(change) => Some(AuditEvent { moment, change }),
+        None => None,
+    }
+}
+
+// The part that an effect hands in.
+fn part_of(effect: Effect) -> Option<Part>
+    ensures part { option_to_list result ≡ part_in effect }
+{
+    match effect {
+        Effect::Sealed(part) => Some(part),
+        Effect::Did(_) | Effect::Plain | Effect::Opened => None,
+    }
 }

@@ -1,22 +1,26 @@
 //! What an audit of logs shows.
-ghost use Rattle.std.specs.Prelude.{◌≡◌, IfOk, None, length, map};
+ghost use Rattle.std.specs.Prelude.{◌≡◌, ℕ, List, IfOk, None, length, map};
+ghost use Rattle.lamport_clocks.specs.declared.header.Header.{Header};
+ghost use Rattle.record_hash.specs.Functions.{DigestFunctions};
 ghost use Rattle.record_text.specs.Format.{format_of, short_keys};
 ghost use Rattle.merkle_records.specs.Scheme.{scheme_of};
 ghost use Rattle.soundness.specs.Clash.{none_evicted};
 ghost use Rattle.lamport_clocks.specs.Header.{IsHeader};
 ghost use Rattle.soundness.specs.Exhibit.{exhibit_of};
 ghost use Rattle.soundness.specs.Sound.{histories_read};
+ghost use Rattle.collision_exhibit.specs.Audited.{AreAudited, audited_courses};
 ghost use Rattle.collision_exhibit.specs.Elements.{HaveOwnStamps};
 ghost use Rattle.collision_exhibit.specs.Shown.{audit_events_within, clash_among, evicted_elements, shown_by, exhibit_among};
 
 use crate::audit_event::AuditEvent;
 use crate::clash::first_clash;
 use crate::elements::{added_of, evicted_of, first_uneven};
-use crate::history::audit_events_of;
+use crate::events::ordered_events;
 use lamport_clocks::Header;
 use record_hash::Digests;
 use record_text::Exhibit;
 use std::alloc::Global;
+use verifier_run::{Run, run_logs};
 use want_of_memory::Memory;
 
 /// What an audit of logs shows, that of verifier 0 first, over so many epochs from the header's first on: the
@@ -36,8 +40,25 @@ pub fn audit<D: Digests>(
     ensures exhibit { IfOk result (λ exhibit. exhibit ≡ exhibit_of (format_of header.now) header.now.first epochs
         (histories_read (scheme_of (D.functions d.now) header.now) header.now (map (λ log. log.items) logs.now))) }
 {
-    let audited = audit_events_of(alloc, d, header, logs)?;
-    shown(alloc, &audited, header.first, epochs)
+    let runs = run_logs(alloc, d, header, logs)?;
+    exhibit_of_runs(alloc, runs, header.first, epochs)
+}
+
+/// The same, of runs of all logs that kept audit events.
+pub fn exhibit_of_runs(
+    alloc: Global,
+    runs: Vec<Run<AuditEvent>>,
+    first: u32,
+    epochs: u64,
+) -> Result<Exhibit, Memory>
+    requires audited { AreAudited (map (λ run. run.course) runs.items) }
+    ensures exhibit { (functions : DigestFunctions) (header : Header) (logs : List (List ℕ))
+        → map (λ run. run.course) runs.items ≡ audited_courses functions header logs
+        → IfOk result (λ exhibit. exhibit ≡ exhibit_of (format_of header) first epochs
+        (histories_read (scheme_of functions header) header logs)) }
+{
+    let audited = ordered_events(alloc, runs)?;
+    shown(alloc, &audited, first, epochs)
 }
 
 // What audit events in order show over so many epochs from the first on.

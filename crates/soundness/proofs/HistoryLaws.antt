@@ -1,6 +1,7 @@
 -- The events of one log: how the clock moves with each, that they stand in the order of their moments, and that each
 -- is of the log's verifier and of an epoch from the header's first on.
-use Rattle.std.proofs.Common.{◌≡◌, ℕ, suc, ◌≤◌, inl, inr, false, List, [], ◌∷◌, Ok, Err, refl, sym, ◌∙◌, ap, subst, append-nil, arith}
+use Rattle.std.proofs.Common.{◌≡◌, ℕ, suc, ◌≤◌, inl, inr, false, List, [], ◌∷◌, Ok, Err, refl, sym, ◌∙◌, ap, subst, append-nil, add-one, arith}
+use Rattle.step_words.specs.Traced.{traced}
 use Rattle.merkle_records.specs.Scheme.{Scheme}
 use Rattle.std.specs.List.{AllByRecursion}
 use Rattle.std.proofs.lemmas.Bool.Decides.{nat_tests}
@@ -13,11 +14,12 @@ use Rattle.stamp_order.specs.Moment.{is_before}
 use Rattle.stamp_order.specs.Merged.{comes_before, merged, IsMerged}
 use Rattle.stamp_order.proofs.InOrderLaws.{every-weaker}
 use Rattle.stamp_order.proofs.MergedLaws.{merged-fixed}
-use Rattle.verifier_commands.specs.declared.state.State.{State}
 use Rattle.verifier_commands.specs.State.{opening}
-use Rattle.verifier_commands.specs.Transition.{Rules, Step, transition}
+use Rattle.verifier_commands.specs.Transition.{Step, transition}
+use Rattle.verifier_commands.specs.Machine.{Machine, rules_for, opening_machine}
+use Rattle.verifier_commands.specs.Trace.{events_from, events_behind, changed}
 use Rattle.verifier_commands.proofs.TickLaws.{Ticks, ticks_step, IsUpTo, up_to-trans, up_to-epoch, ticks-up_to}
-use Rattle.soundness.specs.History.{Event, events_behind, events_from, machinery_under, rules_under, log_events}
+use Rattle.soundness.specs.History.{Event, log_events}
 use Rattle.soundness.specs.Certified.{event_moment, order_of}
 
 -- ---- the events of a log
@@ -30,24 +32,29 @@ IsTicking number index clock (event ∷ events) =
     × Ticks clock next event.change × IsTicking number (suc index) next events
 
 -- what a step did, and what was done behind it
-ticking_behind : (rules : Rules) (number index : ℕ) (state : State) (command : Command) (more : State → List Event)
-    (step : Step) → transition rules state command ≡ step
-    → ((after : State) → IsTicking number (suc index) after.clock (more after))
-    → IsTicking number index state.clock (events_behind (machinery_under rules) number index step more)
-ticking_behind rules number index state command more (Ok done) is further =
-    (done.1.clock, refl, refl, refl, ticks_step rules state command done is, further done.1)
-ticking_behind rules number index state command more (Err refusal) is further = tt
+ticking_behind : (scheme : Scheme) (machine : Machine) (command : Command) (commands : List Command) (step : Step)
+    → transition (rules_for scheme machine) machine.state command ≡ step
+    → ((after : Machine) → IsTicking after.number after.accepted after.state.clock (events_from scheme after commands))
+    → IsTicking machine.number machine.accepted machine.state.clock (events_behind scheme machine commands step)
+ticking_behind scheme machine command commands (Ok done) is further = (
+  done.1.clock,
+  refl,
+  refl,
+  refl,
+  ticks_step (rules_for scheme machine) machine.state command done is,
+  subst (λ (index : ℕ). IsTicking machine.number index done.1.clock (events_from scheme (changed scheme machine done) commands))
+      (add-one machine.accepted) (further (changed scheme machine done)),
+)
+ticking_behind scheme machine command commands (Err refusal) is further = tt
 
--- So it is from any state and index on.
-pub events-tick : (rules : Rules) (number index : ℕ) (state : State) (commands : List Command)
-    → IsTicking number index state.clock (events_from (machinery_under rules) number index state commands)
-unfolding events_from
-events-tick rules number index state [] = tt
-events-tick rules number index state (command ∷ commands) =
-    ticking_behind rules number index state command
-    (λ after. events_from (machinery_under rules) number (suc index) after commands)
-    (transition rules state command) refl
-    (λ after. events-tick rules number (suc index) after commands)
+-- So it is from any verifier on.
+pub events-tick : (scheme : Scheme) (machine : Machine) (commands : List Command)
+    → IsTicking machine.number machine.accepted machine.state.clock (events_from scheme machine commands)
+unfolding traced
+events-tick scheme machine [] = tt
+events-tick scheme machine (command ∷ commands) =
+    ticking_behind scheme machine command commands (transition (rules_for scheme machine) machine.state command) refl
+    (λ after. events-tick scheme after commands)
 
 -- an event is of the verifier, of this index or a later one, and not before the stamp
 abbrev pub IsBehind : ℕ → ℕ → Stamp → Event → Type 0
@@ -99,7 +106,7 @@ events-merged number index clock (event ∷ events) ticks = (
 pub log-ticks : (scheme : Scheme) (header : Header) (number : ℕ) (commands : List Command)
     → IsTicking number 0 (opening number header).clock (log_events scheme header number commands)
 log-ticks scheme header number commands =
-    events-tick (rules_under scheme header number) number 0 (opening number header) commands
+    events-tick scheme (opening_machine number header) commands
 
 -- The events of a log stand in the order of their moments.
 pub log-merged : (scheme : Scheme) (header : Header) (number : ℕ) (commands : List Command)

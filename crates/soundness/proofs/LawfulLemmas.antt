@@ -1,5 +1,5 @@
 -- Each accepted command did what its change tells, and left the entries of the cache distinct.
-use Rattle.std.proofs.Common.{◌≡◌, ◌≢◌, ℕ, suc, ◌==◌, Bool, true, false, not, ◌||◌, nat_le, List, [], ◌∷◌, length, if◌then◌else◌, Option, Some, None, is_some, IsNone, Ok, Err, refl, sym, ◌∙◌, ap, subst}
+use Rattle.std.proofs.Common.{◌≡◌, ◌≢◌, ℕ, ◌==◌, Bool, true, false, not, ◌||◌, nat_le, List, [], ◌∷◌, length, if◌then◌else◌, Option, Some, None, is_some, IsNone, Ok, Err, refl, sym, ◌∙◌, ap, subst}
 use Rattle.std.specs.List.{AllByRecursion}
 use Rattle.std.proofs.lemmas.Bool.{true≢false, not-false, eqb-true, ne_eqb}
 use Rattle.std.proofs.lemmas.Result.{IfOk-at_ok}
@@ -23,6 +23,8 @@ use Rattle.verifier_cache.specs.declared.entry.Hold.TheVariants.{Root, M, B}
 use Rattle.verifier_cache.specs.Entry.{kid_of, has_kid, new_entry, with_value}
 use Rattle.verifier_cache.specs.Cache.{entry_of, AreDistinct}
 use Rattle.verifier_cache.proofs.EntriesLaws.{entry_of-path, AreDistinct-without, AreDistinct-append}
+use Rattle.step_words.specs.Traced.{traced}
+use Rattle.merkle_records.specs.Scheme.{Scheme}
 use Rattle.verifier_commands.specs.declared.changes.Parent.{Parent}
 use Rattle.verifier_commands.specs.declared.changes.Family.{Family}
 use Rattle.verifier_commands.specs.declared.state.State.{State}
@@ -31,7 +33,9 @@ use Rattle.verifier_commands.specs.Change.{Change}
 use Rattle.verifier_commands.specs.Changes.{above, leads_to, is_deferred, has_digest, holds_wrong, is_by_digest, set_kid_on, add_by, add_under, evict_under, defer_under, is_by_stamp}
 use Rattle.record_text.specs.Same.{same_value}
 use Rattle.verifier_commands.specs.Transition.{Rules, Step, is_root, is_data, is_full, transition, add_m, evict_m, add_b, evict_b, evict_bm, get, put, next_epoch}
-use Rattle.soundness.specs.History.{Event, events_behind, events_from, machinery_under}
+use Rattle.verifier_commands.specs.Machine.{Machine, rules_for}
+use Rattle.verifier_commands.specs.Trace.{events_from, events_behind, changed}
+use Rattle.soundness.specs.History.{Event}
 use Rattle.soundness.specs.Showing.{Shown, HasDone, shown_by, showing, ShowSame}
 use Rattle.verifier_commands.proofs.InvertLaws.{need-ok, and_then-ok, timed-ok}
 use Rattle.soundness.proofs.ShownLemmas.{found_own, shown-replaced, shown-without, shown-append, distinct-replaced, shown-joined, distinct-joined, shown-left, distinct-left}
@@ -314,27 +318,26 @@ IsChain format digest shown (event ∷ events) =
     (next : Shown) × HasDone format digest shown next event.change × IsChain format digest next events
 
 -- what a step did, and a chain behind it
-chain_behind : (rules : Rules) (number index : ℕ) (state : State) (command : Command)
-    (more : State → List Event) (step : Step)
-    → IsTyped rules.scheme.format command → AreDistinct state.cache.entries → transition rules state command ≡ step
-    → ((after : State) → AreDistinct after.cache.entries → IsChain rules.scheme.format rules.scheme.digest (shown_by after) (more after))
-    → IsChain rules.scheme.format rules.scheme.digest (shown_by state) (events_behind (machinery_under rules) number index step more)
-chain_behind rules number index state command more (Ok done) range distinct is further =
-    let law = lawful_step rules state command done range distinct is in
-    (shown_by done.1, law.0, further done.1 law.1)
-chain_behind rules number index state command more (Err refusal) range distinct is further = tt
+chain_behind : (scheme : Scheme) (machine : Machine) (command : Command) (commands : List Command) (step : Step)
+    → IsTyped scheme.format command → AreDistinct machine.state.cache.entries
+    → transition (rules_for scheme machine) machine.state command ≡ step
+    → ((after : Machine) → AreDistinct after.state.cache.entries
+    → IsChain scheme.format scheme.digest (shown_by after.state) (events_from scheme after commands))
+    → IsChain scheme.format scheme.digest (shown_by machine.state) (events_behind scheme machine commands step)
+chain_behind scheme machine command commands (Ok done) range distinct is further =
+    let law = lawful_step (rules_for scheme machine) machine.state command done range distinct is in
+    (shown_by done.1, law.0, further (changed scheme machine done) law.1)
+chain_behind scheme machine command commands (Err refusal) range distinct is further = tt
 
--- The events of a log are a chain from the state at which it begins.
-pub log_run : (rules : Rules) (number index : ℕ) (state : State) (commands : List Command)
-    → AllByRecursion (IsTyped rules.scheme.format) commands → AreDistinct state.cache.entries
-    → IsChain rules.scheme.format rules.scheme.digest (shown_by state) (events_from (machinery_under rules) number index state commands)
-unfolding events_from
-log_run rules number index state [] ranges distinct = tt
-log_run rules number index state (command ∷ commands) ranges distinct =
-    chain_behind rules number index state command
-    (λ after. events_from (machinery_under rules) number (suc index) after commands)
-    (transition rules state command) ranges.0 distinct refl
-    (λ after fresh. log_run rules number (suc index) after commands ranges.1 fresh)
+-- The events of a log are a chain from the verifier with which it begins.
+pub log_run : (scheme : Scheme) (machine : Machine) (commands : List Command)
+    → AllByRecursion (IsTyped scheme.format) commands → AreDistinct machine.state.cache.entries
+    → IsChain scheme.format scheme.digest (shown_by machine.state) (events_from scheme machine commands)
+unfolding traced
+log_run scheme machine [] ranges distinct = tt
+log_run scheme machine (command ∷ commands) ranges distinct =
+    chain_behind scheme machine command commands (transition (rules_for scheme machine) machine.state command) ranges.0 distinct refl
+    (λ after fresh. log_run scheme after commands ranges.1 fresh)
 
 -- ---- the start
 

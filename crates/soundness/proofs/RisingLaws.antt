@@ -18,13 +18,16 @@ use Rattle.log_codec.specs.declared.command.Command.TheVariants.{AddM, EvictM, A
 use Rattle.stamp_order.proofs.InOrderLaws.{every-weaker, every-append}
 use Rattle.verifier_cache.specs.Entry.{has_kid}
 use Rattle.verifier_cache.specs.Cache.{entry_of}
+use Rattle.step_words.specs.Traced.{traced}
 use Rattle.verifier_commands.specs.declared.state.State.{State}
 use Rattle.verifier_commands.specs.State.{opening}
 use Rattle.verifier_commands.specs.Change.{Change, did_add_m, did_evict_m, did_add_b, did_evict_b, did_evict_bm, did_get, did_put, did_next_epoch}
 use Rattle.verifier_commands.specs.Changes.{add_under, evict_under, defer_under, is_by_stamp}
 use Rattle.record_text.specs.Same.{same_value}
 use Rattle.verifier_commands.specs.Transition.{Rules, Step, is_root, is_data, is_full, transition}
-use Rattle.soundness.specs.History.{Event, events_behind, events_from, machinery_under, rules_under, log_events}
+use Rattle.verifier_commands.specs.Machine.{Machine, rules_for, opening_machine}
+use Rattle.verifier_commands.specs.Trace.{events_from, events_behind, changed}
+use Rattle.soundness.specs.History.{Event, log_events}
 use Rattle.soundness.specs.Certified.{evicted_by}
 use Rattle.soundness.specs.Timed.{IsEarlier, evicted_among, IsRising}
 use Rattle.verifier_commands.proofs.InvertLaws.{need-ok, and_then-ok, timed-ok}
@@ -91,31 +94,30 @@ own_step rules state NextEpoch done is =
     IfOk-at_ok (EvictsOwn rules.number) turn.2 tt
 
 -- what a step evicted, and what was evicted behind it
-own_behind : (rules : Rules) (number index : ℕ) (state : State) (command : Command) (more : State → List Event)
-    (step : Step) → transition rules state command ≡ step
-    → ((after : State) → AreOwn rules.number (evicted_among (more after)))
-    → AreOwn rules.number (evicted_among (events_behind (machinery_under rules) number index step more))
-own_behind rules number index state command more (Ok done) is further =
-    every-append (λ element. element.verifier ≡ rules.number) (evicted_by done.0) (evicted_among (more done.1))
-    (own_step rules state command done is) (further done.1)
-own_behind rules number index state command more (Err refusal) is further = tt
+own_behind : (scheme : Scheme) (machine : Machine) (command : Command) (commands : List Command) (step : Step)
+    → transition (rules_for scheme machine) machine.state command ≡ step
+    → ((after : Machine) → AreOwn after.number (evicted_among (events_from scheme after commands)))
+    → AreOwn machine.number (evicted_among (events_behind scheme machine commands step))
+own_behind scheme machine command commands (Ok done) is further =
+    every-append (λ element. element.verifier ≡ machine.number) (evicted_by done.0)
+    (evicted_among (events_from scheme (changed scheme machine done) commands))
+    (own_step (rules_for scheme machine) machine.state command done is) (further (changed scheme machine done))
+own_behind scheme machine command commands (Err refusal) is further = tt
 
-own_events : (rules : Rules) (number index : ℕ) (state : State) (commands : List Command)
-    → AreOwn rules.number (evicted_among (events_from (machinery_under rules) number index state commands))
-unfolding events_from
-own_events rules number index state [] = tt
-own_events rules number index state (command ∷ commands) =
-    own_behind rules number index state command
-    (λ after. events_from (machinery_under rules) number (suc index) after commands)
-    (transition rules state command) refl
-    (λ after. own_events rules number (suc index) after commands)
+own_events : (scheme : Scheme) (machine : Machine) (commands : List Command)
+    → AreOwn machine.number (evicted_among (events_from scheme machine commands))
+unfolding traced
+own_events scheme machine [] = tt
+own_events scheme machine (command ∷ commands) =
+    own_behind scheme machine command commands (transition (rules_for scheme machine) machine.state command) refl
+    (λ after. own_events scheme after commands)
 
 -- The elements that a log evicts are of its verifier.
 pub log_own : (scheme : Scheme) (header : Header) (number : ℕ) (commands : List Command)
     → AllByRecursion (λ element. element.verifier ≡ number)
     (evicted_among (log_events scheme header number commands))
 log_own scheme header number commands =
-    own_events (rules_under scheme header number) number 0 (opening number header) commands
+    own_events scheme (opening_machine number header) commands
 
 -- ---- their stamps
 

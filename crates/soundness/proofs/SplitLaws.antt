@@ -13,7 +13,8 @@ use Rattle.stamp_order.specs.Merged.{comes_before, IsMerged, up_to}
 use Rattle.stamp_order.proofs.InOrderLaws.{every-weaker}
 use Rattle.stamp_order.proofs.MomentLaws.{is_before-epoch}
 use Rattle.verifier_commands.specs.State.{opening}
-use Rattle.soundness.specs.History.{log_events, rules_under}
+use Rattle.verifier_commands.specs.Machine.{opening_machine}
+use Rattle.soundness.specs.History.{log_events}
 use Rattle.soundness.specs.Certified.{event_moment}
 use Rattle.soundness.specs.Showing.{shown_by}
 use Rattle.soundness.proofs.LawfulLemmas.{IsChain, log_run, opening-distinct}
@@ -73,7 +74,7 @@ log_run_up_to scheme header number epoch commands ranges sorted =
     let events = log_events scheme header number commands in
     let split = split_up_to event_moment epoch events sorted in
     let whole : IsChain scheme.format scheme.digest (shown_by (opening number header)) events =
-    log_run (rules_under scheme header number) number 0 (opening number header) commands ranges
+    log_run scheme (opening_machine number header) commands ranges
     (opening-distinct number header) in
     chain_front scheme.format scheme.digest (shown_by (opening number header)) (up_to event_moment epoch events) split.0
     (subst (IsChain scheme.format scheme.digest (shown_by (opening number header))) split.1 whole)

@@ -1,7 +1,6 @@
 -- Which epochs are certified, and with which operations, by the histories of all logs.
-use Rattle.std.specs.Prelude.{ℕ, zero, suc, ◌+◌, ◌==◌, nat_lt, ◌&&◌, Bool, true, false, Option, Some, None, List, [], ◌∷◌, length, map, filter, if◌then◌else◌, min}
+use Rattle.std.specs.Prelude.{ℕ, zero, suc, ◌+◌, ◌==◌, nat_lt, ◌&&◌, Bool, Option, Some, None, List, [], ◌∷◌, length, map, filter, if◌then◌else◌, min}
 use Rattle.std.specs.List.{flat_map}
-use Rattle.tree_keys.specs.Bits.{number_of}
 use Rattle.record_text.specs.declared.element.Element.{Element}
 use Rattle.record_text.specs.declared.operation.Operation.{Operation}
 use Rattle.merkle_records.specs.Scheme.{Scheme, lanes_of}
@@ -9,10 +8,9 @@ use Rattle.multiset_sum.specs.Tally.{Tally}
 use Rattle.multiset_sum.specs.Sum.{sum_of}
 use Rattle.stamp_order.specs.declared.moment.Moment.{Moment}
 use Rattle.stamp_order.specs.Merged.{merged, up_to}
-use Rattle.verifier_cache.specs.declared.entry.Entry.{Entry}
 use Rattle.record_text.specs.Same.{same_bytes}
-use Rattle.verifier_commands.specs.Outcome.{blob_of}
 use Rattle.verifier_commands.specs.Change.{Change, did_add_m, did_evict_m, did_add_b, did_evict_b, did_evict_bm, did_get, did_put, did_next_epoch}
+pub use Rattle.verifier_commands.specs.Event.{operation_at, operations_by}
 use Rattle.soundness.specs.History.{Event}
 
 -- ---- the merged order
@@ -38,28 +36,6 @@ abbrev pub order_after : ℕ → List (List Event) → List Event
 order_after epoch histories = filter (λ event. nat_lt epoch event.at.epoch) (order_of histories)
 
 -- ---- operations
-
--- a get or a put of an entry, at an event
-abbrev pub operation_at : Event → Bool → Entry → Operation
-operation_at event put entry = record {
-  stamp = event.at;
-  verifier = event.verifier;
-  index = event.index;
-  put = put;
-  key = number_of entry.path;
-  value = blob_of entry.value;
-}
-
--- the operation that a change is, if it is one
-abbrev pub operations_by : Event → Change → List Operation
-operations_by event (did_add_m parent after child) = []
-operations_by event (did_evict_m parent after child) = []
-operations_by event (did_add_b child element) = []
-operations_by event (did_evict_b child element) = []
-operations_by event (did_evict_bm parent after child element) = []
-operations_by event (did_get entry) = operation_at event false entry ∷ []
-operations_by event (did_put before after) = operation_at event true after ∷ []
-operations_by event (did_next_epoch sealed) = []
 
 -- the operations among events
 abbrev pub operations_in : List Event → List Operation

@@ -1,3 +1,4 @@
 -- What the clauses on steps cite.
 pub mod Steps
 pub mod Follows
+pub mod Traced

@@ -5,3 +5,4 @@ mod CacheLemmas
 pub mod BoundLaws
 pub mod InvertLaws
 pub mod TickLaws
+pub mod TraceLaws

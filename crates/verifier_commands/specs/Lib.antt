@@ -1,5 +1,5 @@
 -- What the clauses on the verifier cite, in reading order: the state, what a command does to entries, the
--- transition, its sums, and the verifier as a whole.
+-- transition, its sums, the verifier as a whole, and what its commands come to.
 pub mod State
 pub mod Changes
 pub mod Change
@@ -7,3 +7,5 @@ pub mod Transition
 pub mod Outcome
 pub mod Sums
 pub mod Machine
+pub mod Event
+pub mod Trace

@@ -77,6 +77,20 @@ impl Verifier {
         Ok(effect)
     }
 
+    /// Its number.
+    pub fn number(&self) -> u16
+        ensures value { result ≡ self.now.number }
+    {
+        self.number
+    }
+
+    /// How many commands it has accepted: the number of the next one in its log.
+    pub fn accepted(&self) -> u64
+        ensures value { result ≡ self.now.accepted }
+    {
+        self.accepted
+    }
+
     /// Where the verifier's clock stands.
     pub fn clock(&self) -> Stamp
         ensures value { result ≡ self.now.state.clock.at }

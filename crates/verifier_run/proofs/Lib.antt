@@ -1,4 +1,5 @@
 -- Lemmas on courses and runs.
+mod PerformLemmas
 mod CourseLemmas
 mod TraceLemmas
 mod FollowLemmas

@@ -13,18 +13,17 @@ use Rattle.record_text.specs.Format.{Format, short_keys}
 use Rattle.log_codec.specs.declared.command.Command.{Command}
 use Rattle.log_codec.specs.Command.{command_text, command_at, IsCommand}
 use Rattle.log_codec.proofs.CommandLaws.{IsWideFor, command_again}
+use Rattle.verifier_commands.specs.Event.{Event}
 use Rattle.verifier_run.specs.Course.{Course, refuse, after_command}
 use Rattle.verifier_run.specs.Progress.{Progress, between_commands, progress_over, fed, weight, IsBetweenPieces}
 use Rattle.verifier_run.proofs.CourseLemmas.{fed-joined, fed-weight, over-refused, over-malformed, over-cut, over-text, over-between, between-commands}
 use Rattle.log_codec.proofs.LengthLaws.{cut_is_short}
 use Rattle.merkle_records.specs.Scheme.{Scheme, scheme_of}
 
--- ---- nothing is held
+-- ---- apart from what is kept
 
-pub between-held : (format : Format) (course : Course) (held : List ℕ) → held ≡ [] → IsBetweenPieces format (record { course = course; held = held })
+pub between-held : {A : Type 0} (format : Format) (course : Course A) (held : List ℕ) → held ≡ [] → IsBetweenPieces format (record { course = course; held = held })
 between-held format course held none = subst (λ (held : List ℕ). IsBetweenPieces format (record { course = course; held = held })) (sym none) (between-commands format course)
-
--- ---- what a run that is between two pieces knows
 
 none_refused : (refused : Option (ℕ × Refusal)) (held : List ℕ) → IfSome refused (λ at. held ≡ []) → 0 < length held → refused ≡ None
 none_refused None held idle some = refl
@@ -36,42 +35,8 @@ some_held n empty is e =
     let more : (n == 0) ≡ false = sym is ∙ e in omega (arith, eqb-false _ _ more)
 
 -- while bytes are held, no command was refused
-pub none_refused_yet : (format : Format) (course : Course) (held : List ℕ) → IsBetweenPieces format (record { course = course; held = held }) → 0 < length held → course.refused ≡ None
+pub none_refused_yet : {A : Type 0} (format : Format) (course : Course A) (held : List ℕ) → IsBetweenPieces format (record { course = course; held = held }) → 0 < length held → course.refused ≡ None
 none_refused_yet format course held between some = none_refused course.refused held between.idle some
-
-nothing_by : (scheme : Scheme) (course : Course) (held : List ℕ) (refused : Option (ℕ × Refusal)) → course.refused ≡ refused → IsBetweenPieces scheme.format (record { course = course; held = held }) → fed scheme (record { course = course; held = held }) [] ≡ record { course = course; held = held }
-nothing_by scheme course held None is between =
-    ap (progress_over scheme course) (append-nil held) ∙ over-cut scheme course held is between.cut
-nothing_by scheme course held (Some at) is between =
-    let none : held ≡ [] = subst (λ (refused : Option (ℕ × Refusal)). IfSome refused (λ at. held ≡ [])) is between.idle in
-    over-refused scheme course (held ++ []) at is
-    ∙ ap (λ (held : List ℕ). record { course = course; held = held }) (sym none)
-
--- no bytes do nothing
-pub fed-nothing : (scheme : Scheme) (course : Course) (held : List ℕ) → IsBetweenPieces scheme.format (record { course = course; held = held }) → fed scheme (record { course = course; held = held }) [] ≡ record { course = course; held = held }
-fed-nothing scheme course held between = nothing_by scheme course held course.refused refl between
-
--- ---- a piece that begins with a command
-
-pub left_is_short : (functions : DigestFunctions) (header : Header) (course after : Course) (piece left : List ℕ) → progress_over (scheme_of functions header) course piece ≡ record { course = after; held = left } → length left < 104
-left_is_short functions header course after piece left is =
-    cut_is_short left (subst (IsBetweenPieces short_keys) is (over-between (scheme_of functions header) course piece)).cut
-
-pub left_between : (scheme : Scheme) (course after : Course) (piece left : List ℕ) → progress_over scheme course piece ≡ record { course = after; held = left } → IsBetweenPieces scheme.format (record { course = after; held = left })
-left_between scheme course after piece left is = subst (IsBetweenPieces scheme.format) is (over-between scheme course piece)
-
--- behind no held bytes a piece is all that there is
-pub alone : (scheme : Scheme) (course : Course) (held piece : List ℕ) → held ≡ [] → fed scheme (record { course = course; held = held }) piece ≡ progress_over scheme course piece
-alone scheme course held piece none = ap (λ (held : List ℕ). progress_over scheme course (held ++ piece)) none
-
-pub gone_on : (scheme : Scheme) (course after : Course) (held piece left longer : List ℕ)
-    → held ≡ [] → progress_over scheme course piece ≡ record { course = after; held = left } → longer ≡ held ++ left
-    → record { course = after; held = longer } ≡ fed scheme (record { course = course; held = held }) piece
-gone_on scheme course after held piece left longer none is is_longer =
-    ap (λ (held : List ℕ). record { course = after; held = held }) (is_longer ∙ ap (λ (held : List ℕ). held ++ left) none)
-    ∙ (sym is ∙ sym (alone scheme course held piece none))
-
--- ---- the rest of a command that was cut
 
 -- the text is longer than the held bytes, since these are cut
 pub longer_than_held : (format : Format) (wide : IsWideFor format) (held more : List ℕ) (command : Command) (len : ℕ) → command_at format held ≡ Err faults.Truncated → IsCommand format command → take len (held ++ more) ≡ command_text format command → length held < len
@@ -85,44 +50,6 @@ longer_than_held format wide held more command len cut is spelled =
           absurd (cc)
     ]
 
-pub completed : (scheme : Scheme) (wide : IsWideFor scheme.format) (course after : Course) (held piece nothing : List ℕ) (room len : ℕ) (command : Command)
-    → course.refused ≡ None → IsCommand scheme.format command → take len (held ++ take room piece) ≡ command_text scheme.format command
-    → length held < len → len ≤ length held + room → after ≡ after_command scheme course command → nothing ≡ []
-    → record { course = after; held = nothing } ≡ fed scheme (record { course = course; held = held }) (take (len - length held) piece)
-completed scheme wide course after held piece nothing room len command none is spelled longer within is_after empty =
-    let sum : len ≡ length held + (len - length held) = omega arith in
-    let joined : command_text scheme.format command ≡ held ++ take (len - length held) piece =
-    sym spelled
-    ∙ (ap (λ (n : ℕ). take n (held ++ take room piece)) sum
-    ∙ (take-append-add held (take room piece) (len - length held)
-    ∙ ap (λ (rest : List ℕ). held ++ rest) (take-take (len - length held) room piece (omega arith)))) in
-    ap (λ (held : List ℕ). record { course = after; held = held }) empty
-    ∙ (ap between_commands is_after
-    ∙ (sym (over-text scheme wide course command none is) ∙ ap (progress_over scheme course) joined))
-
-pub malformed_behind : (scheme : Scheme) (course after : Course) (held piece nothing : List ℕ)
-    → course.refused ≡ None → command_at scheme.format (held ++ piece) ≡ Err faults.Malformed → after ≡ refuse course refusals.Malformed → nothing ≡ []
-    → record { course = after; held = nothing } ≡ fed scheme (record { course = course; held = held }) piece
-malformed_behind scheme course after held piece nothing none is is_after empty =
-    ap (λ (held : List ℕ). record { course = after; held = held }) empty
-    ∙ (ap between_commands is_after ∙ sym (over-malformed scheme course (held ++ piece) none is))
-
-pub cut_behind : (scheme : Scheme) (course : Course) (held piece longer : List ℕ)
-    → course.refused ≡ None → command_at scheme.format (held ++ piece) ≡ Err faults.Truncated
-    → longer ≡ held ++ piece → record { course = course; held = longer } ≡ fed scheme (record { course = course; held = held }) piece
-cut_behind scheme course held piece longer none is is_longer =
-    ap (λ (held : List ℕ). record { course = course; held = held }) is_longer ∙ sym (over-cut scheme course (held ++ piece) none is)
-
--- where memory was wanting, all is as it was
-pub restored : (scheme : Scheme) (course after : Course) (held kept more : List ℕ) (n : ℕ)
-    → IsBetweenPieces scheme.format (record { course = course; held = held }) → after ≡ course → n ≡ length held → kept ≡ take n (held ++ more)
-    → record { course = after; held = kept } ≡ fed scheme (record { course = course; held = held }) []
-restored scheme course after held kept more n between is_after len is =
-    let same : kept ≡ held = is ∙ (ap (λ (n : ℕ). take n (held ++ more)) len ∙ take-append_seam held more) in
-    ap (λ (course : Course). record { course = course; held = kept }) is_after
-    ∙ (ap (λ (held : List ℕ). record { course = course; held = held }) same
-    ∙ sym (fed-nothing scheme course held between))
-
 -- where a command is still cut though there was room for more of the piece, the piece has ended
 pub piece_ended : (held piece : List ℕ) (room : ℕ) → command_at short_keys (held ++ take room piece) ≡ Err faults.Truncated
     → length held + room ≡ 104 → length piece ≤ room
@@ -130,40 +57,117 @@ piece_ended held piece room cut full =
     let short : length (held ++ take room piece) < 104 = cut_is_short (held ++ take room piece) cut in
     omega (arith, short, length-append held (take room piece), length-take room piece)
 
--- once a command was refused, what is fed does nothing
-pub refused_stays : (scheme : Scheme) (course : Course) (held piece : List ℕ) (at : ℕ × Refusal)
-    → IsBetweenPieces scheme.format (record { course = course; held = held }) → course.refused ≡ Some at
-    → record { course = course; held = held } ≡ fed scheme (record { course = course; held = held }) piece
-refused_stays scheme course held piece at between is =
-    let none : held ≡ [] = subst (λ (refused : Option (ℕ × Refusal)). IfSome refused (λ at. held ≡ [])) is between.idle in
-    ap (λ (held : List ℕ). record { course = course; held = held }) none
-    ∙ sym (over-refused scheme course (held ++ piece) at is)
+module _ {A : Type 0} (keeps : Event → List A) where
+  -- ---- nothing is held
 
--- ---- both, one after the other
+  -- ---- what a run that is between two pieces knows
 
-pub fed_both : (scheme : Scheme) (old mid new : Progress) (piece : List ℕ) (from : ℕ)
-    → mid ≡ fed scheme old (take from piece) → new ≡ fed scheme mid (drop from piece)
-    → new ≡ fed scheme old piece
-fed_both scheme old mid new piece from first second =
-    second
-    ∙ (ap (λ (progress : Progress). fed scheme progress (drop from piece)) first
-    ∙ (fed-joined scheme old (take from piece) (drop from piece)
-    ∙ ap (fed scheme old) (take-append-drop from piece)))
+  nothing_by : (scheme : Scheme) (course : Course A) (held : List ℕ) (refused : Option (ℕ × Refusal)) → course.refused ≡ refused → IsBetweenPieces scheme.format (record { course = course; held = held }) → fed keeps scheme (record { course = course; held = held }) [] ≡ record { course = course; held = held }
+  nothing_by scheme course held None is between =
+      ap (progress_over keeps scheme course) (append-nil held) ∙ over-cut keeps scheme course held is between.cut
+  nothing_by scheme course held (Some at) is between =
+      let none : held ≡ [] = subst (λ (refused : Option (ℕ × Refusal)). IfSome refused (λ at. held ≡ [])) is between.idle in
+      over-refused keeps scheme course (held ++ []) at is
+      ∙ ap (λ (held : List ℕ). record { course = course; held = held }) (sym none)
 
-pub fed_front : (scheme : Scheme) (old mid new : Progress) (piece : List ℕ) (from more : ℕ)
-    → mid ≡ fed scheme old (take from piece) → new ≡ fed scheme mid (take more (drop from piece))
-    → new ≡ fed scheme old (take (from + more) piece)
-fed_front scheme old mid new piece from more first second =
-    second
-    ∙ (ap (λ (progress : Progress). fed scheme progress (take more (drop from piece))) first
-    ∙ (fed-joined scheme old (take from piece) (take more (drop from piece))
-    ∙ ap (fed scheme old) (sym (take-add from more piece))))
+  -- no bytes do nothing
+  pub fed-nothing : (scheme : Scheme) (course : Course A) (held : List ℕ) → IsBetweenPieces scheme.format (record { course = course; held = held }) → fed keeps scheme (record { course = course; held = held }) [] ≡ record { course = course; held = held }
+  fed-nothing scheme course held between = nothing_by scheme course held course.refused refl between
 
-pub weight_all : (scheme : Scheme) (old new : Progress) (piece : List ℕ)
-    → new ≡ fed scheme old piece → weight new ≤ weight old + length piece
-weight_all scheme old new piece is = subst (λ (progress : Progress). weight progress ≤ weight old + length piece) (sym is) (fed-weight scheme old piece)
+  -- ---- a piece that begins with a command
 
-pub weight_front : (scheme : Scheme) (old new : Progress) (piece : List ℕ) (from : ℕ)
-    → new ≡ fed scheme old (take from piece) → weight new + (length piece - from) ≤ weight old + length piece
-weight_front scheme old new piece from is =
-    let most = weight_all scheme old new (take from piece) is in omega (arith, most, length-take from piece)
+  pub left_is_short : (functions : DigestFunctions) (header : Header) (course after : Course A) (piece left : List ℕ) → progress_over keeps (scheme_of functions header) course piece ≡ record { course = after; held = left } → length left < 104
+  left_is_short functions header course after piece left is =
+      cut_is_short left (subst (IsBetweenPieces short_keys) is (over-between keeps (scheme_of functions header) course piece)).cut
+
+  pub left_between : (scheme : Scheme) (course after : Course A) (piece left : List ℕ) → progress_over keeps scheme course piece ≡ record { course = after; held = left } → IsBetweenPieces scheme.format (record { course = after; held = left })
+  left_between scheme course after piece left is = subst (IsBetweenPieces scheme.format) is (over-between keeps scheme course piece)
+
+  -- behind no held bytes a piece is all that there is
+  pub alone : (scheme : Scheme) (course : Course A) (held piece : List ℕ) → held ≡ [] → fed keeps scheme (record { course = course; held = held }) piece ≡ progress_over keeps scheme course piece
+  alone scheme course held piece none = ap (λ (held : List ℕ). progress_over keeps scheme course (held ++ piece)) none
+
+  pub gone_on : (scheme : Scheme) (course after : Course A) (held piece left longer : List ℕ)
+      → held ≡ [] → progress_over keeps scheme course piece ≡ record { course = after; held = left } → longer ≡ held ++ left
+      → record { course = after; held = longer } ≡ fed keeps scheme (record { course = course; held = held }) piece
+  gone_on scheme course after held piece left longer none is is_longer =
+      ap (λ (held : List ℕ). record { course = after; held = held }) (is_longer ∙ ap (λ (held : List ℕ). held ++ left) none)
+      ∙ (sym is ∙ sym (alone scheme course held piece none))
+
+  -- ---- the rest of a command that was cut
+
+  pub completed : (scheme : Scheme) (wide : IsWideFor scheme.format) (course after : Course A) (held piece nothing : List ℕ) (room len : ℕ) (command : Command)
+      → course.refused ≡ None → IsCommand scheme.format command → take len (held ++ take room piece) ≡ command_text scheme.format command
+      → length held < len → len ≤ length held + room → after ≡ after_command keeps scheme course command → nothing ≡ []
+      → record { course = after; held = nothing } ≡ fed keeps scheme (record { course = course; held = held }) (take (len - length held) piece)
+  completed scheme wide course after held piece nothing room len command none is spelled longer within is_after empty =
+      let sum : len ≡ length held + (len - length held) = omega arith in
+      let joined : command_text scheme.format command ≡ held ++ take (len - length held) piece =
+      sym spelled
+      ∙ (ap (λ (n : ℕ). take n (held ++ take room piece)) sum
+      ∙ (take-append-add held (take room piece) (len - length held)
+      ∙ ap (λ (rest : List ℕ). held ++ rest) (take-take (len - length held) room piece (omega arith)))) in
+      ap (λ (held : List ℕ). record { course = after; held = held }) empty
+      ∙ (ap between_commands is_after
+      ∙ (sym (over-text keeps scheme wide course command none is) ∙ ap (progress_over keeps scheme course) joined))
+
+  pub malformed_behind : (scheme : Scheme) (course after : Course A) (held piece nothing : List ℕ)
+      → course.refused ≡ None → command_at scheme.format (held ++ piece) ≡ Err faults.Malformed → after ≡ refuse course refusals.Malformed → nothing ≡ []
+      → record { course = after; held = nothing } ≡ fed keeps scheme (record { course = course; held = held }) piece
+  malformed_behind scheme course after held piece nothing none is is_after empty =
+      ap (λ (held : List ℕ). record { course = after; held = held }) empty
+      ∙ (ap between_commands is_after ∙ sym (over-malformed keeps scheme course (held ++ piece) none is))
+
+  pub cut_behind : (scheme : Scheme) (course : Course A) (held piece longer : List ℕ)
+      → course.refused ≡ None → command_at scheme.format (held ++ piece) ≡ Err faults.Truncated
+      → longer ≡ held ++ piece → record { course = course; held = longer } ≡ fed keeps scheme (record { course = course; held = held }) piece
+  cut_behind scheme course held piece longer none is is_longer =
+      ap (λ (held : List ℕ). record { course = course; held = held }) is_longer ∙ sym (over-cut keeps scheme course (held ++ piece) none is)
+
+  -- where memory was wanting, all is as it was
+  pub restored : (scheme : Scheme) (course after : Course A) (held kept more : List ℕ) (n : ℕ)
+      → IsBetweenPieces scheme.format (record { course = course; held = held }) → after ≡ course → n ≡ length held → kept ≡ take n (held ++ more)
+      → record { course = after; held = kept } ≡ fed keeps scheme (record { course = course; held = held }) []
+  restored scheme course after held kept more n between is_after len is =
+      let same : kept ≡ held = is ∙ (ap (λ (n : ℕ). take n (held ++ more)) len ∙ take-append_seam held more) in
+      ap (λ (course : Course A). record { course = course; held = kept }) is_after
+      ∙ (ap (λ (held : List ℕ). record { course = course; held = held }) same
+      ∙ sym (fed-nothing scheme course held between))
+
+  -- once a command was refused, what is fed does nothing
+  pub refused_stays : (scheme : Scheme) (course : Course A) (held piece : List ℕ) (at : ℕ × Refusal)
+      → IsBetweenPieces scheme.format (record { course = course; held = held }) → course.refused ≡ Some at
+      → record { course = course; held = held } ≡ fed keeps scheme (record { course = course; held = held }) piece
+  refused_stays scheme course held piece at between is =
+      let none : held ≡ [] = subst (λ (refused : Option (ℕ × Refusal)). IfSome refused (λ at. held ≡ [])) is between.idle in
+      ap (λ (held : List ℕ). record { course = course; held = held }) none
+      ∙ sym (over-refused keeps scheme course (held ++ piece) at is)
+
+  -- ---- both, one after the other
+
+  pub fed_both : (scheme : Scheme) (old mid new : Progress A) (piece : List ℕ) (from : ℕ)
+      → mid ≡ fed keeps scheme old (take from piece) → new ≡ fed keeps scheme mid (drop from piece)
+      → new ≡ fed keeps scheme old piece
+  fed_both scheme old mid new piece from first second =
+      second
+      ∙ (ap (λ (progress : Progress A). fed keeps scheme progress (drop from piece)) first
+      ∙ (fed-joined keeps scheme old (take from piece) (drop from piece)
+      ∙ ap (fed keeps scheme old) (take-append-drop from piece)))
+
+  pub fed_front : (scheme : Scheme) (old mid new : Progress A) (piece : List ℕ) (from more : ℕ)
+      → mid ≡ fed keeps scheme old (take from piece) → new ≡ fed keeps scheme mid (take more (drop from piece))
+      → new ≡ fed keeps scheme old (take (from + more) piece)
+  fed_front scheme old mid new piece from more first second =
+      second
+      ∙ (ap (λ (progress : Progress A). fed keeps scheme progress (take more (drop from piece))) first
+      ∙ (fed-joined keeps scheme old (take from piece) (take more (drop from piece))
+      ∙ ap (fed keeps scheme old) (sym (take-add from more piece))))
+
+  pub weight_all : (scheme : Scheme) (old new : Progress A) (piece : List ℕ)
+      → new ≡ fed keeps scheme old piece → weight new ≤ weight old + length piece
+  weight_all scheme old new piece is = subst (λ (progress : Progress A). weight progress ≤ weight old + length piece) (sym is) (fed-weight keeps scheme old piece)
+
+  pub weight_front : (scheme : Scheme) (old new : Progress A) (piece : List ℕ) (from : ℕ)
+      → new ≡ fed keeps scheme old (take from piece) → weight new + (length piece - from) ≤ weight old + length piece
+  weight_front scheme old new piece from is =
+      let most = weight_all scheme old new (take from piece) is in omega (arith, most, length-take from piece)

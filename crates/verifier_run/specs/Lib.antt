@@ -1,5 +1,6 @@
 -- What the clauses on runs cite, in reading order.
-pub mod Trace
+pub mod Kept
+pub mod KeptLaws
 pub mod Course
 pub mod Progress
 pub mod LogCourse

@@ -1,4 +1,4 @@
--- In which epochs a verifier hands out operations and parts, by its clock.
+-- In which epochs a verifier hands out what is kept and its parts, by its clock.
 use Rattle.std.specs.Prelude.{◌≡◌, ℕ, suc, ◌-◌, ◌≤◌, max, List, [], ◌∷◌, ◌++◌}
 use Rattle.lamport_clocks.specs.Reading.{Reading}
 use Rattle.multiset_sum.specs.declared.part.Part.{Part}
@@ -27,28 +27,28 @@ OneOfEach from next (part ∷ parts) = (part.epoch ≡ from) × OneOfEach (suc f
 abbrev pub sealed_next : Reading → ℕ
 sealed_next clock = max clock.first (clock.at.epoch - 1)
 
--- What a verifier hands out while its clock goes from one reading to another: operations in the order of their
+-- What a verifier hands out while its clock goes from one reading to another: what is kept in the order of its
 -- epochs, and one part of each epoch that is sealed.
-pub record HandsOut (old new : Reading) (done : List Operation) (sealed : List Part) : Type 0 where
+pub record HandsOut {A : Type 0} (epoch : A → ℕ) (old new : Reading) (kept : List A) (sealed : List Part) : Type 0 where
   pub first : new.first ≡ old.first
   pub never_falls : old.at.epoch ≤ new.at.epoch
-  pub operations : NeverFalls operation_epoch old.at.epoch new.at.epoch done
+  pub items : NeverFalls epoch old.at.epoch new.at.epoch kept
   pub parts : OneOfEach (sealed_next old) (sealed_next new) sealed
 
 -- the clock of a course
-abbrev pub clock_of : Course → Reading
+abbrev pub clock_of : {A : Type 0} → Course A → Reading
 clock_of course = course.machine.state.clock
 
 -- A course goes on from another, under the same header: what was handed out stays, and more stands behind it.
-pub record GoesOn (old new : Course) : Type 0 where
+pub record GoesOn {A : Type 0} (epoch : A → ℕ) (old new : Course A) : Type 0 where
   pub header : new.machine.header ≡ old.machine.header
-  pub operations : List Operation
-  pub operations_behind : new.operations ≡ old.operations ++ operations
+  pub items : List A
+  pub items_behind : new.items ≡ old.items ++ items
   pub parts : List Part
   pub parts_behind : new.parts ≡ old.parts ++ parts
-  pub hands_out : HandsOut (clock_of old) (clock_of new) operations parts
+  pub hands_out : HandsOut epoch (clock_of old) (clock_of new) items parts
 
--- Operations and parts stand in the order of their epochs, none of them later than the clock.
-pub record StandsInOrder (clock : Reading) (done : List Operation) (sealed : List Part) : Type 0 where
-  pub operations : NeverFalls operation_epoch 0 clock.at.epoch done
+-- What is kept and parts stand in the order of their epochs, none of them later than the clock.
+pub record StandsInOrder {A : Type 0} (epoch : A → ℕ) (clock : Reading) (kept : List A) (sealed : List Part) : Type 0 where
+  pub items : NeverFalls epoch 0 clock.at.epoch kept
   pub parts : NeverFalls part_epoch 0 (sealed_next clock) sealed

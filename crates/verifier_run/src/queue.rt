@@ -38,6 +38,15 @@ impl<T: Drop> Queue<T> {
         &self.items[self.gone..]
     }
 
+    /// The items that were not taken, and nothing else.
+    pub(crate) fn into_vec(self) -> Vec<T>
+        ensures items { result.items ≡ queued self }
+    {
+        let Queue { mut items, gone } = self;
+        drop_front(&mut items, gone);
+        items
+    }
+
     /// Takes memory for one item more.
     pub(crate) fn reserve(&mut self) -> Result<(), Memory>
         ensures room { OnOk result (HasRoom self.new) }

@@ -5,9 +5,9 @@ ghost use Rattle.lamport_clocks.specs.Header.{IsHeader};
 ghost use Rattle.merkle_records.specs.Scheme.{scheme_of};
 ghost use Rattle.verifier_commands.specs.Machine.{opening_machine};
 ghost use Rattle.verifier_run.specs.Progress.{Progress, between_commands, opening_progress, progress_over, fed, ended, weight};
-ghost use Rattle.verifier_run.specs.LogCourse.{log_course};
 ghost use Rattle.verifier_run.specs.Taken.{taken_by, left_of};
 
+use crate::kept::Kept;
 use crate::tracer::Tracer;
 use arrayvec::ArrayVec;
 use lamport_clocks::Header;
@@ -25,25 +25,25 @@ pub struct FeedStop {
     pub taken: usize,
 }
 
-/// A verifier that takes its log in pieces. Contracts see it as a `Progress`.
+/// A verifier that takes its log in pieces, and what is kept of its commands. Contracts see it as a `Progress`.
 #[derive(Drop)]
-pub struct Run {
-    tracer: Tracer,
+pub struct Run<T: Kept = Operation> {
+    tracer: Tracer<T>,
     held: ArrayVec<u8, LONGEST_COMMAND_TEXT>,
 }
 
-impl Model for Run {
+impl<T: Kept> Model for Run<T> {
     ghost use Rattle.record_text.specs.Format.{format_of};
     ghost use Rattle.verifier_run.specs.Progress.{Progress, IsBetweenPieces};
 
-    ghost Value = { Progress };
+    ghost Value = { Progress T };
 
     ghost view = { λ r. record { course = r.tracer; held = r.held.items } };
 
     ghost invariant = { λ r. IsBetweenPieces (format_of r.tracer.machine.header) (record { course = r.tracer; held = r.held.items }) };
 }
 
-impl Run {
+impl<T: Kept> Run<T> {
     /// The run of the verifier of this number, before the first byte of its log.
     pub fn new(alloc: Global, number: u16, header: &Header) -> Result<Self, Memory>
         requires header { IsHeader header.now }
@@ -66,9 +66,9 @@ impl Run {
         requires room { weight self.old + length piece.now < 2 ^ 63 }
 
         // All of the piece is done, or what is said to be.
-        ensures ok { OnOk result (self.new ≡ fed (scheme_of (D.functions d.now) self.old.course.machine.header) self.old piece.now) }
+        ensures ok { OnOk result (self.new ≡ fed T.keeps (scheme_of (D.functions d.now) self.old.course.machine.header) self.old piece.now) }
         ensures stop { IfErr result (λ stop.
-            self.new ≡ fed (scheme_of (D.functions d.now) self.old.course.machine.header) self.old (take stop.taken piece.now)) }
+            self.new ≡ fed T.keeps (scheme_of (D.functions d.now) self.old.course.machine.header) self.old (take stop.taken piece.now)) }
         ensures within { IfErr result (λ stop. stop.taken ≤ length piece.now) }
         ensures weight { weight self.new ≤ weight self.old + length piece.now }
 
@@ -95,11 +95,11 @@ impl Run {
     fn complete<D: Digests>(&mut self, d: &D, piece: &[u8]) -> Result<usize, FeedStop>
         requires room { weight self.old + length piece.now < 2 ^ 63 }
         ensures ok { IfOk result (λ taken.
-            self.new ≡ fed (scheme_of (D.functions d.now) self.old.course.machine.header) self.old (take taken piece.now)) }
+            self.new ≡ fed T.keeps (scheme_of (D.functions d.now) self.old.course.machine.header) self.old (take taken piece.now)) }
         ensures within { IfOk result (λ taken. taken ≤ length piece.now) }
         ensures none_held { IfOk result (λ taken. taken < length piece.now → self.new.held ≡ []) }
         ensures stop { IfErr result (λ stop.
-            self.new ≡ fed (scheme_of (D.functions d.now) self.old.course.machine.header) self.old (take stop.taken piece.now)) }
+            self.new ≡ fed T.keeps (scheme_of (D.functions d.now) self.old.course.machine.header) self.old (take stop.taken piece.now)) }
         ensures none { IfErr result (λ stop. stop.taken ≡ 0) }
     {
         if self.held.is_empty() {
@@ -130,9 +130,9 @@ impl Run {
     fn go_on<D: Digests>(&mut self, d: &D, piece: &[u8]) -> Result<(), FeedStop>
         requires none_held { self.old.held ≡ [] }
         requires room { self.old.course.machine.accepted + length piece.now < 2 ^ 63 }
-        ensures ok { OnOk result (self.new ≡ fed (scheme_of (D.functions d.now) self.old.course.machine.header) self.old piece.now) }
+        ensures ok { OnOk result (self.new ≡ fed T.keeps (scheme_of (D.functions d.now) self.old.course.machine.header) self.old piece.now) }
         ensures stop { IfErr result (λ stop.
-            self.new ≡ fed (scheme_of (D.functions d.now) self.old.course.machine.header) self.old (take stop.taken piece.now)) }
+            self.new ≡ fed T.keeps (scheme_of (D.functions d.now) self.old.course.machine.header) self.old (take stop.taken piece.now)) }
         ensures within { IfErr result (λ stop. stop.taken ≤ length piece.now) }
     {
         let taken = follow(&mut self.tracer, d, piece)?;
@@ -164,11 +164,28 @@ impl Run {
         self.tracer.parts()
     }
 
+    /// What was kept of the commands so far, in order.
+    pub fn items(&self) -> &[T]
+        ensures value { result.now ≡ self.now.course.items }
+    {
+        self.tracer.items()
+    }
+
+    /// The same, and the run is no more.
+    pub fn into_items(self) -> Vec<T>
+        ensures value { result.items ≡ self.course.items }
+    {
+        let Run { tracer, held: _ } = self;
+        tracer.into_items()
+    }
+}
+
+impl Run<Operation> {
     /// The gets and puts so far, in order.
     pub fn ops(&self) -> &[Operation]
-        ensures value { result.now ≡ self.now.course.operations }
+        ensures value { result.now ≡ self.now.course.items }
     {
-        self.tracer.operations()
+        self.tracer.items()
     }
 
     /// Takes the gets and puts of epochs up to this one, in order. They are kept no longer, nor are the parts of these
@@ -197,14 +214,18 @@ impl Run {
 // Takes the commands that are whole, up to the first that is refused, and answers where the one that is cut
 // begins: at the end, if none is.
 #[tactic(auto, using(crate::proofs::FollowLemmas::following))]
-fn follow<D: Digests>(tracer: &mut Tracer, d: &D, bytes: &[u8]) -> Result<usize, FeedStop>
+fn follow<T: Kept, D: Digests>(
+    tracer: &mut Tracer<T>,
+    d: &D,
+    bytes: &[u8],
+) -> Result<usize, FeedStop>
     requires room { tracer.old.machine.accepted + length bytes.now < 2 ^ 63 }
     ensures ok { IfOk result (λ taken.
-        progress_over (scheme_of (D.functions d.now) tracer.old.machine.header) tracer.old bytes.now
+        progress_over T.keeps (scheme_of (D.functions d.now) tracer.old.machine.header) tracer.old bytes.now
         ≡ record { course = tracer.new; held = drop taken bytes.now }) }
     ensures within { IfOk result (λ taken. taken ≤ length bytes.now) }
     ensures stop { IfErr result (λ stop.
-        progress_over (scheme_of (D.functions d.now) tracer.old.machine.header) tracer.old (take stop.taken bytes.now)
+        progress_over T.keeps (scheme_of (D.functions d.now) tracer.old.machine.header) tracer.old (take stop.taken bytes.now)
         ≡ between_commands tracer.new) }
     ensures stop_within { IfErr result (λ stop. stop.taken ≤ length bytes.now) }
 {
@@ -247,27 +268,4 @@ fn behind(bytes: &[u8], taken: usize) -> &[u8]
     ensures value { result.now ≡ drop taken bytes.now }
 {
     &bytes[taken..]
-}
-
-/// The run of the verifier of this number over a whole log.
-pub fn run_log<D: Digests>(
-    alloc: Global,
-    d: &D,
-    number: u16,
-    header: &Header,
-    log: &[u8],
-) -> Result<Run, Memory>
-    requires header { IsHeader header.now }
-    requires number { number < header.now.verifiers }
-    ensures course { IfOk result (λ run. run.course
-        ≡ log_course (scheme_of (D.functions d.now) header.now) (opening_machine number header.now) log.now) }
-    ensures none_held { IfOk result (λ run. run.held ≡ []) }
-{
-    let mut run = Run::new(alloc, number, header)?;
-    match run.feed(d, log) {
-        Ok(()) => {}
-        Err(_) => return Err(Memory),
-    }
-    run.end();
-    Ok(run)
 }

@@ -1,15 +1,16 @@
 //! A verifier and what its commands have come to, command by command.
+ghost use Rattle.std.specs.Option.{option_to_list};
 ghost use Rattle.std.specs.Prelude.{◌≡◌, ◌+◌, ◌<◌, ◌≤◌, ◌^◌, ◌++◌, length, take, vec_len, vec_capacity, take_while, nat_le, IfOk, OnOk, OnErr};
 ghost use Rattle.lamport_clocks.specs.Header.{IsHeader};
 ghost use Rattle.record_text.specs.Format.{format_of};
 ghost use Rattle.log_codec.specs.Command.{IsCommand};
 ghost use Rattle.merkle_records.specs.Scheme.{scheme_of};
 ghost use Rattle.verifier_commands.specs.Machine.{opening_machine};
-ghost use Rattle.verifier_run.specs.Trace.{operation_in, part_in};
 ghost use Rattle.verifier_run.specs.Course.{Course, opening_course, refuse, after_command};
 ghost use Rattle.verifier_run.specs.Taken.{taken_by, left_behind};
 ghost use Rattle.verifier_run.specs.Queue.{queued, HasRoom};
 
+use crate::kept::Kept;
 use crate::queue::Queue;
 use lamport_clocks::Header;
 use log_codec::Command;
@@ -18,33 +19,32 @@ use record_hash::Digests;
 use record_text::{Operation, Refusal};
 use std::alloc::Global;
 use std::marker::Model;
-use verifier_commands::{Effect, Verifier};
+use verifier_commands::Verifier;
 use want_of_memory::Memory;
 
 /// A verifier, and the course of its commands. The two queues are all that grows.
 #[derive(Drop)]
-pub(crate) struct Tracer {
+pub(crate) struct Tracer<T: Kept> {
     verifier: Verifier,
-    accepted: u64,
-    operations: Queue<Operation>,
+    items: Queue<T>,
     parts: Queue<Part>,
     refused: Option<(u64, Refusal)>,
 }
 
-impl Model for Tracer {
-    ghost use Rattle.std.specs.Prelude.{◌≡◌};
+impl<T: Kept> Model for Tracer<T> {
+    ghost use Rattle.std.specs.Option.{option_to_list};
     ghost use Rattle.verifier_run.specs.Course.{Course};
     ghost use Rattle.verifier_run.specs.Order.{StandsInOrder};
     ghost use Rattle.verifier_run.specs.Queue.{queued};
 
-    ghost Value = { Course };
+    ghost Value = { Course T };
 
-    ghost view = { λ t. record { machine = t.verifier; operations = queued t.operations; parts = queued t.parts; refused = t.refused } };
+    ghost view = { λ t. record { machine = t.verifier; items = queued t.items; parts = queued t.parts; refused = t.refused } };
 
-    ghost invariant = { λ t. (t.accepted ≡ t.verifier.accepted) × StandsInOrder t.verifier.state.clock (queued t.operations) (queued t.parts) };
+    ghost invariant = { λ t. StandsInOrder T.epoch t.verifier.state.clock (queued t.items) (queued t.parts) };
 }
 
-impl Tracer {
+impl<T: Kept> Tracer<T> {
     /// The verifier of this number before its first command.
     pub(crate) fn new(alloc: Global, number: u16, header: &Header) -> Result<Self, Memory>
         requires header { IsHeader header.now }
@@ -54,8 +54,7 @@ impl Tracer {
         let verifier = Verifier::new(alloc, number, header)?;
         Ok(Tracer {
             verifier,
-            accepted: 0,
-            operations: Queue::new(alloc),
+            items: Queue::new(alloc),
             parts: Queue::new(alloc),
             refused: None,
         })
@@ -63,7 +62,7 @@ impl Tracer {
 
     /// The allocator that it was made with.
     pub(crate) fn allocator(&self) -> Global {
-        self.operations.allocator()
+        self.items.allocator()
     }
 
     /// The number of the refused command, from 0, and why.
@@ -73,10 +72,23 @@ impl Tracer {
         self.refused
     }
 
-    pub(crate) fn operations(&self) -> &[Operation]
-        ensures value { result.now ≡ self.now.operations }
+    pub(crate) fn items(&self) -> &[T]
+        ensures value { result.now ≡ self.now.items }
     {
-        self.operations.as_slice()
+        self.items.as_slice()
+    }
+
+    /// All that was kept and not taken, and nothing else of it.
+    pub(crate) fn into_items(self) -> Vec<T>
+        ensures items { result.items ≡ self.items }
+    {
+        let Tracer {
+            verifier: _,
+            items,
+            parts: _,
+            refused: _,
+        } = self;
+        items.into_vec()
     }
 
     pub(crate) fn parts(&self) -> &[Part]
@@ -89,7 +101,7 @@ impl Tracer {
     pub(crate) fn refuse(&mut self, refusal: Refusal)
         ensures refused { self.new ≡ refuse self.old refusal }
     {
-        self.refused = Some((self.accepted, refusal));
+        self.refused = Some((self.verifier.accepted(), refusal));
     }
 
     /// Takes one command. For want of memory nothing of it is done.
@@ -97,23 +109,25 @@ impl Tracer {
     pub(crate) fn apply<D: Digests>(&mut self, d: &D, command: &Command) -> Result<(), Memory>
         requires kind { IsCommand (format_of self.old.machine.header) command.now }
         requires room { self.old.machine.accepted < 2 ^ 63 }
-        ensures ok { OnOk result (self.new ≡ after_command (scheme_of (D.functions d.now) self.old.machine.header) self.old command.now) }
+        ensures ok { OnOk result (self.new ≡ after_command T.keeps (scheme_of (D.functions d.now) self.old.machine.header) self.old command.now) }
         ensures err { OnErr result (self.new ≡ self.old) }
         ensures count { self.new.machine.accepted ≤ self.old.machine.accepted + 1 }
     {
         // The room first: a step can't be taken back.
-        self.operations.reserve()?;
+        self.items.reserve()?;
         self.parts.reserve()?;
-        match self.verifier.step(d, command) {
-            Ok(effect) => {
-                self.accepted += 1;
-                keep(effect, &mut self.operations, &mut self.parts);
+        match T::perform(&mut self.verifier, d, command) {
+            Ok(left) => {
+                keep(left.item, &mut self.items);
+                keep(left.part, &mut self.parts);
             }
-            Err(refusal) => self.refused = Some((self.accepted, refusal)),
+            Err(refusal) => self.refuse(refusal),
         }
         Ok(())
     }
+}
 
+impl Tracer<Operation> {
     /// Appends the operations of epochs up to this one to others, and keeps none of these and no part of these epochs.
     /// For want of memory nothing of it is done.
     pub(crate) fn take_into(
@@ -130,27 +144,23 @@ impl Tracer {
         ensures machine { self.new.machine ≡ self.old.machine }
         ensures refused { self.new.refused ≡ self.old.refused }
     {
-        let operations = operations_through(self.operations.as_slice(), through);
+        let operations = operations_through(self.items.as_slice(), through);
         into.reserve(operations)?;
-        append(into, front(self.operations.as_slice(), operations));
+        append(into, front(self.items.as_slice(), operations));
         let parts = parts_through(self.parts.as_slice(), through);
-        self.operations.pass(operations);
+        self.items.pass(operations);
         self.parts.pass(parts);
         Ok(())
     }
 }
 
-// Appends what an effect hands out, for which there is room.
-fn keep(effect: Effect, operations: &mut Queue<Operation>, parts: &mut Queue<Part>)
-    requires operations { HasRoom operations.old }
-    requires parts { HasRoom parts.old }
-    ensures operations { queued operations.new ≡ queued operations.old ++ operation_in effect }
-    ensures parts { queued parts.new ≡ queued parts.old ++ part_in effect }
+// Appends what there is, for which there is room.
+fn keep<T: Drop>(item: Option<T>, into: &mut Queue<T>)
+    requires room { HasRoom into.old }
+    ensures items { queued into.new ≡ queued into.old ++ option_to_list item }
 {
-    match effect {
-        Effect::Did(operation) => operations.push_reserved(operation),
-        Effect::Sealed(part) => parts.push_reserved(part),
-        Effect::Plain | Effect::Opened => {}
+    if let Some(item) = item {
+        into.push_reserved(item);
     }
 }
 

@@ -10,15 +10,15 @@ use Rattle.verifier_run.proofs.run.Run.complete.Goals as goal
 pub returns-then-is_empty-clause-ok : goal.returns-then-is_empty-clause-ok
 returns-then-is_empty-clause-ok g c =
     sym c.self.view_is
-    ∙ (sym (fed-nothing (scheme_of (g.D.Digests.functions c.args.d.now) c.args.self.now.course.machine.header) c.self.inside.tracer c.self.inside.held.items c.self.invariant)
-    ∙ ap (λ (progress : Progress). fed (scheme_of (g.D.Digests.functions c.args.d.now) c.args.self.now.course.machine.header) progress []) c.self.view_is)
+    ∙ (sym (fed-nothing g.T.Kept.keeps (scheme_of (g.D.Digests.functions c.args.d.now) c.args.self.now.course.machine.header) c.self.inside.tracer c.self.inside.held.items c.self.invariant)
+    ∙ ap (λ (progress : Progress g.row.T.Denot). fed g.T.Kept.keeps (scheme_of (g.D.Digests.functions c.args.d.now) c.args.self.now.course.machine.header) progress []) c.self.view_is)
 
 pub returns-in_default-clause-stop : goal.returns-in_default-clause-stop
 returns-in_default-clause-stop g c =
-    restored (scheme_of (g.D.Digests.functions c.args.d.now) c.args.self.now.course.machine.header) c.self.inside.tracer c.apply.new.self c.self.inside.held.items c.truncate.new.self.items
+    restored g.T.Kept.keeps (scheme_of (g.D.Digests.functions c.args.d.now) c.args.self.now.course.machine.header) c.self.inside.tracer c.apply.new.self c.self.inside.held.items c.truncate.new.self.items
     c.front.result.now c.len-held.result c.self.invariant c.in_default.ensures.err c.len-held.ensures.value
     (c.truncate.ensures.items ∙ ap (take c.len-held.result) c.append.ensures.items)
-    ∙ ap (λ (progress : Progress). fed (scheme_of (g.D.Digests.functions c.args.d.now) c.args.self.now.course.machine.header) progress []) c.self.view_is
+    ∙ ap (λ (progress : Progress g.row.T.Denot). fed g.T.Kept.keeps (scheme_of (g.D.Digests.functions c.args.d.now) c.args.self.now.course.machine.header) progress []) c.self.view_is
 
 pub overflow_sub-result : goal.overflow_sub-result
 overflow_sub-result g c =
@@ -40,30 +40,30 @@ returns-in-Ok-clause-ok g c =
     let spelled = ap (take c.in-Read.len) (sym text) ∙ c.in-Read.ensures.found in
     let longer = longer_than_held short_keys wide64 c.self.inside.held.items (take c.min-room.result c.args.piece.now) c.in-Read.command c.in-Read.len c.self.invariant.cut c.in-Read.ensures.kind spelled in
     let whole = ap (λ (bytes : List ℕ). length bytes) text ∙ length-append c.self.inside.held.items (take c.min-room.result c.args.piece.now) in
-    completed (scheme_of (g.D.Digests.functions c.args.d.now) c.args.self.now.course.machine.header) wide64 c.self.inside.tracer c.apply.new.self c.self.inside.held.items c.args.piece.now c.clear.new.self.items
+    completed g.T.Kept.keeps (scheme_of (g.D.Digests.functions c.args.d.now) c.args.self.now.course.machine.header) wide64 c.self.inside.tracer c.apply.new.self c.self.inside.held.items c.args.piece.now c.clear.new.self.items
     c.min-room.result c.in-Read.len c.in-Read.command
     (none_refused_yet short_keys c.self.inside.tracer c.self.inside.held.items c.self.invariant some) c.in-Read.ensures.kind spelled longer
     (omega (arith, whole, c.in-Read.ensures.within, length-take c.min-room.result c.args.piece.now)) c.in-Ok.ensures.ok c.clear.ensures
-    ∙ (ap (λ (n : ℕ). fed (scheme_of (g.D.Digests.functions c.args.d.now) c.args.self.now.course.machine.header) (record { course = c.self.inside.tracer; held = c.self.inside.held.items }) (take (c.in-Read.len - n) c.args.piece.now)) (sym c.len-held.ensures.value)
-    ∙ ap (λ (progress : Progress). fed (scheme_of (g.D.Digests.functions c.args.d.now) c.args.self.now.course.machine.header) progress (take (c.in-Read.len - c.len-held.result) c.args.piece.now)) c.self.view_is)
+    ∙ (ap (λ (n : ℕ). fed g.T.Kept.keeps (scheme_of (g.D.Digests.functions c.args.d.now) c.args.self.now.course.machine.header) (record { course = c.self.inside.tracer; held = c.self.inside.held.items }) (take (c.in-Read.len - n) c.args.piece.now)) (sym c.len-held.ensures.value)
+    ∙ ap (λ (progress : Progress g.row.T.Denot). fed g.T.Kept.keeps (scheme_of (g.D.Digests.functions c.args.d.now) c.args.self.now.course.machine.header) progress (take (c.in-Read.len - c.len-held.result) c.args.piece.now)) c.self.view_is)
 
 pub returns-in-Malformed-clause-ok : goal.returns-in-Malformed-clause-ok
 returns-in-Malformed-clause-ok g c =
     let some = some_held (length c.self.inside.held.items) c.is_empty.result c.is_empty.ensures c.if-is_empty.false in
     let text = c.as_slice.ensures.value ∙ (c.append.ensures.items ∙ ap (λ (more : List ℕ). c.self.inside.held.items ++ more) c.front.ensures.value) in
-    malformed_behind (scheme_of (g.D.Digests.functions c.args.d.now) c.args.self.now.course.machine.header) c.self.inside.tracer c.refuse.new.self c.self.inside.held.items (take c.min-room.result c.args.piece.now) c.clear-in-Malformed.new.self.items
+    malformed_behind g.T.Kept.keeps (scheme_of (g.D.Digests.functions c.args.d.now) c.args.self.now.course.machine.header) c.self.inside.tracer c.refuse.new.self c.self.inside.held.items (take c.min-room.result c.args.piece.now) c.clear-in-Malformed.new.self.items
     (none_refused_yet short_keys c.self.inside.tracer c.self.inside.held.items c.self.invariant some)
     (ap (command_at short_keys) (sym text) ∙ c.in-Malformed.ensures.exact) c.refuse.ensures.refused c.clear-in-Malformed.ensures
-    ∙ ap (λ (progress : Progress). fed (scheme_of (g.D.Digests.functions c.args.d.now) c.args.self.now.course.machine.header) progress (take c.min-room.result c.args.piece.now)) c.self.view_is
+    ∙ ap (λ (progress : Progress g.row.T.Denot). fed g.T.Kept.keeps (scheme_of (g.D.Digests.functions c.args.d.now) c.args.self.now.course.machine.header) progress (take c.min-room.result c.args.piece.now)) c.self.view_is
 
 pub returns-in-Truncated-clause-ok : goal.returns-in-Truncated-clause-ok
 returns-in-Truncated-clause-ok g c =
     let some = some_held (length c.self.inside.held.items) c.is_empty.result c.is_empty.ensures c.if-is_empty.false in
     let longer = c.append.ensures.items ∙ ap (λ (more : List ℕ). c.self.inside.held.items ++ more) c.front.ensures.value in
-    cut_behind (scheme_of (g.D.Digests.functions c.args.d.now) c.args.self.now.course.machine.header) c.self.inside.tracer c.self.inside.held.items (take c.min-room.result c.args.piece.now) c.append.new.held.items
+    cut_behind g.T.Kept.keeps (scheme_of (g.D.Digests.functions c.args.d.now) c.args.self.now.course.machine.header) c.self.inside.tracer c.self.inside.held.items (take c.min-room.result c.args.piece.now) c.append.new.held.items
     (none_refused_yet short_keys c.self.inside.tracer c.self.inside.held.items c.self.invariant some)
     (ap (command_at short_keys) (sym (c.as_slice.ensures.value ∙ longer)) ∙ c.in-Truncated.ensures.exact) longer
-    ∙ ap (λ (progress : Progress). fed (scheme_of (g.D.Digests.functions c.args.d.now) c.args.self.now.course.machine.header) progress (take c.min-room.result c.args.piece.now)) c.self.view_is
+    ∙ ap (λ (progress : Progress g.row.T.Denot). fed g.T.Kept.keeps (scheme_of (g.D.Digests.functions c.args.d.now) c.args.self.now.course.machine.header) progress (take c.min-room.result c.args.piece.now)) c.self.view_is
 
 pub returns-in-Truncated-clause-none_held : goal.returns-in-Truncated-clause-none_held
 returns-in-Truncated-clause-none_held g c = λ less.

@@ -3,4 +3,4 @@ use Rattle.verifier_run.proofs.PieceLemmas.{between-held}
 use Rattle.verifier_run.proofs.run.Run.new.Goals as goal
 
 pub invariant_of-result : goal.invariant_of-result
-invariant_of-result c = between-held short_keys c.in_ok-tracer.tracer c.new-2.result.items c.new-2.ensures
+invariant_of-result g c = between-held short_keys c.in_ok-tracer.tracer c.new-2.result.items c.new-2.ensures

@@ -1,0 +1,39 @@
+-- What a verifier answers to a command is what is kept of it.
+use Rattle.std.proofs.Common.{◌≡◌, Some, None, Ok, refl, ap, ◌∙◌}
+use Rattle.std.specs.Option.{option_to_list}
+use Rattle.log_codec.specs.declared.command.Command.{Command}
+use Rattle.merkle_records.specs.Scheme.{Scheme}
+use Rattle.record_text.specs.declared.operation.Operation.{Operation}
+use Rattle.verifier_commands.specs.declared.effect.Effect.{Effect}
+use Rattle.verifier_commands.specs.declared.state.State.{State}
+use Rattle.verifier_commands.specs.Change.{Change, did_add_m, did_evict_m, did_add_b, did_evict_b, did_evict_bm, did_get, did_put, did_next_epoch}
+use Rattle.verifier_commands.specs.Machine.{Machine, stepped}
+use Rattle.verifier_commands.specs.Trace.{done_with, performed}
+use Rattle.verifier_commands.proofs.TraceLaws.{was_performed}
+use Rattle.verifier_run.specs.declared.kept.Yield.{Yield}
+use Rattle.verifier_run.specs.Kept.{keeps_operations, operation_in, part_in, Yields}
+
+-- the operation that an effect is, is that of its change
+operation_told : (machine : Machine) (change : Change) (after : State)
+    → operation_in (done_with machine change after).effect ≡ keeps_operations (done_with machine change after).event
+operation_told machine (did_add_m parent child holder) after = refl
+operation_told machine (did_evict_m parent child holder) after = refl
+operation_told machine (did_add_b child element) after = refl
+operation_told machine (did_evict_b child element) after = refl
+operation_told machine (did_evict_bm parent child holder element) after = refl
+operation_told machine (did_get entry) after = refl
+operation_told machine (did_put before entry) after = refl
+operation_told machine (did_next_epoch None) after = refl
+operation_told machine (did_next_epoch (Some sealed)) after = refl
+
+-- What a check keeps of a command is what the verifier's answer hands out.
+pub answer_yields : (scheme : Scheme) (machine : Machine) (command : Command) (effect : Effect) (after : Machine) (yield : Yield Operation)
+    → stepped scheme machine command ≡ Ok (effect, after) → option_to_list yield.item ≡ operation_in effect
+    → option_to_list yield.part ≡ part_in effect → Yields keeps_operations yield (performed scheme machine command) after
+answer_yields scheme machine command effect after yield answers item part =
+    let was = was_performed scheme machine command effect after answers in (
+      done_with machine was.change was.state,
+      was.step,
+      item ∙ ap operation_in was.effect_is ∙ operation_told machine was.change was.state,
+      part ∙ ap part_in was.effect_is,
+    )
