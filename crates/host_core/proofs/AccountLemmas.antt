@@ -19,7 +19,9 @@ use Rattle.verifier_commands.specs.declared.state.State.{State}
 use Rattle.verifier_commands.specs.State.{opening}
 use Rattle.verifier_commands.specs.Change.{Change, did_next_epoch}
 use Rattle.verifier_commands.specs.Transition.{Step, timed}
-use Rattle.soundness.specs.History.{Event, events_behind, events_from, refusal_behind, refusal_from, log_events}
+use Rattle.soundness.specs.History.{Event, log_events}
+use Rattle.soundness.proofs.StateHistoryLaws.{history-from_state}
+use Rattle.soundness.specs.StateHistory.{events_behind, events_from, refusal_behind, refusal_from}
 use Rattle.soundness.specs.Certified.{operations_in, operations_by, sealed_by, sealed_count, epochs_in}
 use Rattle.soundness.specs.Timed.{added_among, evicted_among}
 use Rattle.soundness.specs.Typed.{IsTyped}
@@ -80,12 +82,20 @@ module _ {C R : Type 0} (host : Host C R) (i : ℕ) where
     sealed = λ index. omega (arith, deed.unsealed index, deed.epoch);
   }
 
+  -- the events of a log are told from the opening state
+  pub told : (commands : List Command)
+      → log_events (scheme host) host.header i commands ≡ events_from (machinery host i) i 0 (opening i host.header) commands
+  told commands = (history-from_state (scheme host) host.header i commands).events
+
   -- the events of a log with more commands
   pub log-grown : (account : Account) → IsRightAccount account → (commands : List Command)
       → log_events (scheme host) host.header i (account.log ++ commands)
       ≡ log_events (scheme host) host.header i account.log ++ events_at (0 + length account.log) account.clock commands
   log-grown account right commands =
-      events-append (machinery host i) i 0 (opening i host.header) account.log commands right.accepted
+      told (account.log ++ commands)
+      ∙ events-append (machinery host i) i 0 (opening i host.header) account.log commands right.accepted
+      ∙ ap (λ (events : List Event). events ++ events_from (machinery host i) i (0 + length account.log) (state_from (machinery host i) (opening i host.header) account.log) commands)
+      (sym (told account.log))
       ∙ ap (λ (state : State). log_events (scheme host) host.header i account.log ++ events_from (machinery host i) i (0 + length account.log) state commands)
       right.rests
 

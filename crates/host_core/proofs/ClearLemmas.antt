@@ -20,18 +20,19 @@ use Rattle.stamp_order.proofs.InOrderLaws.{every-weaker, every-append, IsInOrder
 use Rattle.stamp_order.proofs.MergedLaws.{merged-fixed}
 use Rattle.stamp_order.proofs.MomentLaws.{comes_before-order}
 use Rattle.verifier_commands.proofs.TickLaws.{up_to-trans}
-use Rattle.soundness.specs.History.{Event, log_events, rules_under}
+use Rattle.soundness.specs.History.{Event, log_events}
 use Rattle.soundness.specs.Certified.{event_moment}
 use Rattle.soundness.specs.Clash.{LastEvicted, none_evicted, first_clash}
 use Rattle.soundness.specs.World.{changes_in, last_evicted_behind}
-use Rattle.soundness.proofs.HistoryLaws.{events-tick, events-merged, log-merged}
+use Rattle.soundness.proofs.HistoryLaws.{events-merged, log-merged}
+use Rattle.soundness.proofs.StateHistoryLaws.{state_events-tick}
 use Rattle.host_core.specs.Host.{Host, scheme, resting}
 use Rattle.host_core.specs.World.{Seats, unmoved, fresh, set_up}
 use Rattle.host_core.specs.WorldEvent.{next_clock}
 use Rattle.host_core.specs.Deeds.{IsFit}
 use Rattle.host_core.specs.Clear.{Keeping, IsNotAfter, touches, touching, IsKept, IsClearDeed, IsClear}
 use Rattle.host_core.proofs.Books.{get_or-mapped, Account, account_of, Books, books_of, seats_at, with_more, epoch_in, IsOwn, Progress, stays, serves_one, moves_one, advances_one, opens_next}
-use Rattle.host_core.proofs.AccountLemmas.{events_at, log-grown, advance_events}
+use Rattle.host_core.proofs.AccountLemmas.{told, events_at, log-grown, advance_events}
 use Rattle.host_core.proofs.RightLemmas.{IsRight, own_right, serve_ready, move_ready}
 use Rattle.host_core.proofs.EvenLemmas.{all_from, none_of}
 use Rattle.host_core.proofs.LastLemmas.{AreAfter, in_order-last}
@@ -161,7 +162,7 @@ module _ {C R : Type 0} (mirrors : ℕ → List C → Type 0) (keeping : Keeping
       IsInOrder-filter (comes_before event_moment) (comes_before-order event_moment) (λ event. touches path event.change)
       (events_at host i index clock commands)
       (events-merged i index clock (events_at host i index clock commands)
-      (events-tick (rules_under (scheme host) host.header i) i index (resting host i clock) commands))
+      (state_events-tick (scheme host) host.header i index (resting host i clock) commands))
 
   own_path_clear : (path : List Bool) (s i index : ℕ) (clock : Reading) (commands : List Command) (old new : List Event) (before after : ℕ → List C)
       → keeping.home path ≡ Some s → IsSplit old new (events_at host i index clock commands)
@@ -345,12 +346,13 @@ module _ {C R : Type 0} (mirrors : ℕ → List C → Type 0) (keeping : Keeping
         clear = ap (λ (zs : List Event). first_clash (format_of host.header) none_evicted (changes_in (merged event_moment zs))) whole
             ∙ ap (λ (zs : List Event). first_clash (format_of host.header) none_evicted (changes_in zs))
             (merged-fixed event_moment (touching path setup) setup_sorted)
+            ∙ ap (λ (events : List Event). first_clash (format_of host.header) none_evicted (changes_in (touching path events))) (told host 0 host.setup.commands)
             ∙ clear.setup_clear path is;
         kept = λ s home. absurd (none-some s (sym is ∙ home));
         up_to = λ s home. absurd (none-some s (sym is ∙ home));
       }
       go (Some t) is =
-          let none : touching path (setup ++ others) ≡ [] = whole ∙ (clear.setup_apart path t is).0 in
+          let none : touching path (setup ++ others) ≡ [] = whole ∙ ap (touching path) (told host 0 host.setup.commands) ∙ (clear.setup_apart path t is).0 in
           record {
             clear = ap (λ (zs : List Event). first_clash (format_of host.header) none_evicted (changes_in (merged event_moment zs))) none;
             kept = λ s home.

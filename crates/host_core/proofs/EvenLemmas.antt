@@ -1,11 +1,13 @@
 -- All evicted elements together are all added ones with the pending elements of all contents, each as often.
 use Rattle.std.proofs.Common.{◌≡◌, ℕ, zero, suc, ◌+◌, ◌-◌, ◌<◌, true, List, [], ◌∷◌, ◌++◌, map, length, get_or, set, replicate, refl, sym, ◌∙◌, ap, subst, arith}
+use Rattle.step_words.specs.Traced.{traced}
 use Rattle.std.specs.List.{flat_map}
 use Rattle.std.proofs.lemmas.Grind.{flat_map-append}
 use Rattle.record_text.specs.declared.element.Element.{Element}
 use Rattle.log_codec.specs.declared.command.Command.{Command}
 use Rattle.log_codec.specs.declared.command.Command.TheVariants.{NextEpoch}
-use Rattle.soundness.specs.History.{Event, log_events, histories_from, events_from}
+use Rattle.soundness.specs.History.{Event, log_events, histories_from}
+use Rattle.soundness.specs.StateHistory.{events_from}
 use Rattle.soundness.specs.Certified.{all_events, added_by, evicted_by}
 use Rattle.soundness.specs.Timed.{added_among, evicted_among}
 use Rattle.soundness.specs.Permutation.{count_of}
@@ -15,7 +17,7 @@ use Rattle.host_core.specs.WorldEvent.{next_clock}
 use Rattle.host_core.specs.Deeds.{pending_of, ServeFits, MoveFits, IsFit}
 use Rattle.host_core.proofs.CountLemmas.{count-append, count-set}
 use Rattle.host_core.proofs.Books.{Account, account_of, Books, books_of, seats_at, with_more, served_books, moved_books, advanced_books, IsOwn, DidServe, DidMove, DidAdvance, Progress, stays, serves_one, moves_one, advances_one, opens_next}
-use Rattle.host_core.proofs.AccountLemmas.{events_at, log-grown, advance_added, advance_evicted}
+use Rattle.host_core.proofs.AccountLemmas.{told, events_at, log-grown, advance_added, advance_evicted}
 use Rattle.host_core.proofs.RightLemmas.{IsRight, own_right, serve_fits, move_fits}
 
 -- ---- what is counted over all logs
@@ -174,7 +176,7 @@ module _ {C R : Type 0} (mirrors : ℕ → List C → Type 0) (host : Host C R) 
 
 -- workers that logged nothing have no events
 pub none_of : {C R : Type 0} (host : Host C R) (n number : ℕ) → all_from host number (map account_of (replicate n (fresh host.header))) ≡ []
-unfolding events_from
+unfolding traced
 none_of host zero number = refl
 none_of host (suc n) number = none_of host n (suc number)
 
@@ -186,6 +188,8 @@ setup_counted {C} {R} mirrors host fit x =
       arith,
       (counts_added x).joined (log_events (scheme host) host.header 0 host.setup.commands) (others (host.header.verifiers - 1) 1),
       (counts_evicted x).joined (log_events (scheme host) host.header 0 host.setup.commands) (others (host.header.verifiers - 1) 1),
+      ap (λ (events : List Event). count_of x (added_among events)) (told host 0 host.setup.commands),
+      ap (λ (events : List Event). count_of x (evicted_among events)) (told host 0 host.setup.commands),
       fit.setup.added 0 x,
       fit.setup.evicted 0 x,
       ap (λ (zs : List Element). count_of x zs) (pending_all host.setup.after),

@@ -1,20 +1,22 @@
 -- What holds of the books behind every list of enabled events: each account is right, each shard mirrors, and no clock is
 -- more than one epoch past a pending element.
 use Rattle.std.proofs.Common.{◌≡◌, ◌⊎◌, ℕ, zero, suc, ◌+◌, ◌-◌, ◌<◌, ◌≤◌, Bool, true, false, List, [], ◌∷◌, ◌++◌, map, length, take, get_or, set, replicate, refl, sym, ◌∙◌, ap, subst, inl, inr, if◌then◌else◌, true≢false, arith}
+use Rattle.step_words.specs.Traced.{traced}
 use Rattle.std.specs.List.{flat_map, AllByRecursion}
 use Rattle.std.proofs.lemmas.Grind.{flat_map-append}
 use Rattle.std.proofs.lemmas.List.{length-map, length-set, length-replicate}
 use Rattle.stamp_order.proofs.InOrderLaws.{every-append}
 use Rattle.lamport_clocks.specs.Reading.{Reading}
 use Rattle.log_codec.specs.declared.command.Command.TheVariants.{NextEpoch}
-use Rattle.soundness.specs.History.{refusal_from, events_from}
+use Rattle.soundness.specs.StateHistory.{refusal_from, events_from}
 use Rattle.host_core.specs.Accepted.{state_from}
+use Rattle.soundness.specs.Certified.{sealed_count}
 use Rattle.host_core.specs.Host.{Host, Done, script_of}
 use Rattle.host_core.specs.World.{Worker, Seats, World, unmoved, fresh, set_up}
 use Rattle.host_core.specs.WorldEvent.{WorldEvent, next_clock, step, AreEnabled, run_events}
-use Rattle.host_core.specs.Deeds.{pending_of, IsStamped, AreStamped, IsReady, ServeFits, MoveFits, IsFit}
+use Rattle.host_core.specs.Deeds.{answers_in, pending_of, IsStamped, AreStamped, IsReady, ServeFits, MoveFits, IsFit}
 use Rattle.host_core.proofs.Books.{every-set, get_or-mapped, Account, account_of, Books, books_of, seats_at, with_more, account_at, epoch_in, served_books, moved_books, advanced_books, opened_books, AreMoved, IsOwn, DidServe, DidMove, DidAdvance, DidOpen, Progress, stays, serves_one, moves_one, advances_one, opens_next, progress}
-use Rattle.host_core.proofs.AccountLemmas.{IsRightAccount, deed_more, more_right, asks_next, asks_none, advance_more}
+use Rattle.host_core.proofs.AccountLemmas.{IsRightAccount, told, deed_more, more_right, asks_next, asks_none, advance_more}
 
 -- what holds of each of two lists joined, holds of each of the first and of each of the second
 module _ {X : Type 0} (P : X → Type 0) where
@@ -314,7 +316,7 @@ module _ {C R : Type 0} (mirrors : ℕ → List C → Type 0) (host : Host C R) 
   opening_accounts = (books_of (set_up host)).accounts
 
   fresh_right : IsFit mirrors host → (i : ℕ) → IsRightAccount host (suc i) (account_of (fresh host.header))
-  unfolding state_from refusal_from events_from
+  unfolding state_from refusal_from traced
   fresh_right fit i = record {
     typed = tt;
     accepted = refl;
@@ -348,8 +350,8 @@ module _ {C R : Type 0} (mirrors : ℕ → List C → Type 0) (host : Host C R) 
         accepted = fit.setup.accepted;
         rests = fit.setup.rests;
         is_clock = fit.setup.is_clock;
-        answered = fit.setup.answered 0;
-        sealed = fit.setup.unsealed 0 ∙ omega (arith, fit.setup.epoch);
+        answered = ap answers_in (told host 0 host.setup.commands) ∙ fit.setup.answered 0;
+        sealed = ap sealed_count (told host 0 host.setup.commands) ∙ fit.setup.unsealed 0 ∙ omega (arith, fit.setup.epoch);
       }
       each (suc i) within =
           subst (IsRightAccount host (suc i)) (sym (fresh_at (host.header.verifiers - 1) i)) (fresh_right fit i)

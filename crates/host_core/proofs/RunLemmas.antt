@@ -3,7 +3,8 @@ use Rattle.std.proofs.Common.{◌≡◌, ℕ, suc, ◌+◌, List, [], ◌∷◌,
 use Rattle.std.proofs.lemmas.Option.{none-some}
 use Rattle.record_text.specs.declared.refusal.Refusal.{Refusal}
 use Rattle.verifier_commands.specs.Change.{Change}
-use Rattle.soundness.specs.History.{Event, Machinery, events_behind, events_from, refusal_behind, refusal_from}
+use Rattle.soundness.specs.History.{Event}
+use Rattle.soundness.specs.StateHistory.{Machinery, events_behind, events_from, refusal_behind, refusal_from}
 use Rattle.host_core.specs.Accepted.{state_behind, state_from, IsAccepted}
 
 module _ {S C : Type 0} (machinery : Machinery S C) where

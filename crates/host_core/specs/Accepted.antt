@@ -2,7 +2,7 @@
 use Rattle.std.specs.Prelude.{◌≡◌, List, [], ◌∷◌, None, Result, Ok, Err}
 use Rattle.record_text.specs.declared.refusal.Refusal.{Refusal}
 use Rattle.verifier_commands.specs.Change.{Change}
-use Rattle.soundness.specs.History.{Machinery, refusal_from}
+use Rattle.soundness.specs.StateHistory.{Machinery, refusal_from}
 
 -- the state behind a step; a refused step leaves the one before it
 abbrev pub state_behind : {S : Type 0} → S → Result (Change × S) Refusal → (S → S) → S

@@ -15,7 +15,8 @@ use Rattle.stamp_order.specs.Serial.{IsSerial}
 use Rattle.verifier_commands.specs.declared.state.State.{State}
 use Rattle.verifier_commands.specs.State.{opening}
 use Rattle.verifier_commands.specs.Change.{Change, did_add_m, did_evict_m, did_add_b, did_evict_b, did_evict_bm, did_get, did_put, did_next_epoch}
-use Rattle.soundness.specs.History.{Event, events_from}
+use Rattle.soundness.specs.History.{Event}
+use Rattle.soundness.specs.StateHistory.{events_from}
 use Rattle.soundness.specs.Certified.{certified_count, certified_operations}
 use Rattle.soundness.specs.Clash.{LastEvicted, none_evicted, first_clash}
 use Rattle.soundness.specs.Exhibit.{exhibit_of}

@@ -11,7 +11,8 @@ use Rattle.record_text.specs.Format.{format_of}
 use Rattle.log_codec.specs.declared.command.Command.{Command}
 use Rattle.verifier_commands.specs.declared.state.State.{State}
 use Rattle.verifier_commands.specs.State.{opening}
-use Rattle.soundness.specs.History.{Event, events_from}
+use Rattle.soundness.specs.History.{Event}
+use Rattle.soundness.specs.StateHistory.{events_from}
 use Rattle.soundness.specs.Certified.{operations_in, sealed_count}
 use Rattle.soundness.specs.Timed.{added_among, evicted_among}
 use Rattle.soundness.specs.Typed.{IsTyped}

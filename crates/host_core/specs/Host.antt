@@ -9,7 +9,7 @@ use Rattle.log_codec.specs.declared.command.Command.{Command}
 use Rattle.merkle_records.specs.Scheme.{Scheme, scheme_of}
 use Rattle.verifier_cache.specs.Cache.{Held}
 use Rattle.verifier_commands.specs.declared.state.State.{State}
-use Rattle.soundness.specs.History.{Machinery, machinery_under, rules_under}
+use Rattle.soundness.specs.StateHistory.{Machinery, machinery_under, rules_under}
 
 -- what a worker did: the commands that join its log, what it made of what it had, and its clock after
 pub record Done (X : Type 0) : Type 0 where

@@ -7,7 +7,8 @@ use Rattle.verifier_commands.specs.declared.state.State.{State}
 use Rattle.verifier_commands.specs.Change.{Change}
 use Rattle.verifier_commands.specs.Transition.{Rules, Step, transition}
 use Rattle.verifier_commands.proofs.InvertLaws.{and_then-ok}
-use Rattle.soundness.specs.History.{Event, events_behind, events_from, refusal_behind, refusal_from, machinery_under}
+use Rattle.soundness.specs.History.{Event}
+use Rattle.soundness.specs.StateHistory.{events_behind, events_from, refusal_behind, refusal_from, machinery_under}
 use Rattle.host_laws.specs.Running.{Told, run, as_events, IsHistory}
 use Rattle.host_laws.proofs.StepLemmas.{and_then-there}
 

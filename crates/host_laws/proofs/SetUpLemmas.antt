@@ -26,7 +26,7 @@ use Rattle.verifier_commands.specs.Change.{Change, did_add_m, did_evict_m}
 use Rattle.verifier_commands.specs.Changes.{above, above_on, leads_to}
 use Rattle.verifier_commands.specs.Transition.{Rules}
 use Rattle.soundness.specs.Clash.{is_known}
-use Rattle.soundness.specs.History.{rules_under}
+use Rattle.soundness.specs.StateHistory.{rules_under}
 use Rattle.soundness.specs.Typed.{IsTyped}
 use Rattle.host_shard.specs.Content.{Content, pending}
 use Rattle.host_plan.specs.Moments.{giving}

@@ -11,7 +11,8 @@ use Rattle.verifier_cache.specs.declared.entry.Entry.{Entry}
 use Rattle.verifier_commands.specs.declared.state.State.{State}
 use Rattle.verifier_commands.specs.Change.{Change, did_add_m, did_evict_m, did_add_b, did_evict_b, did_evict_bm, did_get, did_put, did_next_epoch}
 use Rattle.verifier_commands.specs.Transition.{Rules, transition}
-use Rattle.soundness.specs.History.{Event, events_from, refusal_from, machinery_under}
+use Rattle.soundness.specs.History.{Event}
+use Rattle.soundness.specs.StateHistory.{events_from, refusal_from, machinery_under}
 use Rattle.soundness.specs.Certified.{added_by, evicted_by}
 
 -- what accepted commands did, each with the clock after it

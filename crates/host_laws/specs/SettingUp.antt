@@ -16,7 +16,7 @@ use Rattle.verifier_commands.specs.declared.state.State.{State}
 use Rattle.verifier_commands.specs.State.{opening}
 use Rattle.verifier_commands.specs.Change.{Change, did_add_m, did_evict_m, did_add_b, did_evict_b, did_evict_bm, did_get, did_put, did_next_epoch}
 use Rattle.verifier_commands.specs.Changes.{above}
-use Rattle.soundness.specs.History.{rules_under}
+use Rattle.soundness.specs.StateHistory.{rules_under}
 use Rattle.soundness.specs.Clash.{is_known}
 use Rattle.soundness.specs.Typed.{IsTyped}
 use Rattle.host_shard.specs.Content.{pending}

@@ -16,6 +16,7 @@ pub mod PermutationLaws
 mod SerialLemmas
 mod ScheduleLemmas
 pub mod HistoryLaws
+pub mod StateHistoryLaws
 mod TimedLemmas
 pub mod SplitLaws
 mod OrderLemmas

@@ -1,5 +1,6 @@
 -- The definitions of soundness, in reading order.
 pub mod History
+pub mod StateHistory
 pub mod Certified
 pub mod Clash
 pub mod Spot

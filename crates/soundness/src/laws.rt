@@ -6,11 +6,12 @@ ghost use Rattle.lamport_clocks.specs.declared.header.Header.{Header};
 ghost use Rattle.log_codec.specs.declared.command.Command.{Command};
 ghost use Rattle.record_hash.specs.Functions.{DigestFunctions};
 ghost use Rattle.merkle_records.specs.Merkle.{GivesDigests};
-ghost use Rattle.merkle_records.specs.Scheme.{scheme_of};
+ghost use Rattle.merkle_records.specs.Scheme.{Scheme, scheme_of};
 ghost use Rattle.stamp_order.specs.Merged.{up_to, of_verifier};
 ghost use Rattle.record_text.specs.declared.element.Element.{Element};
 ghost use Rattle.record_text.specs.Format.{format_of};
 ghost use Rattle.soundness.specs.History.{Event, log_events, histories_of};
+ghost use Rattle.soundness.specs.StateHistory.{HistoryFromState};
 ghost use Rattle.soundness.specs.Certified.{event_moment, order_of, order_up_to, order_after, order_within, operations_in, operations_of, epochs_from, certified_count, certified_operations};
 ghost use Rattle.soundness.specs.Timed.{AreTimed, added_among, evicted_among, IsRising};
 ghost use Rattle.soundness.specs.Permutation.{same_element, count_of};
@@ -148,4 +149,10 @@ pub fn adds_take_what_is_there()
         → order_up_to last (histories_of (scheme_of functions header) header logs) ≡ front ++ event ∷ back
         → first_clash (format_of header) none_evicted (changes_in (front ++ event ∷ [])) ≡ None
         → TakesFromSpots functions.digest header front event.change }
+{}
+
+/// The history of a log, and the refusal that ends it, are told from the opening state of its verifier alone, whatever its
+/// sums: as a host knows what commands do from where a verifier rests.
+pub fn histories_are_told_from_states()
+    ensures told { (scheme : Scheme) (header : Header) (number : ℕ) (commands : List Command) → HistoryFromState scheme header number commands }
 {}

@@ -20,5 +20,6 @@ mod laws;
 pub use laws::{
     adds_take_what_is_there, certified_is_serial_or_collides, elements_added_later_wait,
     even_epochs_are_scheduled, evicted_elements_are_distinct, evicted_elements_are_timed,
-    merged_order_keeps_each_log, operations_come_epoch_by_epoch, records_have_one_spot,
+    histories_are_told_from_states, merged_order_keeps_each_log, operations_come_epoch_by_epoch,
+    records_have_one_spot,
 };

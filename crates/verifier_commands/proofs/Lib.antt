@@ -1,6 +1,6 @@
 -- Lemmas on the tests of the transition.
 mod KeyLemmas
-mod BelowLaws
+pub mod BelowLaws
 mod CacheLemmas
 pub mod BoundLaws
 pub mod InvertLaws
