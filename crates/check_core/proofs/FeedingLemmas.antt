@@ -80,7 +80,7 @@ takes-own functions number slots left rest slot old now new is own taken starved
       fed = λ fine. on.fed (starved-back now.is_starved new.is_starved starved fine);
       taken = λ fine.
           ap (λ (run : Progress Operation). took scheme number run (map frame_in rest))
-          (taken fine ∙ ap (λ (h : Header). fed (scheme_of functions h) now.run slot.body) on.header)
+          (taken fine ∙ ap (λ (h : Header). fed keeps_operations (scheme_of functions h) now.run slot.body) on.header)
           ∙ sym (ap (λ (l : List Slot). took scheme number now.run (map frame_in l)) is
           ∙ ap (λ (t : Bool). took scheme number (if t then fed keeps_operations scheme now.run slot.body else now.run) (map frame_in rest)) (eq-eqb slot.verifier number own))
           ∙ on.taken (starved-back now.is_starved new.is_starved starved fine);

@@ -1,19 +1,23 @@
 //! What a check comes to, with nothing written.
-ghost use Rattle.std.specs.Prelude.{◌≡◌, ◌≤◌, ℕ, IfOk, length, map, vec_len};
+ghost use Rattle.std.specs.Prelude.{◌≡◌, ◌≤◌, ℕ, Some, IfOk, length, map, vec_len};
 ghost use Rattle.merkle_records.specs.Scheme.{scheme_of};
+ghost use Rattle.lamport_clocks.specs.declared.header.Header.{Header};
 ghost use Rattle.lamport_clocks.specs.Header.{IsHeader};
 ghost use Rattle.check_core.specs.Intake.{logs_in, logged};
 ghost use Rattle.report_text.specs.Ending.{status_of};
+ghost use Rattle.verifier_run.specs.LogCourse.{courses_keeping};
 ghost use Rattle.bundle_report.specs.Answer.{certified_at, answer_by};
-ghost use Rattle.bundle_report.specs.RunReport.{courses_of, parts_at};
-ghost use Rattle.bundle_report.specs.Judged.{CanBeJudged, judged, answer_of_runs};
+ghost use Rattle.bundle_report.specs.RunReport.{parts_at};
+ghost use Rattle.bundle_report.specs.Judged.{CanBeJudged, judged, refused_log, end_by};
 
 use crate::intake::Intake;
-use certified_epochs::{FedRun, end_of, first_refused, judge};
+use crate::judging::{first_refused, judge};
+use certified_epochs::end_of;
 use lamport_clocks::Header;
 use record_hash::Digests;
 use report_text::BundleEnd;
 use std::alloc::Global;
+use verifier_run::{Kept, Run, run_logs};
 use want_of_memory::Memory;
 
 /// How many epochs of a bundle are certified, from the first on, and how its report ends.
@@ -23,76 +27,81 @@ pub struct Conclusion {
     pub end: BundleEnd,
 }
 
-/// What a check of a bundle that was read comes to. It takes no threads: the logs are run one after another.
-pub fn conclude<D: Digests>(alloc: Global, d: &D, intake: &Intake) -> Result<Conclusion, Memory>
-    ensures certified { IfOk result (λ found. found.certified
+/// What a check of a bundle comes to, and the runs of its logs that tell it.
+#[derive(Drop)]
+pub struct Concluded<T: Kept> {
+    pub conclusion: Conclusion,
+    pub runs: Vec<Run<T>>,
+}
+
+/// What a check of a bundle that was read comes to, with the runs of its logs and what they kept. It takes no threads: the
+/// logs are run one after another, each once.
+pub fn conclude<T: Kept, D: Digests>(
+    alloc: Global,
+    d: &D,
+    intake: &Intake,
+) -> Result<Concluded<T>, Memory>
+    ensures certified { IfOk result (λ found. found.conclusion.certified
         ≡ certified_at (D.functions d.now) intake.now.header (logs_in intake.now)) }
-    ensures end { IfOk result (λ found. status_of found.end ≡ (answer_by (D.functions d.now) (logged intake.now)).status) }
+    ensures end { IfOk result (λ found. status_of found.conclusion.end
+        ≡ (answer_by (D.functions d.now) (logged intake.now)).status) }
+    ensures runs { (header : Header) → intake.now.header ≡ Some header → IfOk result (λ found. map (λ run. run.course) found.runs.items
+        ≡ courses_keeping T.keeps (scheme_of (D.functions d.now) header) header 0 (logs_in intake.now)) }
 {
     match intake.header {
         Some(header) => conclude_logs(alloc, d, &header, intake),
-        None => Ok(Conclusion {
-            certified: 0,
-            end: BundleEnd::BadBundle { offset: 0 },
+        None => Ok(Concluded {
+            conclusion: Conclusion {
+                certified: 0,
+                end: BundleEnd::BadBundle { offset: 0 },
+            },
+            runs: Vec::new(alloc),
         }),
     }
 }
 
 // What the logs under a header come to.
-fn conclude_logs<D: Digests>(
+fn conclude_logs<T: Kept, D: Digests>(
     alloc: Global,
     d: &D,
     header: &Header,
     intake: &Intake,
-) -> Result<Conclusion, Memory>
+) -> Result<Concluded<T>, Memory>
     requires header { IsHeader header.now }
     requires count { vec_len intake.now.logs ≡ header.now.verifiers }
     ensures certified { IfOk result (λ found.
-        let courses = courses_of (scheme_of (D.functions d.now) header.now) header.now (logs_in intake.now) in
-        found.certified ≡ (judged (length courses) courses).count) }
-    ensures end { IfOk result (λ found. status_of found.end
-        ≡ (answer_of_runs (courses_of (scheme_of (D.functions d.now) header.now) header.now (logs_in intake.now)) intake.now.bad).status) }
+        let courses = courses_keeping T.keeps (scheme_of (D.functions d.now) header.now) header.now 0 (logs_in intake.now) in
+        found.conclusion.certified ≡ (judged (length courses) courses).count) }
+    ensures end { IfOk result (λ found.
+        let courses = courses_keeping T.keeps (scheme_of (D.functions d.now) header.now) header.now 0 (logs_in intake.now) in
+        found.conclusion.end ≡ end_by (judged (length courses) courses).count (judged (length courses) courses).unbalanced
+        (refused_log 0 courses) intake.now.bad) }
+    ensures runs { IfOk result (λ found. map (λ run. run.course) found.runs.items
+        ≡ courses_keeping T.keeps (scheme_of (D.functions d.now) header.now) header.now 0 (logs_in intake.now)) }
 {
-    match run_in_turn(alloc, d, header, &intake.logs) {
-        Ok(runs) => conclude_runs(alloc, &runs, intake.bad),
-        Err(_) => Err(Memory),
-    }
+    let runs = run_logs(alloc, d, header, &intake.logs)?;
+    let conclusion = conclude_runs(alloc, &runs, intake.bad)?;
+    Ok(Concluded { conclusion, runs })
 }
 
 // What runs of all logs come to, in a bundle in which so much is bad.
-fn conclude_runs(alloc: Global, runs: &[FedRun], bad: Option<u64>) -> Result<Conclusion, Memory>
+fn conclude_runs<T: Kept>(
+    alloc: Global,
+    runs: &[Run<T>],
+    bad: Option<u64>,
+) -> Result<Conclusion, Memory>
     requires few { length runs.now ≤ 64 }
-    requires parts { (index : ℕ) → CanBeJudged (length runs.now) (parts_at index (map (λ fed. fed.run.course) runs.now)) }
-    ensures certified { IfOk result (λ found. found.certified ≡ (judged (length runs.now) (map (λ fed. fed.run.course) runs.now)).count) }
-    ensures end { IfOk result (λ found. status_of found.end ≡ (answer_of_runs (map (λ fed. fed.run.course) runs.now) bad).status) }
+    requires parts { (index : ℕ) → CanBeJudged (length runs.now) (parts_at index (map (λ run. run.course) runs.now)) }
+    ensures certified { IfOk result (λ found. found.certified ≡ (judged (length runs.now) (map (λ run. run.course) runs.now)).count) }
+    ensures end { IfOk result (λ found.
+        let courses = map (λ run. run.course) runs.now in
+        found.end ≡ end_by (judged (length runs.now) courses).count (judged (length runs.now) courses).unbalanced
+        (refused_log 0 courses) bad) }
 {
-    // No `?` here: Rattle's borrow checker can't build its part of the proof with one.
-    let judged = match judge(alloc, runs) {
-        Ok(judged) => judged,
-        Err(_) => return Err(Memory),
-    };
+    let judged = judge(alloc, runs)?;
     let end = end_of(&judged, first_refused(runs), bad);
     Ok(Conclusion {
         certified: judged.count as u64,
         end,
     })
-}
-
-// Runs each log, one after another.
-fn run_in_turn<D: Digests>(
-    alloc: Global,
-    d: &D,
-    header: &Header,
-    logs: &[Vec<u8>],
-) -> Result<Vec<FedRun>, Memory>
-    requires header { IsHeader header.now }
-    requires count { length logs.now ≡ header.now.verifiers }
-    ensures courses { IfOk result (λ runs. map (λ fed. fed.run.course) runs.items
-        ≡ courses_of (scheme_of (D.functions d.now) header.now) header.now (map (λ log. log.items) logs.now)) }
-{
-    let mut runs = Vec::new(alloc);
-    for (number, log) in logs.iter().enumerate() {
-        runs.push(FedRun::over(alloc, d, number as u16, header, log)?)?;
-    }
-    Ok(runs)
 }

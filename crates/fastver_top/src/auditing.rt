@@ -1,5 +1,5 @@
 //! An audit of a bundle: what there is to exhibit, and how its report ends.
-ghost use Rattle.std.specs.Prelude.{◌≡◌, ◌≢◌, ◌⊎◌, ◌≤◌, ◌^◌, ◌++◌, IfOk, IfSome, OnOk, OnErr, Ok, Err};
+ghost use Rattle.std.specs.Prelude.{◌≡◌, ◌≢◌, ◌⊎◌, ◌≤◌, ◌^◌, ◌++◌, ℕ, List, map, IfOk, IfSome, OnOk, OnErr, Ok, Err};
 ghost use Rattle.fv_outside.specs.Faults.{Counts, Rose};
 ghost use Rattle.fv_outside.specs.Written.{Grows, GrowsByFront};
 ghost use Rattle.report_text.specs.Ending.{status_of};
@@ -7,6 +7,8 @@ ghost use Rattle.bundle_frames.specs.Extent.{reading_end};
 ghost use Rattle.report_text.specs.Answer.{AnswersTo};
 ghost use Rattle.report_text.specs.Exhibit.{exhibit_text};
 ghost use Rattle.report_text.specs.Status.{last_line};
+ghost use Rattle.record_hash.specs.Functions.{DigestFunctions};
+ghost use Rattle.collision_exhibit.specs.Audited.{AreAudited, audited_courses};
 ghost use Rattle.check_core.specs.Intake.{logs_in, logged};
 ghost use Rattle.bundle_report.specs.Answer.{certified_at, EndsAs};
 ghost use Rattle.bundle_report.specs.Headline.{exhibit_at};
@@ -16,16 +18,18 @@ ghost use Rattle.fastver_top.specs.Answers.{IsAuditStatus};
 use crate::audit_end::AuditEnd;
 use bundle_report::{ReportStop, digests_have_32_bytes};
 use check_core::{Conclusion, Intake, conclude, read_bundle};
-use collision_exhibit::audit;
+use collision_exhibit::{AuditEvent, exhibit_of_runs};
 use fv_outside::{Failed, Sink, Source};
+use lamport_clocks::Header;
 use record_hash::Digests;
 use record_text::Exhibit;
 use report_text::{Status, write_exhibit, write_last};
 use std::alloc::Global;
+use verifier_run::Run;
 use want_of_memory::Memory;
 
 /// Reads a bundle of no more than so many bytes, and writes what an audit of it shows: the exhibit over its
-/// certified epochs, and the last line of its report.
+/// certified epochs, and the last line of its report. Each log is run once.
 pub fn audit_text<D: Digests + Sync, S: Source, O: Sink>(
     alloc: Global,
     d: &D,
@@ -68,24 +72,25 @@ fn audit_intake<D: Digests, O: Sink>(
     ensures unwritten { result ≡ Err ReportStop.Memory → out.new ≡ out.old }
     ensures write_fault { result ≡ Err ReportStop.WriteFault → Rose (O.faults out.old) (O.faults out.new) }
 {
-    let found = conclude(alloc, d, intake)?;
-    let exhibit = exhibit_in(alloc, d, intake, found.certified)?;
-    written(&exhibit, &found, out)
+    let found = conclude::<AuditEvent, D>(alloc, d, intake)?;
+    let exhibit = exhibit_of(alloc, intake.header, found.runs, found.conclusion.certified)?;
+    written(&exhibit, &found.conclusion, out)
 }
 
-// The exhibit of what was read, where so many epochs are certified.
-fn exhibit_in<D: Digests>(
+// The exhibit of a bundle with this header and these runs of its logs, where so many epochs are certified.
+fn exhibit_of(
     alloc: Global,
-    d: &D,
-    intake: &Intake,
+    header: Option<Header>,
+    runs: Vec<Run<AuditEvent>>,
     certified: u64,
 ) -> Result<Exhibit, Memory>
-    requires certified { certified ≡ certified_at (D.functions d.now) intake.now.header (logs_in intake.now) }
-    ensures exhibit { IfOk result (λ exhibit. exhibit
-        ≡ exhibit_at (D.functions d.now) intake.now.header (logs_in intake.now)) }
+    requires audited { IfSome header (λ header. AreAudited (map (λ run. run.course) runs.items)) }
+    ensures exhibit { (functions : DigestFunctions) (logs : List (List ℕ)) → certified ≡ certified_at functions header logs
+        → IfSome header (λ header. map (λ run. run.course) runs.items ≡ audited_courses functions header logs)
+        → IfOk result (λ exhibit. exhibit ≡ exhibit_at functions header logs) }
 {
-    match intake.header {
-        Some(header) => audit(alloc, d, &header, &intake.logs, certified),
+    match header {
+        Some(header) => exhibit_of_runs(alloc, runs, header.first, certified),
         None => Ok(Exhibit::Clean),
     }
 }
