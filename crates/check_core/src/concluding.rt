@@ -6,7 +6,7 @@ ghost use Rattle.check_core.specs.Intake.{logs_in, logged};
 ghost use Rattle.report_text.specs.Ending.{status_of};
 ghost use Rattle.bundle_report.specs.Answer.{certified_at, answer_by};
 ghost use Rattle.bundle_report.specs.RunReport.{courses_of, parts_at};
-ghost use Rattle.bundle_report.specs.Judged.{CanBeJudged, judged, answer_of_runs};
+ghost use Rattle.bundle_report.specs.Judged.{CanBeJudged, judged, end_of_runs};
 
 use crate::intake::Intake;
 use certified_epochs::{FedRun, end_of, first_refused, judge};
@@ -50,8 +50,8 @@ fn conclude_logs<D: Digests>(
     ensures certified { IfOk result (λ found.
         let courses = courses_of (scheme_of (D.functions d.now) header.now) header.now (logs_in intake.now) in
         found.certified ≡ (judged (length courses) courses).count) }
-    ensures end { IfOk result (λ found. status_of found.end
-        ≡ (answer_of_runs (courses_of (scheme_of (D.functions d.now) header.now) header.now (logs_in intake.now)) intake.now.bad).status) }
+    ensures end { IfOk result (λ found. found.end
+        ≡ end_of_runs (courses_of (scheme_of (D.functions d.now) header.now) header.now (logs_in intake.now)) intake.now.bad) }
 {
     match run_in_turn(alloc, d, header, &intake.logs) {
         Ok(runs) => conclude_runs(alloc, &runs, intake.bad),
@@ -64,7 +64,7 @@ fn conclude_runs(alloc: Global, runs: &[FedRun], bad: Option<u64>) -> Result<Con
     requires few { length runs.now ≤ 64 }
     requires parts { (index : ℕ) → CanBeJudged (length runs.now) (parts_at index (map (λ fed. fed.run.course) runs.now)) }
     ensures certified { IfOk result (λ found. found.certified ≡ (judged (length runs.now) (map (λ fed. fed.run.course) runs.now)).count) }
-    ensures end { IfOk result (λ found. status_of found.end ≡ (answer_of_runs (map (λ fed. fed.run.course) runs.now) bad).status) }
+    ensures end { IfOk result (λ found. found.end ≡ end_of_runs (map (λ fed. fed.run.course) runs.now) bad) }
 {
     // No `?` here: Rattle's borrow checker can't build its part of the proof with one.
     let judged = match judge(alloc, runs) {
