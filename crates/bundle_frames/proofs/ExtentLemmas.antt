@@ -289,7 +289,11 @@ unfinished-partial (Some header) held partial =
           (record { head = λ more. (frame-part header held partial (omega arith)).0; body = λ more. (frame-part header held partial (omega arith)).1 });
     }
 
--- while reading has not ended, no frame is left in the bytes that were taken
+-- while reading has not ended, no header and no frame is left in the bytes that were taken
+pub no_header_due : (p : Progress) → IsDue p → (rest_of p []).header ≡ p.header
+no_header_due p due =
+    ap (λ (b : Bundle). b.header) (rest-end p.header p.offset p.held (unfinished-partial p.header p.held due.partial) due.at_start)
+
 pub no_frames_due : (p : Progress) → IsDue p → (rest_of p []).frames ≡ []
 no_frames_due p due =
     ap (λ (b : Bundle). b.frames) (rest-end p.header p.offset p.held (unfinished-partial p.header p.held due.partial) due.at_start)

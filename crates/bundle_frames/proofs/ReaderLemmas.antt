@@ -8,7 +8,7 @@ use Rattle.std.specs.Io.KnownBytes.{Consumes, IsAtEnd, Keeps}
 use Rattle.bundle_frames.specs.Progress.{Progress, position, rest_of}
 use Rattle.bundle_frames.specs.Extent.{end_behind, IsDue}
 use Rattle.bundle_frames.specs.Reading.{Reading, IsSpent, HasRead, ReadsAs}
-use Rattle.bundle_frames.proofs.ExtentLemmas.{due-before, end-all, no_frames_due}
+use Rattle.bundle_frames.proofs.ExtentLemmas.{due-before, end-all, no_header_due, no_frames_due}
 
 -- ---- the room
 
@@ -99,9 +99,10 @@ over_at_end p at unread (Some bytes) ends none within =
     subst (λ (left : List ℕ). end_behind p (unread ++ left) ≤ at) (sym ends)
     (subst (λ (front : List ℕ). end_behind p (front ++ []) ≤ at) (sym none) (omega arith))
 
--- where nothing is unread and reading has not ended, no frame is left of what was read
+-- where nothing is unread and reading has not ended, no header and no frame is left of what was read
 pub spent_due : (reading : Reading) → IsDue reading.progress → reading.unread ≡ [] → IsSpent reading
 spent_due reading due none = record {
   unread = none;
+  no_header = ap (λ (unread : List ℕ). (rest_of reading.progress (unread ++ [])).header) none ∙ no_header_due reading.progress due;
   no_frames = ap (λ (unread : List ℕ). (rest_of reading.progress (unread ++ [])).frames) none ∙ no_frames_due reading.progress due;
 }

@@ -51,9 +51,10 @@ abbrev pub header_known : Option Next → Option Header → Option Header
 header_known None known = known
 header_known (Some next) known = header_then (Ok next) known
 
--- all that was read is split, and no frame is left in it
+-- all that was read is split, and no header and no frame is left in it
 pub record IsSpent (reading : Reading) : Type 0 where
   pub unread : reading.unread ≡ []
+  pub no_header : (ahead reading []).header ≡ reading.progress.header
   pub no_frames : (ahead reading []).frames ≡ []
 
 -- where a source tells its bytes: so many of the first were read, and those behind them are left

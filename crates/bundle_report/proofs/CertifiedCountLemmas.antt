@@ -11,7 +11,7 @@ use Rattle.soundness.specs.Certified.{order_of, added_in, sum_over, sealed_by_al
 use Rattle.bundle_report.specs.BundleReport.{done_or_bad, end_or, end_of, histories_in}
 use Rattle.bundle_report.specs.RunReport.{courses_of, first_refused}
 use Rattle.bundle_report.proofs.EpochVerdictLemmas.{epoch_verdict, verdict-balanced, verdict-unbalanced, verdict-missing}
-use Rattle.bundle_report.proofs.RunTextLemmas.{exit-unbalanced, exit-whole}
+use Rattle.bundle_report.proofs.RunEndLemmas.{exit-unbalanced, exit-whole}
 
 module _ (scheme : Scheme) (header : Header) (logs : List (List ℕ)) where
   abbrev histories : List (List Event)

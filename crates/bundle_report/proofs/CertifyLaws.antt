@@ -1,5 +1,5 @@
--- What the runs of all verifiers come to is the verdict by their logs, and their parts can be judged.
-use Rattle.std.proofs.Common.{◌≡◌, ℕ, zero, suc, ◌+◌, ◌-◌, ◌<◌, ◌≤◌, List, [], ◌∷◌, ◌++◌, length, map, take, drop, slice_get, Option, Some, None, refl, sym, ◌∙◌, ap, subst, add-zero, arith}
+-- How many epochs the runs of all verifiers tell to be certified, how their report ends, and that their parts can be judged.
+use Rattle.std.proofs.Common.{◌≡◌, ℕ, zero, suc, ◌+◌, ◌-◌, ◌≤◌, List, [], ◌∷◌, length, map, Option, Some, None, refl, sym, ◌∙◌, ap, subst, add-zero, arith}
 use Rattle.merkle_records.specs.Scheme.{Scheme}
 use Rattle.std.specs.Option.{option_map, option_or}
 use Rattle.lamport_clocks.specs.declared.header.Header.{Header}
@@ -14,79 +14,24 @@ use Rattle.epoch_gather.specs.Verdict.{verdict_of}
 use Rattle.verifier_run.specs.Course.{Course}
 use Rattle.report_text.specs.declared.ending.BundleEnd.{BundleEnd}
 use Rattle.report_text.specs.declared.ending.BundleEnd.TheVariants as ends
-use Rattle.report_text.specs.Status.{last_line}
-use Rattle.report_text.specs.Ending.{status_of}
 use Rattle.soundness.specs.History.{Event, log_events}
 use Rattle.soundness.specs.Certified.{order_of, sealed_count, sealed_by_all, balanced_from, epochs_from, certified_count}
 use Rattle.bundle_report.specs.declared.judged.Judged.{Judged}
-use Rattle.bundle_report.specs.Answer.{answer_on}
-use Rattle.report_text.specs.Answer.{Answer}
-use Rattle.bundle_report.specs.Report.{front_count, epoch_text, certified_text}
-use Rattle.bundle_report.specs.BundleReport.{refused_end, done_or_bad, end_or, end_of, report_of_logs, histories_in}
-use Rattle.bundle_report.specs.RunReport.{courses_from, courses_of, parts_at, operations_among, operations_within, first_refused, epochs_text}
-use Rattle.bundle_report.specs.Judged.{judged_by, judged_from, judged, CanBeJudged, first_parts, last_epoch, operations_by, refused_log_by, refused_log, end_by, answer_judged, answer_of_runs}
+use Rattle.bundle_report.specs.BundleReport.{refused_end, done_or_bad, end_or, end_of, histories_in}
+use Rattle.bundle_report.specs.RunReport.{courses_from, courses_of, parts_at, first_refused}
+use Rattle.bundle_report.specs.Judged.{judged_by, judged_from, judged, CanBeJudged, first_parts, refused_log_by, refused_log, end_by, end_of_runs}
 use Rattle.bundle_report.proofs.PartLemmas.{part_of, log-parts}
 use Rattle.bundle_report.proofs.EpochPartLemmas.{parts-numbers, parts-once, parts-counts}
 use Rattle.bundle_report.proofs.EpochVerdictLemmas.{epoch_verdict}
 use Rattle.bundle_report.proofs.RunReportLemmas.{told_from}
-use Rattle.bundle_report.proofs.RunTextLemmas.{exit-whole, report_by_courses}
+use Rattle.bundle_report.proofs.RunEndLemmas.{exit-whole}
 use Rattle.bundle_report.proofs.CertifiedCountLemmas.{counted_from, counted-start, counted-balanced, counted-unbalanced, counted-missing, ends-unbalanced, ends-missing}
 
 -- ---- the parts of epochs one after another
 
-module _ (scheme : Scheme) (number : ℕ) (events : List Event) where
-  -- the parts of so many epochs from this one on
-  abbrev parts_in : ℕ → ℕ → List Part
-  parts_in epoch count = map (part_of scheme number events) (epochs_from epoch count)
-
-  -- those of the first of them
-  take-parts : (count many epoch : ℕ) → count ≤ many → take count (parts_in epoch many) ≡ parts_in epoch count
-  take-parts zero many epoch within = refl
-  take-parts (suc count) zero epoch within = absurd (omega (arith, within))
-  take-parts (suc count) (suc many) epoch within =
-      ap (λ (parts : List Part). part_of scheme number events epoch ∷ parts)
-      (take-parts count many (suc epoch) (omega (arith, within)))
-
-  -- there are so many
-  parts-length : (count epoch : ℕ) → length (parts_in epoch count) ≡ count
-  parts-length zero epoch = refl
-  parts-length (suc count) epoch = ap suc (parts-length count (suc epoch))
-
-  -- the part at a place
-  part_there : (place count epoch : ℕ) → place < count
-      → slice_get (parts_in epoch count) place ≡ Some (part_of scheme number events (epoch + place))
-  part_there place zero epoch below = absurd (omega (arith, below))
-  part_there zero (suc count) epoch below =
-      let same : epoch ≡ epoch + 0 = omega arith in
-      ap (λ (e : ℕ). Some (part_of scheme number events e)) same
-  part_there (suc place) (suc count) epoch below =
-      let same : suc epoch + place ≡ epoch + suc place = omega arith in
-      part_there place count (suc epoch) (omega (arith, below))
-      ∙ ap (λ (e : ℕ). Some (part_of scheme number events e)) same
-
-  -- the epoch of the last
-  last-part : (count epoch : ℕ) → last_epoch (parts_in epoch (suc count)) ≡ Some (epoch + count)
-  last-part count epoch =
-      let last : length (parts_in epoch (suc count)) - 1 ≡ count =
-      omega (arith, parts-length (suc count) epoch) in
-      ap (λ (place : ℕ). option_map (λ (part : Part). part.epoch) (slice_get (parts_in epoch (suc count)) place)) last
-      ∙ ap (option_map (λ (part : Part). part.epoch)) (part_there count (suc count) epoch (omega arith))
-
-  -- The operations up to it are those of so many epochs.
-  operations-parts : (count epoch : ℕ) (courses : List (Course Operation))
-      → operations_by (last_epoch (parts_in epoch count)) courses
-      ≡ operations_within epoch count (operations_among courses)
-  operations-parts zero epoch courses = refl
-  operations-parts (suc count) epoch courses =
-      ap (λ (last : Option ℕ). operations_by last courses) (last-part count epoch)
-
-  -- The lines of the parts are those of their epochs.
-  text-epochs : (count epoch : ℕ) (ops : List Operation)
-      → certified_text (parts_in epoch count) ops ≡ epochs_text epoch count ops
-  text-epochs zero epoch ops = refl
-  text-epochs (suc count) epoch ops =
-      ap (λ (text : List ℕ). epoch_text epoch (take (front_count epoch ops) ops) ++ text)
-      (text-epochs count (suc epoch) (drop (front_count epoch ops) ops))
+-- the parts of so many epochs from this one on
+abbrev parts_in : Scheme → ℕ → List Event → ℕ → ℕ → List Part
+parts_in scheme number events epoch count = map (part_of scheme number events) (epochs_from epoch count)
 
 -- ---- the first refused log
 
@@ -164,12 +109,10 @@ module _ (scheme : Scheme) (header : Header) (logs : List (List ℕ)) where
   abbrev exit : Option ℕ → BundleEnd
   exit bad = end_of scheme header read histories bad
 
-  -- What was judged of so many epochs, behind those that are known to be balanced, is what the histories say.
-  abbrev IsJudged : Option ℕ → ℕ → ℕ → Judged → Type 0
-  IsJudged bad done many more =
-      (done + more.count ≡ certified)
-      × (end_by (done + more.count) more.unbalanced (refused_log 0 courses) bad ≡ exit bad)
-      × (more.count ≤ many)
+  -- What was judged of epochs, behind those that are known to be balanced, is what the histories say.
+  abbrev IsJudged : Option ℕ → ℕ → Judged → Type 0
+  IsJudged bad done more =
+      (done + more.count ≡ certified) × (end_by (done + more.count) more.unbalanced (refused_log 0 courses) bad ≡ exit bad)
 
   -- behind all that are sealed nothing is counted
   counted-past : (done : ℕ) → sealed_by_all histories ≤ done → counted_from scheme header logs done ≡ done
@@ -179,39 +122,36 @@ module _ (scheme : Scheme) (header : Header) (logs : List (List ℕ)) where
 
   module _ (whole : length logs ≡ header.verifiers) (some : 1 ≤ header.verifiers) (bad : Option ℕ) where
     -- an epoch by its verdict, and those behind it
-    judged-epoch : (done many epoch : ℕ) → epoch ≡ header.first + done
+    judged-epoch : (done epoch : ℕ) → epoch ≡ header.first + done
         → counted_from scheme header logs done ≡ certified
         → (ruling : Verdict) → epoch_verdict scheme header logs done ≡ ruling → (more : Judged)
-        → (counted_from scheme header logs (suc done) ≡ certified → IsJudged bad (suc done) many more)
-        → IsJudged bad done (suc many) (judged_by epoch ruling more)
-    judged-epoch done many epoch at count Balanced is more further =
+        → (counted_from scheme header logs (suc done) ≡ certified → IsJudged bad (suc done) more)
+        → IsJudged bad done (judged_by epoch ruling more)
+    judged-epoch done epoch at count Balanced is more further =
         let next : suc done ≡ done + 1 = omega arith in
         let behind = further (ap (counted_from scheme header logs) next
         ∙ counted-balanced scheme header logs whole some done is ∙ count) in
         let same : suc done + more.count ≡ done + suc more.count = omega arith in (
           sym same ∙ behind.0,
           ap (λ (n : ℕ). end_by n more.unbalanced (refused_log 0 courses) bad) (sym same) ∙ behind.1,
-          omega (arith, behind.2),
         )
-    judged-epoch done many epoch at count (Unbalanced added evicted) is more further = (
+    judged-epoch done epoch at count (Unbalanced added evicted) is more further = (
       add-zero done ∙ sym (counted-unbalanced scheme header logs whole some done added evicted is) ∙ count,
       ap (λ (e : ℕ). ends.Unbalanced e added evicted) at
           ∙ ends-unbalanced scheme header logs whole some done bad added evicted count is,
-      omega arith,
     )
-    judged-epoch done many epoch at count (Missing verifier) is more further = (
+    judged-epoch done epoch at count (Missing verifier) is more further = (
       add-zero done ∙ sym (counted-missing scheme header logs whole some done verifier is) ∙ count,
       ends-even (done + 0) 0 courses bad
           ∙ ap (λ (n : ℕ). end_or (first_refused 0 courses) (done_or_bad n bad)) (add-zero done)
           ∙ ends-missing scheme header logs whole some done bad verifier count is,
-      omega arith,
     )
 
     -- So many epochs, where all that are sealed by all are among them and those before.
     judged-epochs : (number : ℕ) (events : List Event) (many done epoch : ℕ) → epoch ≡ header.first + done
         → sealed_by_all histories ≤ done + many
         → counted_from scheme header logs done ≡ certified
-        → IsJudged bad done many
+        → IsJudged bad done
         (judged_from header.verifiers done (parts_in scheme number events epoch many) courses)
     judged-epochs number events zero done epoch at past count =
         let own : done ≡ certified = sym (counted-past done (omega (arith, past))) ∙ count in
@@ -219,47 +159,14 @@ module _ (scheme : Scheme) (header : Header) (logs : List (List ℕ)) where
           same,
           ends-even (done + 0) 0 courses bad
               ∙ exit-whole scheme header logs bad (done + 0) same (omega (arith, past)),
-          omega arith,
         )
     judged-epochs number events (suc many) done epoch at past count =
         let next : suc epoch ≡ header.first + suc done = omega (arith, at) in
-        judged-epoch done many epoch at count
+        judged-epoch done epoch at count
         (verdict_of header.verifiers epoch (parts_at done courses))
         (ap (λ (e : ℕ). verdict_of header.verifiers e (parts_at done courses)) (sym at))
         (judged_from header.verifiers (suc done) (parts_in scheme number events (suc epoch) many) courses)
         (λ counted. judged-epochs number events many (suc done) (suc epoch) next (omega (arith, past)) counted)
-
-    -- ---- the verdict
-
-    -- an answer by its text and end
-    abbrev answer_told : List ℕ → BundleEnd → Answer
-    answer_told text end = record { text = text; status = status_of end }
-
-    -- What was judged, where the first course has the parts of so many epochs.
-    verdict-judged : (number : ℕ) (events : List Event) (many : ℕ) (found : Judged)
-        → first_parts courses ≡ parts_in scheme number events header.first many
-        → IsJudged bad 0 many found
-        → answer_judged found courses bad ≡ answer_on scheme header read bad
-    verdict-judged number events many found first is =
-        let count = found.count in
-        let ends = end_by count found.unbalanced (refused_log 0 courses) bad in
-        let parts : take count (first_parts courses) ≡ parts_in scheme number events header.first count =
-        ap (take count) first ∙ take-parts scheme number events count many header.first is.2 in
-        let own = operations_within header.first count (operations_among courses) in
-        let same : count ≡ 0 + count = omega arith in
-        let counted = same ∙ is.0 in
-        let ended : ends ≡ exit bad =
-        ap (λ (n : ℕ). end_by n found.unbalanced (refused_log 0 courses) bad) same ∙ is.1 in
-        ap (λ (ps : List Part). answer_told
-        (certified_text ps (operations_by (last_epoch ps) courses) ++ last_line (status_of ends)) ends) parts
-        ∙ ap (λ (ops : List Operation). answer_told
-        (certified_text (parts_in scheme number events header.first count) ops ++ last_line (status_of ends)) ends)
-        (operations-parts scheme number events count header.first courses)
-        ∙ ap (λ (text : List ℕ). answer_told (text ++ last_line (status_of ends)) ends)
-        (text-epochs scheme number events count header.first own)
-        ∙ ap (λ (text : List ℕ). answer_told text ends)
-        (report_by_courses scheme header logs bad count own ends counted refl ended)
-        ∙ ap (answer_told (report_of_logs scheme header read histories bad)) ended
 
 -- ---- of all verifiers
 
@@ -289,24 +196,12 @@ module _ (scheme : Scheme) (header : Header) (log : List ℕ) (logs : List (List
       ∙ judged-first header.verifiers all_courses
       ∙ ap (λ (parts : List Part). judged_from header.verifiers 0 parts all_courses) its-parts
 
-  found-judged : (bad : Option ℕ) → IsJudged scheme header (log ∷ logs) bad 0 (sealed_count first_events) found
+  found-judged : (bad : Option ℕ) → IsJudged scheme header (log ∷ logs) bad 0 found
   found-judged bad =
       judged-epochs scheme header (log ∷ logs) whole good.some_verifiers bad 0 first_events (sealed_count first_events) 0 header.first
       (sym (add-zero header.first))
       (omega (arith, sealed_first first_events (told_from scheme header 1 logs)))
       (counted-start scheme header (log ∷ logs))
-
--- What the runs of all verifiers come to is the verdict by their logs.
-pub verdict-many : (scheme : Scheme) (header : Header) (logs : List (List ℕ)) (bad : Option ℕ)
-    → IsHeader header → length logs ≡ header.verifiers
-    → answer_of_runs (courses_of scheme header logs) bad
-    ≡ answer_on scheme header (map (read_log scheme.format) logs) bad
-verdict-many scheme header [] bad good whole = absurd (omega (arith, whole, good.some_verifiers))
-verdict-many scheme header (log ∷ logs) bad good whole =
-    ap (λ (j : Judged). answer_judged j (courses_of scheme header (log ∷ logs)) bad) (judged-found scheme header log logs good whole)
-    ∙ verdict-judged scheme header (log ∷ logs) whole good.some_verifiers bad 0
-    (first_events scheme header log logs good whole) (sealed_count (first_events scheme header log logs good whole)) (found scheme header log logs good whole)
-    (its-parts scheme header log logs good whole) (found-judged scheme header log logs good whole bad)
 
 -- As many epochs are certified as are judged to be balanced.
 pub count-many : (scheme : Scheme) (header : Header) (logs : List (List ℕ)) → IsHeader header → length logs ≡ header.verifiers
@@ -347,3 +242,11 @@ judged-end scheme header (log ∷ logs) bad good whole =
     (by_verifiers scheme header (log ∷ logs) whole ∙ judged-found scheme header log logs good whole)
     ∙ ap (λ (n : ℕ). end_by n own.unbalanced (refused_log 0 (courses_of scheme header (log ∷ logs))) bad) same
     ∙ (found-judged scheme header log logs good whole bad).1
+
+-- The same as the runs of all logs tell it.
+pub end-many : (scheme : Scheme) (header : Header) (logs : List (List ℕ)) (bad : Option ℕ) → IsHeader header → length logs ≡ header.verifiers
+    → end_of_runs (courses_of scheme header logs) bad
+    ≡ end_of scheme header (map (read_log scheme.format) logs) (histories_in scheme header (map (read_log scheme.format) logs)) bad
+end-many scheme header logs bad good whole =
+    ap (λ (j : Judged). end_by j.count j.unbalanced (refused_log 0 (courses_of scheme header logs)) bad) (sym (by_verifiers scheme header logs whole))
+    ∙ judged-end scheme header logs bad good whole

@@ -2,9 +2,9 @@
 mod CountedLemmas
 mod SealedLemmas
 mod PartLemmas
-mod EpochTextLemmas
+mod EpochOperationsLemmas
 mod RunReportLemmas
-mod RunTextLemmas
+mod RunEndLemmas
 mod SmallPartLemmas
 mod OrderSumLemmas
 mod EpochPartLemmas
@@ -16,5 +16,6 @@ pub mod LeftLaws
 mod MoreLaws
 pub mod SoFarLaws
 pub mod LinesLaws
+pub mod DueLaws
 pub mod AnswerLaws
 pub mod HeadlineLaws

@@ -16,7 +16,7 @@ use Rattle.bundle_report.specs.Report.{epoch_text}
 use Rattle.bundle_report.specs.BundleReport.{epoch_lines, histories_in}
 use Rattle.bundle_report.specs.RunReport.{courses_of, operations_among}
 use Rattle.bundle_report.specs.SoFar.{epoch_operations, lines_told, lines_from}
-use Rattle.bundle_report.proofs.EpochTextLemmas.{operations-within}
+use Rattle.bundle_report.proofs.EpochOperationsLemmas.{operations-within}
 use Rattle.bundle_report.proofs.RunReportLemmas.{block_moment, operations-among}
 
 module _ (scheme : Scheme) (header : Header) (logs : List (List ℕ)) where

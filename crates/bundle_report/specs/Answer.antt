@@ -1,5 +1,5 @@
 -- What a check answers to bytes: its report, and the status that ends it.
-use Rattle.std.specs.Prelude.{ℕ, ◌≡◌, List, map, Option, Some, None, Result, Ok, Err}
+use Rattle.std.specs.Prelude.{ℕ, ◌≡◌, List, [], map, Option, Some, None, Result, Ok, Err}
 use Rattle.record_hash.specs.Functions.{DigestFunctions}
 use Rattle.record_hash.specs.ShaDigests.{sha_under}
 use Rattle.lamport_clocks.specs.declared.header.Header.{Header}
@@ -17,18 +17,19 @@ use Rattle.soundness.specs.Certified.{certified_count}
 use Rattle.bundle_report.specs.Logged.{Logged, logged_of}
 use Rattle.bundle_report.specs.declared.report_stop.ReportStop.{ReportStop}
 use Rattle.bundle_report.specs.declared.report_stop.ReportStop.TheVariants as stops
-use Rattle.bundle_report.specs.BundleReport.{histories_in, histories_at, end_of, report_of_logs}
+use Rattle.bundle_report.specs.BundleReport.{histories_in, histories_at, end_of, certified_lines, report_of_logs}
 
--- to logs under a header, in a bundle in which so much is bad
+-- to logs under a header, in a bundle in which so much is bad: the lines of all epochs that they certify are due
 abbrev pub answer_on : Scheme → Header → List Log → Option ℕ → Answer
 answer_on scheme header logs bad = record {
   text = report_of_logs scheme header logs (histories_in scheme header logs) bad;
+  due = certified_lines scheme header (histories_in scheme header logs);
   status = status_of (end_of scheme header logs (histories_in scheme header logs) bad);
 }
 
 -- to a bundle that isn't taken: nothing is certified, and it is bad from its first byte
 abbrev pub no_answer : Answer
-no_answer = record { text = last_line (BadBundle 0); status = BadBundle 0 }
+no_answer = record { text = last_line (BadBundle 0); due = []; status = BadBundle 0 }
 
 -- to a bundle with this header, if it is good, and these logs
 abbrev pub answer_at : DigestFunctions → Option Header → List (List ℕ) → Option ℕ → Answer

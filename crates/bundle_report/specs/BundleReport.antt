@@ -23,6 +23,12 @@ abbrev pub epoch_lines : List Operation → ℕ → List ℕ
 epoch_lines operations epoch =
     epoch_line epoch (length (operations_of epoch operations)) ++ flat_map operation_line (operations_of epoch operations)
 
+-- the lines of all certified epochs
+abbrev pub certified_lines : Scheme → Header → List (List Event) → List ℕ
+certified_lines scheme header histories =
+    flat_map (epoch_lines (certified_operations scheme header.first histories))
+    (epochs_from header.first (certified_count scheme header.first histories))
+
 -- ---- how it ends
 
 -- the command that is refused in a log and why, if one is: its number is how many were accepted
@@ -66,12 +72,10 @@ end_of scheme header logs histories bad =
     then unbalanced_end scheme (order_of histories) (header.first + certified)
     else end_or (refused_among scheme header 0 logs) (done_or_bad certified bad)
 
--- The report: the lines of each certified epoch, and the last line.
+-- The report: the lines of the certified epochs, and the last line.
 abbrev pub report_of_logs : Scheme → Header → List Log → List (List Event) → Option ℕ → List ℕ
 report_of_logs scheme header logs histories bad =
-    flat_map (epoch_lines (certified_operations scheme header.first histories))
-    (epochs_from header.first (certified_count scheme header.first histories))
-    ++ last_line (status_of (end_of scheme header logs histories bad))
+    certified_lines scheme header histories ++ last_line (status_of (end_of scheme header logs histories bad))
 
 -- the histories of logs that were read
 abbrev pub histories_in : Scheme → Header → List Log → List (List Event)

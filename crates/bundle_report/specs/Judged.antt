@@ -1,25 +1,19 @@
--- Which epochs are certified, with which operations, and how the report ends, as all runs tell it.
-use Rattle.std.specs.Prelude.{ℕ, suc, ◌-◌, ◌<◌, slice_get, ◌^◌, List, [], ◌∷◌, length, take, Option, Some, None, All}
+-- Which epochs are certified, and how the report ends, as all runs tell it.
+use Rattle.std.specs.Prelude.{ℕ, suc, ◌<◌, ◌^◌, List, [], ◌∷◌, length, Option, Some, None, All}
 use Rattle.std.specs.List.{IsDistinct}
-use Rattle.std.specs.Option.{option_map}
 use Rattle.multiset_sum.specs.declared.part.Part.{Part}
 use Rattle.epoch_gather.specs.declared.outcome.Verdict.{Verdict}
 use Rattle.epoch_gather.specs.declared.outcome.Verdict.TheVariants as verdicts
 use Rattle.epoch_gather.specs.Parts.{is_same_part}
 use Rattle.epoch_gather.specs.Verdict.{verdict_of}
-use Rattle.record_text.specs.declared.operation.Operation.{Operation}
 use Rattle.record_text.specs.declared.refusal.Refusal.{Refusal}
-use Rattle.stamp_order.specs.Operations.{merged_up_to}
 use Rattle.verifier_run.specs.Course.{Course}
 use Rattle.report_text.specs.declared.ending.BundleEnd.{BundleEnd}
 use Rattle.report_text.specs.declared.ending.BundleEnd.TheVariants.{Done, BadBundle, Refused, Unbalanced}
 use Rattle.bundle_report.specs.declared.judged.Judged.{Judged}
 use Rattle.bundle_report.specs.declared.judged.Uneven.{Uneven}
 use Rattle.bundle_report.specs.declared.refused_log.RefusedLog.{RefusedLog}
-use Rattle.report_text.specs.Ending.{status_of}
-use Rattle.report_text.specs.Answer.{Answer}
-use Rattle.bundle_report.specs.Report.{answer_with}
-use Rattle.bundle_report.specs.RunReport.{parts_at, operations_among}
+use Rattle.bundle_report.specs.RunReport.{parts_at}
 
 -- no epoch more
 abbrev pub none_judged : Judged
@@ -49,21 +43,12 @@ pub record CanBeJudged (verifiers : ℕ) (parts : List Part) : Type 0 where
   pub once : IsDistinct is_same_part parts
   pub counts : All (λ part. (part.added.count < 2 ^ 25) × (part.evicted.count < 2 ^ 25)) parts
 
--- ---- the report
+-- ---- how the report ends
 
 -- the parts of the sealed epochs of the first course
 abbrev pub first_parts : {A : Type 0} → List (Course A) → List Part
 first_parts [] = []
 first_parts (course ∷ courses) = course.parts
-
--- the epoch of the last part, if there is one
-abbrev pub last_epoch : List Part → Option ℕ
-last_epoch parts = option_map (λ part. part.epoch) (slice_get parts (length parts - 1))
-
--- the operations of all courses up to an epoch, in the one order
-abbrev pub operations_by : Option ℕ → List (Course Operation) → List Operation
-operations_by None courses = []
-operations_by (Some epoch) courses = merged_up_to epoch (operations_among courses)
 
 -- a course that is refused so, or the one that is found behind it
 abbrev pub refused_log_by : ℕ → Option (ℕ × Refusal) → Option RefusedLog → Option RefusedLog
@@ -82,13 +67,8 @@ end_by count None (Some log) bad = Refused log.verifier log.index log.refusal
 end_by count None None (Some offset) = BadBundle offset
 end_by count None None None = Done count
 
--- of what was judged
-abbrev pub answer_judged : Judged → List (Course Operation) → Option ℕ → Answer
-answer_judged judged courses bad =
-    answer_with (take judged.count (first_parts courses))
-    (operations_by (last_epoch (take judged.count (first_parts courses))) courses)
-    (status_of (end_by judged.count judged.unbalanced (refused_log 0 courses) bad))
-
--- of what all logs came to, in a bundle in which so much is bad
-abbrev pub answer_of_runs : List (Course Operation) → Option ℕ → Answer
-answer_of_runs courses bad = answer_judged (judged (length courses) courses) courses bad
+-- the same as all courses tell it, in a bundle in which so much is bad
+abbrev pub end_of_runs : {A : Type 0} → List (Course A) → Option ℕ → BundleEnd
+end_of_runs courses bad =
+    let found = judged (length courses) courses in
+    end_by found.count found.unbalanced (refused_log 0 courses) bad

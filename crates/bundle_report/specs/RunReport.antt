@@ -1,18 +1,16 @@
 -- The report of a bundle as the runs of its logs tell it: the courses of all verifiers, the lowest number first.
-use Rattle.std.specs.Prelude.{ℕ, zero, suc, ◌+◌, List, [], ◌∷◌, ◌++◌, take, drop, slice_get, Option, None}
+use Rattle.std.specs.Prelude.{ℕ, suc, List, [], ◌∷◌, ◌++◌, slice_get, Option, None}
 use Rattle.merkle_records.specs.Scheme.{Scheme}
 use Rattle.std.specs.List.{flat_map}
 use Rattle.std.specs.Option.{option_map, option_or, option_to_list}
 use Rattle.lamport_clocks.specs.declared.header.Header.{Header}
 use Rattle.multiset_sum.specs.declared.part.Part.{Part}
 use Rattle.record_text.specs.declared.operation.Operation.{Operation}
-use Rattle.stamp_order.specs.Operations.{merged_up_to}
 use Rattle.verifier_run.specs.Kept.{keeps_operations}
 use Rattle.verifier_run.specs.Course.{Course}
 use Rattle.verifier_run.specs.LogCourse.{courses_keeping}
 use Rattle.report_text.specs.declared.ending.BundleEnd.{BundleEnd}
 use Rattle.bundle_report.specs.BundleReport.{refused_end}
-use Rattle.bundle_report.specs.Report.{front_count, epoch_text}
 
 -- what the logs of verifiers come to, the first of which has this number, where operations are kept
 abbrev pub courses_from : Scheme → Header → ℕ → List (List ℕ) → List (Course Operation)
@@ -31,20 +29,8 @@ parts_at index (course ∷ courses) = option_to_list (slice_get course.parts ind
 abbrev pub operations_among : List (Course Operation) → List Operation
 operations_among courses = flat_map (λ course. course.items) courses
 
--- the operations of so many epochs from this one on, in the order of their moments
-abbrev pub operations_within : ℕ → ℕ → List Operation → List Operation
-operations_within first zero operations = []
-operations_within first (suc count) operations = merged_up_to (first + count) operations
-
 -- the status of the first course that is refused, if one is, where the first course is of the verifier of this number
 abbrev pub first_refused : {A : Type 0} → ℕ → List (Course A) → Option BundleEnd
 first_refused number [] = None
 first_refused number (course ∷ courses) =
     option_or (option_map (refused_end number) course.refused) (first_refused (suc number) courses)
-
--- The lines of so many epochs from this one on: the operations of each stand at the front of those that are left.
-abbrev pub epochs_text : ℕ → ℕ → List Operation → List ℕ
-epochs_text epoch zero operations = []
-epochs_text epoch (suc count) operations =
-    epoch_text epoch (take (front_count epoch operations) operations)
-    ++ epochs_text (suc epoch) count (drop (front_count epoch operations) operations)

@@ -42,6 +42,11 @@ abbrev pub left_from : ℕ → ℕ → Progress Operation → Progress Operation
 left_from first zero progress = progress
 left_from first (suc count) progress = left_of (first + count) progress
 
+-- the runs of so many verifiers, the first of which has this number, before the first byte
+abbrev pub opening_runs : Header → ℕ → ℕ → List (Progress Operation)
+opening_runs header number zero = []
+opening_runs header number (suc count) = opening_progress number header ∷ opening_runs header (suc number) count
+
 -- the runs of logs so far, the first of which is of the verifier of this number, with so many epochs taken out of each
 abbrev pub runs_from : Scheme → Header → ℕ → ℕ → List (List ℕ) → List (Progress Operation)
 runs_from scheme header count number [] = []

@@ -1,4 +1,3 @@
--- What one turn of certifying tells, runs one after another, and the lines of a report that is written at once.
+-- What one turn of certifying tells, and runs one after another.
 mod FedLemmas
 mod TurnLemmas
-mod ReportLemmas

@@ -101,8 +101,9 @@ impl Certifier {
             (lines_from (courses_of scheme header logs) (header.first + self.old.count)
             ((judged header.verifiers (courses_of scheme header logs)).count - self.old.count))) }
 
-        // With an answer, no run was starved.
+        // With an answer, no run was starved; where one was, nothing is written.
         ensures fed { OnOk result (AreFed runs.old × AreFed runs.new) }
+        ensures starved { (AreFed runs.old → ⊥) → (result ≡ Err ReportStop.Memory) × (out.new ≡ out.old) }
         ensures len { length runs.new ≡ length runs.old }
         ensures write_fault { result ≡ Err ReportStop.WriteFault → Rose (O.faults out.old) (O.faults out.new) }
         ensures never_falls { O.faults out.old ≤ O.faults out.new }
@@ -260,7 +261,8 @@ fn next_epoch(runs: &[FedRun]) -> Option<u32>
 
 // Whether memory was wanting for any run.
 fn any_starved(runs: &[FedRun]) -> bool
-    ensures value { result ≡ false → AreFed runs.now }
+    ensures none { result ≡ false → AreFed runs.now }
+    ensures one { result ≡ true → AreFed runs.now → ⊥ }
 {
     for fed in runs {
         if fed.is_starved {

@@ -1,7 +1,7 @@
 //! Certifying epoch by epoch: which epochs the runs of all verifiers certify, and their lines.
 //!
 //! The crate stands on `epoch_gather` for the verdict of an epoch, on `verifier_run` for the runs, and on
-//! `bundle_report`, which says what a report is. Begin with `judging.rt`.
+//! `bundle_report`, which says what a report is. Begin with `certifier.rt`.
 #![tactic(auto)]
 
 mod certifier;
@@ -9,10 +9,8 @@ mod ending;
 mod fed_run;
 mod judging;
 mod lines;
-mod report;
 
 pub use certifier::Certifier;
 pub use ending::{end_of, first_refused};
 pub use fed_run::FedRun;
 pub use judging::judge;
-pub use report::{certified_parts, last_epoch, operations_up_to, write_report};

@@ -13,7 +13,7 @@ use Rattle.report_text.specs.declared.ending.BundleEnd.{BundleEnd}
 use Rattle.report_text.specs.Ending.{status_of}
 use Rattle.bundle_report.specs.Answer.{answer_at}
 use Rattle.bundle_report.specs.RunReport.{parts_at}
-use Rattle.bundle_report.specs.Judged.{CanBeJudged, judged, refused_log, end_by}
+use Rattle.bundle_report.specs.Judged.{CanBeJudged, judged, end_of_runs}
 use Rattle.bundle_report.proofs.KeepingLaws.{keeping-length, judged-keeping, end-keeping}
 
 module _ {A R : Type 0} (course_of : R → Course A) (keeps : Event → List A) (scheme : Scheme) (header : Header) (logs : List (List ℕ))
@@ -40,7 +40,7 @@ module _ {A R : Type 0} (course_of : R → Course A) (keeps : Event → List A) 
 pub status_kept : {A : Type 0} (keeps : Event → List A) (functions : DigestFunctions) (found : Option Header) (header : Header) (logs : List (List ℕ)) (bad : Option ℕ)
     → found ≡ Some header → IsHeader header → length logs ≡ header.verifiers
     → let courses = courses_keeping keeps (scheme_of functions header) header 0 logs in
-    status_of (end_by (judged (length courses) courses).count (judged (length courses) courses).unbalanced (refused_log 0 courses) bad)
+    status_of (end_of_runs courses bad)
     ≡ (answer_at functions found logs bad).status
 status_kept keeps functions found header logs bad is good whole =
     ap status_of (end-keeping keeps (scheme_of functions header) header logs good whole bad)

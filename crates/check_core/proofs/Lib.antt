@@ -1,7 +1,10 @@
--- What reading a source comes to, and the logs that runs were of.
+-- What reading a source comes to, the logs that runs were of, and what a check answers batch by batch.
 mod BatchLemmas
 mod ConcludingLemmas
 mod FeedingLemmas
 mod LogLemmas
 mod MeaningLemmas
 mod RunningLemmas
+mod StreamLemmas
+mod EndingLemmas
+mod HeaderLemmas

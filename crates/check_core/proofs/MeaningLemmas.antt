@@ -1,12 +1,13 @@
 -- What was read of a bundle and joined, and what is left of it, mean the bundle.
 use Rattle.std.proofs.Common.{◌≡◌, ℕ, zero, suc, ◌+◌, ◌<◌, List, [], ◌∷◌, ◌++◌, length, map, Option, Some, None, Ok, IfSome, refl, sym, ◌∙◌, ap, append-nil, append_assoc, if◌then◌else◌, arith}
 use Rattle.std.proofs.lemmas.Bool.{eq-eqb, ne_eqb}
+use Rattle.std.proofs.lemmas.Grind.{flat_map-append}
 use Rattle.std.proofs.lemmas.List.{length-map}
 use Rattle.std.specs.Prelude.{IsSomeAnd}
 use Rattle.lamport_clocks.specs.declared.header.Header.{Header}
 use Rattle.bundle_frames.specs.declared.coming.Next.{Next}
 use Rattle.bundle_frames.specs.declared.coming.Next.TheVariants.{Head, Frame, End}
-use Rattle.bundle_frames.specs.Bundle.{Bundle, IsFrame, log_of, Frame as FrameOf}
+use Rattle.bundle_frames.specs.Bundle.{Bundle, IsFrame, body_for, log_of, Frame as FrameOf}
 use Rattle.bundle_frames.specs.Progress.{Progress, meaning_at}
 use Rattle.bundle_frames.specs.Reading.{Reading, opening_reading, ReadsAs, ahead, next_then, header_then}
 use Rattle.bundle_frames.proofs.ReadingLaws.{ReadsAs-kept, ReadsAs-map}
@@ -48,10 +49,19 @@ joined_frame number (suc index) bytes (log ∷ logs) frame frames is body within
     ∙ ap (λ (more : List (List ℕ)). (log ++ log_of number frames) ∷ more)
     (joined_frame (suc number) index bytes logs frame frames (omega (arith, is)) body (omega (arith, within)))
 
+-- frames, and then more of them
+pub joined_more : (number : ℕ) (logs : List (List ℕ)) (frames more : List FrameOf)
+    → joined_from number logs (frames ++ more) ≡ joined_from number (joined_from number logs frames) more
+joined_more number [] frames more = refl
+joined_more number (log ∷ logs) frames more =
+    ap (λ (bytes : List ℕ). (log ++ bytes) ∷ joined_from (suc number) logs (frames ++ more)) (flat_map-append (body_for number) frames more)
+    ∙ ap (λ (bytes : List ℕ). bytes ∷ joined_from (suc number) logs (frames ++ more)) (sym (append_assoc log (log_of number frames) (log_of number more)))
+    ∙ ap (λ (rest : List (List ℕ)). ((log ++ log_of number frames) ++ log_of number more) ∷ rest) (joined_more (suc number) logs frames more)
+
 -- ---- a bundle, read header and frame by frame
 
 -- behind a header that is known, that is the bundle's
-ahead_header : (reading : Reading) (header : Header) (more : List ℕ) → reading.progress.header ≡ Some header → (ahead reading more).header ≡ Some header
+pub ahead_header : (reading : Reading) (header : Header) (more : List ℕ) → reading.progress.header ≡ Some header → (ahead reading more).header ≡ Some header
 ahead_header reading header more known =
     let p : Progress = reading.progress in
     ap (λ (h : Option Header). (meaning_at h p.offset (p.held ++ (reading.unread ++ more))).header) known

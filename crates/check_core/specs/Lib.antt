@@ -4,4 +4,5 @@ pub mod Feeding
 pub mod Intake
 pub mod Outcomes
 pub mod Stops
+pub mod Stream
 pub use Rattle.bundle_report.specs

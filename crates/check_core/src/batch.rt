@@ -1,5 +1,5 @@
 //! Frames that are read before they are fed.
-ghost use Rattle.std.specs.Prelude.{◌≡◌, ◌≢◌, ℕ, ◌+◌, ◌-◌, ◌<◌, ◌≤◌, ◌++◌, ◌∷◌, [], length, map, take, true, false, Ok, Err, Some, IfSome, IsSome, OnOk, OnErr, vec_len};
+ghost use Rattle.std.specs.Prelude.{◌≡◌, ◌≢◌, ℕ, ◌+◌, ◌-◌, ◌<◌, ◌≤◌, ◌++◌, ◌∷◌, [], length, map, take, true, false, Ok, Some, IfOk, IfSome, IsSome, OnOk, OnErr, vec_len};
 ghost use Rattle.std.specs.List.{AllByRecursion};
 ghost use Rattle.fv_outside.specs.Consumed.{most_behind};
 ghost use Rattle.fv_outside.specs.Faults.{Rose};
@@ -10,8 +10,7 @@ ghost use Rattle.bundle_frames.specs.Progress.{position};
 ghost use Rattle.bundle_frames.specs.Reading.{ahead, end_ahead, HasRead, IsSpent};
 ghost use Rattle.check_core.specs.Batch.{frame_in, bytes_of, GoesOnBy};
 
-use crate::stops::ReadStop;
-use bundle_frames::{BundleReader, FrameBuffer, Next};
+use bundle_frames::{BundleReader, FrameBuffer, Next, SourceStop};
 use fv_outside::Source;
 use std::alloc::Global;
 use std::marker::Model;
@@ -19,6 +18,17 @@ use want_of_memory::Memory;
 
 /// The most frames that are read before they are fed.
 pub const BATCH_FRAMES: usize = 64;
+
+/// How far a batch was read.
+#[derive(Clone, Copy, Debug, PartialEq, Eq)]
+pub enum Filled {
+    /// It has as many frames as a batch has, and there may be more.
+    Whole,
+    /// The bundle ended, or what follows is bad.
+    End,
+    /// Reading stopped before the end.
+    Stopped(SourceStop),
+}
 
 /// A frame that was read: whose, and its body.
 #[derive(Drop)]
@@ -75,26 +85,27 @@ impl Batch {
     }
 
     /// Reads the next frames, in place of those that are there: as many as a batch has, or up to the end or to where
-    /// reading stops. It answers whether there may be more.
+    /// reading stops.
     pub fn fill<S: Source>(
         &mut self,
         alloc: Global,
         reader: &mut BundleReader,
         source: &mut S,
-    ) -> Result<bool, ReadStop>
+    ) -> Result<Filled, Memory>
         requires due { IsDue reader.old.progress }
         requires header { IsSome reader.old.progress.header }
 
         // What was read are these frames, whatever comes behind them.
-        ensures goes_on { result ≢ Err ReadStop.Memory → GoesOnBy self.new reader.old reader.new (S.left source.old) }
+        ensures goes_on { OnOk result (GoesOnBy self.new reader.old reader.new (S.left source.old)) }
         ensures frames { (header : Header) → reader.old.progress.header ≡ Some header → AllByRecursion (IsFrame header.verifiers) self.new }
+        ensures whole { result ≡ Ok Filled.Whole → length self.new ≡ 64 }
 
         // What was taken of the source. Past the limit it is one byte, and that is not read.
-        ensures took { result ≢ Err ReadStop.InputLimit
+        ensures took { result ≢ Ok (Filled.Stopped SourceStop.InputLimit)
             → HasRead (reader.new.taken - reader.old.taken) (S.left source.old) (S.left source.new) }
-        ensures limit { result ≡ Err ReadStop.InputLimit
+        ensures limit { result ≡ Ok (Filled.Stopped SourceStop.InputLimit)
             → HasRead (reader.new.limit + 1 - reader.old.taken) (S.left source.old) (S.left source.new) }
-        ensures full { result ≡ Err ReadStop.InputLimit → reader.new.taken ≡ reader.new.limit }
+        ensures full { result ≡ Ok (Filled.Stopped SourceStop.InputLimit) → reader.new.taken ≡ reader.new.limit }
         ensures rises { reader.old.taken ≤ reader.new.taken }
         ensures within { reader.new.taken ≤ reader.new.limit }
         ensures same_limit { reader.new.limit ≡ reader.old.limit }
@@ -103,30 +114,32 @@ impl Batch {
         // A piece is read only while reading ends behind what was taken, and a byte past the limit too.
         ensures near { reader.old.taken < reader.new.taken
             → IfSome (S.left source.old) (λ bytes. reader.new.taken ≤ end_ahead reader.old bytes + most_behind) }
-        ensures beyond { result ≡ Err ReadStop.InputLimit
+        ensures beyond { result ≡ Ok (Filled.Stopped SourceStop.InputLimit)
             → IfSome (S.left source.old) (λ bytes. reader.new.limit < end_ahead reader.old bytes) }
 
         // At the end no byte that is left makes a difference, and reading ended within what was taken.
-        ensures end { result ≡ Ok false → IfSome (S.left source.new) (λ left. ahead reader.new left ≡ ahead reader.new []) }
-        ensures reached { result ≡ Ok false → IfSome (S.left source.new) (λ left. end_ahead reader.new left ≤ reader.new.taken) }
-        ensures spent { result ≢ Ok true → result ≢ Err ReadStop.Memory → IsSpent reader.new }
-        ensures due { result ≡ Ok true → IsDue reader.new.progress }
-        ensures fault { result ≡ Err ReadStop.ReadFault → Rose (S.faults source.old) (S.faults source.new) }
+        ensures end { result ≡ Ok Filled.End → IfSome (S.left source.new) (λ left. ahead reader.new left ≡ ahead reader.new []) }
+        ensures reached { result ≡ Ok Filled.End → IfSome (S.left source.new) (λ left. end_ahead reader.new left ≤ reader.new.taken) }
+
+        // There is no more of what was read, but where the batch is whole.
+        ensures spent { IfOk result (λ filled. filled ≢ Filled.Whole → IsSpent reader.new) }
+        ensures due { result ≡ Ok Filled.Whole → IsDue reader.new.progress }
+        ensures fault { result ≡ Ok (Filled.Stopped SourceStop.ReadFault) → Rose (S.faults source.old) (S.faults source.new) }
         ensures never_falls { S.faults source.old ≤ S.faults source.new }
     {
         self.clear();
         'frames: while !self.is_full() {
             let next = match reader.next(source) {
                 Ok(next) => next,
-                Err(stop) => return Err(ReadStop::from(stop)),
+                Err(stop) => return Ok(Filled::Stopped(stop)),
             };
             match next {
                 Next::Frame(verifier) => self.keep(alloc, reader, verifier)?,
-                Next::End => return Ok(false),
-                Next::Head(_) => return Ok(false),
+                Next::End => return Ok(Filled::End),
+                Next::Head(_) => return Ok(Filled::End),
             }
         }
-        Ok(true)
+        Ok(Filled::Whole)
     }
 
     // Lets the frames go.
@@ -139,7 +152,7 @@ impl Batch {
 
     // Whether there are as many frames as a batch has.
     fn is_full(&self) -> bool
-        ensures full { result ≡ true → 0 < length self.now }
+        ensures full { result ≡ true → length self.now ≡ 64 }
         ensures room { result ≡ false → length self.now < 64 }
     {
         self.count >= BATCH_FRAMES

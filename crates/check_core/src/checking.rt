@@ -1,37 +1,41 @@
 //! A check of a bundle: what is certified, and how its report ends.
-ghost use Rattle.std.specs.Prelude.{◌≡◌, ◌+◌, ◌≤◌, ◌^◌, ℕ, length, map, vec_len, IfSome, ◌⊎◌, Ok, Err};
+ghost use Rattle.std.specs.Prelude.{◌≡◌, ◌+◌, ◌<◌, ◌≤◌, ◌^◌, ◌⊎◌, ℕ, List, Option, Some, length, map, IfSome, OnOk, OnErr, Ok, Err};
+ghost use Rattle.std.specs.List.{AllByRecursion};
+ghost use Rattle.fv_outside.specs.Faults.{Rose};
+ghost use Rattle.fv_outside.specs.Written.{Grows, GrowsByFront};
+ghost use Rattle.lamport_clocks.specs.declared.header.Header.{Header};
 ghost use Rattle.lamport_clocks.specs.Header.{IsHeader};
 ghost use Rattle.merkle_records.specs.Scheme.{scheme_of};
-ghost use Rattle.fv_outside.specs.Faults.{Rose};
-ghost use Rattle.report_text.specs.Ending.{status_of};
-ghost use Rattle.bundle_frames.specs.Extent.{reading_end};
+ghost use Rattle.verifier_run.specs.Progress.{weight};
 ghost use Rattle.report_text.specs.Answer.{AnswersTo};
-ghost use Rattle.check_core.specs.Intake.{logs_in, logged};
-ghost use Rattle.check_core.specs.Outcomes.{IsCheckStatus};
+ghost use Rattle.bundle_frames.specs.Extent.{reading_end, IsDue};
+ghost use Rattle.bundle_frames.specs.Progress.{position};
+ghost use Rattle.bundle_report.specs.Logs.{empty_logs, joined_from};
 ghost use Rattle.bundle_report.specs.Headline.{IsSound};
-ghost use Rattle.bundle_report.specs.Answer.{check_answer, answer_by, Ends};
-ghost use Rattle.bundle_report.specs.Report.{answer_with};
-ghost use Rattle.bundle_report.specs.RunReport.{courses_of, parts_at};
-ghost use Rattle.bundle_report.specs.Judged.{CanBeJudged, answer_of_runs};
+ghost use Rattle.bundle_report.specs.Answer.{check_answer, no_answer};
+ghost use Rattle.bundle_report.specs.RunReport.{courses_of};
+ghost use Rattle.bundle_report.specs.Judged.{judged};
+ghost use Rattle.check_core.specs.Batch.{bytes_of};
+ghost use Rattle.check_core.specs.Outcomes.{IsCheckStatus};
+ghost use Rattle.check_core.specs.Stops.{check_status};
+ghost use Rattle.check_core.specs.Stream.{HasCome, AreChecked, lines_counted, lines_due};
 
-use crate::intake::Intake;
-use crate::reading::read_bundle;
-use crate::running::run_logs;
+use crate::batch::{Batch, Filled};
+use crate::feeding::feed_batch;
+use crate::opening::open_runs;
+use crate::stops::CheckStop;
+use bundle_frames::{BundleReader, Next};
 use bundle_report::{ReportStop, digests_have_32_bytes};
-use certified_epochs::{
-    FedRun, certified_parts, end_of, first_refused, judge, last_epoch, operations_up_to,
-    write_report,
-};
+use certified_epochs::{Certifier, FedRun};
 use fv_outside::{Sink, Source};
 use lamport_clocks::Header;
-use multiset_sum::Part;
 use record_hash::Digests;
-use record_text::Operation;
-use report_text::{BundleEnd, Status};
+use report_text::{BundleEnd, Status, write_last};
 use std::alloc::Global;
 use std::thread::Threads;
 
-/// Reads a bundle of no more than so many bytes, runs its logs side by side, and writes its report.
+/// Reads a bundle of no more than so many bytes, some frames at a time, runs its logs side by side, and writes the
+/// lines of each epoch as soon as it is certified. Where reading stops before the end, what was read is certified first.
 pub fn check<R: Threads + Sync, D: Digests + Sync, S: Source, O: Sink>(
     rt: &R,
     alloc: Global,
@@ -46,95 +50,128 @@ pub fn check<R: Threads + Sync, D: Digests + Sync, S: Source, O: Sink>(
     // What is written, the status, what was taken of the source, and the faults.
     ensures answers { AnswersTo (check_answer (D.functions d.now)) reading_end limit result
         (record { left = S.left source.old; left_after = S.left source.new; faults = S.faults source.old; faults_after = S.faults source.new })
-        (record { held = O.held out.old; held_after = O.held out.new; faults = O.faults out.old; faults_after = O.faults out.new })
-        out.old out.new }
+        (record { held = O.held out.old; held_after = O.held out.new; faults = O.faults out.old; faults_after = O.faults out.new }) }
 
     // The answers of that report are serial, or the exhibit of the bytes collides.
     ensures headline { IfSome (S.left source.old) (IsSound (D.functions d.now)) }
 {
     digests_have_32_bytes(d);
-    match read_bundle(alloc, limit, source) {
-        Ok(intake) => match report(rt, alloc, d, &intake, out) {
-            Ok(end) => end.status(),
-            Err(stop) => stop.status(),
-        },
+    match check_bundle(rt, alloc, d, limit, source, out) {
+        Ok(end) => end.status(),
         Err(stop) => stop.status(limit),
     }
 }
 
-// Checks what was read, and writes the report.
-fn report<R: Threads + Sync, D: Digests + Sync, O: Sink>(
+// Reads the header, and checks what follows it.
+fn check_bundle<R: Threads + Sync, D: Digests + Sync, S: Source, O: Sink>(
     rt: &R,
     alloc: Global,
     d: &D,
-    intake: &Intake,
+    limit: u64,
+    source: &mut S,
     out: &mut O,
-) -> Result<BundleEnd, ReportStop>
-    ensures ends { Ends result (O.held out.old) (O.held out.new) (answer_by (D.functions d.now) (logged intake.now)) }
-    ensures unwritten { result ≡ Err ReportStop.Memory → out.new ≡ out.old }
-    ensures write_fault { result ≡ Err ReportStop.WriteFault → Rose (O.faults out.old) (O.faults out.new) }
+) -> Result<BundleEnd, CheckStop>
+    requires limit { limit ≤ 2 ^ 40 }
+    ensures answers { AnswersTo (check_answer (D.functions d.now)) reading_end limit (check_status limit result)
+        (record { left = S.left source.old; left_after = S.left source.new; faults = S.faults source.old; faults_after = S.faults source.new })
+        (record { held = O.held out.old; held_after = O.held out.new; faults = O.faults out.old; faults_after = O.faults out.new }) }
 {
-    match intake.header {
-        Some(header) => certify(rt, alloc, d, &header, intake, out),
-        None => written(&[], &[], BundleEnd::BadBundle { offset: 0 }, out),
+    let mut reader = BundleReader::new(alloc, limit)?;
+    let next = match reader.next(source) {
+        Ok(next) => next,
+        Err(stop) => return Err(CheckStop::from(stop)),
+    };
+    match next {
+        Next::Head(header) => check_frames(rt, alloc, d, &header, &mut reader, source, out),
+        Next::Frame(_) => write_bad_header(out),
+        Next::End => write_bad_header(out),
     }
 }
 
-// Runs the logs, and writes the report of what they came to.
-fn certify<R: Threads + Sync, D: Digests + Sync, O: Sink>(
+// Reads the frames behind a header, a batch at a time, and writes what each certifies before more is read.
+fn check_frames<R: Threads + Sync, D: Digests + Sync, S: Source, O: Sink>(
     rt: &R,
     alloc: Global,
     d: &D,
     header: &Header,
-    intake: &Intake,
+    reader: &mut BundleReader,
+    source: &mut S,
     out: &mut O,
-) -> Result<BundleEnd, ReportStop>
+) -> Result<BundleEnd, CheckStop>
     requires header { IsHeader header.now }
-    requires count { vec_len intake.now.logs ≡ header.now.verifiers }
-    ensures ends { Ends result (O.held out.old) (O.held out.new)
-        (answer_of_runs (courses_of (scheme_of (D.functions d.now) header.now) header.now (logs_in intake.now)) intake.now.bad) }
-    ensures unwritten { result ≡ Err ReportStop.Memory → out.new ≡ out.old }
-    ensures write_fault { result ≡ Err ReportStop.WriteFault → Rose (O.faults out.old) (O.faults out.new) }
+    requires known { reader.old.progress.header ≡ Some header.now }
+    requires due { IsDue reader.old.progress }
+    requires limit { reader.old.limit ≤ 2 ^ 40 }
+    requires within { reader.old.taken ≤ reader.old.limit }
+    requires split { position reader.old.progress ≤ reader.old.taken }
+
+    // Of whatever the source had before, where so much of it has come and no frame yet.
+    ensures answers { (left : Option (List ℕ)) (faults : ℕ)
+        → HasCome left faults (empty_logs header.now.verifiers) reader.old (S.left source.old) (S.faults source.old)
+        → AnswersTo (check_answer (D.functions d.now)) reading_end reader.old.limit (check_status reader.old.limit result)
+        (record { left = left; left_after = S.left source.new; faults = faults; faults_after = S.faults source.new })
+        (record { held = O.held out.old; held_after = O.held out.new; faults = O.faults out.old; faults_after = O.faults out.new }) }
 {
-    match run_logs(rt, alloc, d, header, &intake.logs) {
-        Ok(runs) => report_runs(alloc, &runs, intake.bad, out),
-        Err(_) => Err(ReportStop::Memory),
+    let mut runs = open_runs(alloc, header)?;
+    let mut certifier = Certifier::new(alloc);
+    let mut batch = Batch::new(alloc);
+    'batches: loop {
+        let filled = batch.fill(alloc, reader, source)?;
+        take_batch(rt, d, &batch, &mut runs, &mut certifier, out)?;
+        match filled {
+            Filled::Whole => {}
+            Filled::End => break,
+            Filled::Stopped(stop) => return Err(CheckStop::from(stop)),
+        }
     }
+    Ok(certifier.finish(&mut runs, reader.bad(), out)?)
 }
 
-// Writes the report of what all logs came to.
-fn report_runs<O: Sink>(
-    alloc: Global,
-    runs: &[FedRun],
-    bad: Option<u64>,
+// Feeds a batch to the runs, and writes the lines of all epochs that they then certify.
+fn take_batch<R: Threads + Sync, D: Digests + Sync, O: Sink>(
+    rt: &R,
+    d: &D,
+    batch: &Batch,
+    runs: &mut [FedRun],
+    certifier: &mut Certifier,
     out: &mut O,
-) -> Result<BundleEnd, ReportStop>
-    requires few { length runs.now ≤ 64 }
-    requires parts { (index : ℕ) → CanBeJudged (length runs.now) (parts_at index (map (λ fed. fed.run.course) runs.now)) }
-    ensures ends { Ends result (O.held out.old) (O.held out.new) (answer_of_runs (map (λ fed. fed.run.course) runs.now) bad) }
-    ensures unwritten { result ≡ Err ReportStop.Memory → out.new ≡ out.old }
+) -> Result<(), ReportStop>
+    requires few { length runs.old ≤ 64 }
+    requires room { AllByRecursion (λ fed. weight fed.run + bytes_of batch.now < 2 ^ 63) runs.old }
+    requires logs { (header : Header) × (logs : List (List ℕ)) × AreChecked (D.functions d.now) header logs certifier.old runs.old }
+
+    // Whatever logs the runs have taken so far: they take these frames too, and of a sink that holds what was counted
+    // all lines are written that are then due, or a front of them.
+    ensures checked { (header : Header) (logs : List (List ℕ)) → AreChecked (D.functions d.now) header logs certifier.old runs.old
+        → OnOk result (AreChecked (D.functions d.now) header (joined_from 0 logs batch.now) certifier.new runs.new) }
+    ensures all { (header : Header) (logs : List (List ℕ)) → AreChecked (D.functions d.now) header logs certifier.old runs.old
+        → OnOk result (certifier.new ≡ judged header.verifiers (courses_of (scheme_of (D.functions d.now) header) header (joined_from 0 logs batch.now))) }
+    ensures due { (header : Header) (logs : List (List ℕ)) (held : Option (List ℕ)) → AreChecked (D.functions d.now) header logs certifier.old runs.old
+        → Grows held (O.held out.old) (lines_counted (D.functions d.now) header logs certifier.old)
+        → OnOk result (Grows held (O.held out.new) (lines_due (D.functions d.now) header (joined_from 0 logs batch.now))) }
+    ensures front { (header : Header) (logs : List (List ℕ)) (held : Option (List ℕ)) → AreChecked (D.functions d.now) header logs certifier.old runs.old
+        → Grows held (O.held out.old) (lines_counted (D.functions d.now) header logs certifier.old)
+        → OnErr result (GrowsByFront held (O.held out.new) (lines_due (D.functions d.now) header (joined_from 0 logs batch.now))) }
+    ensures weight { (bound : ℕ) → AllByRecursion (λ fed. weight fed.run ≤ bound) runs.old
+        → OnOk result (AllByRecursion (λ fed. weight fed.run ≤ bound + bytes_of batch.now) runs.new) }
+    ensures len { length runs.new ≡ length runs.old }
     ensures write_fault { result ≡ Err ReportStop.WriteFault → Rose (O.faults out.old) (O.faults out.new) }
+    ensures never_falls { O.faults out.old ≤ O.faults out.new }
 {
-    let judged = judge(alloc, runs)?;
-    let certified = certified_parts(runs, judged.count);
-    let operations = operations_up_to(alloc, runs, last_epoch(certified))?;
-    let end = end_of(&judged, first_refused(runs), bad);
-    written(certified, &operations, end, out)
+    feed_batch(rt, d, batch, runs);
+    certifier.certify(runs, out)
 }
 
-// Writes a report that ends so.
-fn written<O: Sink>(
-    certified: &[Part],
-    operations: &[&Operation],
-    end: BundleEnd,
-    out: &mut O,
-) -> Result<BundleEnd, ReportStop>
-    ensures so { result ≡ Ok end ⊎ result ≡ Err ReportStop.WriteFault }
-    ensures ends { Ends result (O.held out.old) (O.held out.new) (answer_with certified.now (map (λ op. op.now) operations.now) (status_of end)) }
-    ensures write_fault { result ≡ Err ReportStop.WriteFault → Rose (O.faults out.old) (O.faults out.new) }
+// Writes the report of a bundle whose header is bad.
+fn write_bad_header<O: Sink>(out: &mut O) -> Result<BundleEnd, CheckStop>
+    ensures so { result ≡ Ok (BundleEnd.BadBundle 0) ⊎ result ≡ Err CheckStop.WriteFault }
+    ensures whole { OnOk result (Grows (O.held out.old) (O.held out.new) no_answer.text) }
+    ensures front { OnErr result (GrowsByFront (O.held out.old) (O.held out.new) no_answer.text) }
+    ensures write_fault { OnErr result (Rose (O.faults out.old) (O.faults out.new)) }
 {
-    match write_report(certified, operations, &end.status(), out) {
+    let end = BundleEnd::BadBundle { offset: 0 };
+    match write_last(&end.status(), out) {
         Ok(()) => Ok(end),
-        Err(_) => Err(ReportStop::WriteFault),
+        Err(_) => Err(CheckStop::WriteFault),
     }
 }

@@ -8,7 +8,7 @@ ghost use Rattle.report_text.specs.Ending.{status_of};
 ghost use Rattle.verifier_run.specs.LogCourse.{courses_keeping};
 ghost use Rattle.bundle_report.specs.Answer.{certified_at, answer_by};
 ghost use Rattle.bundle_report.specs.RunReport.{parts_at};
-ghost use Rattle.bundle_report.specs.Judged.{CanBeJudged, judged, refused_log, end_by};
+ghost use Rattle.bundle_report.specs.Judged.{CanBeJudged, judged, end_of_runs};
 
 use crate::intake::Intake;
 use crate::judging::{first_refused, judge};
@@ -72,10 +72,8 @@ fn conclude_logs<T: Kept, D: Digests>(
     ensures certified { IfOk result (λ found.
         let courses = courses_keeping T.keeps (scheme_of (D.functions d.now) header.now) header.now 0 (logs_in intake.now) in
         found.conclusion.certified ≡ (judged (length courses) courses).count) }
-    ensures end { IfOk result (λ found.
-        let courses = courses_keeping T.keeps (scheme_of (D.functions d.now) header.now) header.now 0 (logs_in intake.now) in
-        found.conclusion.end ≡ end_by (judged (length courses) courses).count (judged (length courses) courses).unbalanced
-        (refused_log 0 courses) intake.now.bad) }
+    ensures end { IfOk result (λ found. found.conclusion.end
+        ≡ end_of_runs (courses_keeping T.keeps (scheme_of (D.functions d.now) header.now) header.now 0 (logs_in intake.now)) intake.now.bad) }
     ensures runs { IfOk result (λ found. map (λ run. run.course) found.runs.items
         ≡ courses_keeping T.keeps (scheme_of (D.functions d.now) header.now) header.now 0 (logs_in intake.now)) }
 {
@@ -93,10 +91,7 @@ fn conclude_runs<T: Kept>(
     requires few { length runs.now ≤ 64 }
     requires parts { (index : ℕ) → CanBeJudged (length runs.now) (parts_at index (map (λ run. run.course) runs.now)) }
     ensures certified { IfOk result (λ found. found.certified ≡ (judged (length runs.now) (map (λ run. run.course) runs.now)).count) }
-    ensures end { IfOk result (λ found.
-        let courses = map (λ run. run.course) runs.now in
-        found.end ≡ end_by (judged (length runs.now) courses).count (judged (length runs.now) courses).unbalanced
-        (refused_log 0 courses) bad) }
+    ensures end { IfOk result (λ found. found.end ≡ end_of_runs (map (λ run. run.course) runs.now) bad) }
 {
     let judged = judge(alloc, runs)?;
     let end = end_of(&judged, first_refused(runs), bad);

@@ -1,5 +1,5 @@
 -- What an audit answers to bytes: what there is to exhibit, how the report of a check ends, and the status.
-use Rattle.std.specs.Prelude.{ℕ, List, ◌++◌}
+use Rattle.std.specs.Prelude.{ℕ, List, [], ◌++◌}
 use Rattle.record_hash.specs.Functions.{DigestFunctions}
 use Rattle.record_hash.specs.ShaDigests.{sha_under}
 use Rattle.record_text.specs.declared.exhibit.Exhibit.{Exhibit}
@@ -34,10 +34,10 @@ abbrev pub audit_end_status : AuditEnd → Status
 audit_end_status ends.Exhibit = statuses.Exhibit
 audit_end_status (ends.Bundle end) = status_of end
 
--- of an exhibit over so many certified epochs, where the report of a check ends so
+-- of an exhibit over so many certified epochs, where the report of a check ends so: nothing is due before all is read
 abbrev pub audit_of : Exhibit → ℕ → Status → Answer
 audit_of exhibit certified status =
-    record { text = exhibit_text certified exhibit ++ last_line status; status = audit_status exhibit status }
+    record { text = exhibit_text certified exhibit ++ last_line status; due = []; status = audit_status exhibit status }
 
 -- of a bundle that was read: its exhibit, over the epochs that a check of it certifies
 abbrev pub audit_answer_by : DigestFunctions → Logged → Answer

@@ -4,7 +4,8 @@ ghost use Rattle.fv_outside.specs.Faults.{Counts, Rose};
 ghost use Rattle.fv_outside.specs.Written.{Grows, GrowsByFront};
 ghost use Rattle.report_text.specs.Ending.{status_of};
 ghost use Rattle.bundle_frames.specs.Extent.{reading_end};
-ghost use Rattle.report_text.specs.Answer.{AnswersTo};
+ghost use Rattle.fv_outside.specs.Consumed.{TookAtMost};
+ghost use Rattle.report_text.specs.Answer.{IsEnd, AnswersTo};
 ghost use Rattle.report_text.specs.Exhibit.{exhibit_text};
 ghost use Rattle.report_text.specs.Status.{last_line};
 ghost use Rattle.record_hash.specs.Functions.{DigestFunctions};
@@ -43,8 +44,12 @@ pub fn audit_text<D: Digests + Sync, S: Source, O: Sink>(
     // What is written, the status, what was taken of the source, and the faults.
     ensures answers { AnswersTo (audit_answer (D.functions d.now)) reading_end limit result
         (record { left = S.left source.old; left_after = S.left source.new; faults = S.faults source.old; faults_after = S.faults source.new })
-        (record { held = O.held out.old; held_after = O.held out.new; faults = O.faults out.old; faults_after = O.faults out.new })
-        out.old out.new }
+        (record { held = O.held out.old; held_after = O.held out.new; faults = O.faults out.old; faults_after = O.faults out.new }) }
+
+    // Nothing is written before all is read: where there is no answer the sink is as before, if it didn't fail. And no more
+    // than the limit is taken, but where the answer is that the input is longer.
+    ensures unwritten { (IsEnd result → ⊥) → result ≢ Status.WriteFault → out.new ≡ out.old }
+    ensures within { result ≢ Status.InputLimit limit → TookAtMost limit (S.left source.old) (S.left source.new) }
 
     // What it exhibits is a real collision.
     ensures collides { result ≡ Status.Exhibit → IfSome (S.left source.old) (ExhibitCollides (D.functions d.now)) }

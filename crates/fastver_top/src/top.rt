@@ -1,10 +1,11 @@
 //! The program as a call: its words, what it reads and what it writes.
-ghost use Rattle.std.specs.Prelude.{◌≡◌, ◌^◌, map, None, Some, IfSome, ◌⊎◌};
+ghost use Rattle.std.specs.Prelude.{◌≡◌, ◌≢◌, ◌^◌, ℕ, List, map, None, Some, IfSome, ◌⊎◌};
 ghost use Rattle.record_hash.specs.Hmac.{key_block};
 ghost use Rattle.program_words.specs.Words.{asked_of};
 ghost use Rattle.program_words.specs.declared.words.Asked.{Asked};
 ghost use Rattle.bundle_frames.specs.Extent.{reading_end};
-ghost use Rattle.report_text.specs.Answer.{AnswersTo};
+ghost use Rattle.fv_outside.specs.Consumed.{TookAtMost};
+ghost use Rattle.report_text.specs.Answer.{IsEnd, AnswersTo};
 ghost use Rattle.fastver_top.specs.Answers.{answer_to, IsProgramStatus, IsStatusOf, IsSoundFor, CollidesFor};
 
 use crate::auditing::audit_text;
@@ -48,8 +49,13 @@ pub fn fastver<R: Threads + Wait + Sync, S: Source, O: Sink, V: Vault, G: Gate +
     ensures answers { (asked : Asked) → asked_of (map (λ word. word.now) words.now) ≡ Some asked
         → AnswersTo (answer_to asked) reading_end (2 ^ 40) result
         (record { left = S.left source.old; left_after = S.left source.new; faults = S.faults source.old; faults_after = S.faults source.new })
-        (record { held = O.held out.old; held_after = O.held out.new; faults = O.faults out.old; faults_after = O.faults out.new })
-        out.old out.new }
+        (record { held = O.held out.old; held_after = O.held out.new; faults = O.faults out.old; faults_after = O.faults out.new }) }
+
+    // An audit writes nothing before all is read, and takes no more than the limit but where the input is longer.
+    ensures audit_unwritten { (key : List ℕ) → asked_of (map (λ word. word.now) words.now) ≡ Some (Asked.Audit key)
+        → (IsEnd result → ⊥) → result ≢ Status.WriteFault → out.new ≡ out.old }
+    ensures audit_within { (key : List ℕ) → asked_of (map (λ word. word.now) words.now) ≡ Some (Asked.Audit key)
+        → result ≢ Status.InputLimit (2 ^ 40) → TookAtMost (2 ^ 40) (S.left source.old) (S.left source.new) }
 
     // Where they ask for nothing, nothing is read and nothing written, whatever the answer. The vault is never named or
     // written.

@@ -1,14 +1,17 @@
--- What a call answers that reads a source and writes to a sink: a text, and the status with which it ends.
-use Rattle.std.specs.Prelude.{◌≡◌, ◌≢◌, ℕ, ◌+◌, List, Option, IfSome}
+-- What a call answers that reads a source and writes to a sink: a text, what of it is due where reading stops, and the
+-- status with which it ends.
+use Rattle.std.specs.Prelude.{◌≡◌, ◌≢◌, ◌⊎◌, ⊤, ℕ, ◌+◌, ◌-◌, min, List, length, take, Option, None, Some, IfSome}
 use Rattle.fv_outside.specs.Consumed.{TookAtMost, TookJust, TookToEnd, StopsAtEnd, EndsBehind}
 use Rattle.fv_outside.specs.Faults.{Rose}
 use Rattle.fv_outside.specs.Written.{Grows, GrowsByFront}
 use Rattle.report_text.specs.declared.status.Status.{Status}
 use Rattle.report_text.specs.declared.status.Status.TheVariants.{Done, Usage, Memory, ReadFault, WriteFault, VaultFault, BadScript, BadBundle, Refused, Unbalanced, ClockEnd, NotTagged, NotCertified, Exhibit, InputLimit}
 
--- the text that is written, and the status
+-- The text that is written, and the status. Of the text the lines that are due are written also where no more can be
+-- read: what they say stays, whatever follows the bytes that were taken.
 pub record Answer : Type 0 where
   pub text : List ℕ
+  pub due : List ℕ
   pub status : Status
 
 -- a status that comes with a whole answer: all of its text was written
@@ -43,19 +46,33 @@ pub record Writing : Type 0 where
   pub faults : ℕ
   pub faults_after : ℕ
 
--- A call that reads no more than so many bytes of a source and writes what it answers to them, with the sink before
--- and after it. How far it reads to know its answer is a function of the bytes.
-pub record AnswersTo {O : Type 0} (answer : List ℕ → Answer) (reading_end : List ℕ → ℕ) (most : ℕ) (result : Status) (reading : Reading)
-    (writing : Writing) (sink sink_after : O) : Type 0 where
+-- Where a source tells its bytes, before and after: it holds of those that were taken, up to so many. What is taken past
+-- a limit is not read.
+abbrev pub OfTaken : ℕ → (List ℕ → Type 0) → Option (List ℕ) → Option (List ℕ) → Type 0
+OfTaken most Holds None left = ⊤
+OfTaken most Holds (Some bytes) None = ⊤
+OfTaken most Holds (Some bytes) (Some left) = Holds (take (min most (length bytes - length left)) bytes)
+
+-- A call that reads no more than so many bytes of a source and writes what it answers to them. How far it reads to know
+-- its answer is a function of the bytes.
+pub record AnswersTo (answer : List ℕ → Answer) (reading_end : List ℕ → ℕ) (most : ℕ) (result : Status) (reading : Reading)
+    (writing : Writing) : Type 0 where
   -- where it ends with an answer, that is the answer to the source's bytes: the status, and the text that was written
   pub status : IsEnd result → IfSome reading.left (λ bytes. result ≡ (answer bytes).status)
   pub report : IsEnd result → IfSome reading.left (λ bytes. Grows writing.held writing.held_after (answer bytes).text)
-  -- where the sink failed it took a front of that text, and where there is no answer nothing was written
+  -- where the sink failed it took a front of that text
   pub front : result ≡ WriteFault → IfSome reading.left (λ bytes. GrowsByFront writing.held writing.held_after (answer bytes).text)
-  pub unwritten : (IsEnd result → ⊥) → result ≢ WriteFault → sink_after ≡ sink
-  -- where it answers that the input is too long, the source gave just a byte more than the limit, and else no more
+  -- where the source failed or gave too much, all that is due by the bytes that were taken was written, and nothing else;
+  -- for want of memory a front of that
+  pub due : (result ≡ ReadFault) ⊎ (result ≡ InputLimit most)
+      → OfTaken most (λ bytes. Grows writing.held writing.held_after (answer bytes).due) reading.left reading.left_after
+  pub due_front : result ≡ Memory
+      → OfTaken most (λ bytes. GrowsByFront writing.held writing.held_after (answer bytes).due) reading.left reading.left_after
+  -- where it answers that the input is too long, the source gave just a byte more than the limit; else no more, but where
+  -- what was due behind that byte could not be written
   pub limit : (taken : ℕ) → result ≡ InputLimit taken → (taken ≡ most) × TookJust (most + 1) reading.left reading.left_after
-  pub within : result ≢ InputLimit most → TookAtMost most reading.left reading.left_after
+  pub within : result ≢ InputLimit most → result ≢ WriteFault → result ≢ Memory → TookAtMost most reading.left reading.left_after
+  pub past : TookAtMost (most + 1) reading.left reading.left_after
   -- nothing is read behind where reading ends: with an answer the bytes up to there were taken, and never more than the
   -- rest of one read behind them; and the input is too long only where reading ends behind the limit
   pub reached : IsEnd result → TookToEnd reading_end reading.left reading.left_after

@@ -1,4 +1,4 @@
-use Rattle.std.proofs.Common.{◌<◌, ◌≤◌, length, rules, refl, arith}
+use Rattle.std.proofs.Common.{rules, refl, arith}
 use Rattle.std.proofs.lemmas.List.Edits.{map_over_more}
 use Rattle.certified_epochs.specs.Turn.{left_fed}
 use Rattle.certified_epochs.proofs.FedLemmas.{changed-length, left-all, fed-left, fed-stopped, taken-more, taken-all}

@@ -7,12 +7,7 @@ returns-in-Ok-clause-headline g c =
     of_left (IsSound (g.D.Digests.functions c.args.d.now)) (g.S.Source.left c.args.source.now)
     (λ bytes. headline (g.D.Digests.functions c.args.d.now) bytes (λ text. (c.digests_have_32_bytes.ensures.digests text).size))
 
-pub returns-in-Ok-report-clause-headline : goal.returns-in-Ok-report-clause-headline
-returns-in-Ok-report-clause-headline g c =
-    of_left (IsSound (g.D.Digests.functions c.args.d.now)) (g.S.Source.left c.args.source.now)
-    (λ bytes. headline (g.D.Digests.functions c.args.d.now) bytes (λ text. (c.digests_have_32_bytes.ensures.digests text).size))
-
-pub returns-clause-headline : goal.returns-clause-headline
-returns-clause-headline g c =
+pub returns-in-Err-clause-headline : goal.returns-in-Err-clause-headline
+returns-in-Err-clause-headline g c =
     of_left (IsSound (g.D.Digests.functions c.args.d.now)) (g.S.Source.left c.args.source.now)
     (λ bytes. headline (g.D.Digests.functions c.args.d.now) bytes (λ text. (c.digests_have_32_bytes.ensures.digests text).size))

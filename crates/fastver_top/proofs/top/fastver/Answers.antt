@@ -4,6 +4,7 @@ use Rattle.program_words.specs.declared.words.Asked.{Asked}
 use Rattle.program_words.specs.declared.words.Asked.TheVariants.{Check, Audit}
 use Rattle.bundle_frames.specs.Extent.{reading_end}
 use Rattle.report_text.specs.Answer.{Reading, Writing, AnswersTo}
+use Rattle.report_text.proofs.AnsweringLaws.{answers-none}
 use Rattle.bundle_report.specs.Answer.{check_answer}
 use Rattle.fastver_top.specs.Auditing.{audit_answer}
 use Rattle.fastver_top.specs.Answers.{answer_to}
@@ -27,8 +28,8 @@ returns-in-Ok-Check-clause-answers g c = λ asked known.
       faults_after = g.O.Sink.faults c.check.new.out;
     } in
     let own = asked_is _ asked (Check c.in-Ok-Check.key) c.in-Ok-Check.field-0 known c.in-Ok-Check.ensures.asked c.in-Ok-Check.field-0-is in
-    subst (λ (a : Asked). AnswersTo (answer_to a) reading_end (2 ^ 40) c.check.result read wrote c.args.out.now c.check.new.out) own
-    (subst (λ (block : List ℕ). AnswersTo (check_answer (sha_functions block)) reading_end (2 ^ 40) c.check.result read wrote c.args.out.now c.check.new.out)
+    subst (λ (a : Asked). AnswersTo (answer_to a) reading_end (2 ^ 40) c.check.result read wrote) own
+    (subst (λ (block : List ℕ). AnswersTo (check_answer (sha_functions block)) reading_end (2 ^ 40) c.check.result read wrote)
     c.digests_under.ensures.value c.check.ensures.answers)
 
 pub returns-in-Ok-Audit-clause-answers : goal.returns-in-Ok-Audit-clause-answers
@@ -46,6 +47,10 @@ returns-in-Ok-Audit-clause-answers g c = λ asked known.
       faults_after = g.O.Sink.faults c.audit_text.new.out;
     } in
     let own = asked_is _ asked (Audit c.in-Ok-Audit.key) c.in-Ok-Audit.field-0 known c.in-Ok-Audit.ensures.asked c.in-Ok-Audit.field-0-is in
-    subst (λ (a : Asked). AnswersTo (answer_to a) reading_end (2 ^ 40) c.audit_text.result read wrote c.args.out.now c.audit_text.new.out) own
-    (subst (λ (block : List ℕ). AnswersTo (audit_answer (sha_functions block)) reading_end (2 ^ 40) c.audit_text.result read wrote c.args.out.now c.audit_text.new.out)
+    subst (λ (a : Asked). AnswersTo (answer_to a) reading_end (2 ^ 40) c.audit_text.result read wrote) own
+    (subst (λ (block : List ℕ). AnswersTo (audit_answer (sha_functions block)) reading_end (2 ^ 40) c.audit_text.result read wrote)
     c.digests_under-in-Ok-Audit.ensures.value c.audit_text.ensures.answers)
+
+pub returns-in-Err-Memory-clause-answers : goal.returns-in-Err-Memory-clause-answers
+returns-in-Err-Memory-clause-answers g c = λ asked known.
+    answers-none (answer_to asked) reading_end (2 ^ 40) (g.S.Source.left c.args.source.now) (g.O.Sink.held c.args.out.now) _ _ _ _

@@ -2,8 +2,8 @@ use Rattle.std.proofs.Common.{◌≤◌, ℕ, List, [], ◌∷◌, ◌++◌, len
 use Rattle.std.proofs.lemmas.List.Edits.{length-between}
 use Rattle.bundle_frames.specs.declared.found.Found.{Found}
 use Rattle.bundle_frames.specs.Bundle.{Bundle, with_frames}
-use Rattle.bundle_frames.specs.Finds.{found_then}
-use Rattle.bundle_frames.specs.Progress.{rest_of}
+use Rattle.bundle_frames.specs.Finds.{found_then, progress_after}
+use Rattle.bundle_frames.specs.Progress.{Progress, rest_of}
 use Rattle.bundle_frames.specs.Extent.{end_behind, IsDue}
 use Rattle.bundle_frames.specs.Reading.{Reading}
 use Rattle.bundle_frames.proofs.ExtentLemmas.{extent_fed, over_fed}
@@ -113,5 +113,8 @@ returns-in-Bad-clause-ended c = λ is.
     let fed = c.feed-fed in
     record {
       unread = unread_none s.room.items s.until s.until refl;
+      no_header =
+          ap (λ (b : Bundle). b.header) (fed.ensures.last _ c.in-Bad.is (slice_range s.room.items s.until s.until ++ []))
+          ∙ sym (ap (λ (p : Progress). p.header) (fed.ensures.after ∙ ap (progress_after s.splitter _) c.in-Bad.is));
       no_frames = ap (λ (b : Bundle). b.frames) (fed.ensures.last _ c.in-Bad.is (slice_range s.room.items s.until s.until ++ []));
     }

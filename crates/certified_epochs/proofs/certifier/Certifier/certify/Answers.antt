@@ -1,13 +1,10 @@
-use Rattle.std.proofs.Common.{◌≡◌, ℕ, ◌+◌, ◌-◌, ◌++◌, List, [], sym, ◌∙◌, ap, subst, append-nil, arith}
-use Rattle.fv_outside.specs.Written.{Grows, GrowsByFront}
-use Rattle.lamport_clocks.specs.declared.header.Header.{Header}
-use Rattle.merkle_records.specs.Scheme.{Scheme}
+use Rattle.std.proofs.Common.{ℕ, ◌+◌, ◌-◌, ◌++◌, List, [], sym, ◌∙◌, ap, subst, append-nil, arith}
+use Rattle.fv_outside.specs.Written.{Grows}
 use Rattle.report_text.proofs.PassLaws.{Passes-then, Passes-flush, Passes-front, Passes-stop, on_err}
-use Rattle.bundle_report.specs.declared.judged.Judged.{Judged}
 use Rattle.bundle_report.specs.RunReport.{courses_of}
-use Rattle.bundle_report.specs.SoFar.{HaveTaken, lines_from}
+use Rattle.bundle_report.specs.SoFar.{lines_from}
 use Rattle.certified_epochs.specs.Turn.{turn}
-use Rattle.certified_epochs.proofs.TurnLemmas.{runs_of, IsCertified, IsDone, certified-turn, done-turn, same-judged, lines-step, turn-front}
+use Rattle.certified_epochs.proofs.TurnLemmas.{runs_of, certified-turn, done-turn, same-judged, lines-step, turn-front}
 use Rattle.certified_epochs.proofs.certifier.Certifier.certify.Goals as goal
 
 pub returns-in-Some-clause-judged : goal.returns-in-Some-clause-judged

@@ -1,7 +1,6 @@
 use Rattle.std.proofs.Common.{ℕ, ◌++◌, List, add-one, sym, ◌∙◌, ap, subst, arith}
 use Rattle.std.specs.Prelude.{length}
 use Rattle.fv_outside.specs.Written.{GrowsByFront}
-use Rattle.multiset_sum.specs.declared.part.Part.{Part}
 use Rattle.report_text.specs.Page.{Passes}
 use Rattle.report_text.proofs.PassLaws.{Passes-start}
 use Rattle.bundle_report.specs.declared.judged.Judged.{Judged}

@@ -1,4 +1,4 @@
-use Rattle.std.proofs.Common.{◌≡◌, ◌<◌, ℕ, Ok, Err, is_ok, true≢false, refl, sym, ap, subst, ◌∙◌, arith}
+use Rattle.std.proofs.Common.{◌≡◌, ◌<◌, ℕ, Result, Ok, Err, is_ok, true≢false, refl, sym, ap, subst, ◌∙◌, arith}
 use Rattle.std.specs.List.{AllByRecursion}
 use Rattle.bundle_frames.specs.declared.coming.Next.{Next}
 use Rattle.bundle_frames.specs.declared.coming.SourceStop.{SourceStop}
@@ -8,19 +8,19 @@ use Rattle.bundle_frames.specs.Extent.{IsDue}
 use Rattle.bundle_frames.specs.Progress.{position}
 use Rattle.bundle_frames.specs.Reading.{Reading, end_ahead, next_then, header_then}
 use Rattle.bundle_frames.proofs.ReadingLaws.{HasRead-then, ReadsAs-then, ReadsAs-kept, ReadsAs-back, near-then}
-use Rattle.check_core.specs.declared.stops.ReadStop.{ReadStop}
-use Rattle.check_core.specs.declared.stops.ReadStop.TheVariants.{InputLimit}
+use Rattle.want_of_memory.specs.declared.memory.Memory.{Memory}
+use Rattle.check_core.specs.declared.batch.Filled.{Filled}
+use Rattle.check_core.specs.declared.batch.Filled.TheVariants.{Stopped}
 use Rattle.check_core.specs.Batch.{bytes_of}
-use Rattle.check_core.specs.Stops.{stop_of}
 use Rattle.check_core.proofs.BatchLemmas.{bytes_more, all_more, known_frame, known_bounded, no_header, reads_frame, reads_none}
 use Rattle.check_core.proofs.batch.Batch.fill.Goals as goal
 
-stop_input : (stop : SourceStop) (answer : ReadStop) → answer ≡ stop_of stop → answer ≡ InputLimit → stop ≡ sources.InputLimit
-stop_input sources.ReadFault answer is same = cc
-stop_input sources.InputLimit answer is same = refl
+-- a batch that was read up to where reading stopped
+abbrev stopped : SourceStop → Result Filled Memory
+stopped stop = Ok (Stopped stop)
 
 pub returns-in-Err-clause-goes_on : goal.returns-in-Err-clause-goes_on
-returns-in-Err-clause-goes_on g c = λ other.
+returns-in-Err-clause-goes_on g c =
     let last = c.frames.invariant in
     let next = c.in-Err.ensures in
     record {
@@ -34,15 +34,14 @@ pub returns-in-Err-clause-took : goal.returns-in-Err-clause-took
 returns-in-Err-clause-took g c = λ other.
     let last = c.frames.invariant in
     let next = c.in-Err.ensures in
-    let apart = λ (is : c.in-Err.stop ≡ sources.InputLimit). other (ap Err (c.from.ensures ∙ ap stop_of is)) in
+    let apart = λ (is : c.in-Err.stop ≡ sources.InputLimit). other (ap stopped is) in
     HasRead-then _ _ _ _ _ _ last.took (next.took (λ is. apart cc)) (omega (arith, next.rises, last.rises))
 
 pub returns-in-Err-clause-limit : goal.returns-in-Err-clause-limit
 returns-in-Err-clause-limit g c = λ is.
     let last = c.frames.invariant in
     let next = c.in-Err.ensures in
-    let full : c.from.result ≡ InputLimit = cc in
-    let same = stop_input _ _ c.from.ensures full in
+    let same : c.in-Err.stop ≡ sources.InputLimit = cc in
     HasRead-then _ _ _ _ _ _ last.took (next.limit (ap Err same)) (omega (arith, next.rises, next.within, last.rises))
 
 pub returns-in-Err-clause-near : goal.returns-in-Err-clause-near
@@ -55,8 +54,7 @@ pub returns-in-Err-clause-beyond : goal.returns-in-Err-clause-beyond
 returns-in-Err-clause-beyond g c = λ is.
     let last = c.frames.invariant in
     let next = c.in-Err.ensures in
-    let full : c.from.result ≡ InputLimit = cc in
-    let same = stop_input _ _ c.from.ensures full in
+    let same : c.in-Err.stop ≡ sources.InputLimit = cc in
     ReadsAs-back (λ (end : ℕ). c.next.new.self.limit < end) _ _ _ _ _ last.took last.extent (next.beyond (ap Err same))
 
 pub keep-requires-clause-body : goal.keep-requires-clause-body
@@ -112,7 +110,7 @@ returns-in_err-keep-in-Frame-clause-near g c =
     near-then _ _ _ _ _ _ _ _ _ last.took last.extent next.rises taken last.near next.near
 
 pub returns-in-End-clause-goes_on : goal.returns-in-End-clause-goes_on
-returns-in-End-clause-goes_on g c = λ other.
+returns-in-End-clause-goes_on g c =
     let last = c.frames.invariant in
     let next = c.in-Ok.ensures in
     record {

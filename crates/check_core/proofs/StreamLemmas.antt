@@ -1,0 +1,369 @@
+-- A check in the middle of a bundle, batch after batch.
+use Rattle.std.proofs.Common.{◌≡◌, ◌⊎◌, ℕ, zero, suc, ◌+◌, ◌-◌, ◌<◌, ◌≤◌, Bool, List, [], ◌∷◌, ◌++◌, length, map, take, drop, Option, Some, None, IfSome, Result, Ok, Err, OnOk, OnErr, inl, inr, true, false, true≢false, refl, sym, ◌∙◌, ap, subst, append-nil, append_assoc, take-append-drop, arith}
+use Rattle.std.specs.List.{AllByRecursion}
+use Rattle.std.proofs.Math.Seq.{take-add}
+use Rattle.std.proofs.lemmas.List.{map-append}
+use Rattle.fv_outside.specs.Consumed.{most_behind}
+use Rattle.fv_outside.specs.Written.{Grows, GrowsByFront}
+use Rattle.fv_outside.proofs.WrittenLaws.{Grows-then, GrowsByFront-whole, GrowsByFront-more, GrowsByFront-then}
+use Rattle.record_hash.specs.Functions.{DigestFunctions}
+use Rattle.lamport_clocks.specs.declared.header.Header.{Header}
+use Rattle.lamport_clocks.specs.Header.{IsHeader}
+use Rattle.merkle_records.specs.Scheme.{Scheme, scheme_of}
+use Rattle.bundle_frames.specs.Bundle.{Frame, IsFrame, with_frames}
+use Rattle.bundle_frames.specs.Extent.{reading_end}
+use Rattle.bundle_frames.specs.Reading.{Reading, ahead, end_ahead, HasRead, ReadsAs}
+use Rattle.bundle_frames.proofs.ReadingLaws.{HasRead-then, ReadsAs-then, ReadsAs-kept, ReadsAs-map, near-then}
+use Rattle.verifier_run.specs.Course.{Course}
+use Rattle.verifier_run.specs.Progress.{Progress, opening_progress, fed, weight}
+use Rattle.verifier_run.proofs.RunLaws.{fed_goes_on}
+use Rattle.bundle_report.specs.declared.judged.Judged.{Judged}
+use Rattle.bundle_report.specs.Logs.{joined_from, logs_so_far}
+use Rattle.bundle_report.specs.Logged.{behind, logged_of}
+use Rattle.bundle_report.specs.Answer.{answer_at, answer_by}
+use Rattle.report_text.specs.Answer.{Answer}
+use Rattle.bundle_report.specs.RunReport.{courses_of}
+use Rattle.bundle_report.specs.Judged.{judged}
+use Rattle.bundle_report.specs.SoFar.{lines_from, left_from, runs_from, runs_behind, opening_runs, HaveTaken}
+use Rattle.bundle_report.proofs.LinesLaws.{lines-behind}
+use Rattle.bundle_report.proofs.SoFarLaws.{taken-more, lines-taken, counted-within}
+use Rattle.bundle_report.proofs.DueLaws.{lines-certified, lines-due, lines-front, due-stays}
+use Rattle.certified_epochs.specs.declared.fed_run.FedRun.{FedRun}
+use Rattle.certified_epochs.specs.Turn.{AreFed}
+use Rattle.check_core.specs.Batch.{bytes_of, GoesOnBy}
+use Rattle.check_core.specs.Intake.{behind_at}
+use Rattle.check_core.specs.Stream.{HasCome, AreChecked, lines_counted, lines_due}
+use Rattle.check_core.proofs.MeaningLemmas.{ahead_header, joined_more}
+
+-- ---- reading on
+
+-- what holds whatever follows what was read holds of the bytes that were taken, also of some that were not counted yet
+pub reads_on : {A : Type 0} (P : A → Type 0) (n m : ℕ) (x : Option (List ℕ)) (f g : List ℕ → A) → ReadsAs n x f g → n ≤ m
+    → ((more : List ℕ) → P (g more)) → IfSome x (λ bytes. P (f (take m bytes)))
+reads_on P n m None f g reads below holds = tt
+reads_on P n m (Some bytes) f g reads below holds =
+    let sum : m ≡ n + (m - n) = omega (arith, below) in
+    subst P (sym (ap (λ (k : ℕ). f (take k bytes)) sum ∙ ap f (take-add n (m - n) bytes) ∙ reads (take (m - n) (drop n bytes))))
+    (holds (take (m - n) (drop n bytes)))
+
+-- and of all bytes
+pub reads_all : {A : Type 0} (P : A → Type 0) (n : ℕ) (x : Option (List ℕ)) (f g : List ℕ → A) → ReadsAs n x f g
+    → ((more : List ℕ) → P (g more)) → IfSome x (λ bytes. P (f bytes))
+reads_all P n None f g reads holds = tt
+reads_all P n (Some bytes) f g reads holds =
+    subst P (sym (ap f (sym (take-append-drop n bytes)) ∙ reads (drop n bytes))) (holds (drop n bytes))
+
+-- what holds where nothing follows holds of the bytes that were taken
+pub reads_taken : {A : Type 0} (P : A → Type 0) (n : ℕ) (x : Option (List ℕ)) (f g : List ℕ → A) → ReadsAs n x f g
+    → P (g []) → IfSome x (λ bytes. P (f (take n bytes)))
+reads_taken P n None f g reads holds = tt
+reads_taken P n (Some bytes) f g reads holds =
+    subst P (sym (ap f (sym (append-nil (take n bytes))) ∙ reads [])) holds
+
+-- what is the same, whatever is left
+pub same_left : {A : Type 0} (P : A → Type 0) (a : A) (x : Option (List ℕ)) (g : List ℕ → A) → IfSome x (λ left. a ≡ g left) → P a
+    → IfSome x (λ left. P (g left))
+same_left P a None g same holds = tt
+same_left P a (Some left) g same holds = subst P same holds
+
+-- ---- a batch more
+
+-- the logs go on with the frames
+means_more : (n : ℕ) (x : Option (List ℕ)) (logs : List (List ℕ)) (frames : List Frame) (old new : Reading) (header : Header)
+    → old.progress.header ≡ Some header → new.progress.header ≡ old.progress.header
+    → ReadsAs n x (ahead old) (λ more. with_frames frames (ahead new more))
+    → ReadsAs n x (behind_at logs old) (behind_at (joined_from 0 logs frames) new)
+means_more n x logs frames old new header known same reads =
+    ReadsAs-kept n x (behind_at logs old) (λ more. behind old.progress.header logs (with_frames frames (ahead new more)))
+    (behind_at (joined_from 0 logs frames) new)
+    (ReadsAs-map (behind old.progress.header logs) n x (ahead old) (λ more. with_frames frames (ahead new more)) reads)
+    (λ more.
+    let rest = ahead new more in
+    ap (λ (h : Option Header). behind h logs (with_frames frames rest)) known
+    ∙ ap (λ (all : List (List ℕ)). record { header = rest.header; logs = all; bad = rest.bad }) (joined_more 0 logs frames rest.frames)
+    ∙ sym (ap (λ (h : Option Header). behind h (joined_from 0 logs frames) rest) (same ∙ known)))
+
+module _ (left left_now : Option (List ℕ)) (faults faults_now : ℕ) (logs : List (List ℕ)) (old new : Reading)
+    (come : HasCome left faults logs old left_now faults_now) (rises : old.taken ≤ new.taken) where
+  pub sum-more : new.taken ≡ old.taken + (new.taken - old.taken)
+  sum-more = omega (arith, rises)
+
+  pub extent-more : ReadsAs (new.taken - old.taken) left_now (end_ahead old) (end_ahead new) → ReadsAs new.taken left reading_end (end_ahead new)
+  extent-more extent = ReadsAs-then _ _ _ _ _ _ _ _ come.took come.extent extent sum-more
+
+  pub near-more : (old.taken < new.taken → IfSome left_now (λ bytes. new.taken ≤ end_ahead old bytes + most_behind))
+      → 0 < new.taken → IfSome left (λ bytes. new.taken ≤ reading_end bytes + most_behind)
+  near-more near = near-then _ _ _ _ _ _ _ _ _ come.took come.extent rises refl come.near near
+
+  pub come-more : (all : List (List ℕ)) (left_then : Option (List ℕ)) (faults_then : ℕ) → HasRead (new.taken - old.taken) left_now left_then
+      → ReadsAs new.taken left logged_of (behind_at all new)
+      → ReadsAs (new.taken - old.taken) left_now (end_ahead old) (end_ahead new)
+      → (old.taken < new.taken → IfSome left_now (λ bytes. new.taken ≤ end_ahead old bytes + most_behind))
+      → faults_now ≤ faults_then → HasCome left faults all new left_then faults_then
+  come-more all left_then faults_then took means extent near rose = record {
+    took = HasRead-then _ _ _ _ _ _ come.took took sum-more;
+    means = means;
+    extent = extent-more extent;
+    near = near-more near;
+    never_falls = omega (arith, come.never_falls, rose);
+  }
+
+  -- frames more
+  pub means-more : (header : Header) (frames : List Frame) → old.progress.header ≡ Some header → GoesOnBy frames old new left_now
+      → ReadsAs new.taken left logged_of (behind_at (joined_from 0 logs frames) new)
+  means-more header frames known on =
+      ReadsAs-then _ _ _ _ _ _ _ _ come.took come.means (means_more _ _ logs frames old new header known on.header on.means) sum-more
+
+-- ---- what is due
+
+module _ (functions : DigestFunctions) (header : Header) (logs : List (List ℕ)) (reading : Reading) (known : reading.progress.header ≡ Some header) where
+  -- the logs with what is ahead
+  abbrev all : List ℕ → List (List ℕ)
+  all more = joined_from 0 logs (ahead reading more).frames
+
+  abbrev answered : List ℕ → Answer
+  answered more = answer_at functions (Some header) (all more) (ahead reading more).bad
+
+  answer_ahead : (more : List ℕ) → answer_by functions (behind_at logs reading more) ≡ answered more
+  answer_ahead more =
+      let rest = ahead reading more in
+      ap (λ (h : Option Header). answer_at functions rest.header (joined_from 0 (logs_so_far h logs rest.header) rest.frames) rest.bad) known
+      ∙ ap (λ (h : Option Header). answer_at functions h (all more) rest.bad) (ahead_header reading header more known)
+
+  pub due_ahead : (more : List ℕ) → (answer_by functions (behind_at logs reading more)).due ≡ lines_due functions header (all more)
+  due_ahead more = ap (λ (a : Answer). a.due) (answer_ahead more)
+
+  -- where no frame is ahead
+  pub due_spent : (ahead reading []).frames ≡ [] → joined_from 0 logs [] ≡ logs
+      → (answer_by functions (behind_at logs reading [])).due ≡ lines_due functions header logs
+  due_spent none same =
+      due_ahead [] ∙ ap (λ (frames : List Frame). lines_due functions header (joined_from 0 logs frames)) none
+      ∙ ap (lines_due functions header) same
+
+  -- What was counted is a front of what is due, whatever follows.
+  pub counted_front : (so_far : Judged) (runs : List FedRun) (held held_now : Option (List ℕ)) → AreChecked functions header logs so_far runs
+      → Grows held held_now (lines_counted functions header logs so_far)
+      → (more : List ℕ) → GrowsByFront held held_now (answer_by functions (behind_at logs reading more)).due
+  counted_front so_far runs held held_now checked written more =
+      let front = lines-front (scheme_of functions header) header logs so_far (map (λ fed. fed.run) runs) (ahead reading more).frames checked in
+      subst (GrowsByFront held held_now) (front.1 ∙ sym (due_ahead more))
+      (GrowsByFront-more held held_now (lines_counted functions header logs so_far) front.0 (GrowsByFront-whole _ _ _ written))
+
+  -- So is a front of what is due by the logs so far, and of the whole text.
+  pub due_front : (held held_now : Option (List ℕ)) → IsHeader header → length logs ≡ header.verifiers
+      → GrowsByFront held held_now (lines_due functions header logs)
+      → (more : List ℕ) → GrowsByFront held held_now (answer_by functions (behind_at logs reading more)).due
+  due_front held held_now good whole written more =
+      let front = due-stays (scheme_of functions header) header logs (ahead reading more).frames good whole in
+      subst (GrowsByFront held held_now) (front.1 ∙ sym (due_ahead more)) (GrowsByFront-more held held_now (lines_due functions header logs) front.0 written)
+
+  pub text_front : (held held_now : Option (List ℕ)) → IsHeader header → length logs ≡ header.verifiers
+      → GrowsByFront held held_now (lines_due functions header logs)
+      → (more : List ℕ) → GrowsByFront held held_now (answer_by functions (behind_at logs reading more)).text
+  text_front held held_now good whole written more =
+      let front = due-stays (scheme_of functions header) header logs (ahead reading more).frames good whole in
+      subst (GrowsByFront held held_now) (sym (ap (λ (a : Answer). a.text) (answer_ahead more)))
+      (GrowsByFront-more held held_now (lines_due functions header (all more)) _
+      (subst (GrowsByFront held held_now) front.1 (GrowsByFront-more held held_now (lines_due functions header logs) front.0 written)))
+
+-- ---- what a batch brings
+
+-- the runs took the frames
+pub fed_checked : (functions : DigestFunctions) (header : Header) (logs : List (List ℕ)) (frames : List Frame) (so_far : Judged) (runs runs_fed : List FedRun)
+    → AreChecked functions header logs so_far runs
+    → map (λ fed. fed.run) runs_fed ≡ runs_behind (scheme_of functions header) 0 (map (λ fed. fed.run) runs) frames
+    → AreChecked functions header (joined_from 0 logs frames) so_far runs_fed
+fed_checked functions header logs frames so_far runs runs_fed checked is =
+    subst (HaveTaken (scheme_of functions header) header (joined_from 0 logs frames) so_far) (sym is)
+    (taken-more (scheme_of functions header) header logs so_far (map (λ fed. fed.run) runs) frames checked)
+
+module _ (functions : DigestFunctions) (header : Header) (logs : List (List ℕ)) (frames : List Frame) (so_far : Judged) (runs : List FedRun)
+    (checked : AreChecked functions header logs so_far runs) where
+  abbrev more_logs : List (List ℕ)
+  more_logs = joined_from 0 logs frames
+
+  abbrev own_scheme : Scheme
+  own_scheme = scheme_of functions header
+
+  abbrev courses : List Course
+  courses = courses_of own_scheme header more_logs
+
+  -- what was counted, and the lines behind it up to so many epochs
+  lines_to : (count : ℕ) → so_far.count ≤ count
+      → lines_counted functions header logs so_far ++ lines_from courses (header.first + so_far.count) (count - so_far.count)
+      ≡ lines_from courses header.first count
+  lines_to count within =
+      let sum : so_far.count + (count - so_far.count) ≡ count = omega (arith, within) in
+      ap (λ (text : List ℕ). text ++ lines_from courses (header.first + so_far.count) (count - so_far.count))
+      (sym (lines-taken own_scheme header logs so_far (map (λ fed. fed.run) runs) frames checked))
+      ∙ sym (lines-behind courses header.first so_far.count (count - so_far.count))
+      ∙ ap (lines_from courses header.first) sum
+
+  -- all that is due was written
+  pub due_more : (now : Judged) (runs_fed runs_now : List FedRun) (held before after : Option (List ℕ))
+      → AreChecked functions header more_logs so_far runs_fed → AreChecked functions header more_logs now runs_now
+      → now ≡ judged header.verifiers courses
+      → Grows held before (lines_counted functions header logs so_far)
+      → Grows before after (lines_from courses (header.first + so_far.count) (now.count - so_far.count))
+      → Grows held after (lines_due functions header more_logs)
+  due_more now runs_fed runs_now held before after checked_fed checked_now all written more =
+      let within = counted-within own_scheme header more_logs so_far (map (λ fed. fed.run) runs_fed) checked_fed in
+      subst (Grows held after)
+      (lines_to now.count (omega (arith, within, ap (λ (j : Judged). j.count) all))
+      ∙ lines-due own_scheme header more_logs now (map (λ fed. fed.run) runs_now) checked_now all)
+      (Grows-then held before after _ _ written more)
+
+  -- a front of it was
+  pub front_more : (runs_fed : List FedRun) (held before after : Option (List ℕ)) → AreChecked functions header more_logs so_far runs_fed
+      → Grows held before (lines_counted functions header logs so_far)
+      → GrowsByFront before after (lines_from courses (header.first + so_far.count) ((judged header.verifiers courses).count - so_far.count))
+      → GrowsByFront held after (lines_due functions header more_logs)
+  front_more runs_fed held before after checked_fed written front =
+      let within = counted-within own_scheme header more_logs so_far (map (λ fed. fed.run) runs_fed) checked_fed in
+      subst (GrowsByFront held after)
+      (lines_to (judged header.verifiers courses).count within ∙ lines-certified own_scheme header more_logs checked_fed.header_good checked_fed.whole)
+      (GrowsByFront-then held before after _ _ written front)
+
+  -- or nothing more
+  pub front_none : (held before after : Option (List ℕ)) → Grows held before (lines_counted functions header logs so_far) → after ≡ before
+      → GrowsByFront held after (lines_due functions header more_logs)
+  front_none held before after written same =
+      let front = lines-front own_scheme header logs so_far (map (λ fed. fed.run) runs) frames checked in
+      subst (λ (now : Option (List ℕ)). GrowsByFront held now (lines_due functions header more_logs)) (sym same)
+      (subst (GrowsByFront held before) front.1
+      (GrowsByFront-more held before (lines_counted functions header logs so_far) front.0 (GrowsByFront-whole _ _ _ written)))
+
+-- whether a run was starved
+pub fed_or_not : (runs : List FedRun) → AreFed runs ⊎ (AreFed runs → ⊥)
+fed_or_not [] = inl tt
+fed_or_not (fed ∷ runs) = go fed.is_starved refl (fed_or_not runs)
+  where
+    go : (b : Bool) → fed.is_starved ≡ b → AreFed runs ⊎ (AreFed runs → ⊥) → AreFed (fed ∷ runs) ⊎ (AreFed (fed ∷ runs) → ⊥)
+    go true is more = inr (λ all. true≢false (sym is ∙ all.0))
+    go false is (inl fine) = inl (is, fine)
+    go false is (inr starved) = inr (λ all. starved all.1)
+
+-- what follows from what holds with an answer, and with an error
+pub ok_with : {T E : Type 0} (A B : Type 0) (r : Result T E) → OnOk r A → (A → OnOk r B) → OnOk r B
+ok_with A B (Ok value) holds then = then holds
+ok_with A B (Err error) holds then = tt
+
+pub on_ok_always : {T E : Type 0} (B : Type 0) (r : Result T E) → B → OnOk r B
+on_ok_always B (Ok value) holds = holds
+on_ok_always B (Err error) holds = tt
+
+pub err_with : {T E : Type 0} (A B : Type 0) (r : Result T E) → OnErr r A → (A → B) → OnErr r B
+err_with A B (Ok value) holds then = tt
+err_with A B (Err error) holds then = then holds
+
+pub on_err_always : {T E : Type 0} (B : Type 0) (r : Result T E) → B → OnErr r B
+on_err_always B (Ok value) holds = tt
+on_err_always B (Err error) holds = holds
+
+-- ---- the runs
+
+-- what holds of each run holds of it as a run that is fed, and the other way round
+pub all_runs : (P : Progress → Type 0) (feds : List FedRun) → AllByRecursion P (map (λ fed. fed.run) feds) → AllByRecursion (λ fed. P fed.run) feds
+all_runs P [] all = tt
+all_runs P (fed ∷ feds) all = (all.0, all_runs P feds all.1)
+
+pub all_feds : (P : Progress → Type 0) (feds : List FedRun) → AllByRecursion (λ fed. P fed.run) feds → AllByRecursion P (map (λ fed. fed.run) feds)
+all_feds P [] all = tt
+all_feds P (fed ∷ feds) all = (all.0, all_feds P feds all.1)
+
+-- taking epochs out of a run leaves its header and its weight
+left_header : (first count : ℕ) (run : Progress) → (left_from first count run).course.machine.header ≡ run.course.machine.header
+left_header first zero run = refl
+left_header first (suc count) run = refl
+
+left_weight : (first count : ℕ) (run : Progress) → weight (left_from first count run) ≡ weight run
+left_weight first zero run = refl
+left_weight first (suc count) run = refl
+
+-- runs of logs have the header
+headers_from : (scheme : Scheme) (header : Header) (count number : ℕ) (logs : List (List ℕ))
+    → AllByRecursion (λ run. run.course.machine.header ≡ header) (runs_from scheme header count number logs)
+headers_from scheme header count number [] = tt
+headers_from scheme header count number (log ∷ logs) = (
+  left_header header.first count (fed scheme (opening_progress number header) log) ∙ (fed_goes_on scheme (opening_progress number header) log).header,
+  headers_from scheme header count (suc number) logs,
+)
+
+pub runs_headers : (functions : DigestFunctions) (header : Header) (logs : List (List ℕ)) (so_far : Judged) (runs : List FedRun)
+    → AreChecked functions header logs so_far runs → AllByRecursion (λ fed. fed.run.course.machine.header ≡ header) runs
+runs_headers functions header logs so_far runs checked =
+    all_runs (λ run. run.course.machine.header ≡ header) runs
+    (subst (AllByRecursion (λ run. run.course.machine.header ≡ header)) (sym checked.runs_are)
+    (headers_from (scheme_of functions header) header so_far.count 0 logs))
+
+-- runs that more epochs are taken out of weigh what they did
+weights_from : (scheme : Scheme) (header : Header) (count other number bound : ℕ) (logs : List (List ℕ))
+    → AllByRecursion (λ run. weight run ≤ bound) (runs_from scheme header count number logs)
+    → AllByRecursion (λ run. weight run ≤ bound) (runs_from scheme header other number logs)
+weights_from scheme header count other number bound [] all = tt
+weights_from scheme header count other number bound (log ∷ logs) all =
+    let run = fed scheme (opening_progress number header) log in (
+      omega (arith, all.0, left_weight header.first count run, left_weight header.first other run),
+      weights_from scheme header count other (suc number) bound logs all.1,
+    )
+
+pub runs_weights : (functions : DigestFunctions) (header : Header) (logs : List (List ℕ)) (so_far now : Judged) (runs runs_now : List FedRun) (bound : ℕ)
+    → AreChecked functions header logs so_far runs → AreChecked functions header logs now runs_now
+    → AllByRecursion (λ fed. weight fed.run ≤ bound) runs → AllByRecursion (λ fed. weight fed.run ≤ bound) runs_now
+runs_weights functions header logs so_far now runs runs_now bound checked checked_now weights =
+    all_runs (λ run. weight run ≤ bound) runs_now
+    (subst (AllByRecursion (λ run. weight run ≤ bound)) (sym checked_now.runs_are)
+    (weights_from (scheme_of functions header) header so_far.count now.count 0 bound logs
+    (subst (AllByRecursion (λ run. weight run ≤ bound)) checked.runs_are (all_feds (λ run. weight run ≤ bound) runs weights))))
+
+-- there is room for what a batch has
+pub weights_room : (runs : List FedRun) (bound bytes : ℕ) → bound + bytes < 9223372036854775808
+    → AllByRecursion (λ fed. weight fed.run ≤ bound) runs → AllByRecursion (λ fed. weight fed.run + bytes < 9223372036854775808) runs
+weights_room [] bound bytes room all = tt
+weights_room (fed ∷ runs) bound bytes room all = (omega (arith, room, all.0), weights_room runs bound bytes room all.1)
+
+pub weights_more : (runs : List FedRun) (bound more : ℕ) → bound ≤ more
+    → AllByRecursion (λ fed. weight fed.run ≤ bound) runs → AllByRecursion (λ fed. weight fed.run ≤ more) runs
+weights_more [] bound more below all = tt
+weights_more (fed ∷ runs) bound more below all = (omega (arith, below, all.0), weights_more runs bound more below all.1)
+
+weights_opening : (header : Header) (number count bound : ℕ) → AllByRecursion (λ run. weight run ≤ bound) (opening_runs header number count)
+weights_opening header number zero bound = tt
+weights_opening header number (suc count) bound = (omega arith, weights_opening header (suc number) count bound)
+
+pub opening_weights : (header : Header) (bound : ℕ) (runs : List FedRun) → map (λ fed. fed.run) runs ≡ opening_runs header 0 header.verifiers
+    → AllByRecursion (λ fed. weight fed.run ≤ bound) runs
+opening_weights header bound runs is =
+    all_runs (λ run. weight run ≤ bound) runs
+    (subst (AllByRecursion (λ run. weight run ≤ bound)) (sym is) (weights_opening header 0 header.verifiers bound))
+
+-- each frame has a byte at least
+pub frames_bytes : (verifiers : ℕ) (frames : List Frame) → AllByRecursion (IsFrame verifiers) frames → length frames ≤ bytes_of frames
+frames_bytes verifiers [] all = omega arith
+frames_bytes verifiers (frame ∷ frames) all = omega (arith, all.0.some, frames_bytes verifiers frames all.1)
+
+-- ---- the runs before the first byte
+
+pub runs_one_more : (header : Header) (number left all next : ℕ) (runs runs_more : List FedRun) (fed : FedRun) → number < all → next ≡ number + 1
+    → runs_more ≡ runs ++ fed ∷ [] → fed.run ≡ opening_progress number header
+    → map (λ fed. fed.run) runs ++ opening_runs header number (all - number) ≡ opening_runs header 0 left
+    → map (λ fed. fed.run) runs_more ++ opening_runs header next (all - next) ≡ opening_runs header 0 left
+runs_one_more header number left all next runs runs_more fed within is more opening so_far =
+    let own : next ≡ suc number = omega (arith, is) in
+    let behind : all - number ≡ suc (all - next) = omega (arith, within, is) in
+    let rest = opening_runs header next (all - next) in
+    ap (λ (rs : List FedRun). map (λ fed. fed.run) rs ++ rest) more
+    ∙ ap (λ (rs : List Progress). rs ++ rest) (map-append (λ (f : FedRun). f.run) runs (fed ∷ []))
+    ∙ append_assoc (map (λ fed. fed.run) runs) (fed.run ∷ []) rest
+    ∙ ap (λ (run : Progress). map (λ fed. fed.run) runs ++ run ∷ rest) opening
+    ∙ ap (λ (n : ℕ). map (λ fed. fed.run) runs ++ opening_progress number header ∷ opening_runs header n (all - next)) own
+    ∙ sym (ap (λ (n : ℕ). map (λ fed. fed.run) runs ++ opening_runs header number n) behind)
+    ∙ so_far
+
+pub runs_all : (header : Header) (number all : ℕ) (runs : List FedRun) → all ≤ number
+    → map (λ fed. fed.run) runs ++ opening_runs header number (all - number) ≡ opening_runs header 0 all
+    → map (λ fed. fed.run) runs ≡ opening_runs header 0 all
+runs_all header number all runs past so_far =
+    let none : all - number ≡ 0 = omega (arith, past) in
+    sym (append-nil (map (λ fed. fed.run) runs))
+    ∙ sym (ap (λ (n : ℕ). map (λ fed. fed.run) runs ++ opening_runs header number n) none) ∙ so_far

@@ -1,0 +1,394 @@
+use Rattle.std.proofs.Common.{◌≡◌, ◌+◌, ◌-◌, ◌≤◌, ℕ, List, ◌++◌, map, take, drop, length, Some, Result, Ok, Err, refl, sym, ◌∙◌, ap, subst, append-nil, arith}
+use Rattle.std.specs.Prelude.{IsErrAnd}
+use Rattle.std.specs.List.{AllByRecursion}
+use Rattle.std.proofs.lemmas.List.{take_all, drop_all}
+use Rattle.want_of_memory.specs.declared.memory.Memory.{Memory}
+use Rattle.fv_outside.specs.Written.{Grows}
+use Rattle.fv_outside.proofs.WrittenLaws.{Grows-nil, Grows-then, GrowsByFront-none, GrowsByFront-then}
+use Rattle.merkle_records.specs.Scheme.{scheme_of}
+use Rattle.bundle_frames.specs.declared.coming.SourceStop.{SourceStop}
+use Rattle.bundle_frames.specs.declared.coming.SourceStop.TheVariants.{ReadFault, InputLimit}
+use Rattle.bundle_frames.specs.Reading.{end_ahead}
+use Rattle.bundle_frames.specs.Extent.{reading_end}
+use Rattle.bundle_frames.proofs.ReadingLaws.{HasRead-then, TookAtMost-from_read, TookJust-from_read, near-then, stops_near, took_to_end}
+use Rattle.report_text.specs.declared.ending.BundleEnd.{BundleEnd}
+use Rattle.report_text.specs.Answer.{Reading, Writing, AnswersTo}
+use Rattle.bundle_report.specs.declared.judged.Judged.{Judged}
+use Rattle.bundle_report.specs.Logs.{empty_logs, joined_from}
+use Rattle.bundle_report.specs.Judged.{none_judged}
+use Rattle.bundle_report.specs.SoFar.{HaveTaken}
+use Rattle.bundle_report.specs.Answer.{check_answer, answer_by}
+use Rattle.bundle_report.proofs.DueLaws.{taken-none, lines-due}
+use Rattle.bundle_report.proofs.SoFarLaws.{taken-more}
+use Rattle.bundle_report.specs.declared.report_stop.ReportStop.{ReportStop}
+use Rattle.bundle_report.specs.declared.report_stop.ReportStop.TheVariants as writes
+use Rattle.report_text.specs.Ending.{status_of}
+use Rattle.report_text.specs.Status.{last_line}
+use Rattle.verifier_run.specs.Progress.{weight}
+use Rattle.certified_epochs.specs.declared.fed_run.FedRun.{FedRun}
+use Rattle.check_core.specs.declared.batch.Filled.{Filled}
+use Rattle.check_core.specs.declared.batch.Filled.TheVariants.{Whole, End, Stopped}
+use Rattle.check_core.specs.declared.stops.CheckStop.{CheckStop}
+use Rattle.check_core.specs.declared.stops.CheckStop.TheVariants as checks
+use Rattle.check_core.specs.Batch.{bytes_of}
+use Rattle.check_core.specs.Intake.{behind_at}
+use Rattle.check_core.specs.Stops.{check_status, checking_stopped, stop_by_writing}
+use Rattle.check_core.specs.Stream.{AreChecked, lines_counted}
+use Rattle.report_text.proofs.AnsweringLaws.{rose_before}
+use Rattle.check_core.proofs.StreamLemmas.{counted_front, opening_weights, weights_room, weights_more, frames_bytes, means-more, extent-more, come-more}
+use Rattle.check_core.proofs.EndingLemmas.{memory_answers, ends_behind, took_batch, stop_answers, due_taken, cut_answers, end_answers, last_answers}
+use Rattle.check_core.proofs.MeaningLemmas.{joined_none, joined_end}
+use Rattle.check_core.proofs.checking.check_frames.Goals as goal
+
+-- the error that a call hands on
+handed_on : (r : Result BundleEnd CheckStop) (stop : CheckStop) → IsErrAnd r (λ error. error ≡ stop) → r ≡ Err stop
+handed_on (Ok end) stop is = absurd is
+handed_on (Err error) stop is = ap Err is
+
+-- where there was an answer, it is not one of these errors
+no_stop : (r : Result Filled Memory) (error : Memory) → r ≡ Err error → r ≡ Ok (Stopped InputLimit) → ⊥
+no_stop r error is stopped = cc
+
+whole_no_stop : (r : Result Filled Memory) → r ≡ Ok Whole → r ≡ Ok (Stopped InputLimit) → ⊥
+whole_no_stop r is stopped = cc
+
+end_no_stop : (r : Result Filled Memory) → r ≡ Ok End → r ≡ Ok (Stopped InputLimit) → ⊥
+end_no_stop r is stopped = cc
+
+-- a batch that was read up to where reading stopped
+abbrev stopped_at : SourceStop → Result Filled Memory
+stopped_at stop = Ok (Stopped stop)
+
+fault_no_limit : (r : Result Filled Memory) → r ≡ stopped_at ReadFault → r ≡ stopped_at InputLimit → ⊥
+fault_no_limit r is stopped = cc
+
+stopped_not_whole : (filled : Filled) (stop : SourceStop) → filled ≡ Stopped stop → filled ≡ Whole → ⊥
+stopped_not_whole filled stop is whole = cc
+
+end_not_whole : (filled : Filled) → filled ≡ End → filled ≡ Whole → ⊥
+end_not_whole filled is whole = cc
+
+-- the last line fails by the sink alone
+no_memory : (stop : ReportStop) → (stop ≡ writes.Memory → ⊥) → stop_by_writing stop ≡ checks.WriteFault
+no_memory writes.Memory other = absurd (other refl)
+no_memory writes.WriteFault other = refl
+
+-- a slice that a call wrote, as the vector that lent it
+lent_back : {A : Type 0} (n : ℕ) (new old : List A) → n ≡ length old → length new ≡ length old → take n (new ++ drop (length new) old) ≡ new
+lent_back n new old whole same =
+    ap (λ (rest : List _). take n (new ++ rest)) (drop_all (length new) old (omega (arith, same)))
+    ∙ ap (take n) (append-nil new) ∙ take_all n new (omega (arith, whole, same))
+
+pub returns-in_err-runs : goal.returns-in_err-runs
+returns-in_err-runs g c = record {
+  answers = λ left faults come.
+      let reader = c.args.reader.now in
+      let read : Reading = record {
+        left = left;
+        left_after = g.S.Source.left c.args.source.now;
+        faults = faults;
+        faults_after = g.S.Source.faults c.args.source.now;
+      } in
+      let wrote : Writing = record {
+        held = g.O.Sink.held c.args.out.now;
+        held_after = g.O.Sink.held c.args.out.now;
+        faults = g.O.Sink.faults c.args.out.now;
+        faults_after = g.O.Sink.faults c.args.out.now;
+      } in
+      subst (λ (r : Result BundleEnd CheckStop). AnswersTo (check_answer (g.D.Digests.functions c.args.d.now)) reading_end reader.limit (check_status reader.limit r) read wrote)
+      (sym (handed_on c.from_residual.result checks.Memory c.from_residual.ensures.1))
+      (memory_answers (g.D.Digests.functions c.args.d.now) reader.limit reader.taken reader.taken left _ faults _ (empty_logs c.args.header.now.verifiers) reader wrote
+      come.means (omega arith) come.took c.requires.within (stops_near _ _ _ reading_end come.took come.near)
+      (λ more. GrowsByFront-none (g.O.Sink.held c.args.out.now) (answer_by (g.D.Digests.functions c.args.d.now) (behind_at (empty_logs c.args.header.now.verifiers) reader more)).due));
+}
+
+pub batches-init : goal.batches-init
+batches-init g c =
+    let functions = g.D.Digests.functions c.args.d.now in
+    let header = c.args.header.now in
+    let logs = empty_logs header.verifiers in
+    let held = g.O.Sink.held c.args.out.now in
+    let runs = c.in_ok-runs.runs.items in
+    record {
+      logs = logs;
+      checked =
+          subst (λ (so_far : Judged). HaveTaken (scheme_of functions header) header logs so_far (map (λ fed. fed.run) runs)) (sym c.new-certifier.ensures.none)
+          (subst (HaveTaken (scheme_of functions header) header logs none_judged) (sym c.in_ok-runs.ensures.opening) (taken-none (scheme_of functions header) header c.requires.header));
+      written =
+          subst (λ (so_far : Judged). Grows held held (lines_counted functions header logs so_far)) (sym c.new-certifier.ensures.none) (Grows-nil held);
+      weights = opening_weights header _ runs c.in_ok-runs.ensures.opening;
+      few = omega (arith, c.in_ok-runs.ensures.len, c.requires.header.verifiers);
+      come = λ left faults come. come;
+      known = c.requires.known;
+      due = c.requires.due;
+      limit = refl;
+      within = c.requires.within;
+      split = c.requires.split;
+      faults = omega arith;
+    }
+
+pub take_batch-requires-clause-room : goal.take_batch-requires-clause-room
+take_batch-requires-clause-room g c κs within =
+    let inv = c.batches.invariant in
+    let fill = c.fill.ensures in
+    let on = c.in_ok-filled.ensures.goes_on in
+    weights_room c.deref_mut.result.now c.batches.reader.progress.offset (bytes_of c.fill.new.self)
+    (omega (arith, on.bytes, fill.split, fill.within, fill.same_limit, inv.limit, c.requires.limit))
+    (subst (AllByRecursion (λ fed. _ ≤ c.batches.reader.progress.offset)) (sym c.deref_mut.ensures.value) inv.weights)
+
+pub returns-in_err-filled : goal.returns-in_err-filled
+returns-in_err-filled g c = record {
+  answers = λ left faults come.
+      let functions = g.D.Digests.functions c.args.d.now in
+      let inv = c.batches.invariant in
+      let fill = c.fill.ensures in
+      let old = c.batches.reader in
+      let new = c.fill.new.reader in
+      let now = inv.come left faults come in
+      let sum : new.taken ≡ old.taken + (new.taken - old.taken) = omega (arith, fill.rises) in
+      let took = HasRead-then _ _ _ _ _ _ now.took (fill.took (no_stop c.fill.result c.in_err-filled.field-0.0 c.in_err-filled.was)) sum in
+      let read : Reading = record {
+        left = left;
+        left_after = g.S.Source.left c.fill.new.source;
+        faults = faults;
+        faults_after = g.S.Source.faults c.fill.new.source;
+      } in
+      let wrote : Writing = record {
+        held = g.O.Sink.held c.args.out.now;
+        held_after = g.O.Sink.held c.batches.out;
+        faults = g.O.Sink.faults c.args.out.now;
+        faults_after = g.O.Sink.faults c.batches.out;
+      } in
+      subst (λ (r : Result BundleEnd CheckStop). AnswersTo (check_answer functions) reading_end c.args.reader.now.limit (check_status c.args.reader.now.limit r) read wrote)
+      (sym (handed_on c.from_residual-in_err-filled.result checks.Memory c.from_residual-in_err-filled.ensures.1))
+      (memory_answers functions c.args.reader.now.limit old.taken new.taken left _ faults _ inv.logs old wrote
+      now.means fill.rises took (omega (arith, fill.within, fill.same_limit, inv.limit))
+      (stops_near _ _ _ reading_end took (near-then _ _ _ _ _ _ _ _ _ now.took now.extent fill.rises refl now.near fill.near))
+      (counted_front functions c.args.header.now inv.logs old inv.known c.batches.certifier c.batches.runs.items _ _ inv.checked inv.written));
+}
+
+pub returns-in_err-take_batch : goal.returns-in_err-take_batch
+returns-in_err-take_batch g c = record {
+  answers = λ left faults come.
+      let functions = g.D.Digests.functions c.args.d.now in
+      let header = c.args.header.now in
+      let limit = c.args.reader.now.limit in
+      let inv = c.batches.invariant in
+      let fill = c.fill.ensures in
+      let on = c.in_ok-filled.ensures.goes_on in
+      let old = c.batches.reader in
+      let new = c.fill.new.reader in
+      let frames = c.fill.new.self in
+      let now = inv.come left faults come in
+      let checked = subst (λ (runs : List FedRun). AreChecked functions header inv.logs c.batches.certifier runs) (sym c.deref_mut.ensures.value) inv.checked in
+      let read : Reading = record {
+        left = left;
+        left_after = g.S.Source.left c.fill.new.source;
+        faults = faults;
+        faults_after = g.S.Source.faults c.fill.new.source;
+      } in
+      let wrote : Writing = record {
+        held = g.O.Sink.held c.args.out.now;
+        held_after = g.O.Sink.held c.take_batch.new.out;
+        faults = g.O.Sink.faults c.args.out.now;
+        faults_after = g.O.Sink.faults c.take_batch.new.out;
+      } in
+      subst (λ (r : Result BundleEnd CheckStop). AnswersTo (check_answer functions) reading_end limit (check_status limit r) read wrote)
+      (sym (handed_on c.from_residual-in_err-take_batch.result (stop_by_writing c.in_err-take_batch.field-0.0) c.from_residual-in_err-take_batch.ensures.1))
+      (stop_answers functions header limit left (g.S.Source.left c.fill.new.source) faults (g.S.Source.faults c.fill.new.source) (joined_from 0 inv.logs frames) new
+      (on.header ∙ inv.known) (means-more left _ faults _ inv.logs old new now fill.rises header frames inv.known on) wrote c.in_err-take_batch.field-0.0
+      (took_batch limit left _ _ faults _ inv.logs old new now fill.rises (fill.same_limit ∙ inv.limit) fill.within fill.near
+      c.fill.result c.in_ok-filled.filled c.in_ok-filled.was fill.took fill.limit fill.full fill.beyond)
+      c.requires.header (taken-more (scheme_of functions header) header inv.logs c.batches.certifier _ frames inv.checked).whole
+      (c.in_err-take_batch.ensures.front header inv.logs (g.O.Sink.held c.args.out.now) checked inv.written)
+      (λ is. rose_before _ _ _ inv.faults (c.take_batch.ensures.write_fault (c.in_err-take_batch.was ∙ ap Err is))));
+}
+
+pub batches-smaller : goal.batches-smaller
+batches-smaller g c =
+    let inv = c.batches.invariant in
+    let fill = c.fill.ensures in
+    let on = c.in_ok-filled.ensures.goes_on in
+    let some = frames_bytes c.args.header.now.verifiers c.fill.new.self (fill.frames c.args.header.now inv.known) in
+    let many = fill.whole (c.in_ok-filled.was ∙ ap Ok c.in-Whole.is) in
+    omega (arith, on.bytes, some, many, fill.split, fill.within, fill.same_limit, inv.split, inv.within)
+
+pub batches-preserved : goal.batches-preserved
+batches-preserved g c =
+    let functions = g.D.Digests.functions c.args.d.now in
+    let header = c.args.header.now in
+    let inv = c.batches.invariant in
+    let fill = c.fill.ensures in
+    let on = c.in_ok-filled.ensures.goes_on in
+    let old = c.batches.reader in
+    let new = c.fill.new.reader in
+    let frames = c.fill.new.self in
+    let all = joined_from 0 inv.logs frames in
+    let whole = c.in_ok-filled.was ∙ ap Ok c.in-Whole.is in
+    let checked = subst (λ (runs : List FedRun). AreChecked functions header inv.logs c.batches.certifier runs) (sym c.deref_mut.ensures.value) inv.checked in
+    let back = lent_back c.batches.runs.len c.take_batch.new.runs c.batches.runs.items (omega (arith, c.batches.runs.ok)) (c.take_batch.ensures.len ∙ ap length c.deref_mut.ensures.value) in
+    let taken = c.in_ok-take_batch.ensures.checked header inv.logs checked in
+    record {
+      logs = all;
+      checked = subst (λ (runs : List FedRun). AreChecked functions header all c.take_batch.new.certifier runs) (sym back) taken;
+      written =
+          subst (Grows (g.O.Sink.held c.args.out.now) (g.O.Sink.held c.take_batch.new.out))
+          (sym (lines-due (scheme_of functions header) header all c.take_batch.new.certifier _ taken (c.in_ok-take_batch.ensures.all header inv.logs checked)))
+          (c.in_ok-take_batch.ensures.due header inv.logs (g.O.Sink.held c.args.out.now) checked inv.written);
+      weights =
+          subst (AllByRecursion (λ fed. weight fed.run ≤ new.progress.offset)) (sym back)
+          (weights_more c.take_batch.new.runs (old.progress.offset + bytes_of frames) new.progress.offset (omega (arith, on.bytes))
+          (c.in_ok-take_batch.ensures.weight old.progress.offset
+          (subst (AllByRecursion (λ fed. weight fed.run ≤ old.progress.offset)) (sym c.deref_mut.ensures.value) inv.weights)));
+      few = inv.few;
+      come = λ left faults come.
+          let now = inv.come left faults come in
+          come-more left _ faults _ inv.logs old new now fill.rises all _ _ (fill.took (whole_no_stop c.fill.result whole))
+          (means-more left _ faults _ inv.logs old new now fill.rises header frames inv.known on) on.extent fill.near fill.never_falls;
+      known = on.header ∙ inv.known;
+      due = fill.due whole;
+      limit = fill.same_limit ∙ inv.limit;
+      within = fill.within;
+      split = fill.split;
+      faults = omega (arith, inv.faults, c.take_batch.ensures.never_falls);
+    }
+
+pub returns-in-Stopped : goal.returns-in-Stopped
+returns-in-Stopped g c = record {
+  answers = λ left faults come.
+      let functions = g.D.Digests.functions c.args.d.now in
+      let header = c.args.header.now in
+      let limit = c.args.reader.now.limit in
+      let inv = c.batches.invariant in
+      let fill = c.fill.ensures in
+      let on = c.in_ok-filled.ensures.goes_on in
+      let old = c.batches.reader in
+      let new = c.fill.new.reader in
+      let frames = c.fill.new.self in
+      let all = joined_from 0 inv.logs frames in
+      let now = inv.come left faults come in
+      let stopped = c.in_ok-filled.was ∙ ap Ok c.in-Stopped.is in
+      let same = fill.same_limit ∙ inv.limit in
+      let checked = subst (λ (runs : List FedRun). AreChecked functions header inv.logs c.batches.certifier runs) (sym c.deref_mut.ensures.value) inv.checked in
+      let sum : new.taken ≡ old.taken + (new.taken - old.taken) = omega (arith, fill.rises) in
+      let sum' : limit + 1 ≡ old.taken + (new.limit + 1 - old.taken) = omega (arith, fill.rises, fill.within, same) in
+      let read : Reading = record {
+        left = left;
+        left_after = g.S.Source.left c.fill.new.source;
+        faults = faults;
+        faults_after = g.S.Source.faults c.fill.new.source;
+      } in
+      let wrote : Writing = record {
+        held = g.O.Sink.held c.args.out.now;
+        held_after = g.O.Sink.held c.take_batch.new.out;
+        faults = g.O.Sink.faults c.args.out.now;
+        faults_after = g.O.Sink.faults c.take_batch.new.out;
+      } in
+      subst (λ (stop : CheckStop). AnswersTo (check_answer functions) reading_end limit (checking_stopped limit stop) read wrote) (sym c.from.ensures)
+      (cut_answers functions limit left (g.S.Source.left c.fill.new.source) faults (g.S.Source.faults c.fill.new.source) new wrote c.in-Stopped.stop
+      (took_batch limit left _ _ faults _ inv.logs old new now fill.rises same fill.within fill.near
+      c.fill.result c.in_ok-filled.filled c.in_ok-filled.was fill.took fill.limit fill.full fill.beyond)
+      (due_taken functions header limit left (g.S.Source.left c.fill.new.source) faults (g.S.Source.faults c.fill.new.source) all new
+      (on.header ∙ inv.known) (means-more left _ faults _ inv.logs old new now fill.rises header frames inv.known on) wrote
+      (c.in_ok-filled.ensures.spent (stopped_not_whole c.in_ok-filled.filled c.in-Stopped.stop c.in-Stopped.is)).no_frames (joined_none 0 all)
+      (c.in_ok-take_batch.ensures.due header inv.logs (g.O.Sink.held c.args.out.now) checked inv.written))
+      (λ is. rose_before _ _ _ now.never_falls (fill.fault (stopped ∙ ap stopped_at is)))
+      (λ is. TookAtMost-from_read new.taken limit _ _ (HasRead-then _ _ _ _ _ _ now.took (fill.took (fault_no_limit c.fill.result (stopped ∙ ap stopped_at is))) sum)
+      (omega (arith, fill.within, same)))
+      (λ is. TookJust-from_read (limit + 1) _ _ (HasRead-then _ _ _ _ _ _ now.took (fill.limit (stopped ∙ ap stopped_at is)) sum'))
+      (λ is. ends_behind limit left (g.S.Source.left c.batches.source) (g.S.Source.left c.fill.new.source) faults _ inv.logs old new now fill.rises same fill.within fill.near (fill.beyond (stopped ∙ ap stopped_at is))));
+}
+
+pub returns-in_err-finish : goal.returns-in_err-finish
+returns-in_err-finish g c = record {
+  answers = λ left faults come.
+      let functions = g.D.Digests.functions c.args.d.now in
+      let header = c.args.header.now in
+      let scheme = scheme_of functions header in
+      let limit = c.args.reader.now.limit in
+      let inv = c.batches.invariant in
+      let fill = c.fill.ensures in
+      let on = c.in_ok-filled.ensures.goes_on in
+      let old = c.batches.reader in
+      let new = c.fill.new.reader in
+      let frames = c.fill.new.self in
+      let all = joined_from 0 inv.logs frames in
+      let now = inv.come left faults come in
+      let ended = c.in_ok-filled.was ∙ ap Ok c.in-End.is in
+      let checked = subst (λ (runs : List FedRun). AreChecked functions header inv.logs c.batches.certifier runs) (sym c.deref_mut.ensures.value) inv.checked in
+      let back = lent_back c.batches.runs.len c.take_batch.new.runs c.batches.runs.items (omega (arith, c.batches.runs.ok)) (c.take_batch.ensures.len ∙ ap length c.deref_mut.ensures.value) in
+      let taken = subst (λ (runs : List FedRun). AreChecked functions header all c.take_batch.new.certifier runs) (sym (c.deref_mut-2.ensures.value ∙ back))
+      (c.in_ok-take_batch.ensures.checked header inv.logs checked) in
+      let sum : new.taken ≡ old.taken + (new.taken - old.taken) = omega (arith, fill.rises) in
+      let took = HasRead-then _ _ _ _ _ _ now.took (fill.took (end_no_stop c.fill.result ended)) sum in
+      let spent = c.in_ok-filled.ensures.spent (end_not_whole c.in_ok-filled.filled c.in-End.is) in
+      let whole = (taken-more scheme header inv.logs c.batches.certifier _ frames inv.checked).whole in
+      let read : Reading = record {
+        left = left;
+        left_after = g.S.Source.left c.fill.new.source;
+        faults = faults;
+        faults_after = g.S.Source.faults c.fill.new.source;
+      } in
+      let wrote : Writing = record {
+        held = g.O.Sink.held c.args.out.now;
+        held_after = g.O.Sink.held c.finish.new.out;
+        faults = g.O.Sink.faults c.args.out.now;
+        faults_after = g.O.Sink.faults c.finish.new.out;
+      } in
+      subst (λ (r : Result BundleEnd CheckStop). AnswersTo (check_answer functions) reading_end limit (check_status limit r) read wrote)
+      (sym (handed_on c.from_residual-in_err-finish.result (stop_by_writing c.in_err-finish.field-0.0) c.from_residual-in_err-finish.ensures.1
+      ∙ ap Err (no_memory c.in_err-finish.field-0.0 (λ is. c.finish.ensures.stop (c.in_err-finish.was ∙ ap Err is)))))
+      (last_answers functions header limit left (g.S.Source.left c.fill.new.source) faults (g.S.Source.faults c.fill.new.source) all new
+      (on.header ∙ inv.known) (means-more left _ faults _ inv.logs old new now fill.rises header frames inv.known on) wrote c.bad.result took
+      (omega (arith, fill.within, fill.same_limit, inv.limit))
+      (joined_end all new _ (Some header) c.bad.result (fill.end ended) (sym (on.header ∙ inv.known)) (c.bad.ensures.ahead spent.unread) whole)
+      (stops_near _ _ _ reading_end took (near-then _ _ _ _ _ _ _ _ _ now.took now.extent fill.rises refl now.near fill.near))
+      (GrowsByFront-then _ _ _ _ _ (c.in_ok-take_batch.ensures.due header inv.logs (g.O.Sink.held c.args.out.now) checked inv.written)
+      (c.in_err-finish.ensures.front scheme header all taken (c.in_ok-take_batch.ensures.all header inv.logs checked)))
+      (let more = c.take_batch.ensures.never_falls in rose_before _ _ _ (omega (arith, inv.faults, more)) c.in_err-finish.ensures.write_fault));
+}
+
+pub returns : goal.returns
+returns g c = record {
+  answers = λ left faults come.
+      let functions = g.D.Digests.functions c.args.d.now in
+      let header = c.args.header.now in
+      let scheme = scheme_of functions header in
+      let limit = c.args.reader.now.limit in
+      let inv = c.batches.invariant in
+      let fill = c.fill.ensures in
+      let on = c.in_ok-filled.ensures.goes_on in
+      let old = c.batches.reader in
+      let new = c.fill.new.reader in
+      let frames = c.fill.new.self in
+      let all = joined_from 0 inv.logs frames in
+      let now = inv.come left faults come in
+      let ended = c.in_ok-filled.was ∙ ap Ok c.in-End.is in
+      let checked = subst (λ (runs : List FedRun). AreChecked functions header inv.logs c.batches.certifier runs) (sym c.deref_mut.ensures.value) inv.checked in
+      let back = lent_back c.batches.runs.len c.take_batch.new.runs c.batches.runs.items (omega (arith, c.batches.runs.ok)) (c.take_batch.ensures.len ∙ ap length c.deref_mut.ensures.value) in
+      let taken = subst (λ (runs : List FedRun). AreChecked functions header all c.take_batch.new.certifier runs) (sym (c.deref_mut-2.ensures.value ∙ back))
+      (c.in_ok-take_batch.ensures.checked header inv.logs checked) in
+      let sum : new.taken ≡ old.taken + (new.taken - old.taken) = omega (arith, fill.rises) in
+      let took = HasRead-then _ _ _ _ _ _ now.took (fill.took (end_no_stop c.fill.result ended)) sum in
+      let spent = c.in_ok-filled.ensures.spent (end_not_whole c.in_ok-filled.filled c.in-End.is) in
+      let whole = (taken-more scheme header inv.logs c.batches.certifier _ frames inv.checked).whole in
+      let end = c.in_ok-finish.field-0 in
+      let end_is = c.in_ok-finish.ensures.end scheme header all taken (c.in_ok-take_batch.ensures.all header inv.logs checked) in
+      end_answers functions header limit left (g.S.Source.left c.fill.new.source) faults (g.S.Source.faults c.fill.new.source) all new
+      (on.header ∙ inv.known) (means-more left _ faults _ inv.logs old new now fill.rises header frames inv.known on)
+      (record {
+        held = g.O.Sink.held c.args.out.now;
+        held_after = g.O.Sink.held c.finish.new.out;
+        faults = g.O.Sink.faults c.args.out.now;
+        faults_after = g.O.Sink.faults c.finish.new.out;
+      })
+      c.bad.result end took
+      (omega (arith, fill.within, fill.same_limit, inv.limit))
+      (joined_end all new _ (Some header) c.bad.result (fill.end ended) (sym (on.header ∙ inv.known)) (c.bad.ensures.ahead spent.unread) whole)
+      (took_to_end new.taken left (g.S.Source.left c.fill.new.source) reading_end (end_ahead new) took
+      (extent-more left _ faults _ inv.logs old new now fill.rises on.extent) (fill.reached ended))
+      (stops_near _ _ _ reading_end took (near-then _ _ _ _ _ _ _ _ _ now.took now.extent fill.rises refl now.near fill.near))
+      (ap status_of end_is)
+      (Grows-then _ _ _ _ _ (c.in_ok-take_batch.ensures.due header inv.logs (g.O.Sink.held c.args.out.now) checked inv.written)
+      (subst (λ (e : BundleEnd). Grows (g.O.Sink.held c.take_batch.new.out) (g.O.Sink.held c.finish.new.out) (last_line (status_of e))) end_is c.in_ok-finish.ensures.line));
+}
