@@ -5,3 +5,5 @@ mod GeneratorLemmas
 mod TextLemmas
 mod WrittenWordLemmas
 mod WrittenLemmas
+mod SpelledWordLemmas
+mod SpelledLemmas
