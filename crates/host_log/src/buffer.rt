@@ -49,8 +49,17 @@ impl LogBuffer {
         self.bytes.as_slice()
     }
 
-    /// What was pushed, for the taker's own. This buffer goes on with the spare one's memory, and with nothing in it.
-    pub fn take(&mut self, mut spare: LogBuffer) -> LogBuffer
+    /// What was pushed, for the taker's own. This buffer goes on with nothing in it, and takes memory anew.
+    pub fn take(&mut self) -> LogBuffer
+        ensures taken { result ≡ self.old }
+        ensures empty { self.new ≡ [] }
+    {
+        let alloc = *self.bytes.allocator();
+        self.exchange(LogBuffer::new(alloc))
+    }
+
+    /// The same, where this buffer goes on with the memory of a spare one, whatever that held.
+    pub fn exchange(&mut self, mut spare: LogBuffer) -> LogBuffer
         ensures taken { result ≡ self.old }
         ensures empty { self.new ≡ [] }
     {

@@ -1,14 +1,14 @@
 //! A log as a host writes it: commands that become bytes, and bytes that become frames of a bundle.
 //!
 //! The crate stands on `log_codec` for the commands' texts and on `bundle_frames` for a frame's. Begin with `LogBuffer`
-//! in `buffer.rt`, then `write_frames` in `frames.rt`, beside `specs/Frames.antt`, which says into which frames bytes are
+//! in `buffer.rt`, then `frames` in `framing.rt`, beside `specs/Frames.antt`, which says into which frames bytes are
 //! cut. `laws.rt` says that the frames of pieces of logs are read back as these logs.
 #![tactic(auto)]
 
 mod buffer;
-mod frames;
+mod framing;
 mod laws;
 
 pub use buffer::LogBuffer;
-pub use frames::write_frames;
+pub use framing::frames;
 pub use laws::{bundles_hold_the_logs, frames_join_to_the_bytes};

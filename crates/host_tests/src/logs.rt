@@ -3,7 +3,7 @@ use crate::rows::{bytes_of, field, same, same_bytes};
 use bundle_frames::write_header;
 use bundle_rows::command_of;
 use fv_outside::{Failed, MemorySink};
-use host_log::{LogBuffer, write_frames};
+use host_log::{LogBuffer, frames};
 use lamport_clocks::Header;
 use std::alloc::Global;
 use std::test::Fail;
@@ -72,14 +72,9 @@ fn the_rounds_of_an_empty_script_are_its_bundle(rt: HostRuntime) -> Result<(), F
     let mut spare = LogBuffer::new(rt.alloc());
     for rows in [FIRST_ROUND, "", LAST_CLOSE] {
         push_rows(&mut log, rows)?;
-        let taken = log.take(spare);
+        let taken = log.exchange(spare);
         same(&rt, rows, &log.bytes().len(), &0);
-        same(
-            &rt,
-            rows,
-            &write_frames(0, taken.bytes(), &mut sink),
-            &Ok(()),
-        );
+        same(&rt, rows, &frames(0, taken.bytes(), &mut sink), &Ok(()));
         spare = taken;
     }
     same_bytes(&rt, "bundle", sink.bytes(), &bundle);
@@ -87,7 +82,7 @@ fn the_rounds_of_an_empty_script_are_its_bundle(rt: HostRuntime) -> Result<(), F
 }
 
 #[test]
-fn a_buffer_goes_on_behind_a_clear(rt: HostRuntime) -> Result<(), Fail> {
+fn a_buffer_goes_on_when_it_was_emptied(rt: HostRuntime) -> Result<(), Fail> {
     let bundle = bytes_of(rt.alloc(), SETUP)?;
     let mut log = LogBuffer::new(rt.alloc());
     push_rows(&mut log, FIRST_ROUND)?;
@@ -95,7 +90,11 @@ fn a_buffer_goes_on_behind_a_clear(rt: HostRuntime) -> Result<(), Fail> {
     log.clear();
     same_bytes(&rt, "clear", log.bytes(), b"");
     push_rows(&mut log, LAST_CLOSE)?;
-    same(&rt, "last", &Some(log.bytes()), &bundle.get(126..208));
+    let taken = log.take();
+    same(&rt, "last", &Some(taken.bytes()), &bundle.get(126..208));
+    same_bytes(&rt, "take", log.bytes(), b"");
+    push_rows(&mut log, FIRST_ROUND)?;
+    same(&rt, "again", &Some(log.bytes()), &bundle.get(24..120));
     Ok(())
 }
 
@@ -138,7 +137,7 @@ fn frames_have_at_most_65536_bytes(rt: HostRuntime) -> Result<(), Fail> {
         let bytes = some_bytes(rt.alloc(), field(row, 0)?.parse()?)?;
         let wanted = frames_with(rt.alloc(), field(row, 1)?, &bytes)?;
         let mut sink = MemorySink::new(rt.alloc(), 200_000, 30_000, &[])?;
-        same(&rt, row, &write_frames(258, &bytes, &mut sink), &Ok(()));
+        same(&rt, row, &frames(258, &bytes, &mut sink), &Ok(()));
         same(&rt, row, &(sink.bytes() == wanted.as_slice()), &true);
     }
     Ok(())
@@ -150,12 +149,7 @@ fn where_a_write_fails_a_front_was_written(rt: HostRuntime) -> Result<(), Fail> 
     let wanted = frames_with(rt.alloc(), "0102 00010000", &bytes)?;
     // The head and the body of the first frame are written, and then the head of the second fails.
     let mut sink = MemorySink::new(rt.alloc(), 200_000, 100_000, &[2])?;
-    same(
-        &rt,
-        "answer",
-        &write_frames(258, &bytes, &mut sink),
-        &Err(Failed),
-    );
+    same(&rt, "answer", &frames(258, &bytes, &mut sink), &Err(Failed));
     same(&rt, "front", &(sink.bytes() == wanted.as_slice()), &true);
     Ok(())
 }

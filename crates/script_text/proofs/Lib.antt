@@ -2,6 +2,9 @@ mod SplittingLemmas
 mod WordLemmas
 mod ScriptLemmas
 mod GeneratorLemmas
+mod KeysLemmas
 mod TextLemmas
 mod WrittenWordLemmas
 mod WrittenLemmas
+mod SpelledWordLemmas
+mod SpelledLemmas

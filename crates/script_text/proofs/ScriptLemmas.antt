@@ -62,7 +62,7 @@ with_line-then (said.Task first) phase [] (said.Task task) = refl
 with_line-then (said.Task first) phase (next ∷ phases) (said.Task task) = refl
 
 -- there is a phase
-some_phase : (lines : List Line) → (phase : List Task) × (phases : List (List Task)) × (phases_of lines ≡ phase ∷ phases)
+pub some_phase : (lines : List Line) → (phase : List Task) × (phases : List (List Task)) × (phases_of lines ≡ phase ∷ phases)
 unfolding phases_of
 some_phase [] = ([], [], refl)
 some_phase (said.Epoch ∷ lines) = ([], phases_of lines, refl)

@@ -17,7 +17,7 @@ use Rattle.script_text.specs.Text.{value_word}
 use Rattle.script_text.proofs.SplittingLemmas.{IsOther, IsWithout}
 
 -- std's words for the digits of a number, and for its value
-own : IsNumeralModel (λ digits. all_ascii_digits digits ≡ true) (digits_value 10)
+pub own : IsNumeralModel (λ digits. all_ascii_digits digits ≡ true) (digits_value 10)
 own = numerals_by_value _ tells_all_ascii_digits
 
 -- ---- numbers

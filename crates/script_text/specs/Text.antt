@@ -1,5 +1,5 @@
 -- What phases are written as: the one spelling of a script, each line with its end.
-use Rattle.std.specs.Prelude.{◌≡◌, ℕ, ◌<◌, ◌≤◌, ◌^◌, Bool, true, false, List, [], ◌∷◌, ◌++◌, length, Option, Some, None, codes}
+use Rattle.std.specs.Prelude.{◌≡◌, ◌⊎◌, ℕ, ◌<◌, ◌≤◌, ◌^◌, Bool, true, false, List, [], ◌∷◌, ◌++◌, length, Option, Some, None, codes}
 use Rattle.std.specs.Fmt.{decimal}
 use Rattle.std.specs.List.{flat_map, AllByRecursion}
 use Rattle.std.specs.Option.{ForSome}
@@ -49,3 +49,7 @@ pub record IsTask (verifiers : ℕ) (task : Task) : Type 0 where
 -- each task of each phase is one that a line can ask
 abbrev pub AreTasks : ℕ → List (List Task) → Type 0
 AreTasks verifiers phases = AllByRecursion (λ phase. AllByRecursion (IsTask verifiers) phase) phases
+
+-- bytes are the script of these phases, but that the last line may lack its end
+abbrev pub IsScriptOf : List (List Task) → List ℕ → Type 0
+IsScriptOf phases bytes = (bytes ≡ script_text phases) ⊎ (bytes ++ codes "\n" ≡ script_text phases)

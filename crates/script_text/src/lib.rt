@@ -19,7 +19,7 @@ mod writing;
 
 pub use fault::ScriptFault;
 pub use generator::generate;
-pub use laws::scripts_are_read_back;
+pub use laws::{keys_are_of_one_worker, scripts_are_read_back};
 pub use requests::Requests;
 pub use shape::Shape;
 pub use task::{Line, Task};

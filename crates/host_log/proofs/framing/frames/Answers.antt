@@ -2,7 +2,7 @@ use Rattle.std.proofs.Common.{length, min, ◌∙◌, ap, arith}
 use Rattle.std.specs.Slice.Iter.{chunks_rest}
 use Rattle.std.proofs.lemmas.Result.{err_from_is_err_and}
 use Rattle.host_log.proofs.FramesLemmas.{frames_text-step, frames_text-none, wrote-part, wrote-front, wrote-all}
-use Rattle.host_log.proofs.frames.write_frames.Goals as goal
+use Rattle.host_log.proofs.framing.frames.Goals as goal
 
 pub loop-body-preserved : goal.loop-body-preserved
 loop-body-preserved g c =

@@ -12,7 +12,7 @@ const LONGEST_BODY: usize = 65_536;
 
 /// Writes bytes of a verifier's log in frames of 65,536 bytes and a last one of what is left. No bytes are no frame.
 /// On `Failed` the sink holds a front of these frames more.
-pub fn write_frames<O: Sink>(verifier: u16, bytes: &[u8], sink: &mut O) -> Result<(), Failed>
+pub fn frames<O: Sink>(verifier: u16, bytes: &[u8], sink: &mut O) -> Result<(), Failed>
     ensures whole { OnOk result
         (Grows (O.held sink.old) (O.held sink.new) (frames_text verifier bytes.now)) }
     ensures front { OnErr result

@@ -3,7 +3,7 @@ use Rattle.std.specs.Slice.Iter.{chunks_rest, chunks_size}
 use Rattle.bundle_frames.specs.Bundle.{longest_body}
 use Rattle.host_log.specs.Frames.{frames_text}
 use Rattle.host_log.proofs.FramesLemmas.{Wrote}
-use Rattle.host_log.proofs.frames.write_frames.Given as goal
+use Rattle.host_log.proofs.framing.frames.Given as goal
 
 -- a front of the frames was written, and those of the bytes that are left are the rest
 abbrev pub invariant-loop-body : goal.invariant-loop-body
