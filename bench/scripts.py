@@ -1,7 +1,7 @@
 #!/usr/bin/env python3
 """Times the reading of a script of about 100 MB, three times: bench/scripts.py
 
-The program is bench/script_speed.rt. It is no crate of the gate: it is proved and built in a folder of its own, with copies
+The program is bench/script_speed.txt. It is no crate of the gate: it is proved and built in a folder of its own, with copies
 of the crates that it stands on and of what was built of them. Run it when nothing else is at work on the machine.
 """
 import os
@@ -37,7 +37,7 @@ def main():
             shutil.copytree(os.path.join(TOP, "crates", name), os.path.join(crates, name))
         crate = os.path.join(crates, NAME)
         os.makedirs(os.path.join(crate, "src"))
-        shutil.copy(os.path.join(BENCH, NAME + ".rt"), os.path.join(crate, "src", "main.rt"))
+        shutil.copy(os.path.join(BENCH, NAME + ".txt"), os.path.join(crate, "src", "main.rt"))
         with open(os.path.join(folder, "crates.txt"), "w") as file:
             file.writelines(f"{name}: {' '.join(below)}\n" for name, below in lines if name in names)
         built = subprocess.run(["rt", "run"], cwd=crate, capture_output=True, text=True)
