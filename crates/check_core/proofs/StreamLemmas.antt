@@ -15,6 +15,8 @@ use Rattle.bundle_frames.specs.Extent.{reading_end}
 use Rattle.bundle_frames.specs.Reading.{Reading, ahead, end_ahead, HasRead, ReadsAs}
 use Rattle.bundle_frames.proofs.ReadingLaws.{HasRead-then, ReadsAs-then, ReadsAs-kept, ReadsAs-map, near-then}
 use Rattle.verifier_run.specs.Course.{Course}
+use Rattle.record_text.specs.declared.operation.Operation.{Operation}
+use Rattle.verifier_run.specs.Kept.{keeps_operations}
 use Rattle.verifier_run.specs.Progress.{Progress, opening_progress, fed, weight}
 use Rattle.verifier_run.proofs.RunLaws.{fed_goes_on}
 use Rattle.bundle_report.specs.declared.judged.Judged.{Judged}
@@ -185,7 +187,7 @@ module _ (functions : DigestFunctions) (header : Header) (logs : List (List ℕ)
   abbrev own_scheme : Scheme
   own_scheme = scheme_of functions header
 
-  abbrev courses : List Course
+  abbrev courses : List (Course Operation)
   courses = courses_of own_scheme header more_logs
 
   -- what was counted, and the lines behind it up to so many epochs
@@ -263,20 +265,20 @@ on_err_always B (Err error) holds = holds
 -- ---- the runs
 
 -- what holds of each run holds of it as a run that is fed, and the other way round
-pub all_runs : (P : Progress → Type 0) (feds : List FedRun) → AllByRecursion P (map (λ fed. fed.run) feds) → AllByRecursion (λ fed. P fed.run) feds
+pub all_runs : (P : Progress Operation → Type 0) (feds : List FedRun) → AllByRecursion P (map (λ fed. fed.run) feds) → AllByRecursion (λ fed. P fed.run) feds
 all_runs P [] all = tt
 all_runs P (fed ∷ feds) all = (all.0, all_runs P feds all.1)
 
-pub all_feds : (P : Progress → Type 0) (feds : List FedRun) → AllByRecursion (λ fed. P fed.run) feds → AllByRecursion P (map (λ fed. fed.run) feds)
+pub all_feds : (P : Progress Operation → Type 0) (feds : List FedRun) → AllByRecursion (λ fed. P fed.run) feds → AllByRecursion P (map (λ fed. fed.run) feds)
 all_feds P [] all = tt
 all_feds P (fed ∷ feds) all = (all.0, all_feds P feds all.1)
 
 -- taking epochs out of a run leaves its header and its weight
-left_header : (first count : ℕ) (run : Progress) → (left_from first count run).course.machine.header ≡ run.course.machine.header
+left_header : (first count : ℕ) (run : Progress Operation) → (left_from first count run).course.machine.header ≡ run.course.machine.header
 left_header first zero run = refl
 left_header first (suc count) run = refl
 
-left_weight : (first count : ℕ) (run : Progress) → weight (left_from first count run) ≡ weight run
+left_weight : (first count : ℕ) (run : Progress Operation) → weight (left_from first count run) ≡ weight run
 left_weight first zero run = refl
 left_weight first (suc count) run = refl
 
@@ -285,7 +287,7 @@ headers_from : (scheme : Scheme) (header : Header) (count number : ℕ) (logs : 
     → AllByRecursion (λ run. run.course.machine.header ≡ header) (runs_from scheme header count number logs)
 headers_from scheme header count number [] = tt
 headers_from scheme header count number (log ∷ logs) = (
-  left_header header.first count (fed scheme (opening_progress number header) log) ∙ (fed_goes_on scheme (opening_progress number header) log).header,
+  left_header header.first count (fed keeps_operations scheme (opening_progress number header) log) ∙ (fed_goes_on scheme (opening_progress number header) log).header,
   headers_from scheme header count (suc number) logs,
 )
 
@@ -302,7 +304,7 @@ weights_from : (scheme : Scheme) (header : Header) (count other number bound : �
     → AllByRecursion (λ run. weight run ≤ bound) (runs_from scheme header other number logs)
 weights_from scheme header count other number bound [] all = tt
 weights_from scheme header count other number bound (log ∷ logs) all =
-    let run = fed scheme (opening_progress number header) log in (
+    let run = fed keeps_operations scheme (opening_progress number header) log in (
       omega (arith, all.0, left_weight header.first count run, left_weight header.first other run),
       weights_from scheme header count other (suc number) bound logs all.1,
     )
@@ -353,9 +355,9 @@ runs_one_more header number left all next runs runs_more fed within is more open
     let behind : all - number ≡ suc (all - next) = omega (arith, within, is) in
     let rest = opening_runs header next (all - next) in
     ap (λ (rs : List FedRun). map (λ fed. fed.run) rs ++ rest) more
-    ∙ ap (λ (rs : List Progress). rs ++ rest) (map-append (λ (f : FedRun). f.run) runs (fed ∷ []))
+    ∙ ap (λ (rs : List (Progress Operation)). rs ++ rest) (map-append (λ (f : FedRun). f.run) runs (fed ∷ []))
     ∙ append_assoc (map (λ fed. fed.run) runs) (fed.run ∷ []) rest
-    ∙ ap (λ (run : Progress). map (λ fed. fed.run) runs ++ run ∷ rest) opening
+    ∙ ap (λ (run : Progress Operation). map (λ fed. fed.run) runs ++ run ∷ rest) opening
     ∙ ap (λ (n : ℕ). map (λ fed. fed.run) runs ++ opening_progress number header ∷ opening_runs header n (all - next)) own
     ∙ sym (ap (λ (n : ℕ). map (λ fed. fed.run) runs ++ opening_runs header number n) behind)
     ∙ so_far
