@@ -4,7 +4,8 @@
 usage: bench/bundles.py FOLDER && bench/run.py FOLDER [PROGRAM]
 
 Each bundle is checked, and those of 1 and 16 MiB and 1 and 4 verifiers are audited too. The last lines say how much
-more time a byte an audit of 16 MiB takes than one of 1 MiB: about 1 where the time is linear; and how much more time a
+more time a byte an audit of 16 MiB takes than one of 1 MiB: about 1 where the time is linear; how much more time an
+audit of one verifier's log takes than a check of it, which is on one thread too: at most 1.5; and how much more time a
 command takes where 65,536 entries fill the cache than where 4 do, its beginning not counted: at most 3.
 
 PROGRAM is crates/fastver_cli/out/fastver_cli where none is named: `rt run` in crates/fastver_cli builds it. Run it
@@ -19,6 +20,7 @@ PROGRAM = "crates/fastver_cli/out/fastver_cli"
 SMALL, LARGE = "-01-MiB", "-16-MiB"
 KINDS = ["cold-01-verifiers", "cold-04-verifiers", "hot-01-verifiers", "hot-04-verifiers"]
 AUDITED = [kind + size for kind in KINDS for size in (SMALL, LARGE)]
+ALONE = [kind + size for kind in KINDS if kind.endswith("-01-verifiers") for size in (SMALL, LARGE)]
 FULL, CACHES, BEGUN = ["full-by-digests", "full-under-stamps"], ["-00004-entries", "-00128-entries", "-65536-entries"], "-begun"
 
 
@@ -76,15 +78,26 @@ def tell_full(checks):
     return slow
 
 
+def tell_audits(audits, checks):
+    """Prints the time of an audit of one verifier's log by that of a check; how many take too long."""
+    slow = 0
+    for name in ALONE:
+        if name in audits and name in checks:
+            ratio = audits[name] / checks[name]
+            print(f"{name}: an audit takes {ratio:.2f} times as long a byte as a check")
+            slow += ratio > 1.5
+    return slow
+
+
 def main():
     folder = sys.argv[1]
     top = os.path.join(os.path.dirname(os.path.abspath(__file__)), "..")
     program = os.path.abspath(sys.argv[2]) if len(sys.argv) > 2 else os.path.join(top, PROGRAM)
     names = sorted(file[: -len(".commands")] for file in os.listdir(folder) if file.endswith(".commands"))
-    fails, audits, checks = 0, {}, {}
+    fails, audits, checks, a_byte = 0, {}, {}, {}
     print("bundle                               command   bytes commands  seconds  ns/byte ns/command  peak KiB")
     for name in names:
-        seconds, _, commands, good = measure(program, "check", folder, name)
+        seconds, a_byte[name], commands, good = measure(program, "check", folder, name)
         checks[name] = seconds, commands
         fails += not good
         if name in AUDITED:
@@ -94,6 +107,7 @@ def main():
         if kind + SMALL in audits and kind + LARGE in audits:
             ratio = audits[kind + LARGE] / audits[kind + SMALL]
             print(f"{kind}: an audit of 16 MiB takes {ratio:.2f} times as long a byte as one of 1 MiB")
+    fails += tell_audits(audits, a_byte)
     fails += tell_full(checks)
     return 1 if fails or not names else 0
 

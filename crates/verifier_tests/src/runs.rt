@@ -147,7 +147,7 @@ fn logs_are_refused_where_they_go_wrong(rt: HostRuntime) -> Result<(), Fail> {
 #[test]
 fn the_sums_of_an_epoch_are_those_of_its_elements(rt: HostRuntime) -> Result<(), Fail> {
     let log = log_of(rt.alloc(), TWO_SHARDS)?;
-    let run = run_log(rt.alloc(), &ToyDigests, 0, &header(), &log)?;
+    let run: Run = run_log(rt.alloc(), &ToyDigests, 0, &header(), &log)?;
     assert_eq!(rt; run.refused(), None);
     assert_eq!(rt; run.parts().len(), 1);
     let part = run.parts()[0];
@@ -179,7 +179,7 @@ fn a_refused_run_stays_as_it_is(rt: HostRuntime) -> Result<(), Fail> {
 fn a_sealed_epoch_has_its_sums(rt: HostRuntime) -> Result<(), Fail> {
     let d = ShaDigests::new(b"a key");
     let log = log_of(rt.alloc(), TWO_SHARDS)?;
-    let run = run_log(rt.alloc(), &d, 0, &header(), &log)?;
+    let run: Run = run_log(rt.alloc(), &d, 0, &header(), &log)?;
     assert_eq!(rt; run.refused(), None);
     assert_eq!(rt; run.ops().len(), 0);
     assert_eq!(rt; run.parts().len(), 1);
@@ -194,7 +194,7 @@ fn a_sealed_epoch_has_its_sums(rt: HostRuntime) -> Result<(), Fail> {
 #[test]
 fn what_is_taken_is_kept_no_longer(rt: HostRuntime) -> Result<(), Fail> {
     let log = log_of(rt.alloc(), PUT_TWICE)?;
-    let mut run = run_log(rt.alloc(), &ToyDigests, 0, &header(), &log)?;
+    let mut run: Run = run_log(rt.alloc(), &ToyDigests, 0, &header(), &log)?;
     let mut taken = run.take(0)?;
     assert_eq!(rt; taken.as_slice(), [ab_at_5(1, true)?].as_slice());
     assert_eq!(rt; run.ops().len(), 1);
