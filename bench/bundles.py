@@ -1,7 +1,7 @@
 #!/usr/bin/env python3
 """Writes accepted bundles for bench/run.py, the same ones for the same seed.
 
-usage: bench/bundles.py FOLDER [SEED]        (FOLDER lies outside the repository, as /tmp/bundles; about 700 MB)
+usage: bench/bundles.py FOLDER [SEED]        (FOLDER lies outside the repository, as /tmp/bundles; about 1,300 MB)
 
 NAME is a bundle and NAME.commands the number of its commands. A cold bundle has each record under the Merkle
 tree: a request brings in the chain of nodes down to its key, gets or puts, and sends the chain back. A hot one has
@@ -9,8 +9,12 @@ few records, which all verifiers pass to each other under stamps. An epoch ends 
 
 A full one is of one verifier, whose cache is full as it works: by digests or under stamps, on records all over it.
 NAME-begun is its beginning alone, which fills the cache.
+
+A repeated one is of one verifier, which reads the same records in each epoch of 1 MiB. One in small frames is the cold one
+of one verifier and 1 MiB, with each byte in a frame of its own.
 """
 import hashlib
+import io
 import os
 import random
 import sys
@@ -23,6 +27,7 @@ FRAME, EPOCH = 65536, 8 * MIB
 COLD_KEYS, HOT_KEYS = 1024, 256  # cold ones of each verifier, hot ones of all
 FIRST, CACHE, END = 1, 128, 16777215
 FULL_CACHES, FULL_SIZE = (4, 128, 65536), 24 * MIB  # of entries, and bytes once a cache is full
+REPEATED = (64, 512)  # epochs of 1 MiB
 
 
 class Bundle:
@@ -272,6 +277,61 @@ def full_under_stamps(chance, bundle, cache, size):
         values[key] = request(chance, bundle, 0, key, values[key])
 
 
+def repeated(chance, bundle, epochs):
+    """Puts records, and then gets them again and again: the gets of an epoch leave all as it was, so they can come again."""
+    tree = Tree(bundle, 0, "")
+    keys = [format(chance.getrandbits(64), "064b") for _ in range(COLD_KEYS)]
+
+    def put(key, parent):
+        tree.values[key] = chance.randbytes(8)
+        bundle.log(0, b"\x07", slow.path_text(key), slow.value_text(key, tree.values[key]))
+        tree.send_back(key, parent)
+
+    def get(key, parent):
+        bundle.log(0, b"\x06", slow.path_text(key), slow.value_text(key, tree.values[key]))
+        tree.send_back(key, parent)
+
+    for key in keys:
+        tree.walk(key, put)
+    bundle.next_epoch()
+    file, bundle.file, before = bundle.file, io.BytesIO(), (bundle.size, bundle.commands)
+    while bundle.size < before[0] + MIB:
+        tree.walk(chance.choice(keys), get)
+    bundle.next_epoch()
+    one_epoch, commands, bundle.file = bundle.file.getvalue(), bundle.commands - before[1], file
+    for _ in range(epochs):
+        bundle.file.write(one_epoch)
+    bundle.commands += commands * (epochs - 1)
+    bundle.next_epoch()
+
+
+def write_repeated(folder, seed, epochs):
+    """Writes a bundle of so many epochs of 1 MiB."""
+    name = f"repeated-01-verifiers-{epochs:03}-epochs"
+    with open(os.path.join(folder, name), "wb") as file:
+        bundle = Bundle(file, 1)
+        repeated(random.Random(seed + name), bundle, epochs)
+    with open(os.path.join(folder, name + ".commands"), "w") as file:
+        file.write(f"{bundle.commands}\n")
+
+
+def write_small_frames(folder, name):
+    """Writes a bundle again, with each byte of its logs in a frame of its own."""
+    with open(os.path.join(folder, name), "rb") as file:
+        header, frames = file.read(18), file.read()
+    with open(os.path.join(folder, name + "-small-frames"), "wb") as file:
+        file.write(header)
+        while frames:
+            length = int.from_bytes(frames[2:6], "big")
+            for byte in frames[6 : 6 + length]:
+                file.write(frames[:2] + bytes([0, 0, 0, 1, byte]))
+            frames = frames[6 + length :]
+    with open(os.path.join(folder, name + ".commands")) as old, open(
+        os.path.join(folder, name + "-small-frames.commands"), "w"
+    ) as new:
+        new.write(old.read())
+
+
 def write_full(folder, seed, mix, cache):
     """Writes a bundle with a full cache, and its beginning."""
     name = f"{mix.__name__.replace('_', '-')}-{cache:05}-entries"
@@ -304,6 +364,9 @@ def main():
         for verifiers in (1, 4, 16):
             for mix in (cold, hot):
                 write_bundle(folder, seed, mix, verifiers, size)
+    write_small_frames(folder, "cold-01-verifiers-01-MiB")
+    for epochs in REPEATED:
+        write_repeated(folder, seed, epochs)
     for cache in FULL_CACHES:
         for mix in (full_by_digests, full_under_stamps):
             write_full(folder, seed, mix, cache)

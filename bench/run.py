@@ -6,7 +6,9 @@ usage: bench/bundles.py FOLDER && bench/run.py FOLDER [PROGRAM]
 Each bundle is checked, and those of 1 and 16 MiB and 1 and 4 verifiers are audited too. The last lines say how much
 more time a byte an audit of 16 MiB takes than one of 1 MiB: about 1 where the time is linear; how much more time an
 audit of one verifier's log takes than a check of it, which is on one thread too: at most 1.5; and how much more time a
-command takes where 65,536 entries fill the cache than where 4 do, its beginning not counted: at most 3.
+command takes where 65,536 entries fill the cache than where 4 do, its beginning not counted: at most 3. A check keeps
+nothing of an epoch once it is written: 512 epochs of 1 MiB take as much memory as 64, within a tenth, and less than 32 MiB.
+And where each byte of a log has a frame of its own, a command takes at most 12 times as long.
 
 PROGRAM is crates/fastver_cli/out/fastver_cli where none is named: `rt run` in crates/fastver_cli builds it. Run it
 when nothing else is at work on the machine. The report is thrown away; a status other than 0 is told and fails.
@@ -21,6 +23,8 @@ SMALL, LARGE = "-01-MiB", "-16-MiB"
 KINDS = ["cold-01-verifiers", "cold-04-verifiers", "hot-01-verifiers", "hot-04-verifiers"]
 AUDITED = [kind + size for kind in KINDS for size in (SMALL, LARGE)]
 ALONE = [kind + size for kind in KINDS if kind.endswith("-01-verifiers") for size in (SMALL, LARGE)]
+REPEATED = ["repeated-01-verifiers-064-epochs", "repeated-01-verifiers-512-epochs"]
+WHOLE, SMALL_FRAMES = "cold-01-verifiers-01-MiB", "cold-01-verifiers-01-MiB-small-frames"
 FULL, CACHES, BEGUN = ["full-by-digests", "full-under-stamps"], ["-00004-entries", "-00128-entries", "-65536-entries"], "-begun"
 
 
@@ -45,7 +49,7 @@ def peak_memory(program, command, bundle):
 
 
 def measure(program, command, folder, name):
-    """Prints a line of a bundle; the seconds, the nanoseconds a byte, the commands, and whether each run answered 0."""
+    """Prints a line of a bundle; the seconds, the nanoseconds a byte, the commands, the peak, and whether each run answered 0."""
     bundle = os.path.join(folder, name)
     with open(bundle + ".commands") as file:
         commands = int(file.read())
@@ -57,7 +61,7 @@ def measure(program, command, folder, name):
     statuses = [status for _, status in runs]
     if any(statuses):
         print(f"  answered {statuses}")
-    return seconds, a_byte, commands, not any(statuses)
+    return seconds, a_byte, commands, peak, not any(statuses)
 
 
 def a_command(checks, kind, cache):
@@ -89,19 +93,33 @@ def tell_audits(audits, checks):
     return slow
 
 
+def tell_streamed(checks, peaks):
+    """Prints what many epochs take of memory, and small frames of time; how many of both are too much."""
+    high = 0
+    if all(name in peaks for name in REPEATED):
+        few, many = (peaks[name] for name in REPEATED)
+        print(f"64 epochs of 1 MiB take {few} KiB, and 512 epochs {many} KiB: {many / few:.2f} times as much")
+        high += many > 1.1 * few or many >= 32 * 1024
+    if WHOLE in checks and SMALL_FRAMES in checks:
+        ratio = checks[SMALL_FRAMES][0] / checks[WHOLE][0]
+        print(f"frames of one byte take {ratio:.1f} times as long as whole ones")
+        high += ratio > 12
+    return high
+
+
 def main():
     folder = sys.argv[1]
     top = os.path.join(os.path.dirname(os.path.abspath(__file__)), "..")
     program = os.path.abspath(sys.argv[2]) if len(sys.argv) > 2 else os.path.join(top, PROGRAM)
     names = sorted(file[: -len(".commands")] for file in os.listdir(folder) if file.endswith(".commands"))
-    fails, audits, checks, a_byte = 0, {}, {}, {}
+    fails, audits, checks, a_byte, peaks = 0, {}, {}, {}, {}
     print("bundle                               command   bytes commands  seconds  ns/byte ns/command  peak KiB")
     for name in names:
-        seconds, a_byte[name], commands, good = measure(program, "check", folder, name)
+        seconds, a_byte[name], commands, peaks[name], good = measure(program, "check", folder, name)
         checks[name] = seconds, commands
         fails += not good
         if name in AUDITED:
-            _, audits[name], _, good = measure(program, "audit", folder, name)
+            _, audits[name], _, _, good = measure(program, "audit", folder, name)
             fails += not good
     for kind in KINDS:
         if kind + SMALL in audits and kind + LARGE in audits:
@@ -109,6 +127,7 @@ def main():
             print(f"{kind}: an audit of 16 MiB takes {ratio:.2f} times as long a byte as one of 1 MiB")
     fails += tell_audits(audits, a_byte)
     fails += tell_full(checks)
+    fails += tell_streamed(checks, peaks)
     return 1 if fails or not names else 0
 
 

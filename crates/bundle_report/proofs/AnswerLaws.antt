@@ -1,15 +1,12 @@
 -- What the verdict of a bundle is, by its header.
-use Rattle.std.proofs.Common.{◌≡◌, ℕ, List, map, Option, Some, None, sym, ap}
+use Rattle.std.proofs.Common.{◌≡◌, ℕ, List, map, Option, Some, sym, ap}
 use Rattle.lamport_clocks.specs.declared.header.Header.{Header}
 use Rattle.record_hash.specs.Functions.{DigestFunctions}
 use Rattle.record_text.specs.Format.{short_keys}
 use Rattle.log_codec.specs.Log.{read_log}
 use Rattle.merkle_records.specs.Scheme.{scheme_of}
-use Rattle.bundle_report.specs.Answer.{answer_on, no_answer, answer_at}
+use Rattle.bundle_report.specs.Answer.{answer_on, answer_at}
 
 pub with_header : (functions : DigestFunctions) (found : Option Header) (header : Header) (logs : List (List ℕ)) (bad : Option ℕ)
     → found ≡ Some header → answer_on (scheme_of functions header) header (map (read_log short_keys) logs) bad ≡ answer_at functions found logs bad
 with_header functions found header logs bad is = sym (ap (λ (o : Option Header). answer_at functions o logs bad) is)
-
-pub no_header : (functions : DigestFunctions) (found : Option Header) (logs : List (List ℕ)) (bad : Option ℕ) → found ≡ None → no_answer ≡ answer_at functions found logs bad
-no_header functions found logs bad is = sym (ap (λ (o : Option Header). answer_at functions o logs bad) is)

@@ -8,7 +8,6 @@ use Rattle.log_codec.specs.Log.{Log, read_log}
 use Rattle.merkle_records.specs.Scheme.{Scheme, scheme_of}
 use Rattle.report_text.specs.declared.status.Status.{Status}
 use Rattle.report_text.specs.declared.status.Status.TheVariants.{BadBundle}
-use Rattle.report_text.specs.declared.ending.BundleEnd.{BundleEnd}
 use Rattle.report_text.specs.Ending.{status_of}
 use Rattle.report_text.specs.Answer.{Answer}
 use Rattle.report_text.specs.Status.{last_line}
@@ -59,7 +58,3 @@ abbrev pub EndsAs : {E : Type 0} → (E → Status) → Result E ReportStop → 
 EndsAs status (Ok end) old new answer = (status end ≡ answer.status) × Grows old new answer.text
 EndsAs status (Err stops.Memory) old new answer = Unit {0}
 EndsAs status (Err stops.WriteFault) old new answer = GrowsByFront old new answer.text
-
--- the same of how a bundle ends
-abbrev pub Ends : Result BundleEnd ReportStop → Option (List ℕ) → Option (List ℕ) → Answer → Type 0
-Ends result old new answer = EndsAs status_of result old new answer

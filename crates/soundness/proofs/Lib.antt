@@ -26,7 +26,7 @@ pub mod SoundLaws
 pub mod TypedLaws
 pub mod RisingLaws
 pub mod WholeLaws
-pub mod EpochLaws
+mod EpochLaws
 mod DistinctLemmas
 mod SpotLemmas
 mod PendingLemmas

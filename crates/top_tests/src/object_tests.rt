@@ -4,6 +4,7 @@ use bundle_rows::bundle_of;
 use check_core::{Status, check};
 use fv_outside::{MemorySink, MemorySource};
 use record_hash::{Digests, ShaDigests};
+use std::alloc::Global;
 use std::test::Fail;
 
 // Two records that wait with their elements, and come back in the next epoch: two frames, which end at bytes 120 and
@@ -70,7 +71,7 @@ fn bundles_are_cut_at_each_length(rt: HostRuntime) -> Result<(), Fail> {
 #[test]
 fn objects_that_fail_leave_a_front(rt: HostRuntime) -> Result<(), Fail> {
     let bytes = bundle_of(rt.alloc(), PUT_AND_GET)?;
-    for k in 0..bytes.len() as u64 + 1 {
+    for k in 0..bytes.len() as u64 {
         let mut source = MemorySource::new(rt.alloc(), &bytes, 1, &[k])?;
         let mut out = MemorySink::new(rt.alloc(), 1000, 1, &[])?;
         let status = run_between(&rt, rt.alloc(), "check", &mut source, &mut out)?;
@@ -83,6 +84,68 @@ fn objects_that_fail_leave_a_front(rt: HostRuntime) -> Result<(), Fail> {
         let status = run_between(&rt, rt.alloc(), "check", &mut source, &mut out)?;
         assert_eq!(rt; status.number(), 4, "{k}");
         assert_eq!(rt; out.bytes(), &REPORT.as_bytes()[..k], "{k}");
+    }
+    Ok(())
+}
+
+// The lines of the certified epoch of a put and a get.
+const LINES: &str = "epoch 0 certified 2\n0.0 v0 put 5 6162\n0.0 v0 get 5 6162\n";
+
+// A put and a get, and behind them so many frames of verifier 0 with one byte, each of which seals an epoch more.
+fn with_more_frames(alloc: Global, count: usize) -> Result<Vec<u8>, Fail> {
+    let mut bytes = bundle_of(alloc, PUT_AND_GET)?;
+    for _ in 0..count {
+        bytes.extend_from_slice(&[0, 0, 0, 0, 0, 1, 8])?;
+    }
+    Ok(bytes)
+}
+
+#[test]
+fn what_was_read_is_certified_before_a_fault(rt: HostRuntime) -> Result<(), Fail> {
+    // The read behind the last byte fails.
+    let bytes = bundle_of(rt.alloc(), PUT_AND_GET)?;
+    assert_eq!(rt; bytes.len(), 116);
+    let mut source = MemorySource::new(rt.alloc(), &bytes, 1, &[116])?;
+    let mut out = MemorySink::new(rt.alloc(), 1000, 1, &[])?;
+    let status = run_between(&rt, rt.alloc(), "check", &mut source, &mut out)?;
+    assert_eq!(rt; out.bytes(), LINES.as_bytes());
+    assert_eq!(rt; status, Status::ReadFault);
+    // An audit writes nothing before all is read.
+    let mut source = MemorySource::new(rt.alloc(), &bytes, 1, &[116])?;
+    let mut out = MemorySink::new(rt.alloc(), 1000, 1, &[])?;
+    let status = run_between(&rt, rt.alloc(), "audit", &mut source, &mut out)?;
+    assert!(rt; out.bytes().is_empty());
+    assert_eq!(rt; status, Status::ReadFault);
+    Ok(())
+}
+
+#[test]
+fn a_full_batch_is_written_before_more_is_read(rt: HostRuntime) -> Result<(), Fail> {
+    // 64 frames, and the read behind them fails, but the first write does so before.
+    let bytes = with_more_frames(rt.alloc(), 63)?;
+    assert_eq!(rt; bytes.len(), 557);
+    let mut source = MemorySource::new(rt.alloc(), &bytes, 1, &[557])?;
+    let mut out = MemorySink::new(rt.alloc(), 10_000, 1000, &[0])?;
+    let status = run_between(&rt, rt.alloc(), "check", &mut source, &mut out)?;
+    assert_eq!(rt; status, Status::WriteFault);
+    assert_eq!(rt; source.faults(), 0);
+    assert!(rt; out.bytes().is_empty());
+    Ok(())
+}
+
+#[test]
+fn more_than_a_batch_comes_to_one_report(rt: HostRuntime) -> Result<(), Fail> {
+    // 130 frames are two batches and 2 frames more; 129 epochs follow the first, all empty.
+    let bytes = with_more_frames(rt.alloc(), 129)?;
+    let mut report = String::from_str(rt.alloc(), LINES)?;
+    for epoch in 1..130 {
+        report.push_str(format!(in rt.alloc(); "epoch {epoch} certified 0\n")?.as_str())?;
+    }
+    report.push_str("done 130\n")?;
+    for piece in [1, 100_000] {
+        let (out, status) = run(&rt, rt.alloc(), "check", &bytes, piece)?;
+        assert_eq!(rt; out.bytes(), report.as_bytes());
+        assert_eq!(rt; status, Status::Done { epochs: 130 });
     }
     Ok(())
 }
@@ -133,6 +196,7 @@ fn nothing_is_read_behind_what_is_bad(rt: HostRuntime) -> Result<(), Fail> {
     let mut out = MemorySink::new(rt.alloc(), 10_000, 1000, &[])?;
     let status = check(&rt, rt.alloc(), &d, 121, &mut source, &mut out);
     assert_eq!(rt; status, Status::InputLimit { taken: 121 });
+    assert_eq!(rt; out.bytes(), LINES.as_bytes());
     assert_eq!(rt; source.left().len(), 100);
     Ok(())
 }
@@ -143,13 +207,13 @@ fn nothing_is_read_behind_what_is_bad(rt: HostRuntime) -> Result<(), Fail> {
 fn a_failed_read_is_the_last(rt: HostRuntime) -> Result<(), Fail> {
     let d = ShaDigests::new(&[0; 32]);
     let bytes = bundle_of(rt.alloc(), PUT_AND_GET)?;
-    // The calls that fail, and how many of 116 bytes are left behind the first of them, at 10 a read.
-    for (first, second, left) in [
-        (0, 7, 116),
-        (0, 1, 116),
-        (3, 4, 86),
-        (3, 5, 86),
-        (12, 13, 0),
+    // The calls that fail, how many of 116 bytes are left behind the first of them, at 10 a read, and what is written.
+    for (first, second, left, lines) in [
+        (0, 7, 116, ""),
+        (0, 1, 116, ""),
+        (3, 4, 86, ""),
+        (3, 5, 86, ""),
+        (12, 13, 0, LINES),
     ] {
         let mut source = MemorySource::new(rt.alloc(), &bytes, 10, &[first, second])?;
         let mut out = MemorySink::new(rt.alloc(), 10_000, 10, &[])?;
@@ -157,7 +221,7 @@ fn a_failed_read_is_the_last(rt: HostRuntime) -> Result<(), Fail> {
         assert_eq!(rt; status, Status::ReadFault);
         assert_eq!(rt; source.faults(), 1);
         assert_eq!(rt; source.left().len(), left);
-        assert!(rt; out.bytes().is_empty());
+        assert_eq!(rt; out.bytes(), lines.as_bytes());
     }
     Ok(())
 }
