@@ -12,7 +12,7 @@ use Rattle.host_laws.specs.Running.{Told, run, as_events, IsHistory}
 use Rattle.host_laws.proofs.StepLemmas.{and_then-there}
 
 -- what is Ok is told by it
-same_Ok : {A E : Type 0} (x y : A) → ◌≡◌ {A = Result A E} (Ok x) (Ok y) → x ≡ y
+pub same_Ok : {A E : Type 0} (x y : A) → ◌≡◌ {A = Result A E} (Ok x) (Ok y) → x ≡ y
 same_Ok x y is = same_Some x y (ap result_ok is)
 
 -- no command does nothing

@@ -26,9 +26,9 @@ use Rattle.host_laws.specs.Running.{Told, run}
 use Rattle.host_laws.specs.Served.{IsBare}
 use Rattle.host_laws.proofs.MomentLemmas.{received-taken, sent-given}
 use Rattle.host_laws.proofs.StepLemmas.{test-passed, need-there, timed-there}
-use Rattle.host_laws.proofs.RunLemmas.{run-one, run-step, run-append}
+use Rattle.host_laws.proofs.RunLaws.{run-one, run-step, run-append}
 use Rattle.host_laws.proofs.StandingLemmas.{entry_of-last, without-last}
-use Rattle.host_laws.proofs.WorksLemmas.{IsClear, standing, Works}
+use Rattle.host_laws.proofs.WorksLaws.{IsClear, standing, Works}
 
 -- ---- a verifier at rest
 

@@ -38,9 +38,9 @@ use Rattle.host_laws.proofs.ChainLaws.{LeadTo}
 use Rattle.host_laws.proofs.VisitLemmas.{Visited, visited}
 use Rattle.host_laws.proofs.MomentLemmas.{received-taken, sent-given}
 use Rattle.host_laws.proofs.FrontierLaws.{leads, frontier_there, frontier_of, frontier_based, chain_length}
-use Rattle.host_laws.proofs.BetweenLemmas.{clear-bare, length-bare, told_between, between_runs}
+use Rattle.host_laws.proofs.BetweenLaws.{clear-bare, length-bare, told_between, between_runs}
 
-not_root : (path : List Bool) → 0 < length path → is_root path ≡ false
+pub not_root : (path : List Bool) → 0 < length path → is_root path ≡ false
 not_root [] some = absurd (omega (arith, some))
 not_root (bit ∷ path) some = refl
 
@@ -53,7 +53,7 @@ later-trans s t u (inr a) (inl b) = inl (omega arith)
 later-trans s t u (inr a) (inr b) = inr (a.0 ∙ b.0, omega arith)
 
 -- what is told of an element that is taken in and handed out is within its stamps
-within_between : (rules : Rules) (element left : Element) (new : Value) (clock : Reading) (told : Told) → is_open clock element.stamp.epoch ≡ true
+pub within_between : (rules : Rules) (element left : Element) (new : Value) (clock : Reading) (told : Told) → is_open clock element.stamp.epoch ≡ true
     → (renewing clock element.stamp).at.counter ≤ clock.end → left.stamp ≡ (renewing clock element.stamp).at
     → AllByRecursion (λ (one : Stamp × Change). one.0 ≡ (taking clock element.stamp).at) told
     → AllByRecursion (λ (one : Stamp × Change). IsWithin (Some element) (Some left) one.0) (told_between rules element new clock told)
