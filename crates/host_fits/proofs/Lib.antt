@@ -9,4 +9,5 @@ mod ClearLemmas
 mod FitLemmas
 mod RestLemmas
 mod OpenLemmas
+mod PlanLemmas
 mod PromiseLemmas

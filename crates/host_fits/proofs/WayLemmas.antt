@@ -1,8 +1,8 @@
 -- The way from a path to a key is the chain.
-use Rattle.std.proofs.Common.{◌≡◌, ◌⊎◌, ℕ, zero, suc, ◌+◌, ◌≤◌, Bool, true, List, length, Option, Some, None, refl, sym, ◌∙◌, inl, inr, arith}
-use Rattle.std.proofs.lemmas.Option.{none-some}
+use Rattle.std.proofs.Common.{◌≡◌, ◌⊎◌, ℕ, zero, suc, ◌+◌, ◌≤◌, Bool, true, List, length, Option, Some, None, refl, sym, ◌∙◌, ap, subst, inl, inr, arith, [], ◌∷◌}
+use Rattle.std.proofs.lemmas.Option.{none-some, same_Some}
 use Rattle.tree_keys.specs.Path.{side, is_prefix}
-use Rattle.tree_keys.proofs.SideLaws.{prefix_cases}
+use Rattle.tree_keys.proofs.SideLaws.{side-self, prefix_cases}
 use Rattle.record_text.specs.declared.value.Value.{Value}
 use Rattle.record_text.specs.Format.{Format, path_bits}
 use Rattle.record_text.specs.Value.{IsOf}
@@ -39,3 +39,22 @@ way_chain format digest tree key lead (suc most) at value kind known begins enou
     way_chain format digest tree key lead most link.path link.taken next.kind next.known next.begins
     (omega (arith, length-side at link.path next.on next.fits.below, enough)))
     (side at key) refl
+
+-- there is one chain
+pub chain_one : (format : Format) (tree : Tree) (key at : List Bool) (value : Value) (links others : List Link)
+    → IsChain format tree key at value links → IsChain format tree key at value others → links ≡ others
+chain_one format tree key at value [] [] chain other = refl
+chain_one format tree key at value [] (link ∷ others) chain other =
+    absurd (none-some other.0.on (sym (ap (λ (k : List Bool). side k key) chain ∙ side-self key) ∙ other.0.on_side))
+chain_one format tree key at value (link ∷ links) [] chain other =
+    absurd (none-some chain.0.on (sym (ap (λ (k : List Bool). side k key) other ∙ side-self key) ∙ chain.0.on_side))
+chain_one format tree key at value (link ∷ links) (next ∷ others) chain other =
+    ap (λ (l : Link). l ∷ links) same
+    ∙ ap (λ (ls : List Link). next ∷ ls)
+    (chain_one format tree key next.path next.taken links others (subst (λ (l : Link). IsChain format tree key l.path l.taken links) same chain.1) other.1)
+  where
+    same : link ≡ next
+    same =
+        chain.0.next
+        ∙ (ap (λ (on : Bool). next_link format tree key (pointer_of value on)) (same_Some chain.0.on other.0.on (sym chain.0.on_side ∙ other.0.on_side))
+        ∙ sym other.0.next)
