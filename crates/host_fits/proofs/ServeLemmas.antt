@@ -156,10 +156,12 @@ module _ (setting : Setting) (worker : ℕ) (clock : Reading) (shard : Shard) (r
 
   can : CanTake rules (resting (shipped setting) worker clock) (cold shard)
   can = record {
-    bare = bare_at_rest setting worker;
-    room = may.settled.room;
-    known = λ element is. subst (λ (e : Element). e.verifier < setting.header.verifiers) (same_Some (pending_shard shard) element is) may.known;
-    open_epoch = open_now clock shard.stamp.epoch may.epoch;
+    rest = record {
+      bare = bare_at_rest setting worker;
+      room = may.settled.room;
+      known = λ element is. subst (λ (e : Element). e.verifier < setting.header.verifiers) (same_Some (pending_shard shard) element is) may.known;
+      open_epoch = open_now clock shard.stamp.epoch may.epoch;
+    };
     counters = may.counters;
   }
 
