@@ -52,6 +52,10 @@ touches path (did_next_epoch sealed) = false
 abbrev pub touching : List Bool → List Event → List Event
 touching path events = filter (λ event. touches path event.change) events
 
+-- those of a verifier's commands, from this state and this number on
+abbrev pub touching_of : {C R : Type 0} → Host C R → ℕ → State → List Command → ℕ → List Bool → List Event
+touching_of host i from commands index path = touching path (events_from (machinery host i) i index from commands)
+
 -- what is kept of a path, if anything is, is what was last evicted of it
 abbrev pub IsKept : LastEvicted → List Bool → Option Value → Type 0
 IsKept last path None = Unit {0}
@@ -62,23 +66,24 @@ module _ {C R : Type 0} (mirrors : ℕ → List C → Type 0) (keeping : Keeping
   -- there. Each record comes in with the value that is kept of it, and what is kept then is what it left with.
   pub record IsClearDeed (i : ℕ) (from : State) (commands : List Command) (s : ℕ) (old new : List C) : Type 0 where
     pub apart : (index : ℕ) (path : List Bool) → (keeping.home path ≡ Some s → ⊥)
-        → touching path (events_from (machinery host i) i index from commands) ≡ []
+        → touching_of host i from commands index path ≡ []
     pub clear : (index : ℕ) (path : List Bool) (last : LastEvicted) → keeping.home path ≡ Some s → IsKept last path (keeping.kept s old path)
-        → first_clash (format_of host.header) last (changes_in (touching path (events_from (machinery host i) i index from commands))) ≡ None
+        → first_clash (format_of host.header) last (changes_in (touching_of host i from commands index path)) ≡ None
     pub keeps : (index : ℕ) (path : List Bool) (last : LastEvicted) → keeping.home path ≡ Some s → IsKept last path (keeping.kept s old path)
-        → IsKept (last_evicted_behind last (changes_in (touching path (events_from (machinery host i) i index from commands)))) path (keeping.kept s new path)
+        → IsKept (last_evicted_behind last (changes_in (touching_of host i from commands index path))) path (keeping.kept s new path)
     pub behind : (index : ℕ) (path : List Bool)
-        → AllByRecursion (λ event. IsLater event.at (keeping.front old)) (touching path (events_from (machinery host i) i index from commands))
+        → AllByRecursion (λ event. IsLater event.at (keeping.front old)) (touching_of host i from commands index path)
     pub up_to : (index : ℕ) (path : List Bool)
-        → AllByRecursion (λ event. IsNotAfter event.at (keeping.front new)) (touching path (events_from (machinery host i) i index from commands))
+        → AllByRecursion (λ event. IsNotAfter event.at (keeping.front new)) (touching_of host i from commands index path)
     pub rises : IsNotAfter (keeping.front old) (keeping.front new)
 
   -- Whatever the host does is clear. The setup touches no path below a frontier, and no shard keeps a record behind it.
   pub record IsClear : Type 0 where
     pub setup_clear : (path : List Bool) → keeping.home path ≡ None
-        → first_clash (format_of host.header) none_evicted (changes_in (touching path (events_from (machinery host 0) 0 0 (opening 0 host.header) host.setup.commands))) ≡ None
+        → first_clash (format_of host.header) none_evicted
+        (changes_in (touching_of host 0 (opening 0 host.header) host.setup.commands 0 path)) ≡ None
     pub setup_apart : (path : List Bool) (s : ℕ) → keeping.home path ≡ Some s
-        → (touching path (events_from (machinery host 0) 0 0 (opening 0 host.header) host.setup.commands) ≡ [])
+        → (touching_of host 0 (opening 0 host.header) host.setup.commands 0 path ≡ [])
         × (keeping.kept s (get_or host.setup.after s []) path ≡ None)
     pub serve : (i : ℕ) (clock : Reading) (s seat : ℕ) (contents : List C) (request : R) (done : Done C)
         → IsReady mirrors host i clock clock.at.epoch s contents → seat < length contents → host.owns s contents seat request ≡ true

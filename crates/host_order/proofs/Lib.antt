@@ -6,3 +6,6 @@ mod PartLemmas
 mod OrderLemmas
 mod StopLemmas
 mod PhaseLaws
+mod AdvanceLemmas
+mod MoveLemmas
+mod CloseLaws

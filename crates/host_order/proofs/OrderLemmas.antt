@@ -3,18 +3,18 @@ use Rattle.std.proofs.Common.{◌≡◌, ◌≢◌, ◌⊎◌, ℕ, suc, ◌+◌
 use Rattle.std.specs.List.{AllByRecursion}
 use Rattle.std.proofs.lemmas.Bool.{eq-eqb, ne_eqb, and_from}
 use Rattle.std.proofs.lemmas.List.Elements.{All-from_recursion, recursion_from_All}
-use Rattle.std.proofs.lemmas.List.Sorted.{IsPermutation-trans, All-permutation}
+use Rattle.std.proofs.lemmas.List.Sorted.{IsPermutation-sym, IsPermutation-trans, All-permutation}
 use Rattle.stamp_order.specs.declared.moment.Moment.{Moment}
 use Rattle.stamp_order.specs.Merged.{comes_before, IsMerged}
 use Rattle.stamp_order.proofs.InOrderLaws.{every-weaker, every-in_order}
 use Rattle.stamp_order.proofs.MergedLaws.{merged-sorts, merged-permutation, merged-keeps, merged-one}
 use Rattle.host_core.specs.Host.{Host}
-use Rattle.host_core.specs.World.{Place, World, worker_at, epoch_of}
+use Rattle.host_core.specs.World.{Place, World, worker_at, shard_at, epoch_of}
 use Rattle.host_order.specs.Serving.{Serving, serving_moment, is_at, is_by, IsPlaceChain, IsWorkerChain, content_at, in_one_order}
 use Rattle.host_order.specs.Steady.{IsSteady}
 use Rattle.host_order.specs.Told.{IsServed, IsAtRest, AreTold, joined, joined_pasts, list_of, past_of}
 use Rattle.host_order.proofs.ChainLemmas.{AreChained}
-use Rattle.host_order.proofs.RisingLemmas.{RisesFrom, rises-sorted, AreApart, rises-apart, apart-append, pairs-apart, IsOf, worker-of, worker-rises, place-rises}
+use Rattle.host_order.proofs.RisingLemmas.{RisesFrom, rises-sorted, AreApart, rises-apart, apart-append, pairs-apart, IsMet, IsOf, place-met, worker-of, worker-rises, place-rises}
 use Rattle.host_order.proofs.PartLemmas.{joined_up, every-joined, every-part, filter-all, picked, joined_twice, get_or-joined}
 
 module _ {C R : Type 0} (host : Host C R) (steady : IsSteady host) (world : World C) (rest : IsAtRest host world)
@@ -22,30 +22,71 @@ module _ {C R : Type 0} (host : Host C R) (steady : IsSteady host) (world : Worl
   abbrev epoch : ℕ
   epoch = epoch_of host world
 
-  -- ---- each worker's list
+  -- ---- each serving was at a content with one element
 
-  pub list_served : (i : ℕ) → AllByRecursion (IsServed host world) (list_of lists i)
-  list_served i = every-part (IsServed host world) lists i told.served
+  -- what holds of all servings of the pasts, by places
+  past_part : (P : Serving C R → Type 0) (place : Place) → AllByRecursion P (joined_pasts pasts) → AllByRecursion P (past_of pasts place)
+  past_part P place all =
+      every-part P (get_or pasts place.shard []) place.seat
+      (subst (AllByRecursion P) (get_or-joined pasts place.shard)
+      (every-part P (map joined_up pasts) place.shard (subst (AllByRecursion P) (joined_twice pasts) all)))
+
+  -- what holds of all servings of the lists, holds of those of the pasts
+  to_pasts : (P : Serving C R → Type 0) → AllByRecursion P (joined lists) → AllByRecursion P (joined_pasts pasts)
+  to_pasts P all =
+      recursion_from_All P (joined_pasts pasts)
+      (All-permutation P (joined lists) (joined_pasts pasts) told.same (All-from_recursion P (joined lists) all))
+
+  -- and the other way round
+  to_lists : (P : Serving C R → Type 0) → AllByRecursion P (joined_pasts pasts) → AllByRecursion P (joined lists)
+  to_lists P all =
+      recursion_from_All P (joined lists)
+      (All-permutation P (joined_pasts pasts) (joined lists) (IsPermutation-sym (joined lists) (joined_pasts pasts) told.same)
+      (All-from_recursion P (joined_pasts pasts) all))
+
+  past_met : (place : Place) → AllByRecursion (IsMet host steady world epoch) (past_of pasts place)
+  past_met place =
+      go (past_of pasts place) (past_part (IsServed host world) place (to_pasts (IsServed host world) told.served)) (told.own_place place) (told.places place)
+    where
+      go : (servings : List (Serving C R)) → AllByRecursion (IsServed host world) servings → AllByRecursion (λ serving. serving.place ≡ place) servings
+          → IsPlaceChain (content_at host world place) servings → AllByRecursion (IsMet host steady world epoch) servings
+      go [] each own chain = tt
+      go (serving ∷ servings) each own chain =
+          place-met host steady world epoch (content_at host world place) (serving ∷ servings)
+          (steady.waits place.shard place.seat (shard_at world place.shard).contents serving.request
+          (subst (λ (p : Place). host.owns p.shard (shard_at world p.shard).contents p.seat serving.request ≡ true) own.0 each.0.may.owns))
+          chain each
+
+  pub list_met : (i : ℕ) → AllByRecursion (IsMet host steady world epoch) (list_of lists i)
+  list_met i =
+      every-part (IsMet host steady world epoch) lists i
+      (to_lists (IsMet host steady world epoch)
+      (subst (AllByRecursion (IsMet host steady world epoch)) (sym (joined_twice pasts))
+      (every-joined (IsMet host steady world epoch) (map joined_up pasts)
+      (λ s. subst (AllByRecursion (IsMet host steady world epoch)) (sym (get_or-joined pasts s))
+      (every-joined (IsMet host steady world epoch) (get_or pasts s []) (λ seat. past_met (record { shard = s; seat = seat })))))))
+
+  -- ---- each worker's list
 
   -- a worker with a list is there, so that its clock is of the epoch
   pub clock_epoch : (i : ℕ) → i < length world.workers → (worker_at host world i).clock.at.epoch ≡ epoch
   clock_epoch i within = (rest.epochs rest.phase).0 i within
 
-  of_list : (i : ℕ) (servings : List (Serving C R)) (served : ℕ) → AllByRecursion (IsServed host world) servings → AllByRecursion (λ serving. serving.worker ≡ i) servings
+  of_list : (i : ℕ) (servings : List (Serving C R)) (served : ℕ) → AllByRecursion (IsMet host steady world epoch) servings → AllByRecursion (λ serving. serving.worker ≡ i) servings
       → IsWorkerChain host world.phase i (worker_at host world i).clock served servings
       → AllByRecursion (IsOf host steady world epoch) servings × RisesFrom epoch (worker_at host world i).clock.at.counter servings
   of_list i [] served each own chain = (tt, tt)
   of_list i (serving ∷ servings) served each own chain =
-      let there : i < length world.workers = subst (λ (n : ℕ). n < length world.workers) own.0 each.0.may.there in (
+      let there : i < length world.workers = subst (λ (n : ℕ). n < length world.workers) own.0 each.0.is_served.may.there in (
         worker-of host steady world epoch world.phase i served (worker_at host world i).clock (serving ∷ servings) (clock_epoch i there) chain each,
         worker-rises host steady world epoch world.phase i served (worker_at host world i).clock (serving ∷ servings) (clock_epoch i there) chain each,
       )
 
   pub list_of_epoch : (i : ℕ) → AllByRecursion (IsOf host steady world epoch) (list_of lists i)
-  list_of_epoch i = (of_list i (list_of lists i) _ (list_served i) (told.own_worker i) (told.workers i)).0
+  list_of_epoch i = (of_list i (list_of lists i) _ (list_met i) (told.own_worker i) (told.workers i)).0
 
   list_rises : (i : ℕ) → RisesFrom epoch (worker_at host world i).clock.at.counter (list_of lists i)
-  list_rises i = (of_list i (list_of lists i) _ (list_served i) (told.own_worker i) (told.workers i)).1
+  list_rises i = (of_list i (list_of lists i) _ (list_met i) (told.own_worker i) (told.workers i)).1
 
   list_picked : (i : ℕ) → filter (is_by i) (joined lists) ≡ list_of lists i
   list_picked i =
@@ -101,19 +142,10 @@ module _ {C R : Type 0} (host : Host C R) (steady : IsSteady host) (world : Worl
   -- ---- each place's past
 
   -- all servings are of the epoch
-  all_of : AllByRecursion (IsOf host steady world epoch) (joined_pasts pasts)
-  all_of =
-      recursion_from_All (IsOf host steady world epoch) (joined_pasts pasts)
-      (All-permutation (IsOf host steady world epoch) (joined lists) (joined_pasts pasts) told.same
-      (All-from_recursion (IsOf host steady world epoch) (joined lists)
-      (every-joined (IsOf host steady world epoch) lists list_of_epoch)))
-
   pub past_of_epoch : (place : Place) → AllByRecursion (IsOf host steady world epoch) (past_of pasts place)
   past_of_epoch place =
-      every-part (IsOf host steady world epoch) (get_or pasts place.shard []) place.seat
-      (subst (AllByRecursion (IsOf host steady world epoch)) (get_or-joined pasts place.shard)
-      (every-part (IsOf host steady world epoch) (map joined_up pasts) place.shard
-      (subst (AllByRecursion (IsOf host steady world epoch)) (joined_twice pasts) all_of)))
+      past_part (IsOf host steady world epoch) place
+      (to_pasts (IsOf host steady world epoch) (every-joined (IsOf host steady world epoch) lists list_of_epoch))
 
   -- a serving at another place
   elsewhere : (place : Place) (serving : Serving C R) (s seat : ℕ) → serving.place ≡ record { shard = s; seat = seat }

@@ -14,7 +14,7 @@ use Rattle.host_order.specs.Steady.{IsUpFrom, IsSteady}
 use Rattle.host_order.specs.Told.{IsOpenTo, IsAtRest, AreTold, joined, list_of, past_of, Stop, IsNoted, AreOfOthers, replay_stops, stops_by, EndsWith, HasOneOrder, OrdersPhase}
 use Rattle.host_order.proofs.ChainLemmas.{LeadsTo, replay_enabled, replay_leads}
 use Rattle.host_order.proofs.RisingLemmas.{Waits, had-up_to, worker-epoch}
-use Rattle.host_order.proofs.OrderLemmas.{clock_epoch, past_of_epoch, worker_part, place_part, order_chained, list_served}
+use Rattle.host_order.proofs.OrderLemmas.{clock_epoch, past_of_epoch, worker_part, place_part, order_chained, list_met}
 use Rattle.host_core.proofs.EventLaws.{enabled-append, run-append}
 use Rattle.host_order.proofs.StopLemmas.{IsStop, Stops, stops_enabled, stops_leave}
 
@@ -89,7 +89,7 @@ module _ {C R : Type 0} (host : Host C R) (steady : IsSteady host) (world : Worl
           worker-epoch host steady world (epoch_of host world) world.phase stop.worker (worker_at host world stop.worker).served
           (worker_at host world stop.worker).clock (list_of lists stop.worker)
           (clock_epoch host steady world rest lists pasts told stop.worker noted.may.there)
-          (told.workers stop.worker) (list_served host steady world rest lists pasts told stop.worker)
+          (told.workers stop.worker) (list_met host steady world rest lists pasts told stop.worker)
 
       up : IsUpFrom host clock.at.epoch noted.noted (content_behind (content_at host world stop.place) (past_of pasts stop.place))
       up =

@@ -8,7 +8,7 @@ use Rattle.host_core.specs.Host.{Host, Done, asked}
 use Rattle.host_core.specs.World.{Place, Worker, Seats, World, unmoved, fresh, worker_at, shard_at}
 use Rattle.host_core.specs.WorldEvent.{WorldEvent, takes, serves, gives, with_worker, after_serve, having_served, logging, step, IsFree, IsServing, MayTake, MayServe, MayGive, AreEnabled, run_events}
 use Rattle.host_order.specs.Serving.{Serving, same_place, content_at}
-use Rattle.host_order.specs.Steady.{IsSteady}
+use Rattle.host_order.specs.Steady.{HasOne, IsSteady}
 use Rattle.host_order.specs.Told.{IsOpenTo, IsServed}
 
 module _ {C R : Type 0} (host : Host C R) where
@@ -220,8 +220,8 @@ module _ {C R : Type 0} (host : Host C R) where
       owns = owns (cases_eq at.shard place.shard);
     }
       where
-        seats : Seats C
-        seats = served_seats (shard_at world place.shard) place.seat serving.done
+        one : HasOne host (content_at host world place)
+        one = steady.waits place.shard place.seat (shard_at world place.shard).contents serving.request next.is_served.may.owns
 
         seats_there : at.shard ≡ place.shard → get_or (set world.shards place.shard (served_seats (shard_at world place.shard) place.seat serving.done)) at.shard (unmoved [])
             ≡ served_seats (shard_at world place.shard) place.seat serving.done
@@ -252,7 +252,7 @@ module _ {C R : Type 0} (host : Host C R) where
         owns (inl same) =
             ap (λ (z : Seats C). host.owns at.shard z.contents at.seat request) (seats_there same)
             ∙ ap (λ (n : ℕ). host.owns n (set (shard_at world place.shard).contents place.seat serving.done.after) at.seat request) same
-            ∙ steady.owners i worker.clock place.shard place.seat (shard_at world place.shard).contents serving.request serving.done did at.seat request
+            ∙ steady.owners i worker.clock place.shard place.seat (shard_at world place.shard).contents serving.request serving.done one did at.seat request
             ∙ ap (λ (n : ℕ). host.owns n (shard_at world n).contents at.seat request) (sym same)
             ∙ is.owns
         owns (inr apart) = ap (λ (z : Seats C). host.owns at.shard z.contents at.seat request) (seats_other apart) ∙ is.owns

@@ -14,7 +14,7 @@ use Rattle.stamp_order.proofs.InOrderLaws.{every-weaker, every-append}
 use Rattle.host_core.specs.Host.{Host}
 use Rattle.host_core.specs.World.{World}
 use Rattle.host_order.specs.Serving.{Serving, serving_moment, IsPlaceChain, IsWorkerChain, content_behind, clock_behind, IsHad}
-use Rattle.host_order.specs.Steady.{MovesOn, IsUpFrom, IsSteady}
+use Rattle.host_order.specs.Steady.{HasOne, MovesOn, IsUpFrom, IsSteady}
 use Rattle.host_order.specs.Told.{IsServed}
 
 -- ---- lists with rising stamps
@@ -84,27 +84,41 @@ module _ {C R : Type 0} where
 -- ---- workers and places
 
 module _ {C R : Type 0} (host : Host C R) (steady : IsSteady host) (world : World C) (epoch : ℕ) where
-  -- it is served, from a clock of the epoch
-  pub record IsOf (serving : Serving C R) : Type 0 where
+  -- it is served, at a content with one pending element
+  pub record IsMet (serving : Serving C R) : Type 0 where
     pub is_served : IsServed host world serving
+    pub one : HasOne host serving.before
+
+  -- and from a clock of the epoch
+  pub record IsOf (serving : Serving C R) : Type 0 where
+    pub met : IsMet serving
     pub of_epoch : serving.clock.at.epoch ≡ epoch
 
-  moves : (serving : Serving C R) → IsServed host world serving → MovesOn host serving.clock serving.before serving.done
-  moves serving is = steady.moves_on serving.worker serving.clock serving.before serving.request serving.done is.serves
+  moves : (serving : Serving C R) → IsMet serving → MovesOn host serving.clock serving.before serving.done
+  moves serving is = steady.moves_on serving.worker serving.clock serving.before serving.request serving.done is.one is.is_served.serves
+
+  -- a place's servings are at contents with one element, from the first on
+  pub place-met : (content : C) (servings : List (Serving C R)) → HasOne host content → IsPlaceChain content servings
+      → AllByRecursion (IsServed host world) servings → AllByRecursion IsMet servings
+  place-met content [] one chain each = tt
+  place-met content (serving ∷ servings) one chain each =
+      let met : IsMet serving = record { is_served = each.0; one = subst (HasOne host) (sym chain.0) one } in
+      let new = (moves serving met).new in
+      (met, place-met serving.done.after servings (new.0, new.1) chain.1 each.1)
 
   -- a worker's servings are from clocks of its epoch
   pub worker-of : (phase i served : ℕ) (clock : Reading) (servings : List (Serving C R)) → clock.at.epoch ≡ epoch
-      → IsWorkerChain host phase i clock served servings → AllByRecursion (IsServed host world) servings → AllByRecursion IsOf servings
+      → IsWorkerChain host phase i clock served servings → AllByRecursion IsMet servings → AllByRecursion IsOf servings
   worker-of phase i served clock [] is chain each = tt
   worker-of phase i served clock (serving ∷ servings) is chain each =
       let here : serving.clock.at.epoch ≡ epoch = ap (λ (c : Reading). c.at.epoch) chain.0 ∙ is in (
-        record { is_served = each.0; of_epoch = here },
+        record { met = each.0; of_epoch = here },
         worker-of phase i (suc served) serving.done.clock servings ((moves serving each.0).epoch ∙ here) chain.2 each.1,
       )
 
   -- Their stamps rise.
   pub worker-rises : (phase i served : ℕ) (clock : Reading) (servings : List (Serving C R)) → clock.at.epoch ≡ epoch
-      → IsWorkerChain host phase i clock served servings → AllByRecursion (IsServed host world) servings
+      → IsWorkerChain host phase i clock served servings → AllByRecursion IsMet servings
       → RisesFrom epoch clock.at.counter servings
   worker-rises phase i served clock [] is chain each = tt
   worker-rises phase i served clock (serving ∷ servings) is chain each =
@@ -117,7 +131,7 @@ module _ {C R : Type 0} (host : Host C R) (steady : IsSteady host) (world : Worl
 
   -- the clock behind them is of the epoch
   pub worker-epoch : (phase i served : ℕ) (clock : Reading) (servings : List (Serving C R)) → clock.at.epoch ≡ epoch
-      → IsWorkerChain host phase i clock served servings → AllByRecursion (IsServed host world) servings
+      → IsWorkerChain host phase i clock served servings → AllByRecursion IsMet servings
       → (clock_behind clock servings).at.epoch ≡ epoch
   worker-epoch phase i served clock [] is chain each = is
   worker-epoch phase i served clock (serving ∷ servings) is chain each =
@@ -133,7 +147,7 @@ module _ {C R : Type 0} (host : Host C R) (steady : IsSteady host) (world : Worl
       → serving.before ≡ content → IsOf serving → stamp.counter < serving.done.clock.at.counter
   above_element content stamp serving waits is before of =
       let there : host.pending serving.before ≡ waits.0 ∷ [] = ap host.pending before ∙ waits.1 in
-      let all = (moves serving of.is_served).above
+      let all = (moves serving of.met).above
       (subst (AllByRecursion (λ element. element.stamp.epoch ≡ serving.clock.at.epoch)) (sym there)
       (ap (λ (s : Stamp). s.epoch) waits.2 ∙ is ∙ sym of.of_epoch, tt)) in
       let less = subst (AllByRecursion (λ element. element.stamp.counter < serving.done.clock.at.counter)) there all in
@@ -144,7 +158,7 @@ module _ {C R : Type 0} (host : Host C R) (steady : IsSteady host) (world : Worl
       → IsPlaceChain content servings → AllByRecursion IsOf servings → RisesFrom epoch stamp.counter servings
   place-behind content stamp [] waits is chain each = tt
   place-behind content stamp (serving ∷ servings) waits is chain each =
-      let moved = moves serving each.0.is_served in
+      let moved = moves serving each.0.met in
       let own : serving.done.clock.at.epoch ≡ epoch = moved.epoch ∙ each.0.of_epoch in (
         own,
         above_element content stamp serving waits is chain.0 each.0,
@@ -155,7 +169,7 @@ module _ {C R : Type 0} (host : Host C R) (steady : IsSteady host) (world : Worl
       → RisesFrom epoch 0 servings
   place-rises content [] chain each = tt
   place-rises content (serving ∷ servings) chain each =
-      let moved = moves serving each.0.is_served in
+      let moved = moves serving each.0.met in
       let own : serving.done.clock.at.epoch ≡ epoch = moved.epoch ∙ each.0.of_epoch in (
         own,
         omega (arith, moved.later),
@@ -170,7 +184,7 @@ module _ {C R : Type 0} (host : Host C R) (steady : IsSteady host) (world : Worl
       let own : waits.0.stamp.epoch ≡ epoch = ap (λ (s : Stamp). s.epoch) waits.2 ∙ is in
       record { was = waits.0; now = waits.0; was_there = waits.1; now_there = waits.1; was_of = own; now_of = own; rises = omega arith }
   up_to-last content stamp (serving ∷ servings) waits is chain each =
-      let moved = moves serving each.0.is_served in
+      let moved = moves serving each.0.met in
       let own : serving.done.clock.at.epoch ≡ epoch = moved.epoch ∙ each.0.of_epoch in
       let further = up_to-last serving.done.after serving.done.clock.at servings moved.new own chain.1 each.1 in
       record {
@@ -207,5 +221,5 @@ module _ {C R : Type 0} (host : Host C R) (steady : IsSteady host) (world : Worl
       subst (λ (c : C). IsUpFrom host epoch c (content_behind serving.done.after servings)) (sym had)
       (up_to-last content stamp (serving ∷ servings) waits is chain each)
   had-up_to content stamp (serving ∷ servings) noted waits is chain each (inr had) =
-      let moved = moves serving each.0.is_served in
+      let moved = moves serving each.0.met in
       had-up_to serving.done.after serving.done.clock.at servings noted moved.new (moved.epoch ∙ each.0.of_epoch) chain.1 each.1 had

@@ -2,3 +2,4 @@
 pub mod Serving
 pub mod Steady
 pub mod Told
+pub mod Close
