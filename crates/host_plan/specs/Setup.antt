@@ -1,5 +1,5 @@
 -- The setup of the shards: the commands of worker 0, and the contents behind them.
-use Rattle.std.specs.Prelude.{◌≡◌, ℕ, zero, suc, ◌+◌, ◌^◌, ◌≤◌, ◌<◌, Bool, true, false, List, [], ◌∷◌, ◌++◌}
+use Rattle.std.specs.Prelude.{◌≡◌, ℕ, zero, suc, ◌+◌, ◌^◌, ◌≤◌, ◌<◌, Bool, true, false, List, [], ◌∷◌, ◌++◌, map}
 use Rattle.tree_keys.specs.Bits.{number_of}
 use Rattle.lamport_clocks.specs.declared.stamp.Stamp.{Stamp}
 use Rattle.record_text.specs.Format.{Format}
@@ -48,10 +48,9 @@ paths_below (suc levels) path = paths_below levels (child path false) ++ paths_b
 abbrev pub first_content : Format → ℕ → List Bool → Content
 first_content format first frontier = cold (new_shard format frontier (first_stamp first frontier) 0)
 
--- these contents, of the frontiers of a list
+-- the same of each frontier of a list
 abbrev pub first_contents : Format → ℕ → List (List Bool) → List Content
-first_contents format first [] = []
-first_contents format first (frontier ∷ frontiers) = first_content format first frontier ∷ first_contents format first frontiers
+first_contents format first frontiers = map (first_content format first) frontiers
 
 -- The contents of the 2^bits shards behind the setup, in the order of the shards.
 abbrev pub setup_contents : Format → ℕ → ℕ → List Content

@@ -28,6 +28,13 @@ impl Model for Commands {
 }
 
 impl Commands {
+    // These commands.
+    pub(crate) fn of(items: Vec<Command>) -> Self
+        ensures commands { result ≡ items.items }
+    {
+        Commands { items }
+    }
+
     /// The commands.
     pub fn as_slice(&self) -> &[Command]
         ensures commands { result.now ≡ self.now }

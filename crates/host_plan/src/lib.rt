@@ -1,7 +1,7 @@
 //! The host's plans: the commands of the setup and of one request, and what they leave of the records.
 //!
 //! The crate stands on `host_shard` for shards and chains, on `log_codec` for commands and on `merkle_records` for nodes.
-//! Begin with `plan` in `serving.rt` beside `specs/Plan.antt`, then `setup` in `setup.rt` beside `specs/Setup.antt`.
+//! Begin with `plan` in `serving.rt` beside `specs/Plan.antt`, then `setup` in `starting.rt` beside `specs/Setup.antt`.
 #![tactic(auto)]
 
 mod commands;
@@ -9,8 +9,10 @@ mod fault;
 mod moments;
 mod plans;
 mod serving;
+mod starting;
 
 pub use commands::Commands;
-pub use fault::PlanFault;
+pub use fault::{PlanFault, SetupFault};
 pub use plans::Plan;
 pub use serving::plan;
+pub use starting::setup;
