@@ -16,7 +16,7 @@ use Rattle.host_core.specs.Host.{Host, scheme, resting}
 use Rattle.host_core.specs.Deeds.{pending_of, answers_in, AreStamped, IsClock, IsDeed}
 use Rattle.host_laws.specs.Running.{Told, run, added_told, evicted_told, accesses_told, IsHistory}
 use Rattle.host_laws.proofs.RunLaws.{run-history}
-use Rattle.host_fits.proofs.EventLemmas.{run-state, IsSteady, run-steady, added-events, evicted-events, sealed-events, ask_of, answers-events}
+use Rattle.host_fits.proofs.EventLemmas.{run-state, IsOfEpoch, run-steady, added-events, evicted-events, sealed-events, ask_of, answers-events}
 
 pub is_deed : {C R : Type 0} (host : Host C R) (i : ℕ) (from : State) (commands : List Command) (told : Told) (clock : Reading) (old new : List C) (answers : List (ℕ × Request))
     → run (rules_under (scheme host) host.header i) from commands ≡ Ok (told, resting host i clock)
@@ -42,5 +42,5 @@ is_deed host i from commands told clock old new answers runs typed is_clock epoc
     history : IsHistory (rules_under (scheme host) host.header i) from commands told
     history = run-history (rules_under (scheme host) host.header i) from (resting host i clock) commands told runs
 
-    steady : IsSteady from.clock.at.epoch told
+    steady : IsOfEpoch from.clock.at.epoch told
     steady = run-steady (rules_under (scheme host) host.header i) from (resting host i clock) commands told runs epoch

@@ -40,8 +40,8 @@ run-state rules state last (command ∷ commands) told is =
 -- ---- the clock of a run that stays in its epoch
 
 -- what is told is of this epoch, and seals none
-abbrev pub IsSteady : ℕ → Told → Type 0
-IsSteady epoch told = AllByRecursion (λ (one : Stamp × Change). (one.0.epoch ≡ epoch) × (sealed_by one.1 ≡ [])) told
+abbrev pub IsOfEpoch : ℕ → Told → Type 0
+IsOfEpoch epoch told = AllByRecursion (λ (one : Stamp × Change). (one.0.epoch ≡ epoch) × (sealed_by one.1 ≡ [])) told
 
 -- a change with which the epoch stays seals none
 seals_none : (old new : Reading) (change : Change) → Ticks old new change → new.at.epoch ≡ old.at.epoch → sealed_by change ≡ []
@@ -68,19 +68,19 @@ run-epoch rules state last (command ∷ commands) told is =
     omega arith
 
 pub run-steady : (rules : Rules) (state last : State) (commands : List Command) (told : Told) → run rules state commands ≡ Ok (told, last)
-    → last.clock.at.epoch ≡ state.clock.at.epoch → IsSteady state.clock.at.epoch told
+    → last.clock.at.epoch ≡ state.clock.at.epoch → IsOfEpoch state.clock.at.epoch told
 unfolding run
 run-steady rules state last [] told is stays =
-    subst (IsSteady state.clock.at.epoch) (ap (λ (p : Told × State). p.0) (same_Ok ([], state) (told, last) is)) tt
+    subst (IsOfEpoch state.clock.at.epoch) (ap (λ (p : Told × State). p.0) (same_Ok ([], state) (told, last) is)) tt
 run-steady rules state last (command ∷ commands) told is stays =
     let begins = run-begins rules state command commands told last is in
     let ticks = ticks_step rules state command (begins.change, begins.next) begins.step in
     let first = ticks-epoch state.clock begins.next.clock begins.change ticks in
     let rest = run-epoch rules begins.next last commands begins.rest begins.further in
     let same : begins.next.clock.at.epoch ≡ state.clock.at.epoch = omega (arith, first, rest, stays) in
-    subst (IsSteady state.clock.at.epoch) begins.all (
+    subst (IsOfEpoch state.clock.at.epoch) begins.all (
       (same, seals_none state.clock begins.next.clock begins.change ticks same),
-      subst (λ (epoch : ℕ). IsSteady epoch begins.rest) same
+      subst (λ (epoch : ℕ). IsOfEpoch epoch begins.rest) same
           (run-steady rules begins.next last commands begins.rest begins.further (stays ∙ sym same)),
     )
 
@@ -94,10 +94,10 @@ pub evicted-events : (number index : ℕ) (told : Told) → evicted_among (as_ev
 evicted-events number index [] = refl
 evicted-events number index (one ∷ told) = ap (λ (xs : List Element). evicted_by one.1 ++ xs) (evicted-events number (suc index) told)
 
-pub sealed-events : (epoch number index : ℕ) (told : Told) → IsSteady epoch told → sealed_count (as_events number index told) ≡ 0
+pub sealed-events : (epoch number index : ℕ) (told : Told) → IsOfEpoch epoch told → sealed_count (as_events number index told) ≡ 0
 sealed-events epoch number index told steady = ap (λ (xs : List ℕ). length xs) (go index told steady)
   where
-    go : (index : ℕ) (told : Told) → IsSteady epoch told → flat_map (λ (event : Event). sealed_by event.change) (as_events number index told) ≡ []
+    go : (index : ℕ) (told : Told) → IsOfEpoch epoch told → flat_map (λ (event : Event). sealed_by event.change) (as_events number index told) ≡ []
     go index [] steady = refl
     go index (one ∷ told) steady =
         ap (λ (xs : List ℕ). xs ++ flat_map (λ (event : Event). sealed_by event.change) (as_events number (suc index) told)) steady.0.1
@@ -129,7 +129,7 @@ one-answer epoch number index at (did_put before after) same =
     asks ask = ask ∷ []
 one-answer epoch number index at (did_next_epoch sealed) same = refl
 
-pub answers-events : (epoch number index : ℕ) (told : Told) → IsSteady epoch told
+pub answers-events : (epoch number index : ℕ) (told : Told) → IsOfEpoch epoch told
     → answers_in (as_events number index told) ≡ map (ask_of epoch) (accesses_told told)
 answers-events epoch number index [] steady = refl
 answers-events epoch number index (one ∷ told) steady =
