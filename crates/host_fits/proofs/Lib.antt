@@ -10,4 +10,5 @@ mod FitLemmas
 mod RestLemmas
 mod OpenLemmas
 mod PlanLemmas
+mod SteadyLemmas
 mod PromiseLemmas

@@ -46,7 +46,7 @@ within-done done within =
     let test : nat_le done.clock.at.counter done.clock.end ≡ true = grind (arith, nat_tests) in
     ap (λ (b : Bool). if b then Some done else None) test
 
-past-done : {X : Type 0} (done : Done X) → done.clock.end < done.clock.at.counter → within_end done ≡ None
+pub past-done : {X : Type 0} (done : Done X) → done.clock.end < done.clock.at.counter → within_end done ≡ None
 past-done done past =
     let test : nat_le done.clock.at.counter done.clock.end ≡ false = grind (arith, nat_tests) in
     ap (λ (b : Bool). if b then Some done else None) test

@@ -8,6 +8,8 @@ ghost use Rattle.host_plan.specs.Plan.{CanServe, IsPlan, IsPastEnd, clock_after}
 ghost use Rattle.host_plan.specs.declared.plans.Plan.{Plan};
 ghost use Rattle.host_core.specs.World.{set_up};
 ghost use Rattle.host_core.specs.WorldEvent.{WorldEvent, AreEnabled, run_events};
+ghost use Rattle.host_order.specs.Steady.{IsSteady};
+ghost use Rattle.host_order.specs.Close.{MovesKeepEpoch};
 ghost use Rattle.host_fits.specs.Shipped.{Setting, shipped};
 ghost use Rattle.host_fits.specs.Promise.{IsSetting, IsPromised};
 
@@ -29,4 +31,11 @@ pub fn plans_are_what_the_host_does()
         → (shipped setting).serve worker clock content request ≡ Some (record { commands = plan.commands; after = after; clock = later }) }
     ensures ended { (setting : Setting) (worker : ℕ) (content : Content) (request : Request) (clock : Reading)
         → IsPastEnd content clock → (shipped setting).serve worker clock content request ≡ None }
+{}
+
+/// A request moves the clock on and leaves the owners as they were, and a close of a shard leaves the epoch: so what many
+/// workers did at once in a phase or in a close was one list of events, as `host_order` says.
+pub fn the_shipped_host_is_steady()
+    ensures steady { (setting : Setting) → IsSteady (shipped setting) }
+    ensures close { (setting : Setting) → MovesKeepEpoch (shipped setting) }
 {}

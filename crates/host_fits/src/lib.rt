@@ -8,4 +8,6 @@
 
 mod laws;
 
-pub use laws::{plans_are_what_the_host_does, the_shipped_host_keeps_its_promise};
+pub use laws::{
+    plans_are_what_the_host_does, the_shipped_host_is_steady, the_shipped_host_keeps_its_promise,
+};
