@@ -9,8 +9,8 @@ mod EvenLemmas
 mod PermutedLemmas
 mod ScriptLemmas
 mod PromiseLemmas
-mod CoreLaws
+pub mod CoreLaws
 mod LastLemmas
 mod ClashLemmas
 mod ClearLemmas
-mod ExhibitLemmas
+pub mod ExhibitLaws

@@ -23,9 +23,9 @@ use Rattle.host_plan.specs.Request.{command_of, value_after}
 use Rattle.host_laws.specs.Running.{Told, Access, added_told, evicted_told, accesses_told}
 use Rattle.host_laws.specs.Carried.{carried}
 use Rattle.host_laws.proofs.StepLemmas.{test-passed, need-there}
-use Rattle.host_laws.proofs.RunLemmas.{run-one}
+use Rattle.host_laws.proofs.RunLaws.{run-one}
 use Rattle.host_laws.proofs.StandingLemmas.{entry_of-last, replaced-last}
-use Rattle.host_laws.proofs.WorksLemmas.{standing, Works}
+use Rattle.host_laws.proofs.WorksLaws.{standing, Works}
 
 -- a whole path is a data path
 is_whole : (format : Format) (path : List Bool) → length path ≡ path_bits format → not (is_data format path) ≡ false

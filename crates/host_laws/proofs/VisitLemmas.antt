@@ -33,7 +33,7 @@ use Rattle.host_laws.specs.Running.{Told, added_told, evicted_told, accesses_tol
 use Rattle.host_laws.specs.Carried.{carried, IsVisited, IsCarried}
 use Rattle.host_laws.proofs.ToldLaws.{added_told-append, evicted_told-append, accesses_told-append, carried-append, all-append}
 use Rattle.host_laws.proofs.FamilyLemmas.{parent_of}
-use Rattle.host_laws.proofs.WorksLemmas.{Works, told_visit, descend}
+use Rattle.host_laws.proofs.WorksLaws.{Works, told_visit, descend}
 use Rattle.host_laws.proofs.EndLemmas.{access_by, told_request, works_request}
 use Rattle.host_laws.proofs.ChainLaws.{LeadTo, AreOf, IsNext, next_fits}
 

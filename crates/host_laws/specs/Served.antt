@@ -23,13 +23,17 @@ use Rattle.host_laws.specs.Carried.{IsCarried, carried}
 abbrev pub IsBare : List Entry → Type 0
 IsBare entries = (entries ≡ []) ⊎ ((root : Entry) × (root.path ≡ []) × (entries ≡ root ∷ []))
 
--- A verifier at rest can take a content in: there is room for each path above a key, and the content's element is of one
--- of the verifiers and of an open epoch, and the clock has two counters left for it.
-pub record CanTake (rules : Rules) (state : State) (content : Content) : Type 0 where
+-- A verifier at rest that may take a content in: there is room for each path above a key, and the content's element is of
+-- one of the verifiers and of an open epoch.
+pub record IsAtRest (rules : Rules) (state : State) (content : Content) : Type 0 where
   pub bare : IsBare state.cache.entries
   pub room : path_bits rules.scheme.format < state.cache.room
   pub known : (element : Element) → pending rules.scheme.format content ≡ Some element → element.verifier < rules.verifiers
   pub open_epoch : IsOpenAt state.clock content
+
+-- and it can, where its clock has the two counters left that this takes
+pub record CanTake (rules : Rules) (state : State) (content : Content) : Type 0 where
+  pub rest : IsAtRest rules state content
   pub counters : (clock_after content state.clock).at.counter ≤ state.clock.end
 
 -- the element with which a content waits, if it does

@@ -1,23 +1,20 @@
 //! What follows from the definitions of the host's commands and of the transition. These functions do nothing:
 //! their contracts are the laws.
-ghost use Rattle.std.specs.Prelude.{◌≡◌, ℕ, Bool, List, Ok};
-ghost use Rattle.std.specs.List.{AllByRecursion};
+ghost use Rattle.std.specs.Prelude.{◌≡◌, ℕ, Bool, List, Ok, Err};
 ghost use Rattle.lamport_clocks.specs.declared.header.Header.{Header};
 ghost use Rattle.lamport_clocks.specs.Reading.{Reading};
 ghost use Rattle.record_text.specs.declared.request.Request.{Request};
-ghost use Rattle.record_text.specs.Format.{Format};
-ghost use Rattle.record_text.specs.Value.{IsBlob};
+ghost use Rattle.record_text.specs.declared.refusal.Refusal.TheVariants.{ClockEnd};
 ghost use Rattle.log_codec.specs.declared.command.Command.{Command};
-ghost use Rattle.merkle_records.specs.Merkle.{Digest, GivesDigests};
 ghost use Rattle.merkle_records.specs.Scheme.{Scheme};
 ghost use Rattle.verifier_commands.specs.declared.state.State.{State};
 ghost use Rattle.verifier_commands.specs.Transition.{Rules};
-ghost use Rattle.soundness.specs.Typed.{IsTyped};
+ghost use Rattle.host_shard.specs.declared.link.Link.{Link};
 ghost use Rattle.host_shard.specs.Content.{Content};
-ghost use Rattle.host_plan.specs.Plan.{CanServe, IsPlan};
+ghost use Rattle.host_plan.specs.Plan.{CanServe, IsPlan, IsPastEnd, AreLinks, commands_of};
 ghost use Rattle.host_plan.specs.declared.plans.Plan.{Plan};
 ghost use Rattle.host_laws.specs.Running.{Told, run, IsHistory};
-ghost use Rattle.host_laws.specs.Served.{CanTake, PlanRuns};
+ghost use Rattle.host_laws.specs.Served.{IsAtRest, CanTake, PlanRuns};
 ghost use Rattle.host_laws.specs.SettingUp.{CanSetUp, SetupRuns};
 
 /// Commands that run are accepted, and what is told of them is the verifier's history.
@@ -33,6 +30,15 @@ pub fn a_plan_runs()
         → CanTake rules state content → CanServe rules.scheme.format rules.scheme.digest content request.key
         → IsPlan rules.scheme.format rules.scheme.digest rules.number content request state.clock plan after later
         → PlanRuns rules state content after request plan later }
+{}
+
+/// Where the two counters that a request takes would pass the clock's end, its commands are refused for that, and for
+/// nothing else.
+pub fn a_request_past_the_end_is_refused()
+    ensures refused { (rules : Rules) (state : State) (content : Content) (request : Request) (links : List Link)
+        → IsAtRest rules state content → CanServe rules.scheme.format rules.scheme.digest content request.key
+        → AreLinks rules.scheme.format content request.key links → IsPastEnd content state.clock
+        → run rules state (commands_of rules.scheme.format content links request state.clock) ≡ Err ClockEnd }
 {}
 
 /// Verifier 0 accepts the commands of the setup from its opening state: it takes nothing in, and hands out what the new

@@ -12,4 +12,6 @@
 
 mod laws;
 
-pub use laws::{a_plan_runs, a_run_is_the_history, the_setup_runs};
+pub use laws::{
+    a_plan_runs, a_request_past_the_end_is_refused, a_run_is_the_history, the_setup_runs,
+};

@@ -1,4 +1,4 @@
 -- How mirroring is proved, in reading order: the paths of a chain, the shard behind a request, shards without records.
 mod PartLemmas
-mod MirrorLemmas
-mod FirstLemmas
+pub mod MirrorLaws
+pub mod FirstLaws

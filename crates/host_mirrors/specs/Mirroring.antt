@@ -1,5 +1,5 @@
 -- A content that mirrors what the verifiers hold of it, where some keys are hot.
-use Rattle.std.specs.Prelude.{◌≡◌, ℕ, Bool, List}
+use Rattle.std.specs.Prelude.{ℕ, Bool, List}
 use Rattle.std.specs.List.{IsAmong}
 use Rattle.record_text.specs.Format.{Format}
 use Rattle.record_text.specs.Value.{IsBlob}

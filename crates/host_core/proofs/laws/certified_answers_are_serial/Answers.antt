@@ -1,5 +1,5 @@
 use Rattle.std.proofs.Common.{◌≡◌, true}
-use Rattle.host_core.proofs.ExhibitLemmas.{always_nothing_to_show, always_served_serially}
+use Rattle.host_core.proofs.ExhibitLaws.{always_nothing_to_show, always_served_serially}
 use Rattle.host_core.proofs.laws.certified_answers_are_serial.Goals as goal
 
 pub returns : goal.returns

@@ -1,4 +1,4 @@
-use Rattle.host_laws.proofs.RequestLemmas.{plan_runs}
+use Rattle.host_laws.proofs.RequestLaws.{plan_runs}
 use Rattle.host_laws.proofs.laws.a_plan_runs.Goals as goal
 
 pub returns : goal.returns

@@ -1,4 +1,4 @@
-use Rattle.host_laws.proofs.RunLemmas.{run-history}
+use Rattle.host_laws.proofs.RunLaws.{run-history}
 use Rattle.host_laws.proofs.laws.a_run_is_the_history.Goals as goal
 
 pub returns : goal.returns

@@ -1,4 +1,4 @@
-use Rattle.host_laws.proofs.SetUpLemmas.{setup_runs}
+use Rattle.host_laws.proofs.SetUpLaws.{setup_runs}
 use Rattle.host_laws.proofs.laws.the_setup_runs.Goals as goal
 
 pub returns : goal.returns

@@ -1,4 +1,4 @@
-use Rattle.host_mirrors.proofs.MirrorLemmas.{plan_typed}
+use Rattle.host_mirrors.proofs.MirrorLaws.{plan_typed}
 use Rattle.host_mirrors.proofs.laws.a_plan_is_typed.Goals as goal
 
 pub returns : goal.returns

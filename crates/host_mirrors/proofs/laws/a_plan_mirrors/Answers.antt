@@ -1,4 +1,4 @@
-use Rattle.host_mirrors.proofs.MirrorLemmas.{plan_mirrors, mirrors_serve}
+use Rattle.host_mirrors.proofs.MirrorLaws.{plan_mirrors, mirrors_serve}
 use Rattle.host_mirrors.proofs.laws.a_plan_mirrors.Goals as goal
 
 pub returns : goal.returns

@@ -1,4 +1,4 @@
-use Rattle.host_mirrors.proofs.FirstLemmas.{contents_mirror}
+use Rattle.host_mirrors.proofs.FirstLaws.{contents_mirror}
 use Rattle.host_mirrors.proofs.laws.new_shards_mirror.Goals as goal
 
 pub returns : goal.returns

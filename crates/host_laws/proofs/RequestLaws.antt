@@ -1,5 +1,5 @@
 -- The plan of a request runs, for a key of a shard and for a hot key.
-use Rattle.std.proofs.Common.{◌≡◌, ℕ, suc, ◌+◌, ◌*◌, ◌<◌, ◌≤◌, Bool, true, false, List, [], ◌∷◌, ◌++◌, length, Option, Some, None, IsSome, Ok, append-nil, if◌then◌else◌, refl, sym, ◌∙◌, ap, subst, inl, inr, arith}
+use Rattle.std.proofs.Common.{◌≡◌, ℕ, suc, ◌+◌, ◌*◌, ◌<◌, ◌≤◌, Bool, true, false, List, [], ◌∷◌, ◌++◌, length, Option, Some, None, IsSome, Ok, Err, append-nil, if◌then◌else◌, refl, sym, ◌∙◌, ap, subst, inl, inr, arith}
 use Rattle.std.specs.Int.{Width, w8, w16, w32, w64, w128, byte_len}
 use Rattle.std.specs.List.{AllByRecursion}
 use Rattle.tree_keys.specs.Path.{side, IsBelow}
@@ -14,33 +14,33 @@ use Rattle.record_text.specs.declared.request.Request.{Request}
 use Rattle.record_text.specs.declared.value.Value.{Value}
 use Rattle.record_text.specs.declared.value.Value.TheVariants as values
 use Rattle.record_text.specs.Format.{Format, path_bits}
-use Rattle.record_text.specs.Value.{IsOf}
+use Rattle.record_text.specs.declared.refusal.Refusal.TheVariants as refusals
 use Rattle.log_codec.specs.declared.command.Command.{Command}
 use Rattle.verifier_cache.specs.declared.entry.Hold.TheVariants.{B}
 use Rattle.verifier_commands.specs.declared.state.State.{State}
 use Rattle.verifier_commands.specs.Change.{Change}
 use Rattle.verifier_commands.specs.Transition.{Rules, is_root}
 use Rattle.soundness.specs.Certified.{evicted_by}
+use Rattle.host_shard.specs.declared.link.Link.{Link}
 use Rattle.host_shard.specs.declared.content.HotRecord.{HotRecord}
-use Rattle.host_shard.specs.Chain.{last_value, closed_value}
+use Rattle.host_shard.specs.Chain.{IsChain, last_value, closed_value}
 use Rattle.host_shard.specs.Shard.{Shard, tree_of, pending_shard}
 use Rattle.host_shard.specs.Content.{Content, cold, hot, vacant, key_path, pending, pending_hot}
 use Rattle.host_plan.specs.Moments.{taking, renewing}
 use Rattle.host_plan.specs.Request.{value_after, served, served_hot}
-use Rattle.host_plan.specs.Plan.{IsServable, CanServe, IsPlan}
+use Rattle.host_plan.specs.Plan.{IsServable, CanServe, IsPastEnd, AreLinks, commands_of, IsPlan}
 use Rattle.host_plan.specs.declared.plans.Plan.{Plan}
 use Rattle.host_laws.specs.Running.{Told, Access, run}
 use Rattle.host_laws.specs.Carried.{IsCarried, carried}
-use Rattle.host_laws.specs.Served.{CanTake, IsWithin, waiting, kept_in, PlanRuns}
+use Rattle.host_laws.specs.Served.{IsAtRest, CanTake, IsWithin, waiting, kept_in, PlanRuns}
 use Rattle.host_laws.proofs.ToldLaws.{added_told-append, evicted_told-append, accesses_told-append, carried-append, all-append}
 use Rattle.host_laws.proofs.EndLemmas.{IsEnd, change_by, told_request, works_request}
-use Rattle.host_laws.proofs.ChainLaws.{LeadTo}
 use Rattle.host_laws.proofs.VisitLemmas.{Visited, visited}
 use Rattle.host_laws.proofs.MomentLemmas.{received-taken, sent-given}
 use Rattle.host_laws.proofs.FrontierLaws.{leads, frontier_there, frontier_of, frontier_based, chain_length}
-use Rattle.host_laws.proofs.BetweenLemmas.{clear-bare, length-bare, told_between, between_runs}
+use Rattle.host_laws.proofs.BetweenLaws.{clear-bare, length-bare, told_between, between_runs, between_ends}
 
-not_root : (path : List Bool) → 0 < length path → is_root path ≡ false
+pub not_root : (path : List Bool) → 0 < length path → is_root path ≡ false
 not_root [] some = absurd (omega (arith, some))
 not_root (bit ∷ path) some = refl
 
@@ -53,7 +53,7 @@ later-trans s t u (inr a) (inl b) = inl (omega arith)
 later-trans s t u (inr a) (inr b) = inr (a.0 ∙ b.0, omega arith)
 
 -- what is told of an element that is taken in and handed out is within its stamps
-within_between : (rules : Rules) (element left : Element) (new : Value) (clock : Reading) (told : Told) → is_open clock element.stamp.epoch ≡ true
+pub within_between : (rules : Rules) (element left : Element) (new : Value) (clock : Reading) (told : Told) → is_open clock element.stamp.epoch ≡ true
     → (renewing clock element.stamp).at.counter ≤ clock.end → left.stamp ≡ (renewing clock element.stamp).at
     → AllByRecursion (λ (one : Stamp × Change). one.0 ≡ (taking clock element.stamp).at) told
     → AllByRecursion (λ (one : Stamp × Change). IsWithin (Some element) (Some left) one.0) (told_between rules element new clock told)
@@ -90,6 +90,28 @@ handed_out path stamp number value = record { path = path; value = value; stamp 
 
 -- ---- a key of a shard
 
+-- along the chain, behind the frontier
+cold_way : (rules : Rules) (clock : Reading) (shard : Shard) (request : Request) (links : List Link)
+    → IsServable rules.scheme.format rules.scheme.digest shard (key_path rules.scheme.format request.key)
+    → IsChain rules.scheme.format (tree_of shard) (key_path rules.scheme.format request.key) shard.frontier shard.value links
+    → Visited rules shard.records shard.frontier B shard.value links clock request (last_value shard.value links)
+cold_way rules clock shard request links servable chain =
+    visited rules (tree_of shard) shard.records clock request
+    (leads rules.scheme.format rules.scheme.digest shard (key_path rules.scheme.format request.key) servable) shard.frontier B shard.value links
+    (servable.fits.kinds shard.frontier shard.value (frontier_there shard)) (frontier_of shard) (frontier_based shard) chain
+
+-- there is room for it
+cold_roomy : (rules : Rules) (state : State) (shard : Shard) (request : Request) (links : List Link) → IsAtRest rules state (cold shard)
+    → IsServable rules.scheme.format rules.scheme.digest shard (key_path rules.scheme.format request.key)
+    → IsChain rules.scheme.format (tree_of shard) (key_path rules.scheme.format request.key) shard.frontier shard.value links
+    → suc (length state.cache.entries + length links) ≤ state.cache.room
+cold_roomy rules state shard request links rest servable chain =
+    let few = length-bare state.cache.entries rest.bare in
+    let short = chain_length rules.scheme.format rules.scheme.digest (tree_of shard) (key_path rules.scheme.format request.key)
+    (leads rules.scheme.format rules.scheme.digest shard (key_path rules.scheme.format request.key) servable) shard.frontier shard.value links
+    (servable.fits.kinds shard.frontier shard.value (frontier_there shard)) (frontier_of shard) chain in
+    omega (arith, servable.fits.below_root, servable.own.whole, rest.room)
+
 cold_runs : (rules : Rules) (state : State) (shard : Shard) (after : Content) (request : Request) (plan : Plan) (later : Reading)
     → CanTake rules state (cold shard) → IsServable rules.scheme.format rules.scheme.digest shard (key_path rules.scheme.format request.key)
     → IsPlan rules.scheme.format rules.scheme.digest rules.number (cold shard) request state.clock plan after later
@@ -97,8 +119,8 @@ cold_runs : (rules : Rules) (state : State) (shard : Shard) (after : Content) (r
 cold_runs rules state shard after request plan later can servable is = record {
   told = told;
   runs = ap (λ (c : List Command). run rules state c) is.commands
-      ∙ (between_runs rules state (pending_shard shard) (length is.links) _ way.told new apart (clear-bare state.cache.entries shard.frontier can.bare apart) roomy
-      (can.known (pending_shard shard) refl) can.open_epoch can.counters way.works
+      ∙ (between_runs rules state (pending_shard shard) (length is.links) _ way.told new apart (clear-bare state.cache.entries shard.frontier can.rest.bare apart) roomy
+      (can.rest.known (pending_shard shard) refl) can.rest.open_epoch can.counters way.works
       ∙ ap (λ (r : Reading). Ok (told, record state { clock = r })) (sym is.clock));
   added = ap (λ (xs : List Element). pending_shard shard ∷ xs) (added_told-append way.told _ ∙ ap (λ (xs : List Element). xs ++ []) way.added);
   evicted = evicted_told-append way.told _
@@ -111,27 +133,17 @@ cold_runs rules state shard after request plan later can servable is = record {
       (subst (IsCarried path (shard.records path) (left.records path)) (sym (carried_way path)) (way.once path));
   own = λ path not_below. carried_way path ∙ way.outside path (not_there path not_below);
   within = subst (λ (c : Content). AllByRecursion (λ (one : Stamp × Change). IsWithin (Some (pending_shard shard)) (pending format c) one.0) told) (sym is.content)
-      (within_between rules (pending_shard shard) (pending_shard left) new state.clock way.told can.open_epoch can.counters refl way.at_clock);
+      (within_between rules (pending_shard shard) (pending_shard left) new state.clock way.told can.rest.open_epoch can.counters refl way.at_clock);
 }
   where
     format : Format
     format = rules.scheme.format
 
-    key : List Bool
-    key = key_path format request.key
-
-    lead : LeadTo format rules.scheme.digest (tree_of shard) key
-    lead = leads format rules.scheme.digest shard key servable
-
-    kind : IsOf format shard.frontier shard.value
-    kind = servable.fits.kinds shard.frontier shard.value (frontier_there shard)
-
     apart : is_root shard.frontier ≡ false
     apart = not_root shard.frontier servable.fits.below_root
 
     way : Visited rules shard.records shard.frontier B shard.value is.links (taking state.clock shard.stamp) request (last_value shard.value is.links)
-    way = visited rules (tree_of shard) shard.records (taking state.clock shard.stamp) request lead shard.frontier B shard.value is.links kind
-        (frontier_of shard) (frontier_based shard) is.way
+    way = cold_way rules (taking state.clock shard.stamp) shard request is.links servable is.way
 
     new : Value
     new = closed_value format rules.scheme.digest false shard.frontier shard.value is.links (value_after request (last_value shard.value is.links))
@@ -143,10 +155,7 @@ cold_runs rules state shard after request plan later can servable is = record {
     told = told_between rules (pending_shard shard) new state.clock way.told
 
     roomy : suc (length state.cache.entries + length is.links) ≤ state.cache.room
-    roomy =
-        let few = length-bare state.cache.entries can.bare in
-        let short = chain_length format rules.scheme.digest (tree_of shard) key lead shard.frontier shard.value is.links kind (frontier_of shard) is.way in
-        omega (arith, servable.fits.below_root, servable.own.whole, can.room)
+    roomy = cold_roomy rules state shard request is.links can.rest servable is.way
 
     carried_way : (path : List Bool) → carried path told ≡ carried path way.told
     carried_way path = carried-append path way.told _ ∙ append-nil (carried path way.told)
@@ -171,6 +180,21 @@ put_or_stay : (b : Bool) (new old : Option (List ℕ)) → ◌≡◌ {A = Value}
 put_or_stay true new old = refl
 put_or_stay false new old = refl
 
+-- at the hot key itself
+hot_end : (rules : Rules) (clock : Reading) (found : HotRecord) (request : Request) → found.key ≡ request.key
+    → IsEnd rules (key_path rules.scheme.format found.key) (values.Blob found.value) clock request B
+hot_end rules clock found request same =
+    subst (λ (key : ℕ). IsEnd rules (key_path rules.scheme.format key) (values.Blob found.value) clock request B) (sym same)
+    (works_request rules (values.Blob found.value) clock request B (length-bits_of (path_bits rules.scheme.format) request.key))
+
+hot_apart : (format : Format) (key : ℕ) → is_root (key_path format key) ≡ false
+hot_apart format key = not_root (key_path format key) (omega (arith, length-bits_of (path_bits format) key, some_bits format.word))
+
+hot_roomy : (rules : Rules) (state : State) (found : HotRecord) → IsAtRest rules state (hot found) → suc (length state.cache.entries + 0) ≤ state.cache.room
+hot_roomy rules state found rest =
+    let few = length-bare state.cache.entries rest.bare in
+    omega (arith, some_bits rules.scheme.format.word, rest.room)
+
 hot_runs : (rules : Rules) (state : State) (found : HotRecord) (after : Content) (request : Request) (plan : Plan) (later : Reading)
     → CanTake rules state (hot found) → found.key ≡ request.key
     → IsPlan rules.scheme.format rules.scheme.digest rules.number (hot found) request state.clock plan after later
@@ -178,8 +202,8 @@ hot_runs : (rules : Rules) (state : State) (found : HotRecord) (after : Content)
 hot_runs rules state found after request plan later can same is = record {
   told = told;
   runs = ap (λ (c : List Command). run rules state c) is.commands
-      ∙ (between_runs rules state element 0 _ inner new apart (clear-bare state.cache.entries path can.bare apart) roomy
-      (can.known element refl) can.open_epoch can.counters at_end.works
+      ∙ (between_runs rules state element 0 _ inner new apart (clear-bare state.cache.entries path can.rest.bare apart) roomy
+      (can.rest.known element refl) can.rest.open_epoch can.counters at_end.works
       ∙ ap (λ (r : Reading). Ok (told, record state { clock = r })) (sym is.clock));
   added = ap (λ (xs : List Element). element ∷ xs) at_end.added;
   evicted = ap (λ (xs : List Element). xs ++ handed_out path (renewing state.clock found.stamp).at rules.number new) (sym (append-nil (evicted_by (change_by request path B (values.Blob found.value)))) ∙ at_end.evicted)
@@ -189,7 +213,7 @@ hot_runs rules state found after request plan later can same is = record {
   once = λ k. subst (λ (c : Content). IsCarried k None (kept_in c k) (carried k told)) (sym is.content) (inl (carried_none k, refl));
   own = λ k not_below. carried_none k;
   within = subst (λ (c : Content). AllByRecursion (λ (one : Stamp × Change). IsWithin (Some element) (pending format c) one.0) told) (sym is.content)
-      (within_between rules element (pending_hot format left) new state.clock inner can.open_epoch can.counters refl (refl, tt));
+      (within_between rules element (pending_hot format left) new state.clock inner can.rest.open_epoch can.counters refl (refl, tt));
 }
   where
     format : Format
@@ -201,16 +225,11 @@ hot_runs rules state found after request plan later can same is = record {
     path : List Bool
     path = key_path format found.key
 
-    whole : (key : ℕ) → length (key_path format key) ≡ path_bits format
-    whole key = length-bits_of (path_bits format) key
-
     apart : is_root path ≡ false
-    apart = not_root path (omega (arith, whole found.key, some_bits format.word))
+    apart = hot_apart format found.key
 
     at_end : IsEnd rules path (values.Blob found.value) (taking state.clock found.stamp) request B
-    at_end =
-        subst (λ (key : ℕ). IsEnd rules (key_path format key) (values.Blob found.value) (taking state.clock found.stamp) request B) (sym same)
-        (works_request rules (values.Blob found.value) (taking state.clock found.stamp) request B (whole request.key))
+    at_end = hot_end rules (taking state.clock found.stamp) found request same
 
     inner : Told
     inner = told_request request path B (values.Blob found.value) (taking state.clock found.stamp)
@@ -225,9 +244,7 @@ hot_runs rules state found after request plan later can same is = record {
     told = told_between rules element new state.clock inner
 
     roomy : suc (length state.cache.entries + 0) ≤ state.cache.room
-    roomy =
-        let few = length-bare state.cache.entries can.bare in
-        omega (arith, some_bits format.word, can.room)
+    roomy = hot_roomy rules state found can.rest
 
     carried_none : (k : List Bool) → carried k told ≡ []
     carried_none k = at_end.carried_none k
@@ -240,3 +257,19 @@ pub plan_runs : (rules : Rules) (state : State) (content after : Content) (reque
 plan_runs rules state (cold shard) after request plan later can serves is = cold_runs rules state shard after request plan later can serves is
 plan_runs rules state (hot found) after request plan later can serves is = hot_runs rules state found after request plan later can serves is
 plan_runs rules state vacant after request plan later can serves is = absurd serves
+
+-- Where its counters would pass the end, a request is refused for that.
+pub request_ends : (rules : Rules) (state : State) (content : Content) (request : Request) (links : List Link)
+    → IsAtRest rules state content → CanServe rules.scheme.format rules.scheme.digest content request.key → AreLinks rules.scheme.format content request.key links
+    → IsPastEnd content state.clock → run rules state (commands_of rules.scheme.format content links request state.clock) ≡ Err refusals.ClockEnd
+request_ends rules state (cold shard) request links rest servable way past =
+    let apart = not_root shard.frontier servable.fits.below_root in
+    let did = cold_way rules (taking state.clock shard.stamp) shard request links servable way in
+    between_ends rules state (pending_shard shard) (length links) _ did.told _ apart (clear-bare state.cache.entries shard.frontier rest.bare apart)
+    (cold_roomy rules state shard request links rest servable way) (rest.known (pending_shard shard) refl) rest.open_epoch past did.works
+request_ends rules state (hot found) request links rest same way past =
+    let apart = hot_apart rules.scheme.format found.key in
+    let did = hot_end rules (taking state.clock found.stamp) found request same in
+    between_ends rules state (pending_hot rules.scheme.format found) 0 _ _ _ apart (clear-bare state.cache.entries (key_path rules.scheme.format found.key) rest.bare apart)
+    (hot_roomy rules state found rest) (rest.known (pending_hot rules.scheme.format found) refl) rest.open_epoch past did.works
+request_ends rules state vacant request links rest serves way past = absurd serves

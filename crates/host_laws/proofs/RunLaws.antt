@@ -1,7 +1,9 @@
 -- Commands that are accepted one after another: one more, and one list behind another.
-use Rattle.std.proofs.Common.{◌≡◌, ℕ, suc, List, [], ◌∷◌, ◌++◌, None, Result, Ok, refl, sym, ◌∙◌, ap, subst}
+use Rattle.std.proofs.Common.{◌≡◌, ℕ, suc, List, [], ◌∷◌, ◌++◌, None, Result, Ok, Err, refl, sym, ◌∙◌, ap, subst}
 use Rattle.std.specs.Result.{result_ok}
 use Rattle.std.proofs.lemmas.Option.{same_Some}
+use Rattle.step_words.specs.Steps.{and_then}
+use Rattle.record_text.specs.declared.refusal.Refusal.{Refusal}
 use Rattle.log_codec.specs.declared.command.Command.{Command}
 use Rattle.verifier_commands.specs.declared.state.State.{State}
 use Rattle.verifier_commands.specs.Change.{Change}
@@ -13,7 +15,7 @@ use Rattle.host_laws.specs.Running.{Told, run, as_events, IsHistory}
 use Rattle.host_laws.proofs.StepLemmas.{and_then-there}
 
 -- what is Ok is told by it
-same_Ok : {A E : Type 0} (x y : A) → ◌≡◌ {A = Result A E} (Ok x) (Ok y) → x ≡ y
+pub same_Ok : {A E : Type 0} (x y : A) → ◌≡◌ {A = Result A E} (Ok x) (Ok y) → x ≡ y
 same_Ok x y is = same_Some x y (ap result_ok is)
 
 -- no command does nothing
@@ -75,6 +77,33 @@ run-append rules state (command ∷ first) second told_first told_second middle 
     run-step rules state command (first ++ second) begins.change begins.next (begins.rest ++ told_second) last begins.step
     (run-append rules begins.next first second begins.rest told_second middle last begins.further rest)
     ∙ ap (λ (t : Told). Ok (t ++ told_second, last)) begins.all
+
+-- ---- a command that is refused
+
+pub run-refused : (rules : Rules) (state : State) (command : Command) (commands : List Command) (refusal : Refusal)
+    → transition rules state command ≡ Err refusal → run rules state (command ∷ commands) ≡ Err refusal
+unfolding run
+run-refused rules state command commands refusal is =
+    ap (λ (r : Step). and_then {X = Told × State} r (λ done. and_then {X = Told × State} (run rules done.1 commands) (λ rest. Ok ((done.1.clock.at, done.0) ∷ rest.0, rest.1)))) is
+
+-- behind one that is accepted
+pub run-step_refused : (rules : Rules) (state : State) (command : Command) (commands : List Command) (change : Change) (next : State) (refusal : Refusal)
+    → transition rules state command ≡ Ok (change, next) → run rules next commands ≡ Err refusal → run rules state (command ∷ commands) ≡ Err refusal
+unfolding run
+run-step_refused rules state command commands change next refusal step is =
+    and_then-there (transition rules state command) _ _ (change, next) step
+    (ap (λ (r : Result (Told × State) Refusal). and_then {X = Told × State} r (λ rest. Ok ((next.clock.at, change) ∷ rest.0, rest.1))) is)
+
+-- and behind a list of them
+pub run-append_refused : (rules : Rules) (state middle : State) (first second : List Command) (told : Told) (refusal : Refusal)
+    → run rules state first ≡ Ok (told, middle) → run rules middle second ≡ Err refusal → run rules state (first ++ second) ≡ Err refusal
+unfolding run
+run-append_refused rules state middle [] second told refusal is refused =
+    subst (λ (s : State). run rules s second ≡ Err refusal) (sym (ap (λ (p : Told × State). p.1) (same_Ok ([], state) (told, middle) is))) refused
+run-append_refused rules state middle (command ∷ first) second told refusal is refused =
+    let begins = run-begins rules state command first told middle is in
+    run-step_refused rules state command (first ++ second) begins.change begins.next refusal begins.step
+    (run-append_refused rules begins.next middle first second begins.rest refusal begins.further refused)
 
 -- ---- what was told, and the history
 

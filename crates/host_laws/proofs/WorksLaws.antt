@@ -29,7 +29,7 @@ use Rattle.verifier_commands.specs.Transition.{Rules, transition, is_root, is_fu
 use Rattle.host_plan.specs.Moments.{giving}
 use Rattle.host_laws.specs.Running.{Told, run}
 use Rattle.host_laws.proofs.StepLemmas.{test-passed, need-there, and_then-there, timed-there}
-use Rattle.host_laws.proofs.RunLemmas.{run-none, run-one, run-step, run-append}
+use Rattle.host_laws.proofs.RunLaws.{run-none, run-one, run-step, run-append}
 use Rattle.host_laws.proofs.StandingLemmas.{entry_of-last, entry_of-front, entry_of-neither, replaced-last, replaced-front, without-last}
 use Rattle.host_laws.proofs.FamilyLemmas.{Fits, parent_of, leaves, lending, is_lent}
 use Rattle.host_laws.proofs.MomentLemmas.{sent-given}

@@ -38,9 +38,9 @@ use Rattle.host_laws.specs.SettingUp.{set_up_pointer, set_up_root, first_clock, 
 use Rattle.host_laws.proofs.ToldLaws.{added_told-append, evicted_told-append, accesses_told-append, carried-append, all-append}
 use Rattle.host_laws.proofs.ChainLaws.{initial_node}
 use Rattle.host_laws.proofs.FamilyLemmas.{Fits, parent_of, fits_new, fits_new-pointer, lending}
-use Rattle.host_laws.proofs.WorksLemmas.{Works, works-append, told_visit, descend, told_lent, lends}
+use Rattle.host_laws.proofs.WorksLaws.{Works, works-append, told_visit, descend, told_lent, lends}
 use Rattle.host_laws.proofs.VisitLemmas.{carried_link-other}
-use Rattle.host_laws.proofs.NumberLemmas.{number_of-none, number_of-child, count_first, count_between, count_last}
+use Rattle.host_laws.proofs.NumberLaws.{number_of-none, number_of-child, count_first, count_between, count_last}
 use Rattle.host_laws.proofs.ContentsLaws.{length-child, side-child, first_contents-append, initial_is_node}
 
 -- the elements with which contents wait

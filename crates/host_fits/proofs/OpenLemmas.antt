@@ -1,0 +1,200 @@
+-- The setup fits, and is clear.
+use Rattle.std.proofs.Common.{◌≡◌, ℕ, zero, suc, ◌+◌, ◌*◌, ◌^◌, ◌<◌, ◌≤◌, Bool, true, false, List, [], ◌∷◌, ◌++◌, length, take, map, replicate, get_or, nat_lt, Some, None, if◌then◌else◌, refl, sym, ◌∙◌, ap, subst, arith}
+use Rattle.std.specs.Prelude.{◌==◌}
+use Rattle.std.specs.Option.{option_or}
+use Rattle.std.specs.List.{AllByRecursion, flat_map}
+use Rattle.std.proofs.lemmas.List.{length-append}
+use Rattle.std.proofs.lemmas.List.Concat.{flat_map-append}
+use Rattle.std.proofs.lemmas.Bool.Decides.{nat_tests}
+use Rattle.std.proofs.lemmas.Option.{none-some}
+use Rattle.std.proofs.Math.Nat.{pow-suc}
+use Rattle.tree_keys.specs.Bits.{number_of}
+use Rattle.tree_keys.specs.Path.{same_path}
+use Rattle.lamport_clocks.specs.declared.stamp.Stamp.{Stamp}
+use Rattle.lamport_clocks.specs.Clock.{opening_reading}
+use Rattle.record_text.specs.declared.element.Element.{Element}
+use Rattle.record_text.specs.Format.{Format, format_of}
+use Rattle.verifier_cache.specs.declared.entry.Entry.{Entry}
+use Rattle.verifier_commands.specs.declared.state.State.{State}
+use Rattle.verifier_commands.specs.State.{opening, root_entry}
+use Rattle.verifier_commands.specs.Change.{Change, did_add_m, did_evict_m, did_add_b, did_evict_b, did_evict_bm, did_get, did_put, did_next_epoch}
+use Rattle.soundness.specs.History.{Event, rules_under, events_from}
+use Rattle.soundness.specs.Clash.{LastEvicted, none_evicted, last_evicted_after, clash_at, first_clash}
+use Rattle.soundness.specs.World.{changes_in}
+use Rattle.host_shard.specs.Shard.{new_shard}
+use Rattle.host_shard.specs.Content.{Content, vacant, pending}
+use Rattle.host_plan.specs.Setup.{child, paths_below, first_stamp, first_content, first_contents}
+use Rattle.host_core.specs.Host.{scheme, machinery, resting}
+use Rattle.host_core.specs.Deeds.{IsStamped, IsDeed, pending_of}
+use Rattle.host_core.specs.Clear.{touching}
+use Rattle.host_laws.specs.Running.{Told, Access, IsHistory}
+use Rattle.host_laws.specs.Carried.{carrying, carried}
+use Rattle.host_laws.specs.Served.{waiting}
+use Rattle.host_laws.specs.SettingUp.{IsNew, SetupRuns, set_up_state}
+use Rattle.host_laws.proofs.NumberLaws.{number_of-none, number_of-child, count_first, count_between}
+use Rattle.host_laws.proofs.ContentsLaws.{length-child}
+use Rattle.host_laws.proofs.RunLaws.{run-history}
+use Rattle.host_laws.proofs.SetUpLaws.{setup_runs}
+use Rattle.host_mirrors.proofs.FirstLaws.{new_mirrors}
+use Rattle.host_fits.specs.Shipped.{Setting, with_seats, shipped, PlacesMirror, kept_of}
+use Rattle.host_fits.specs.Promise.{IsSetting}
+use Rattle.host_fits.proofs.EventLemmas.{ask_of, touching-events, touching-none}
+use Rattle.host_fits.proofs.DeedLemmas.{is_deed}
+use Rattle.host_fits.proofs.PlaceLemmas.{home_of, waiting_behind}
+
+-- ---- the numbers of frontiers
+
+-- these paths have so many bits, and spell numbers one behind another from this one on
+abbrev AreNumbered : ℕ → ℕ → List (List Bool) → Type 0
+AreNumbered bits number [] = Unit {0}
+AreNumbered bits number (path ∷ paths) = (number_of path ≡ number) × (length path ≡ bits) × AreNumbered bits (suc number) paths
+
+numbered-append : (bits number : ℕ) (xs ys : List (List Bool)) → AreNumbered bits number xs → AreNumbered bits (number + length xs) ys → AreNumbered bits number (xs ++ ys)
+numbered-append bits number [] ys first second = subst (λ (n : ℕ). AreNumbered bits n ys) (omega arith) second
+numbered-append bits number (x ∷ xs) ys first second =
+    (first.0, first.1, numbered-append bits (suc number) xs ys first.2 (subst (λ (n : ℕ). AreNumbered bits n ys) (omega arith) second))
+
+count_below : (levels : ℕ) (path : List Bool) → length (paths_below levels path) ≡ 2 ^ levels
+count_below zero path = refl
+count_below (suc levels) path =
+    omega (arith, length-append (paths_below levels (child path false)) (paths_below levels (child path true)), count_below levels (child path false), count_below levels (child path true), pow-suc 2 levels)
+
+numbered_below : (levels bits : ℕ) (path : List Bool) → length path + levels ≡ bits → AreNumbered bits (number_of path * 2 ^ levels) (paths_below levels path)
+numbered_below zero bits path short = (omega arith, omega (arith, short), tt)
+numbered_below (suc levels) bits path short =
+    let one = number_of-child path false in
+    let two = number_of-child path true in
+    let middle = count_between (number_of path) (number_of (child path false)) (number_of (child path true)) (2 ^ levels) one two in
+    let start = count_first (number_of path) (number_of (child path false)) (2 ^ levels) levels one refl in
+    numbered-append bits (number_of path * 2 ^ suc levels) (paths_below levels (child path false)) (paths_below levels (child path true))
+    (subst (λ (n : ℕ). AreNumbered bits n (paths_below levels (child path false))) start
+    (numbered_below levels bits (child path false) (omega (arith, length-child path false, short))))
+    (subst (λ (n : ℕ). AreNumbered bits n (paths_below levels (child path true))) (omega (arith, middle, start, count_below levels (child path false)))
+    (numbered_below levels bits (child path true) (omega (arith, length-child path true, short))))
+
+-- ---- new places
+
+module _ (setting : Setting) (is_setting : IsSetting setting) where
+  abbrev format : Format
+  format = format_of setting.header
+
+  abbrev first : ℕ
+  first = setting.header.first
+
+  abbrev after_of : List (List Bool) → List (List Content)
+  after_of frontiers = with_seats setting.seats format first frontiers
+
+  new_places : (frontiers : List (List Bool)) (number : ℕ) → AreNumbered setting.bits number frontiers → (s : ℕ) → s < length (after_of frontiers)
+      → PlacesMirror setting (number + s) (get_or (after_of frontiers) s [])
+  new_places [] number numbered s within = absurd (omega arith)
+  new_places (frontier ∷ frontiers) number numbered zero within = record {
+    shard = new_shard format frontier (first_stamp first frontier) 0;
+    all = refl;
+    mirrored = new_mirrors format setting.functions.digest frontier (first_stamp first frontier) 0 (omega (arith, numbered.1, is_setting.shards.some)) (omega (arith, numbered.1, is_setting.shards.short));
+    levels = numbered.1;
+    number = omega (arith, numbered.0);
+    from_first = omega arith;
+  }
+  new_places (frontier ∷ frontiers) number numbered (suc s) within =
+      subst (λ (n : ℕ). PlacesMirror setting n (get_or (after_of frontiers) s [])) (omega arith)
+      (new_places frontiers (suc number) numbered.2 s (omega (arith, within)))
+
+  pub setup_mirrored : (s : ℕ) → s < length (shipped setting).setup.after → PlacesMirror setting s (get_or (shipped setting).setup.after s [])
+  setup_mirrored s within =
+      subst (λ (n : ℕ). PlacesMirror setting n (get_or (shipped setting).setup.after s [])) (ap (λ (n : ℕ). n * 2 ^ setting.bits + s) number_of-none ∙ omega arith)
+      (new_places (paths_below setting.bits []) (number_of [] * 2 ^ setting.bits) (numbered_below setting.bits setting.bits [] (omega arith)) s within)
+
+  -- what waits there
+  waits_first : (frontiers : List (List Bool)) → pending_of (shipped setting) (flat_map (λ contents. contents) (after_of frontiers))
+      ≡ flat_map (λ content. waiting (pending format content)) (first_contents format first frontiers)
+  waits_first [] = refl
+  waits_first (frontier ∷ frontiers) =
+      flat_map-append (λ (content : Content). waiting (pending format content)) (first_content format first frontier ∷ replicate setting.seats vacant) (flat_map (λ contents. contents) (after_of frontiers))
+      ∙ (ap (λ (xs : List Element). (waiting (pending format (first_content format first frontier)) ++ xs) ++ pending_of (shipped setting) (flat_map (λ contents. contents) (after_of frontiers)))
+      (waiting_behind format setting.seats)
+      ∙ ap (λ (xs : List Element). waiting (pending format (first_content format first frontier)) ++ xs) (waits_first frontiers))
+
+  stamped_first : (frontiers : List (List Bool)) → AllByRecursion (IsStamped (shipped setting) first) (flat_map (λ content. waiting (pending format content)) (first_contents format first frontiers))
+  stamped_first [] = tt
+  stamped_first (frontier ∷ frontiers) = ((is_setting.some, refl), stamped_first frontiers)
+
+  abbrev ran : SetupRuns (scheme (shipped setting)) setting.header setting.bits
+  ran = setup_runs (scheme (shipped setting)) setting.header setting.bits is_setting.shards
+
+  pub setup_deed : IsDeed (shipped setting) 0 (opening 0 setting.header) (shipped setting).setup.commands (shipped setting).setup.clock
+      [] (flat_map (λ contents. contents) (shipped setting).setup.after) []
+  setup_deed =
+      is_deed (shipped setting) 0 (opening 0 setting.header) (shipped setting).setup.commands ran.told (shipped setting).setup.clock [] (flat_map (λ contents. contents) (shipped setting).setup.after) []
+      ran.runs ran.typed
+      (record { first = refl; end = refl; reading = record { within = is_setting.shards.counters; from_first = omega arith } })
+      refl
+      (subst (AllByRecursion (IsStamped (shipped setting) first)) (sym (waits_first (paths_below setting.bits []))) (stamped_first (paths_below setting.bits [])))
+      ran.added (ran.evicted ∙ sym (waits_first (paths_below setting.bits [])))
+      (ap (λ (xs : List Access). map (ask_of first) xs) ran.accesses)
+
+  -- the verifiers that set nothing up are at rest
+  pub others_rest : (i : ℕ) → 1 ≤ i → opening i setting.header ≡ resting (shipped setting) i (opening_reading setting.header.first setting.header.end)
+  others_rest i some = both_none (i == 0) root_entry _ (grind (arith, nat_tests))
+    where
+      both_none : (b : Bool) (x y : Entry) → b ≡ false
+          → ◌≡◌ {A = State} (record { cache = record { entries = if b then x ∷ [] else []; room = setting.header.cache }; clock = opening_reading setting.header.first setting.header.end })
+          (record { cache = record { entries = if b then y ∷ [] else []; room = setting.header.cache }; clock = opening_reading setting.header.first setting.header.end })
+      both_none true x y is = absurd (cc)
+      both_none false x y is = refl
+
+  -- ---- nothing clashes
+
+  -- paths that come in as new ones don't clash
+  new_clear : (path : List Bool) (told : Told) (last : LastEvicted) → AllByRecursion (λ (one : Stamp × Change). IsNew one.1) told → first_clash format last (carried path told) ≡ None
+  new_clear path [] last new = refl
+  new_clear path (one ∷ told) last new = behind one.1 new.0 (λ other. new_clear path told other new.1)
+    where
+      behind : (change : Change) → IsNew change → ((other : LastEvicted) → first_clash format other (carried path told) ≡ None)
+          → first_clash format last (carrying path change ++ carried path told) ≡ None
+      behind (did_add_m parent after child) is rest = go (same_path child.path path)
+        where
+          go : (b : Bool) → first_clash format last ((if b then did_add_m parent after child ∷ [] else []) ++ carried path told) ≡ None
+          go true = ap (λ (k : Bool). option_or (clash_at format last k child) (first_clash format last (carried path told))) is ∙ rest last
+          go false = rest last
+      behind (did_evict_m parent after child) is rest = go (same_path child.path path)
+        where
+          go : (b : Bool) → first_clash format last ((if b then did_evict_m parent after child ∷ [] else []) ++ carried path told) ≡ None
+          go true = rest (last_evicted_after last (did_evict_m parent after child))
+          go false = rest last
+      behind (did_add_b child element) is rest = rest last
+      behind (did_evict_b child element) is rest = rest last
+      behind (did_evict_bm parent after child element) is rest = rest last
+      behind (did_get entry) is rest = rest last
+      behind (did_put before after) is rest = rest last
+      behind (did_next_epoch sealed) is rest = rest last
+
+  history : IsHistory (rules_under (scheme (shipped setting)) setting.header 0) (opening 0 setting.header) (shipped setting).setup.commands ran.told
+  history = run-history (rules_under (scheme (shipped setting)) setting.header 0) (opening 0 setting.header) (set_up_state (scheme (shipped setting)) setting.header setting.bits) (shipped setting).setup.commands ran.told ran.runs
+
+  abbrev events : List Event
+  events = events_from (machinery (shipped setting) 0) 0 0 (opening 0 setting.header) (shipped setting).setup.commands
+
+  pub setup_clear : (path : List Bool) → first_clash format none_evicted (changes_in (touching path events)) ≡ None
+  setup_clear path =
+      ap (λ (es : List Event). first_clash format none_evicted (changes_in (touching path es))) (history.events 0 0)
+      ∙ (ap (λ (changes : List Change). first_clash format none_evicted changes) (touching-events path 0 0 ran.told)
+      ∙ new_clear path ran.told none_evicted ran.new)
+
+  none_kept : (frontiers : List (List Bool)) (s : ℕ) (path : List Bool) → kept_of (get_or (after_of frontiers) s []) path ≡ None
+  none_kept [] zero path = refl
+  none_kept [] (suc s) path = refl
+  none_kept (frontier ∷ frontiers) zero path = refl
+  none_kept (frontier ∷ frontiers) (suc s) path = none_kept frontiers s path
+
+  pub setup_apart : (path : List Bool) (s : ℕ) → home_of setting.bits path ≡ Some s → (touching path events ≡ []) × (kept_of (get_or (shipped setting).setup.after s []) path ≡ None)
+  setup_apart path s home = (
+    ap (λ (es : List Event). touching path es) (history.events 0 0) ∙ touching-none path 0 0 ran.told (ran.apart path longer),
+    none_kept (paths_below setting.bits []) s path,
+  )
+    where
+      longer : setting.bits < length path
+      longer = go (nat_lt setting.bits (length path)) refl home
+        where
+          go : (b : Bool) → nat_lt setting.bits (length path) ≡ b → (if b then Some (number_of (take setting.bits path)) else None) ≡ Some s → setting.bits < length path
+          go true long is = grind (arith, nat_tests)
+          go false short is = absurd (none-some s is)
