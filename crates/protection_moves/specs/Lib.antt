@@ -1,0 +1,7 @@
+-- What the clauses on moves cite, in reading order.
+pub mod Stage
+pub mod Renewing
+pub mod Errand
+pub mod Trip
+pub mod Move
+pub use Rattle.host_plan.specs

@@ -1,0 +1,57 @@
+-- Moving one shard at a close.
+use Rattle.std.specs.Prelude.{◌≡◌, ℕ, ◌<◌, List, ◌++◌, Option, map}
+use Rattle.record_text.specs.Format.{Format}
+use Rattle.log_codec.specs.declared.command.Command.{Command}
+use Rattle.merkle_records.specs.Merkle.{Digest}
+use Rattle.host_shard.specs.Shard.{pending_shard}
+use Rattle.host_plan.specs.Moments.{taking, giving}
+use Rattle.host_plan.specs.Visit.{between}
+use Rattle.protection_moves.specs.Stage.{Stage, touched_in}
+use Rattle.protection_moves.specs.Renewing.{renewed_places, renewing_each, renewing_commands}
+use Rattle.protection_moves.specs.Errand.{AreDue, errands_of, clock_needed}
+use Rattle.protection_moves.specs.Trip.{Trip, AreTrips, done_by_each, commands_by_each}
+
+-- Once the touched hot records were renewed and the frontier is taken in. No touch is counted any more.
+abbrev pub begun : ℕ → Stage → Stage
+begun worker stage =
+    let touched = touched_in stage.places in
+    record {
+      shard = record stage.shard { touches = λ k. 0 };
+      places = renewed_places worker stage.clock stage.places touched;
+      clock = taking (renewing_each stage.clock touched) stage.shard.stamp;
+    }
+
+-- once the frontier is handed out again
+abbrev pub handed_out : ℕ → Stage → Stage
+handed_out worker stage = record {
+  shard = record stage.shard { stamp = (giving stage.clock).at; evictor = worker };
+  places = stage.places;
+  clock = giving stage.clock;
+}
+
+-- the stage behind a move with these trips
+abbrev pub moved : Format → Digest → ℕ → Stage → List Trip → Stage
+moved format digest worker stage trips = handed_out worker (done_by_each format digest worker (begun worker stage) trips)
+
+-- the commands of a move with these trips
+abbrev pub move_commands : Format → Digest → ℕ → Stage → List Trip → List Command
+move_commands format digest worker stage trips =
+    renewing_commands format stage.clock (touched_in stage.places)
+    ++ between (pending_shard stage.shard) (moved format digest worker stage trips).clock.at
+    (commands_by_each format digest worker (begun worker stage) trips)
+
+-- The move of a shard by this worker, for some threshold: its commands, and the stage that it leaves.
+pub record IsMove (format : Format) (digest : Digest) (worker : ℕ) (threshold : Option ℕ) (old : Stage) (logged : List Command) (new : Stage) : Type 0 where
+  pub due : List ℕ
+  pub are_due : AreDue format old threshold due
+  pub trips : List Trip
+  pub errands : map (λ trip. trip.errand) trips ≡ errands_of old due
+  pub ways : AreTrips format digest worker (begun worker old) trips
+  pub commands : logged ≡ move_commands format digest worker old trips
+  pub after : new ≡ moved format digest worker old trips
+
+-- the counters that a move takes pass the end
+pub record IsPastEnd (format : Format) (threshold : Option ℕ) (stage : Stage) : Type 0 where
+  pub due : List ℕ
+  pub are_due : AreDue format stage threshold due
+  pub past : stage.clock.end < (clock_needed stage due).at.counter
