@@ -1,0 +1,34 @@
+-- The counters of a move are counted by stamps alone.
+use Rattle.std.proofs.Common.{◌≡◌, ℕ, List, [], ◌∷◌, map, Option, refl, ◌∙◌, ap}
+use Rattle.lamport_clocks.specs.Reading.{Reading}
+use Rattle.record_text.specs.Format.{Format}
+use Rattle.log_codec.specs.declared.command.Command.{Command}
+use Rattle.merkle_records.specs.Merkle.{Digest}
+use Rattle.host_shard.specs.declared.link.Link.{Link}
+use Rattle.host_plan.specs.Moments.{giving}
+use Rattle.protection_moves.specs.Stage.{Stage}
+use Rattle.protection_moves.specs.Errand.{Errand, demotes, promotes, clock_by, clock_by_each, clock_needed}
+use Rattle.protection_moves.specs.Trip.{Trip, done_by, done_by_each}
+use Rattle.protection_moves.specs.Move.{begun, IsMove}
+
+-- the clock once one errand is done
+clock_done : (format : Format) (digest : Digest) (worker : ℕ) (stage : Stage) (errand : Errand) (links : List Link)
+    → (done_by format digest worker stage errand links).clock ≡ clock_by stage.clock errand
+clock_done format digest worker stage (demotes found) links = refl
+clock_done format digest worker stage (promotes key) links = refl
+
+-- and once they all are
+clock_done_each : (format : Format) (digest : Digest) (worker : ℕ) (stage : Stage) (trips : List Trip)
+    → (done_by_each format digest worker stage trips).clock ≡ clock_by_each stage.clock (map (λ (trip : Trip). trip.errand) trips)
+clock_done_each format digest worker stage [] = refl
+clock_done_each format digest worker stage (trip ∷ trips) =
+    clock_done_each format digest worker (done_by format digest worker stage trip.errand trip.links) trips
+    ∙ ap (λ (clock : Reading). clock_by_each clock (map (λ (one : Trip). one.errand) trips)) (clock_done format digest worker stage trip.errand trip.links)
+
+-- The clock behind a move is the one that was counted.
+pub move_clock : (format : Format) (digest : Digest) (worker : ℕ) (threshold : Option ℕ) (old new : Stage) (commands : List Command)
+    → (is : IsMove format digest worker threshold old commands new) → new.clock ≡ clock_needed old is.due
+move_clock format digest worker threshold old new commands is =
+    ap (λ (stage : Stage). stage.clock) is.after
+    ∙ (ap (λ (clock : Reading). giving clock) (clock_done_each format digest worker (begun worker old) is.trips)
+    ∙ ap (λ (errands : List Errand). giving (clock_by_each (begun worker old).clock errands)) is.errands)

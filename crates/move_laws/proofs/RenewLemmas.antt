@@ -1,0 +1,201 @@
+-- Hot records that are taken in and handed out again, one after another.
+use Rattle.std.proofs.Common.{◌≡◌, ◌⊎◌, ℕ, ◌+◌, ◌*◌, ◌<◌, ◌≤◌, Bool, true, false, List, [], ◌∷◌, ◌++◌, map, length, if◌then◌else◌, Ok, refl, ◌∙◌, ap, inl, inr, arith}
+use Rattle.std.specs.Prelude.{◌==◌}
+use Rattle.std.specs.Int.{Width, w8, w16, w32, w64, w128, byte_len}
+use Rattle.std.specs.List.{AllByRecursion}
+use Rattle.std.proofs.Math.Nat.{le-max_left}
+use Rattle.std.proofs.lemmas.Bool.{false≢true}
+use Rattle.tree_keys.specs.BitsLaws.{length-bits_of}
+use Rattle.lamport_clocks.specs.declared.stamp.Stamp.{Stamp}
+use Rattle.lamport_clocks.specs.Reading.{Reading}
+use Rattle.lamport_clocks.specs.Clock.{is_open}
+use Rattle.record_text.specs.declared.element.Element.{Element}
+use Rattle.record_text.specs.declared.value.Value.TheVariants as values
+use Rattle.record_text.specs.Format.{Format, path_bits}
+use Rattle.verifier_cache.specs.declared.entry.Hold.TheVariants.{B}
+use Rattle.verifier_commands.specs.declared.state.State.{State}
+use Rattle.verifier_commands.specs.Change.{Change}
+use Rattle.verifier_commands.specs.Transition.{Rules, is_root}
+use Rattle.host_shard.specs.declared.content.HotRecord.{HotRecord}
+use Rattle.host_shard.specs.Content.{Content, hot, key_path, pending_hot}
+use Rattle.host_plan.specs.Moments.{renewing}
+use Rattle.host_laws.specs.Running.{Told, run, added_told, evicted_told, accesses_told}
+use Rattle.host_laws.specs.Carried.{carried, carries}
+use Rattle.host_laws.specs.Served.{IsBare}
+use Rattle.host_laws.proofs.RunLaws.{run-none, run-append}
+use Rattle.host_laws.proofs.WorksLaws.{works-none}
+use Rattle.host_laws.proofs.BetweenLaws.{clear-bare, length-bare, told_between, between_runs}
+use Rattle.protection_moves.specs.Stage.{hot_records, replaced}
+use Rattle.protection_moves.specs.Renewing.{renewed_record, renewing_each, renewed_places, renewing_commands}
+use Rattle.move_laws.specs.Moved.{IsTakable}
+use Rattle.move_laws.proofs.CountLemmas.{weight, weight-front}
+use Rattle.move_laws.proofs.PlaceLemmas.{IsOne, HasNone, AreApart, replaced-weight, replaced-keys, apart-replaced, all-replaced, one-replaced}
+
+-- ---- clocks and paths
+
+-- a clock doesn't go back
+pub renewing-up : (clock : Reading) (stamp : Stamp) → clock.at.counter ≤ (renewing clock stamp).at.counter
+renewing-up clock stamp = omega (arith, le-max_left clock.at.counter (if stamp.epoch == clock.at.epoch then stamp.counter else 0))
+
+pub renewing_each-up : (clock : Reading) (records : List HotRecord) → clock.at.counter ≤ (renewing_each clock records).at.counter
+renewing_each-up clock [] = omega arith
+renewing_each-up clock (found ∷ more) = omega (arith, renewing-up clock found.stamp, renewing_each-up (renewing clock found.stamp) more)
+
+-- its epoch and its bounds stay
+pub renewing_each-open : (clock : Reading) (records : List HotRecord) (epoch : ℕ) → is_open (renewing_each clock records) epoch ≡ is_open clock epoch
+renewing_each-open clock [] epoch = refl
+renewing_each-open clock (found ∷ more) epoch = renewing_each-open (renewing clock found.stamp) more epoch
+
+pub renewing_each-end : (clock : Reading) (records : List HotRecord) → (renewing_each clock records).end ≡ clock.end
+renewing_each-end clock [] = refl
+renewing_each-end clock (found ∷ more) = renewing_each-end (renewing clock found.stamp) more
+
+pub renewing_each-epoch : (clock : Reading) (records : List HotRecord) → (renewing_each clock records).at.epoch ≡ clock.at.epoch
+renewing_each-epoch clock [] = refl
+renewing_each-epoch clock (found ∷ more) = renewing_each-epoch (renewing clock found.stamp) more
+
+-- a path that isn't empty isn't the root
+pub not_root : (path : List Bool) → 0 < length path → is_root path ≡ false
+not_root [] some = absurd (omega (arith, some))
+not_root (bit ∷ path) some = refl
+
+some_bits : (word : Width) → 0 < 8 * byte_len word
+some_bits w8 = omega arith
+some_bits w16 = omega arith
+some_bits w32 = omega arith
+some_bits w64 = omega arith
+some_bits w128 = omega arith
+
+-- a key isn't the root
+pub key_apart : (format : Format) (key : ℕ) → is_root (key_path format key) ≡ false
+key_apart format key = not_root (key_path format key) (omega (arith, length-bits_of (path_bits format) key, some_bits format.word))
+
+-- ---- at the verifier
+
+-- what was done to them
+abbrev pub told_renewing : Rules → Reading → List HotRecord → Told
+told_renewing rules clock [] = []
+told_renewing rules clock (found ∷ more) =
+    told_between rules (pending_hot rules.scheme.format found) (values.Blob found.value) clock [] ++ told_renewing rules (renewing clock found.stamp) more
+
+-- A verifier at rest accepts it.
+pub renewing-runs : (rules : Rules) (state : State) (records : List HotRecord) → IsBare state.cache.entries → 1 < state.cache.room
+    → AllByRecursion (λ found. IsTakable rules state.clock (pending_hot rules.scheme.format found)) records
+    → (renewing_each state.clock records).at.counter ≤ state.clock.end
+    → run rules state (renewing_commands rules.scheme.format state.clock records)
+    ≡ Ok (told_renewing rules state.clock records, record state { clock = renewing_each state.clock records })
+renewing-runs rules state [] bare room takable within = run-none rules state
+renewing-runs rules state (found ∷ more) bare room takable within =
+    run-append rules state _ _ _ _ (record state { clock = renewing state.clock found.stamp }) _
+    (between_runs rules state (pending_hot rules.scheme.format found) 0 [] [] (values.Blob found.value)
+    (key_apart rules.scheme.format found.key) (clear-bare state.cache.entries _ bare (key_apart rules.scheme.format found.key))
+    (omega (arith, length-bare state.cache.entries bare)) takable.0.0 takable.0.1
+    (omega (arith, renewing_each-up (renewing state.clock found.stamp) more))
+    (works-none rules 0 _ B _ _))
+    (renewing-runs rules (record state { clock = renewing state.clock found.stamp }) more bare room takable.1 within)
+
+-- the records as they are left
+abbrev pub renewed_each : ℕ → Reading → List HotRecord → List HotRecord
+renewed_each worker clock [] = []
+renewed_each worker clock (found ∷ more) = renewed_record worker clock found ∷ renewed_each worker (renewing clock found.stamp) more
+
+pub added-renewing : (rules : Rules) (clock : Reading) (records : List HotRecord)
+    → added_told (told_renewing rules clock records) ≡ map (pending_hot rules.scheme.format) records
+added-renewing rules clock [] = refl
+added-renewing rules clock (found ∷ more) =
+    ap (λ (xs : List Element). pending_hot rules.scheme.format found ∷ xs) (added-renewing rules (renewing clock found.stamp) more)
+
+pub evicted-renewing : (rules : Rules) (clock : Reading) (records : List HotRecord)
+    → evicted_told (told_renewing rules clock records) ≡ map (pending_hot rules.scheme.format) (renewed_each rules.number clock records)
+evicted-renewing rules clock [] = refl
+evicted-renewing rules clock (found ∷ more) =
+    ap (λ (xs : List Element). pending_hot rules.scheme.format (renewed_record rules.number clock found) ∷ xs)
+    (evicted-renewing rules (renewing clock found.stamp) more)
+
+pub no_access-renewing : (rules : Rules) (clock : Reading) (records : List HotRecord) → accesses_told (told_renewing rules clock records) ≡ []
+no_access-renewing rules clock [] = refl
+no_access-renewing rules clock (found ∷ more) = no_access-renewing rules (renewing clock found.stamp) more
+
+-- no record is carried
+pub carried-renewing : (rules : Rules) (clock : Reading) (records : List HotRecord) (path : List Bool) → carried path (told_renewing rules clock records) ≡ []
+carried-renewing rules clock [] path = refl
+carried-renewing rules clock (found ∷ more) path = carried-renewing rules (renewing clock found.stamp) more path
+
+pub carries-renewing : (P : Stamp → Type 0) (rules : Rules) (clock : Reading) (records : List HotRecord) (path : List Bool)
+    → AllByRecursion (λ (one : Stamp × Change). carries path one.1 ≡ true → P one.0) (told_renewing rules clock records)
+carries-renewing P rules clock [] path = tt
+carries-renewing P rules clock (found ∷ more) path =
+    (λ is. absurd (false≢true is), (λ is. absurd (false≢true is), carries-renewing P rules (renewing clock found.stamp) more path))
+
+-- ---- in the places
+
+all-both : (P Q R : HotRecord → Type 0) → ((found : HotRecord) → P found → Q found → R found) → (records : List HotRecord)
+    → AllByRecursion P records → AllByRecursion Q records → AllByRecursion R records
+all-both P Q R step [] all other = tt
+all-both P Q R step (found ∷ records) all other = (step found all.0 other.0, all-both P Q R step records all.1 other.1)
+
+-- the others are where they were
+pub still_there : (key : ℕ) (now : Content) (places : List Content) (records : List HotRecord) → AllByRecursion (IsOne (hot_records places)) records
+    → HasNone key records → AllByRecursion (IsOne (hot_records (replaced key now places))) records
+still_there key now places records there others =
+    all-both (IsOne (hot_records places)) (λ found. found.key ≡ key → ⊥) (IsOne (hot_records (replaced key now places)))
+    (λ found is other. one-replaced key now places found is other) records there others
+
+-- The elements of the renewed records come in the place of theirs.
+pub renewed-weight : (format : Format) (worker : ℕ) (x : Element) (clock : Reading) (places : List Content) (records : List HotRecord)
+    → AreApart (hot_records places) → AllByRecursion (IsOne (hot_records places)) records → AreApart records
+    → weight format x (hot_records (renewed_places worker clock places records)) + weight format x records
+    ≡ weight format x (hot_records places) + weight format x (renewed_each worker clock records)
+renewed-weight format worker x clock places [] apart there distinct = refl
+renewed-weight format worker x clock places (found ∷ more) apart there distinct =
+    let new = renewed_record worker clock found in
+    omega (
+      arith,
+      replaced-weight format x (hot new) places found there.0 apart,
+      renewed-weight format worker x (renewing clock found.stamp) (replaced found.key (hot new) places) more (apart-replaced new places apart)
+          (still_there found.key (hot new) places more there.1 distinct.0) distinct.1,
+      weight-front format x found more,
+      weight-front format x new (renewed_each worker (renewing clock found.stamp) more),
+    )
+
+pub renewed-apart : (worker : ℕ) (clock : Reading) (places : List Content) (records : List HotRecord) → AreApart (hot_records places)
+    → AreApart (hot_records (renewed_places worker clock places records))
+renewed-apart worker clock places [] apart = apart
+renewed-apart worker clock places (found ∷ more) apart =
+    renewed-apart worker (renewing clock found.stamp) _ more (apart-replaced (renewed_record worker clock found) places apart)
+
+-- the same keys are hot
+pub renewed-keys : {A : Type 0} (of : ℕ → A) (worker : ℕ) (clock : Reading) (places : List Content) (records : List HotRecord)
+    → map (λ (r : HotRecord). of r.key) (hot_records (renewed_places worker clock places records)) ≡ map (λ (r : HotRecord). of r.key) (hot_records places)
+renewed-keys of worker clock places [] = refl
+renewed-keys of worker clock places (found ∷ more) =
+    renewed-keys of worker (renewing clock found.stamp) _ more ∙ replaced-keys of (renewed_record worker clock found) places
+
+-- what holds of a record and stays where it is renewed holds of all
+pub renewed-all : (P : HotRecord → Type 0) → ((worker : ℕ) (clock : Reading) (found : HotRecord) → P found → P (renewed_record worker clock found))
+    → (worker : ℕ) (clock : Reading) (places : List Content) (records : List HotRecord) → AllByRecursion P records → AllByRecursion P (hot_records places)
+    → AllByRecursion P (hot_records (renewed_places worker clock places records))
+renewed-all P step worker clock places [] some all = all
+renewed-all P step worker clock places (found ∷ more) some all =
+    renewed-all P step worker (renewing clock found.stamp) _ more some.1
+    (all-replaced P P found.key (hot (renewed_record worker clock found)) places (λ r is other. is) (step worker clock found some.0, tt) all)
+
+-- a record as this worker evicted it in this epoch
+abbrev pub IsFresh : ℕ → ℕ → HotRecord → Type 0
+IsFresh worker epoch found = (found.evictor ≡ worker) × (found.stamp.epoch ≡ epoch)
+
+-- Each record is fresh then, or one of those that are left.
+pub renewed-fresh : (worker : ℕ) (clock : Reading) (places : List Content) (records left : List HotRecord)
+    → AllByRecursion (λ found. IsFresh worker clock.at.epoch found ⊎ IsOne (records ++ left) found) (hot_records places)
+    → AllByRecursion (λ found. IsFresh worker clock.at.epoch found ⊎ IsOne left found) (hot_records (renewed_places worker clock places records))
+renewed-fresh worker clock places [] left all = all
+renewed-fresh worker clock places (found ∷ more) left all =
+    renewed-fresh worker (renewing clock found.stamp) _ more left
+    (all-replaced (λ r. IsFresh worker clock.at.epoch r ⊎ IsOne (found ∷ (more ++ left)) r) (λ r. IsFresh worker clock.at.epoch r ⊎ IsOne (more ++ left) r)
+    found.key (hot (renewed_record worker clock found)) places other (inl (refl, refl), tt) all)
+  where
+    other : (r : HotRecord) → IsFresh worker clock.at.epoch r ⊎ IsOne (found ∷ (more ++ left)) r → (r.key ≡ found.key → ⊥)
+        → IsFresh worker clock.at.epoch r ⊎ IsOne (more ++ left) r
+    other r (inl fresh) apart = inl fresh
+    other r (inr (inl same)) apart = absurd (apart (ap (λ (one : HotRecord). one.key) same))
+    other r (inr (inr is)) apart = inr is

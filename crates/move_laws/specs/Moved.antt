@@ -1,0 +1,78 @@
+-- What the commands of a move do to the verifier of its worker, and when a stage mirrors what the verifiers hold of it.
+use Rattle.std.specs.Prelude.{◌≡◌, ℕ, ◌<◌, Bool, true, List, [], ◌∷◌, map, Option, Some, None, IsTrue, Ok}
+use Rattle.std.specs.List.{AllByRecursion}
+use Rattle.tree_keys.specs.Path.{IsBelow}
+use Rattle.lamport_clocks.specs.Reading.{Reading}
+use Rattle.lamport_clocks.specs.Clock.{is_open}
+use Rattle.record_text.specs.declared.element.Element.{Element}
+use Rattle.record_text.specs.Format.{Format, path_bits}
+use Rattle.record_text.specs.Value.{IsBlob}
+use Rattle.log_codec.specs.declared.command.Command.{Command}
+use Rattle.merkle_records.specs.Merkle.{Digest}
+use Rattle.verifier_cache.specs.Cache.{Held}
+use Rattle.verifier_commands.specs.declared.state.State.{State}
+use Rattle.verifier_commands.specs.Transition.{Rules}
+use Rattle.soundness.specs.Permutation.{count_of}
+use Rattle.host_shard.specs.Shard.{pending_shard}
+use Rattle.host_shard.specs.Content.{pending_hot}
+use Rattle.host_laws.specs.Running.{Told, run, added_told, evicted_told, accesses_told}
+use Rattle.host_laws.specs.Carried.{carried, carries}
+use Rattle.host_laws.specs.Served.{IsBare, IsWithin}
+use Rattle.host_laws.specs.Mirroring.{IsMirrored}
+use Rattle.protection_moves.specs.Stage.{Stage, hot_records, hot_paths, untouched_in}
+use Rattle.protection_moves.specs.Move.{IsPastEnd}
+use Rattle.move_laws.specs.Kept.{AreCarried}
+
+-- the elements with which a shard and its hot places wait
+abbrev pub waiting_in : Format → Stage → List Element
+waiting_in format stage = pending_shard stage.shard ∷ map (pending_hot format) (hot_records stage.places)
+
+-- the same elements, each as often
+abbrev pub AreSame : List Element → List Element → Type 0
+AreSame xs ys = (x : Element) → count_of x xs ≡ count_of x ys
+
+-- The stage mirrors: the shard does where the records in hot places are hot, and each of these has a value of its kind.
+pub record StageMirrors (format : Format) (digest : Digest) (stage : Stage) : Type 0 where
+  pub shard : IsMirrored format digest stage.shard (hot_paths format stage.places)
+  pub blobs : AllByRecursion (λ found. IsBlob format found.value) (hot_records stage.places)
+
+-- an element that a verifier takes in: it is of one of the verifiers, and of an open epoch
+abbrev pub IsTakable : Rules → Reading → Element → Type 0
+IsTakable rules clock element = (element.verifier < rules.verifiers) × IsTrue (is_open clock element.stamp.epoch)
+
+-- a verifier with this cache, where its clock is the stage's
+abbrev pub at_stage : Held → Stage → State
+at_stage cache stage = record { cache = cache; clock = stage.clock }
+
+-- A verifier can take a stage in with this cache: nothing is cached but the root, there is room for each path above a key,
+-- each element of the stage is of one of the verifiers and of an open epoch, and the counters don't pass the end.
+pub record CanMove (rules : Rules) (cache : Held) (threshold : Option ℕ) (stage : Stage) : Type 0 where
+  pub bare : IsBare cache.entries
+  pub room : path_bits rules.scheme.format < cache.room
+  pub takable : AllByRecursion (IsTakable rules stage.clock) (waiting_in rules.scheme.format stage)
+  pub counters : IsPastEnd rules.scheme.format threshold stage → ⊥
+
+-- the element was evicted by this verifier, in the epoch of this clock
+abbrev pub IsOfClock : Rules → Reading → Element → Type 0
+IsOfClock rules clock element = (element.verifier ≡ rules.number) × (element.stamp.epoch ≡ clock.at.epoch)
+
+-- The move runs: the verifier accepts its commands at the stage's clock, the same entries are cached afterwards, and the
+-- clock is the new stage's. They add the elements with which the stage waited and evict those with which the new one waits, which are of
+-- this verifier and this epoch; they read and write no data. Each record below the frontier is carried as it is kept before and
+-- after, no other is, and what carries one is done after the frontier's old stamp, up to its new one.
+pub record MoveRuns (rules : Rules) (cache : Held) (old new : Stage) (commands : List Command) : Type 0 where
+  pub told : Told
+  pub runs : run rules (at_stage cache old) commands ≡ Ok (told, at_stage cache new)
+  pub added : AreSame (added_told told) (waiting_in rules.scheme.format old)
+  pub evicted : AreSame (evicted_told told) (waiting_in rules.scheme.format new)
+  pub renewed : AllByRecursion (IsOfClock rules old.clock) (waiting_in rules.scheme.format new)
+  pub no_access : accesses_told told ≡ []
+  pub kept : (path : List Bool) → AreCarried path (old.shard.records path) (new.shard.records path) (carried path told)
+  pub own : (path : List Bool) → (IsBelow old.shard.frontier path → ⊥) → carried path told ≡ []
+  pub within : (path : List Bool) → AllByRecursion
+      (λ one. carries path one.1 ≡ true → IsWithin (Some (pending_shard old.shard)) (Some (pending_shard new.shard)) one.0) told
+
+-- No hot record comes back and no key becomes hot: each hot record was touched, and no threshold is given.
+pub record IsSteady (threshold : Option ℕ) (stage : Stage) : Type 0 where
+  pub all_touched : untouched_in stage.places ≡ []
+  pub no_threshold : threshold ≡ None

@@ -1,0 +1,43 @@
+//! What follows from the definitions of a move and of the transition. These functions do nothing: their contracts are the
+//! laws.
+ghost use Rattle.std.specs.Prelude.{◌≡◌, ℕ, List, Option};
+ghost use Rattle.std.specs.List.{AllByRecursion};
+ghost use Rattle.record_text.specs.Format.{Format};
+ghost use Rattle.log_codec.specs.declared.command.Command.{Command};
+ghost use Rattle.merkle_records.specs.Merkle.{Digest, GivesDigests};
+ghost use Rattle.verifier_cache.specs.Cache.{Held};
+ghost use Rattle.verifier_commands.specs.Transition.{Rules};
+ghost use Rattle.soundness.specs.Typed.{IsTyped};
+ghost use Rattle.protection_moves.specs.Stage.{Stage};
+ghost use Rattle.protection_moves.specs.Errand.{clock_needed};
+ghost use Rattle.protection_moves.specs.Move.{IsMove};
+ghost use Rattle.move_laws.specs.Moved.{CanMove, IsSteady, MoveRuns, StageMirrors};
+
+/// A verifier at rest accepts the commands of a move: it takes in what waited, hands out what then waits, and rests again.
+/// Nothing is asked of the digests.
+pub fn a_move_runs()
+    ensures runs { (rules : Rules) (cache : Held) (threshold : Option ℕ) (old new : Stage) (commands : List Command)
+        → IsSteady threshold old → CanMove rules cache threshold old → StageMirrors rules.scheme.format rules.scheme.digest old
+        → IsMove rules.scheme.format rules.scheme.digest rules.number threshold old commands new
+        → MoveRuns rules cache old new commands }
+{}
+
+/// A stage mirrors again behind a move. It is asked that digests have 32 bytes.
+pub fn a_move_mirrors()
+    ensures mirrors { (format : Format) (digest : Digest) (worker : ℕ) (threshold : Option ℕ) (old new : Stage) (commands : List Command)
+        → GivesDigests digest → IsSteady threshold old → StageMirrors format digest old
+        → IsMove format digest worker threshold old commands new → StageMirrors format digest new }
+{}
+
+/// The values that a move's commands bring in are of their paths' kinds.
+pub fn a_move_is_typed()
+    ensures typed { (format : Format) (digest : Digest) (worker : ℕ) (threshold : Option ℕ) (old new : Stage) (commands : List Command)
+        → IsSteady threshold old → StageMirrors format digest old
+        → IsMove format digest worker threshold old commands new → AllByRecursion (IsTyped format) commands }
+{}
+
+/// The clock behind a move is the one that is counted from stamps.
+pub fn a_move_takes_what_is_counted()
+    ensures clock { (format : Format) (digest : Digest) (worker : ℕ) (threshold : Option ℕ) (old new : Stage) (commands : List Command)
+        → (is : IsMove format digest worker threshold old commands new) → new.clock ≡ clock_needed old is.due }
+{}
