@@ -13,7 +13,7 @@ use Rattle.tree_keys.specs.BitsLaws.{length-bits_of}
 use Rattle.merkle_records.specs.Merkle.{Digest}
 use Rattle.soundness.specs.Typed.{IsTyped}
 use Rattle.host_shard.specs.Mirrors.{Mirrors}
-use Rattle.host_laws.proofs.RequestLaws.{frontier_there}
+use Rattle.host_laws.proofs.FrontierLaws.{frontier_there}
 use Rattle.verifier_cache.specs.Cache.{Held}
 use Rattle.verifier_cache.specs.declared.entry.Hold.TheVariants.{B}
 use Rattle.verifier_commands.specs.Change.{Change}
@@ -25,10 +25,11 @@ use Rattle.host_plan.specs.Moments.{taking, giving, renewing}
 use Rattle.host_laws.specs.Running.{Told, Access}
 use Rattle.host_laws.specs.Carried.{carried}
 use Rattle.host_laws.specs.Served.{IsWithin}
-use Rattle.host_laws.proofs.RunLaws.{run-append, added_told-append, evicted_told-append}
-use Rattle.host_laws.proofs.WorksLaws.{works-none}
-use Rattle.host_laws.proofs.VisitLaws.{all-append, accesses_told-append, carried-append}
-use Rattle.host_laws.proofs.BetweenLaws.{clear-bare, length-bare, told_between, between_runs}
+use Rattle.host_laws.proofs.RunLaws.{run-append}
+use Rattle.host_laws.proofs.ToldLaws.{added_told-append, evicted_told-append}
+use Rattle.host_laws.proofs.RunLaws.{works-none}
+use Rattle.host_laws.proofs.ToldLaws.{all-append, accesses_told-append, carried-append}
+use Rattle.host_laws.proofs.RunLaws.{clear-bare, length-bare, told_between, between_runs}
 use Rattle.protection_moves.specs.Stage.{Stage, hot_records, touched_in, untouched_in}
 use Rattle.protection_moves.specs.Renewing.{renewing_each, renewing_commands}
 use Rattle.protection_moves.specs.Errand.{AreDue, clock_by_each, clock_needed}

@@ -18,7 +18,7 @@ use Rattle.host_shard.specs.Content.{pending_hot}
 use Rattle.host_laws.specs.Running.{Told, run, added_told, evicted_told, accesses_told}
 use Rattle.host_laws.specs.Carried.{carried, carries}
 use Rattle.host_laws.specs.Served.{IsBare, IsWithin}
-use Rattle.host_laws.specs.Mirroring.{IsMirrored}
+use Rattle.host_mirrors.specs.Mirroring.{IsMirrored}
 use Rattle.protection_moves.specs.Stage.{Stage, hot_records, hot_paths, untouched_in}
 use Rattle.protection_moves.specs.Move.{IsPastEnd}
 use Rattle.move_laws.specs.Kept.{AreCarried}
