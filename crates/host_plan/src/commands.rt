@@ -28,8 +28,8 @@ impl Model for Commands {
 }
 
 impl Commands {
-    // These commands.
-    pub(crate) fn of(items: Vec<Command>) -> Self
+    /// These commands.
+    pub fn of(items: Vec<Command>) -> Self
         ensures commands { result ≡ items.items }
     {
         Commands { items }

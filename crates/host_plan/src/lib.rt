@@ -13,6 +13,7 @@ mod starting;
 
 pub use commands::Commands;
 pub use fault::{PlanFault, SetupFault};
+pub use moments::renewed;
 pub use plans::Plan;
 pub use serving::plan;
 pub use starting::setup;

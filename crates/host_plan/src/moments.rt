@@ -5,9 +5,9 @@ ghost use Rattle.host_plan.specs.Moments.{renewing};
 
 use lamport_clocks::{Clock, Stamp};
 
-// The clock once an element of this stamp was taken in and handed out again with the next counter, if the two counters
-// that this takes are not past the end.
-pub(crate) fn renewed(clock: &Clock, stamp: Stamp) -> Option<Clock>
+/// The clock once an element of this stamp was taken in and handed out again with the next counter, if the two counters
+/// that this takes are not past the end.
+pub fn renewed(clock: &Clock, stamp: Stamp) -> Option<Clock>
     requires open { IsTrue (is_open clock.now stamp.epoch) }
     ensures renewed { IfSome result (λ later. later ≡ renewing clock.now stamp) }
     ensures within { IfSome result (λ later. later.at.counter ≤ clock.now.end) }

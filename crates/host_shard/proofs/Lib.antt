@@ -5,3 +5,4 @@ mod ChainLemmas
 mod RecordLemmas
 mod SettleLemmas
 mod TouchLemmas
+mod ForgetLemmas

@@ -27,6 +27,10 @@ with_kept kept path now = λ k. if same_path k path then now else kept k
 abbrev pub new_record : Format → List Bool → Record
 new_record format path = record { value = initial_value format path; touches = 0 }
 
+-- the same records, none of them touched
+abbrev pub untouched : Kept → Kept
+untouched kept = λ path. option_map (λ r. record { value = r.value; touches = 0 }) (kept path)
+
 -- the values of records
 abbrev pub values_in : Kept → Tree
 values_in kept = λ path. option_map (λ r. r.value) (kept path)

@@ -3,7 +3,7 @@ ghost use Rattle.std.specs.Prelude.{◌≡◌, [], not, is_some, unwrap_or, Some
 ghost use Rattle.std.specs.Option.{option_copied, option_map};
 ghost use Rattle.record_text.specs.Format.{short_keys};
 ghost use Rattle.host_shard.specs.declared.record.Record.{Record};
-ghost use Rattle.host_shard.specs.Records.{record_at, with_kept, new_record};
+ghost use Rattle.host_shard.specs.Records.{record_at, with_kept, new_record, untouched};
 ghost use Rattle.host_shard.specs.Shard.{one_more};
 
 use crate::record::Record;
@@ -88,5 +88,15 @@ impl Records {
         if let Some(kept) = self.map.get_mut(path) {
             kept.touches = kept.touches.saturating_add(1);
         }
+    }
+
+    /// Sets the touches of all records to 0.
+    pub fn forget_touches(&mut self)
+        ensures forgotten { record_at self.new ≡ untouched (record_at self.old) }
+    {
+        self.map.retain(|_, kept| {
+            kept.touches = 0;
+            true
+        });
     }
 }

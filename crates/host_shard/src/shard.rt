@@ -77,4 +77,11 @@ impl Shard {
     {
         self.records.touch(&Path::of_key(key));
     }
+
+    /// Forgets how often the keys were touched.
+    pub fn forget_touches(&mut self)
+        ensures forgotten { shown self.new ≡ record (shown self.old) { touches = λ k. 0 } }
+    {
+        self.records.forget_touches();
+    }
 }

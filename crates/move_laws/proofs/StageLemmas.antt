@@ -1,6 +1,6 @@
 -- What is known of a stage before a move: its hot keys are apart, and each hot record was touched or was not.
-use Rattle.std.proofs.Common.{◌≡◌, ◌≢◌, ◌⊎◌, ℕ, zero, suc, ◌+◌, Bool, true, false, not, List, [], ◌∷◌, ◌++◌, map, cond, length, nat_lt, Option, None, refl, sym, ◌∙◌, ap, subst, inl, inr, arith}
-use Rattle.std.specs.Prelude.{filter, take}
+use Rattle.std.proofs.Common.{◌≡◌, ◌≢◌, ◌⊎◌, ℕ, zero, suc, ◌+◌, Bool, true, false, not, List, [], ◌∷◌, ◌++◌, map, cond, nat_lt, Option, refl, sym, ◌∙◌, ap, inl, inr, arith}
+use Rattle.std.specs.Prelude.{filter}
 use Rattle.std.specs.List.{AllByRecursion, All, AllPairs}
 use Rattle.std.proofs.lemmas.List.Elements.{All-head, All-tail}
 use Rattle.record_text.specs.declared.element.Element.{Element}
@@ -8,9 +8,10 @@ use Rattle.record_text.specs.Format.{Format}
 use Rattle.stamp_order.specs.InOrder.{put_in_order, in_order}
 use Rattle.host_shard.specs.declared.content.HotRecord.{HotRecord}
 use Rattle.host_shard.specs.Content.{Content}
-use Rattle.protection_moves.specs.Stage.{Stage, hot_records, vacancies, is_touched, touched_in, untouched_in}
-use Rattle.protection_moves.specs.Errand.{demotes, promotes, AreDue, errands_of}
+use Rattle.protection_moves.specs.Stage.{Stage, hot_records, is_touched, touched_in, untouched_in}
+use Rattle.protection_moves.specs.Errand.{AreDue, errands_of}
 use Rattle.protection_moves.specs.Trip.{Trip}
+use Rattle.protection_moves.proofs.ErrandLaws.{no_errands}
 use Rattle.move_laws.specs.Moved.{IsSteady}
 use Rattle.move_laws.proofs.CountLemmas.{weight, weight-order, weight-split}
 use Rattle.move_laws.proofs.PlaceLemmas.{IsOne, AreApart, all-are, all-filter, all-order, all-map, apart-filter, apart-order}
@@ -129,27 +130,7 @@ no_images : {A B : Type 0} (of : A → B) (xs : List A) → map of xs ≡ [] →
 no_images of [] is = refl
 no_images of (x ∷ xs) is = cc
 
--- without a threshold no key is due
-no_due : (format : Format) (stage : Stage) (threshold : Option ℕ) (due : List ℕ) → threshold ≡ None → AreDue format stage threshold due → due ≡ []
-no_due format stage threshold [] none' are = refl
-no_due format stage threshold (key ∷ keys) none' are =
-    let without : AreDue format stage None (key ∷ keys) = subst (λ (t : Option ℕ). AreDue format stage t (key ∷ keys)) none' are in
-    absurd ((without.due key).0 (0, (omega arith, refl)))
-
--- it has no errands
-pub no_errands : (format : Format) (threshold : Option ℕ) (stage : Stage) (due : List ℕ) → IsSteady threshold stage → AreDue format stage threshold due
-    → errands_of stage due ≡ []
-no_errands format threshold stage due steady are =
-    ap (λ (keys : List ℕ). map demotes (untouched_in stage.places) ++ map promotes (take (vacancies stage.places + length (untouched_in stage.places)) keys))
-    (no_due format stage threshold due steady.no_threshold are)
-    ∙ ap (λ (back : List HotRecord). map demotes back ++ map promotes (take (vacancies stage.places + length back) [])) steady.all_touched
-    ∙ take-nil (vacancies stage.places + 0)
-  where
-    take-nil : (n : ℕ) → map promotes (take n []) ≡ []
-    take-nil zero = refl
-    take-nil (suc n) = refl
-
 pub no_trips : (format : Format) (threshold : Option ℕ) (stage : Stage) (due : List ℕ) (trips : List Trip) → IsSteady threshold stage → AreDue format stage threshold due
     → map (λ (trip : Trip). trip.errand) trips ≡ errands_of stage due → trips ≡ []
 no_trips format threshold stage due trips steady are is =
-    no_images (λ (trip : Trip). trip.errand) trips (is ∙ no_errands format threshold stage due steady are)
+    no_images (λ (trip : Trip). trip.errand) trips (is ∙ no_errands format threshold stage due steady.all_touched steady.no_threshold are)

@@ -35,12 +35,13 @@ use Rattle.protection_moves.specs.Renewing.{renewing_each, renewing_commands}
 use Rattle.protection_moves.specs.Errand.{AreDue, clock_by_each, clock_needed}
 use Rattle.protection_moves.specs.Trip.{Trip}
 use Rattle.protection_moves.specs.Move.{IsMove, moved, move_commands}
+use Rattle.protection_moves.proofs.ErrandLaws.{no_errands}
 use Rattle.move_laws.specs.Kept.{AreCarried}
 use Rattle.move_laws.specs.Moved.{StageMirrors, CanMove, IsOfClock, IsTakable, MoveRuns, IsSteady, at_stage}
 use Rattle.move_laws.proofs.CountLemmas.{weight, count-front, count-append}
 use Rattle.move_laws.proofs.PlaceLemmas.{IsOne, AreApart, all-are, all-map}
 use Rattle.move_laws.proofs.RenewLemmas.{not_root, renewing-up, renewing_each-open, renewing_each-end, renewing_each-epoch, told_renewing, renewing-runs, renewed_each, added-renewing, evicted-renewing, no_access-renewing, carried-renewing, carries-renewing, renewed-weight, renewed-keys, renewed-all, renewed-fresh, IsFresh}
-use Rattle.move_laws.proofs.StageLemmas.{all-images, images-all, apart_from-pairs, all_split, weight_split, all_touched, apart_touched, no_errands, no_trips}
+use Rattle.move_laws.proofs.StageLemmas.{all-images, images-all, apart_from-pairs, all_split, weight_split, all_touched, apart_touched, no_trips}
 
 -- the clock once the touched hot records are renewed
 abbrev renewed_clock : Stage → Reading
@@ -55,7 +56,7 @@ told_steady rules stage =
 steady_clock : (format : Format) (threshold : Option ℕ) (stage : Stage) (due : List ℕ) → IsSteady threshold stage → AreDue format stage threshold due
     → clock_needed stage due ≡ renewing (renewed_clock stage) stage.shard.stamp
 steady_clock format threshold stage due steady are =
-    ap (λ errands. giving (clock_by_each (taking (renewed_clock stage) stage.shard.stamp) errands)) (no_errands format threshold stage due steady are)
+    ap (λ errands. giving (clock_by_each (taking (renewed_clock stage) stage.shard.stamp) errands)) (no_errands format threshold stage due steady.all_touched steady.no_threshold are)
 
 not_past : (counter end : ℕ) → (end < counter → ⊥) → counter ≤ end
 not_past counter end past = go (cases_lt end counter)

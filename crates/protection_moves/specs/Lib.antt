@@ -4,4 +4,5 @@ pub mod Renewing
 pub mod Errand
 pub mod Trip
 pub mod Move
+pub mod Shown
 pub use Rattle.host_plan.specs

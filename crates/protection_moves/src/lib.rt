@@ -1,2 +1,11 @@
-//! What a close logs for one shard: which of its records are hot changes here alone.
+//! What a close logs for one shard. Which of its records are hot changes here alone.
+//!
+//! The crate stands on `host_shard` for shards and hot records and on `host_plan` for commands and clocks. Begin with
+//! `migrate` in `migrating.rt` beside `specs/Move.antt`.
 #![tactic(auto)]
+
+mod fault;
+mod migrating;
+
+pub use fault::MoveFault;
+pub use migrating::migrate;

@@ -1,0 +1,3 @@
+-- How moves are proved, in reading order.
+pub mod ErrandLaws
+mod MoveLemmas
