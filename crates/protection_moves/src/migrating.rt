@@ -1,5 +1,5 @@
 //! How one shard is moved at a close: `migrate`.
-ghost use Rattle.std.specs.Prelude.{◌≡◌, ◌↔◌, [], None, IfOk, OnErr, IsTrue, Err};
+ghost use Rattle.std.specs.Prelude.{◌≡◌, ◌↔◌, ℕ, [], None, IfOk, OnErr, IsTrue, Err};
 ghost use Rattle.std.specs.List.{AllByRecursion};
 ghost use Rattle.lamport_clocks.specs.Clock.{is_open};
 ghost use Rattle.record_text.specs.Format.{short_keys};
@@ -44,6 +44,8 @@ pub fn migrate<D: Digests>(
         (shown_stage shard.old hot.old clock.old) commands (shown_stage shard.new hot.new clock.new)) }
     ensures typed { IfOk result (λ commands. AllByRecursion (IsCommand short_keys) commands) }
     ensures clock_end { (result ≡ Err ClockEnd) ↔ IsPastEnd short_keys threshold (shown_stage shard.old hot.old clock.old) }
+    ensures fits { IsShard short_keys (shown shard.new) }
+    ensures open { (epoch : ℕ) → is_open clock.new epoch ≡ is_open clock.old epoch }
     ensures as_before { OnErr result (shown_stage shard.new hot.new clock.new ≡ shown_stage shard.old hot.old clock.old) }
 {
     let later = match renewed(clock, shard.stamp) {

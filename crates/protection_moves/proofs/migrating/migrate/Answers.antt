@@ -6,6 +6,7 @@ use Rattle.lamport_clocks.specs.Reading.{Reading}
 use Rattle.record_text.specs.declared.element.Element.{Element}
 use Rattle.record_text.specs.Format.{short_keys}
 use Rattle.host_shard.specs.Shard.{Shard, pending_shard}
+use Rattle.host_shard.specs.Mirrors.{IsShard}
 use Rattle.host_shard.specs.Shown.{shown}
 use Rattle.host_plan.specs.Moments.{renewing}
 use Rattle.host_plan.specs.Visit.{between}
@@ -74,3 +75,8 @@ returns-clause-clock_end g c =
         ap (λ (clock : Reading). clock.at.counter) c.in-Some.ensures.renewed,
       )),
     )
+
+pub returns-clause-fits : goal.returns-clause-fits
+returns-clause-fits g c =
+    subst (λ (shard : Shard). IsShard short_keys (record shard { stamp = c.at-shard.result; evictor = c.args.worker })) (sym c.forget_touches.ensures.forgotten)
+    (record { below_root = c.requires.fits.below_root; no_data = c.requires.fits.no_data; kinds = c.requires.fits.kinds })
