@@ -1,0 +1,150 @@
+//! The close of a host of two shards: what it logs, and where the counters end in it.
+ghost use Rattle.std.specs.Prelude.{◌≡◌, ◌<◌, ◌∷◌, [], ℕ, true, false, IsTrue, IfOk, length};
+ghost use Rattle.record_text.specs.Format.{short_keys};
+ghost use Rattle.lamport_clocks.specs.Clock.{is_open};
+ghost use Rattle.host_shard.specs.Mirrors.{IsShard};
+ghost use Rattle.host_shard.specs.Shown.{shown};
+
+use host_shard::{Content, Shard};
+use lamport_clocks::{Clock, Stamp};
+use log_codec::{Command, write};
+use protection_moves::{MoveFault, migrate};
+use record_hash::ShaDigests;
+use std::alloc::Global;
+use std::test::Fail;
+use tree_keys::Path;
+
+// The bytes that a host of two shards logs at its first close where nothing was asked, written out by hand from the table
+// of tags and fields.
+const CLOSE: &str = "
+08
+03 010000000000000000 0000 0000000000000001 0000
+04 010000000000000000 0000000100000002
+03 018000000000000000 0000 0000000000000002 0000
+04 018000000000000000 0000000100000004
+08
+";
+
+// The bytes that these digits spell, between which blanks stand.
+fn bytes_of(alloc: Global, digits: &str) -> Result<Vec<u8>, Fail> {
+    let mut bytes = Vec::new(alloc);
+    for part in digits.split_whitespace() {
+        bytes.extend_from_slice(&hex::decode(alloc, part)?)?;
+    }
+    Ok(bytes)
+}
+
+// Adds the bytes of these commands to a log.
+fn push_all(log: &mut Vec<u8>, commands: &[Command]) -> Result<(), Fail> {
+    for command in commands {
+        log.extend_from_slice(write(command).as_slice())?;
+    }
+    Ok(())
+}
+
+// A shard as a setup leaves it, evicted last with this counter of epoch 0.
+fn fresh(alloc: Global, side: bool, counter: u32) -> Shard
+    ensures fits { IsShard short_keys (shown result) }
+    ensures stamp { result.stamp.epoch ≡ 0 }
+{
+    Shard::new(
+        alloc,
+        Path::root().child(side),
+        Stamp { epoch: 0, counter },
+        0,
+    )
+}
+
+// A clock whose counters end here, at the start of its second epoch.
+fn second_epoch(end: u32) -> Result<Clock, Fail>
+    ensures open { IfOk result (λ clock. IsTrue (is_open clock 0)) }
+{
+    let mut clock = Clock::new(0, end);
+    match clock.next_epoch() {
+        Ok(_) => Ok(clock),
+        Err(_) => Err("no next epoch")?,
+    }
+}
+
+// Moves a shard whose four hot places are vacant, for worker 0, and logs the commands.
+fn log_move(
+    alloc: Global,
+    shard: &mut Shard,
+    clock: &mut Clock,
+    log: &mut Vec<u8>,
+) -> Result<bool, Fail>
+    requires fits { IsShard short_keys (shown shard.old) }
+    requires open { IsTrue (is_open clock.old shard.old.stamp.epoch) }
+    ensures open { (epoch : ℕ) → is_open clock.new epoch ≡ is_open clock.old epoch }
+{
+    let d = ShaDigests::new(b"a key");
+    let mut hot = [
+        Content::Vacant,
+        Content::Vacant,
+        Content::Vacant,
+        Content::Vacant,
+    ];
+    match migrate(alloc, &d, shard, &mut hot, None, 0, clock) {
+        Ok(commands) => {
+            push_all(log, commands.as_slice())?;
+            Ok(true)
+        }
+        Err(MoveFault::ClockEnd) => Ok(false),
+        Err(MoveFault::Memory) => Err("no memory")?,
+    }
+}
+
+#[test]
+fn a_close_takes_each_shard_in_and_hands_it_out(rt: HostRuntime) -> Result<(), Fail> {
+    let mut low = fresh(rt.alloc(), false, 1);
+    let mut high = fresh(rt.alloc(), true, 2);
+    let mut clock = second_epoch(16_777_215)?;
+    let mut log = Vec::new(rt.alloc());
+    push_all(&mut log, &[Command::NextEpoch])?;
+    assert!(rt; log_move(rt.alloc(), &mut low, &mut clock, &mut log)?);
+    assert!(rt; log_move(rt.alloc(), &mut high, &mut clock, &mut log)?);
+    push_all(&mut log, &[Command::NextEpoch])?;
+    assert_eq!(rt; log, bytes_of(rt.alloc(), CLOSE)?);
+    assert_eq!(rt;
+        low.stamp,
+        Stamp {
+            epoch: 1,
+            counter: 2
+        }
+    );
+    assert_eq!(rt;
+        high.stamp,
+        Stamp {
+            epoch: 1,
+            counter: 4
+        }
+    );
+    Ok(())
+}
+
+#[test]
+fn the_clock_ends_at_the_second_shard(rt: HostRuntime) -> Result<(), Fail> {
+    let mut low = fresh(rt.alloc(), false, 1);
+    let mut high = fresh(rt.alloc(), true, 2);
+    let mut clock = second_epoch(3)?;
+    let mut log = Vec::new(rt.alloc());
+    assert!(rt; log_move(rt.alloc(), &mut low, &mut clock, &mut log)?);
+    let logged = log.len();
+    assert!(rt; !log_move(rt.alloc(), &mut high, &mut clock, &mut log)?);
+    assert_eq!(rt; log.len(), logged);
+    assert_eq!(rt;
+        clock.at(),
+        Stamp {
+            epoch: 1,
+            counter: 2
+        }
+    );
+    assert_eq!(rt;
+        high.stamp,
+        Stamp {
+            epoch: 0,
+            counter: 2
+        }
+    );
+    Ok(())
+}
