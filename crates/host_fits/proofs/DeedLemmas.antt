@@ -7,7 +7,8 @@ use Rattle.record_text.specs.declared.request.Request.{Request}
 use Rattle.record_text.specs.Format.{format_of}
 use Rattle.log_codec.specs.declared.command.Command.{Command}
 use Rattle.verifier_commands.specs.declared.state.State.{State}
-use Rattle.soundness.specs.History.{Event, rules_under}
+use Rattle.soundness.specs.History.{Event}
+use Rattle.soundness.specs.StateHistory.{rules_under}
 use Rattle.soundness.specs.Certified.{sealed_count}
 use Rattle.soundness.specs.Timed.{added_among, evicted_among}
 use Rattle.soundness.specs.Permutation.{count_of}

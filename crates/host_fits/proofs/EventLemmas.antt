@@ -15,7 +15,8 @@ use Rattle.verifier_commands.specs.Outcome.{blob_of}
 use Rattle.verifier_commands.specs.Transition.{Rules, Step}
 use Rattle.verifier_commands.proofs.TickLaws.{Ticks, ticks_step, ticks-epoch}
 use Rattle.lamport_clocks.proofs.ClockLaws.{advanced-ok}
-use Rattle.soundness.specs.History.{Event, machinery_under}
+use Rattle.soundness.specs.History.{Event}
+use Rattle.soundness.specs.StateHistory.{machinery_under}
 use Rattle.soundness.specs.Certified.{added_by, evicted_by, operations_by, operations_in, sealed_by, sealed_count}
 use Rattle.soundness.specs.Timed.{added_among, evicted_among}
 use Rattle.soundness.specs.World.{changes_in}

@@ -12,7 +12,8 @@ use Rattle.record_text.specs.Format.{format_of}
 use Rattle.log_codec.specs.declared.command.Command.{Command}
 use Rattle.verifier_commands.specs.Change.{Change}
 use Rattle.verifier_commands.specs.declared.state.State.{State}
-use Rattle.soundness.specs.History.{Event, rules_under}
+use Rattle.soundness.specs.History.{Event}
+use Rattle.soundness.specs.StateHistory.{rules_under}
 use Rattle.soundness.specs.Clash.{first_clash}
 use Rattle.soundness.specs.World.{changes_in, last_evicted_behind}
 use Rattle.host_shard.specs.Shard.{Shard, pending_shard}

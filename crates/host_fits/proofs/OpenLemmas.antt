@@ -18,7 +18,8 @@ use Rattle.verifier_cache.specs.declared.entry.Entry.{Entry}
 use Rattle.verifier_commands.specs.declared.state.State.{State}
 use Rattle.verifier_commands.specs.State.{opening, root_entry}
 use Rattle.verifier_commands.specs.Change.{Change, did_add_m, did_evict_m, did_add_b, did_evict_b, did_evict_bm, did_get, did_put, did_next_epoch}
-use Rattle.soundness.specs.History.{Event, rules_under, events_from}
+use Rattle.soundness.specs.History.{Event}
+use Rattle.soundness.specs.StateHistory.{rules_under, events_from}
 use Rattle.soundness.specs.Clash.{LastEvicted, none_evicted, last_evicted_after, clash_at, first_clash}
 use Rattle.soundness.specs.World.{changes_in}
 use Rattle.host_shard.specs.Shard.{new_shard}

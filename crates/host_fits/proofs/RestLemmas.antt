@@ -12,7 +12,7 @@ use Rattle.verifier_cache.specs.declared.entry.Hold.TheVariants.{B}
 use Rattle.verifier_commands.specs.declared.state.State.{State}
 use Rattle.verifier_commands.specs.Change.{Change}
 use Rattle.verifier_commands.specs.Transition.{Rules, is_root}
-use Rattle.soundness.specs.History.{rules_under}
+use Rattle.soundness.specs.StateHistory.{rules_under}
 use Rattle.host_shard.specs.Shard.{Shard, pending_shard}
 use Rattle.host_shard.specs.Content.{Content, cold, pending}
 use Rattle.host_plan.specs.Moments.{taking, renewing}

@@ -20,7 +20,7 @@ use Rattle.std.proofs.lemmas.Option.{same_Some}
 use Rattle.host_laws.specs.Running.{Access}
 use Rattle.verifier_commands.specs.Outcome.{blob_of}
 use Rattle.verifier_commands.specs.Transition.{Rules}
-use Rattle.soundness.specs.History.{rules_under}
+use Rattle.soundness.specs.StateHistory.{rules_under}
 use Rattle.host_shard.specs.declared.link.Link.{Link}
 use Rattle.host_shard.specs.Chain.{IsChain, last_value}
 use Rattle.host_shard.specs.Shard.{Shard, tree_of, pending_shard}

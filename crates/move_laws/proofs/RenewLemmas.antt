@@ -23,8 +23,8 @@ use Rattle.host_laws.specs.Running.{Told, run, added_told, evicted_told, accesse
 use Rattle.host_laws.specs.Carried.{carried, carries}
 use Rattle.host_laws.specs.Served.{IsBare}
 use Rattle.host_laws.proofs.RunLaws.{run-none, run-append}
-use Rattle.host_laws.proofs.RunLaws.{works-none}
-use Rattle.host_laws.proofs.RunLaws.{clear-bare, length-bare, told_between, between_runs}
+use Rattle.host_laws.proofs.WorksLaws.{works-none}
+use Rattle.host_laws.proofs.BetweenLaws.{clear-bare, length-bare, told_between, between_runs}
 use Rattle.protection_moves.specs.Stage.{hot_records, replaced}
 use Rattle.protection_moves.specs.Renewing.{renewed_record, renewing_each, renewed_places, renewing_commands}
 use Rattle.move_laws.specs.Moved.{IsTakable}

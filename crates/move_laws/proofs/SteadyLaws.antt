@@ -27,9 +27,9 @@ use Rattle.host_laws.specs.Carried.{carried}
 use Rattle.host_laws.specs.Served.{IsWithin}
 use Rattle.host_laws.proofs.RunLaws.{run-append}
 use Rattle.host_laws.proofs.ToldLaws.{added_told-append, evicted_told-append}
-use Rattle.host_laws.proofs.RunLaws.{works-none}
+use Rattle.host_laws.proofs.WorksLaws.{works-none}
 use Rattle.host_laws.proofs.ToldLaws.{all-append, accesses_told-append, carried-append}
-use Rattle.host_laws.proofs.RunLaws.{clear-bare, length-bare, told_between, between_runs}
+use Rattle.host_laws.proofs.BetweenLaws.{clear-bare, length-bare, told_between, between_runs}
 use Rattle.protection_moves.specs.Stage.{Stage, hot_records, touched_in, untouched_in}
 use Rattle.protection_moves.specs.Renewing.{renewing_each, renewing_commands}
 use Rattle.protection_moves.specs.Errand.{AreDue, clock_by_each, clock_needed}
