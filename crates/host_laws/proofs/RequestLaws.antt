@@ -32,7 +32,7 @@ use Rattle.host_plan.specs.Plan.{IsServable, CanServe, IsPastEnd, AreLinks, comm
 use Rattle.host_plan.specs.declared.plans.Plan.{Plan}
 use Rattle.host_laws.specs.Running.{Told, Access, run}
 use Rattle.host_laws.specs.Carried.{IsCarried, carried}
-use Rattle.host_laws.specs.Served.{IsAtRest, CanTake, IsWithin, waiting, kept_in, PlanRuns}
+use Rattle.host_laws.specs.Served.{IsResting, CanTake, IsWithin, waiting, kept_in, PlanRuns}
 use Rattle.host_laws.proofs.ToldLaws.{added_told-append, evicted_told-append, accesses_told-append, carried-append, all-append}
 use Rattle.host_laws.proofs.EndLemmas.{IsEnd, change_by, told_request, works_request}
 use Rattle.host_laws.proofs.VisitLemmas.{Visited, visited}
@@ -101,7 +101,7 @@ cold_way rules clock shard request links servable chain =
     (servable.fits.kinds shard.frontier shard.value (frontier_there shard)) (frontier_of shard) (frontier_based shard) chain
 
 -- there is room for it
-cold_roomy : (rules : Rules) (state : State) (shard : Shard) (request : Request) (links : List Link) → IsAtRest rules state (cold shard)
+cold_roomy : (rules : Rules) (state : State) (shard : Shard) (request : Request) (links : List Link) → IsResting rules state (cold shard)
     → IsServable rules.scheme.format rules.scheme.digest shard (key_path rules.scheme.format request.key)
     → IsChain rules.scheme.format (tree_of shard) (key_path rules.scheme.format request.key) shard.frontier shard.value links
     → suc (length state.cache.entries + length links) ≤ state.cache.room
@@ -190,7 +190,7 @@ hot_end rules clock found request same =
 hot_apart : (format : Format) (key : ℕ) → is_root (key_path format key) ≡ false
 hot_apart format key = not_root (key_path format key) (omega (arith, length-bits_of (path_bits format) key, some_bits format.word))
 
-hot_roomy : (rules : Rules) (state : State) (found : HotRecord) → IsAtRest rules state (hot found) → suc (length state.cache.entries + 0) ≤ state.cache.room
+hot_roomy : (rules : Rules) (state : State) (found : HotRecord) → IsResting rules state (hot found) → suc (length state.cache.entries + 0) ≤ state.cache.room
 hot_roomy rules state found rest =
     let few = length-bare state.cache.entries rest.bare in
     omega (arith, some_bits rules.scheme.format.word, rest.room)
@@ -260,7 +260,7 @@ plan_runs rules state vacant after request plan later can serves is = absurd ser
 
 -- Where its counters would pass the end, a request is refused for that.
 pub request_ends : (rules : Rules) (state : State) (content : Content) (request : Request) (links : List Link)
-    → IsAtRest rules state content → CanServe rules.scheme.format rules.scheme.digest content request.key → AreLinks rules.scheme.format content request.key links
+    → IsResting rules state content → CanServe rules.scheme.format rules.scheme.digest content request.key → AreLinks rules.scheme.format content request.key links
     → IsPastEnd content state.clock → run rules state (commands_of rules.scheme.format content links request state.clock) ≡ Err refusals.ClockEnd
 request_ends rules state (cold shard) request links rest servable way past =
     let apart = not_root shard.frontier servable.fits.below_root in

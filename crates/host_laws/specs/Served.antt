@@ -25,7 +25,7 @@ IsBare entries = (entries ≡ []) ⊎ ((root : Entry) × (root.path ≡ []) × (
 
 -- A verifier at rest that may take a content in: there is room for each path above a key, and the content's element is of
 -- one of the verifiers and of an open epoch.
-pub record IsAtRest (rules : Rules) (state : State) (content : Content) : Type 0 where
+pub record IsResting (rules : Rules) (state : State) (content : Content) : Type 0 where
   pub bare : IsBare state.cache.entries
   pub room : path_bits rules.scheme.format < state.cache.room
   pub known : (element : Element) → pending rules.scheme.format content ≡ Some element → element.verifier < rules.verifiers
@@ -33,7 +33,7 @@ pub record IsAtRest (rules : Rules) (state : State) (content : Content) : Type 0
 
 -- and it can, where its clock has the two counters left that this takes
 pub record CanTake (rules : Rules) (state : State) (content : Content) : Type 0 where
-  pub rest : IsAtRest rules state content
+  pub rest : IsResting rules state content
   pub counters : (clock_after content state.clock).at.counter ≤ state.clock.end
 
 -- the element with which a content waits, if it does

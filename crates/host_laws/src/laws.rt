@@ -14,7 +14,7 @@ ghost use Rattle.host_shard.specs.Content.{Content};
 ghost use Rattle.host_plan.specs.Plan.{CanServe, IsPlan, IsPastEnd, AreLinks, commands_of};
 ghost use Rattle.host_plan.specs.declared.plans.Plan.{Plan};
 ghost use Rattle.host_laws.specs.Running.{Told, run, IsHistory};
-ghost use Rattle.host_laws.specs.Served.{IsAtRest, CanTake, PlanRuns};
+ghost use Rattle.host_laws.specs.Served.{IsResting, CanTake, PlanRuns};
 ghost use Rattle.host_laws.specs.SettingUp.{CanSetUp, SetupRuns};
 
 /// Commands that run are accepted, and what is told of them is the verifier's history.
@@ -36,7 +36,7 @@ pub fn a_plan_runs()
 /// nothing else.
 pub fn a_request_past_the_end_is_refused()
     ensures refused { (rules : Rules) (state : State) (content : Content) (request : Request) (links : List Link)
-        → IsAtRest rules state content → CanServe rules.scheme.format rules.scheme.digest content request.key
+        → IsResting rules state content → CanServe rules.scheme.format rules.scheme.digest content request.key
         → AreLinks rules.scheme.format content request.key links → IsPastEnd content state.clock
         → run rules state (commands_of rules.scheme.format content links request state.clock) ≡ Err ClockEnd }
 {}
