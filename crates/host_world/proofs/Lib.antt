@@ -1,0 +1,2 @@
+-- Lemmas on the shipped host.
+pub mod LinkLaws

@@ -1,0 +1,7 @@
+-- The shipped host as a host of the machine, and the world that its code steps, in reading order.
+pub mod Links
+pub mod Settings
+pub mod Moving
+pub mod ShippedHost
+pub use Rattle.host_core.specs
+pub use Rattle.protection_moves.specs as protection_moves_specs

@@ -1,0 +1,60 @@
+-- What the shipped host does for a shard at a close, as a function of the shard's seats.
+use Rattle.std.specs.Prelude.{ℕ, List, [], ◌∷◌, Option, Some, None, nat_lt, if◌then◌else◌}
+use Rattle.lamport_clocks.specs.Reading.{Reading}
+use Rattle.record_text.specs.Format.{Format}
+use Rattle.merkle_records.specs.Merkle.{Digest}
+use Rattle.host_core.specs.Host.{Done}
+use Rattle.host_shard.specs.declared.link.Link.{Link}
+use Rattle.host_shard.specs.Shard.{Shard}
+use Rattle.host_shard.specs.Content.{Content, cold, hot, vacant, key_path}
+use Rattle.protection_moves.specs.Stage.{Stage}
+use Rattle.protection_moves.specs.Errand.{Errand, demotes, promotes, errands_of, clock_needed}
+use Rattle.protection_moves.specs.Trip.{Trip, with_back, done_by}
+use Rattle.protection_moves.specs.Move.{begun, moved, move_commands}
+use Rattle.host_world.specs.Links.{links_in}
+
+-- the seats of a shard as a stage, for a worker whose clock stands so: the shard, then its hot places
+abbrev pub stage_of : Reading → List Content → Option Stage
+stage_of clock [] = None
+stage_of clock (cold shard ∷ places) = Some (record { shard = shard; places = places; clock = clock })
+stage_of clock (hot record' ∷ places) = None
+stage_of clock (vacant ∷ places) = None
+
+-- the same seats again
+abbrev pub seats_of : Stage → List Content
+seats_of stage = cold stage.shard ∷ stage.places
+
+-- the links to an errand's key
+abbrev pub links_for : Format → Shard → Errand → List Link
+links_for format shard (demotes found) = links_in format (with_back format shard found) (key_path format found.key)
+links_for format shard (promotes key) = links_in format shard (key_path format key)
+
+-- errands as trips, one after another
+abbrev pub trips_for : Format → Digest → ℕ → Stage → List Errand → List Trip
+trips_for format digest worker stage [] = []
+trips_for format digest worker stage (errand ∷ errands) =
+    record { errand = errand; links = links_for format stage.shard errand }
+    ∷ trips_for format digest worker (done_by format digest worker stage errand (links_for format stage.shard errand)) errands
+
+-- the trips of a move after which these keys are to be hot
+abbrev pub trips_of : Format → Digest → ℕ → Stage → List ℕ → List Trip
+trips_of format digest worker stage due = trips_for format digest worker (begun worker stage) (errands_of stage due)
+
+-- a move with these trips
+abbrev pub done_with : Format → Digest → ℕ → Stage → List Trip → Done (List Content)
+done_with format digest worker stage trips = record {
+  commands = move_commands format digest worker stage trips;
+  after = seats_of (moved format digest worker stage trips);
+  clock = (moved format digest worker stage trips).clock;
+}
+
+-- The move of a stage by this worker, where these keys are due to become hot: none where its counters would pass their end.
+abbrev pub move_due : Format → Digest → ℕ → Stage → List ℕ → Option (Done (List Content))
+move_due format digest worker stage due =
+    if nat_lt stage.clock.end (clock_needed stage due).at.counter then None
+    else Some (done_with format digest worker stage (trips_of format digest worker stage due))
+
+-- The move of a shard's seats. No key is due: the shipped host makes no key hot yet.
+abbrev pub move_seats : Format → Digest → ℕ → Option Stage → Option (Done (List Content))
+move_seats format digest worker None = None
+move_seats format digest worker (Some stage) = move_due format digest worker stage []

@@ -1,0 +1,24 @@
+-- The numbers of a shipped host.
+use Rattle.std.specs.Prelude.{◌≡◌, ℕ, zero, suc, ◌^◌, nat_le, if◌then◌else◌}
+use Rattle.lamport_clocks.specs.Header.{IsHeader}
+use Rattle.host_plan.specs.Setup.{IsShardCount}
+use Rattle.host_world.specs.declared.settings.Settings.{Settings}
+
+-- how many entries a verifier of the shipped host may cache
+abbrev pub shipped_cache : ℕ
+shipped_cache = 128
+
+-- The numbers are in their ranges, and the caches are the shipped host's.
+pub record IsSettings (settings : Settings) : Type 0 where
+  pub header : IsHeader settings.header
+  pub cache : settings.header.cache ≡ shipped_cache
+  pub shards : IsShardCount settings.shards
+
+-- the greatest number of bits, up to a bound, that have no more than so many values
+abbrev pub bits_within : ℕ → ℕ → ℕ
+bits_within zero shards = 0
+bits_within (suc most) shards = if nat_le (2 ^ suc most) shards then suc most else bits_within most shards
+
+-- how many bits a frontier has, where there are so many shards
+abbrev pub frontier_bits : ℕ → ℕ
+frontier_bits shards = bits_within 10 shards

@@ -1,0 +1,11 @@
+//! The numbers of a host.
+use lamport_clocks::Header;
+
+/// The numbers that a host is given.
+#[derive(Clone, Copy, Debug, PartialEq, Eq)]
+pub struct Settings {
+    /// What its bundle begins with.
+    pub header: Header,
+    /// How many shards it has: a power of two from 2 to 1,024.
+    pub shards: u32,
+}
