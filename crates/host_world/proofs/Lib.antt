@@ -1,2 +1,3 @@
 -- Lemmas on the shipped host.
 pub mod LinkLaws
+mod ServeLemmas

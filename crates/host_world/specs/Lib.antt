@@ -3,5 +3,9 @@ pub mod Links
 pub mod Settings
 pub mod Moving
 pub mod ShippedHost
+pub mod Places
+pub mod Doing
+pub mod Shown
+pub mod Ending
 pub use Rattle.host_core.specs
 pub use Rattle.protection_moves.specs as protection_moves_specs

@@ -1,8 +1,18 @@
 //! The shipped host as a world: its places and workers, and what each event of them does.
 #![tactic(auto)]
 
+mod event;
+mod fault;
 mod laws;
+mod seats;
 mod settings;
+mod worker;
+mod world;
 
+pub use event::Event;
+pub use fault::{ClockEnd, WorldFault};
 pub use laws::a_chain_is_its_links;
+pub use seats::Seats;
 pub use settings::Settings;
+pub use worker::{Held, Worker};
+pub use world::World;

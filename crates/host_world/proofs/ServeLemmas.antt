@@ -1,0 +1,98 @@
+-- A plan is what the shipped host serves.
+use Rattle.std.proofs.Common.{◌≡◌, ℕ, suc, ◌<◌, Bool, true, false, List, [], ◌∷◌, ◌++◌, nat_lt, Option, Some, None, if◌then◌else◌, refl, sym, ◌∙◌, ap, subst, arith}
+use Rattle.std.specs.List.{flat_map}
+use Rattle.std.proofs.lemmas.Bool.{lt-ltb, ltb-true}
+use Rattle.std.proofs.lemmas.Grind.{flat_map-append}
+use Rattle.std.proofs.lemmas.List.{append-nil}
+use Rattle.lamport_clocks.specs.Reading.{Reading}
+use Rattle.record_text.specs.declared.request.Request.{Request}
+use Rattle.record_text.specs.Format.{Format}
+use Rattle.log_codec.specs.declared.command.Command.{Command}
+use Rattle.merkle_records.specs.Merkle.{Digest}
+use Rattle.host_core.specs.Host.{Done}
+use Rattle.host_core.specs.World.{Place, Worker}
+use Rattle.host_core.specs.WorldEvent.{logging, having_served}
+use Rattle.host_shard.specs.declared.link.Link.{Link}
+use Rattle.host_shard.specs.Content.{Content, cold, hot, vacant, key_path}
+use Rattle.host_plan.specs.declared.plans.Plan.{Plan}
+use Rattle.host_plan.specs.Plan.{Owns, AreLinks, IsPastEnd, IsPlan, clock_after, commands_of, content_after}
+use Rattle.host_world.specs.Links.{links_of}
+use Rattle.host_world.specs.ShippedHost.{serve_at}
+use Rattle.host_world.proofs.LinkLaws.{shard_chain_is}
+
+-- the links of a content that owns a key are one list
+pub links_are_of : (format : Format) (content : Content) (key : ℕ) (links : List Link) → Owns format content key → AreLinks format content key links → links ≡ links_of format content key
+links_are_of format (cold shard) key links own way = shard_chain_is format shard (key_path format key) own.0 own.1 links way
+links_are_of format (hot record') key links own way = way
+links_are_of format vacant key links own way = absurd own
+
+-- what is done to serve a request, along these links
+abbrev pub done_along : Format → Digest → ℕ → Reading → Content → Request → List Link → Done Content
+done_along format digest worker clock content request links = record {
+  commands = commands_of format content links request clock;
+  after = content_after format digest worker content links request clock;
+  clock = clock_after content clock;
+}
+
+module _ (format : Format) (digest : Digest) (worker : ℕ) (clock : Reading) (content : Content) (request : Request) where
+  -- where the counters pass their end
+  pub serve_past : IsPastEnd content clock → serve_at format digest worker clock content request ≡ None
+  serve_past past =
+      ap (λ (b : Bool). if b then None else Some (done_along format digest worker clock content request (links_of format content request.key)))
+      (lt-ltb clock.end (clock_after content clock).at.counter past)
+
+  -- where they don't
+  pub serve_within : (IsPastEnd content clock → ⊥) → serve_at format digest worker clock content request ≡ Some (done_along format digest worker clock content request (links_of format content request.key))
+  serve_within within = go (nat_lt clock.end (clock_after content clock).at.counter) refl
+    where
+      go : (b : Bool) → nat_lt clock.end (clock_after content clock).at.counter ≡ b
+          → (if b then None else Some (done_along format digest worker clock content request (links_of format content request.key)))
+          ≡ Some (done_along format digest worker clock content request (links_of format content request.key))
+      go true past = absurd (within (ltb-true clock.end (clock_after content clock).at.counter past))
+      go false is = refl
+
+  -- A plan is what is done.
+  pub plan_is_served : (plan : Plan) (after : Content) (later : Reading) → Owns format content request.key → (IsPastEnd content clock → ⊥)
+      → IsPlan format digest worker content request clock plan after later
+      → serve_at format digest worker clock content request ≡ Some (record { commands = plan.commands; after = after; clock = later })
+  plan_is_served plan after later own within is =
+      serve_within within
+      ∙ ap (λ (links : List Link). Some (done_along format digest worker clock content request links)) (sym (links_are_of format content request.key is.links own is.way))
+      ∙ ap (λ (commands : List Command). Some (record { commands = commands; after = content_after format digest worker content is.links request clock; clock = clock_after content clock })) (sym is.commands)
+      ∙ ap (λ (c : Content). Some (record { commands = plan.commands; after = c; clock = clock_after content clock })) (sym is.content)
+      ∙ ap (λ (r : Reading). Some (record { commands = plan.commands; after = after; clock = r })) (sym is.clock)
+
+-- one deed more in a log
+pub one_deed_more : (log : List (List Command)) (deed : List Command) → flat_map (λ commands. commands) (log ++ deed ∷ []) ≡ flat_map (λ commands. commands) log ++ deed
+one_deed_more log deed = flat_map-append (λ commands. commands) log (deed ∷ []) ∙ ap (λ more. flat_map (λ commands. commands) log ++ more) (append-nil deed)
+
+-- the worker with a deed more in its log
+pub having_logged : (old : Worker) (log new : List (List Command)) (deed : List Command) (clock : Reading) (served : ℕ) (place : Place)
+    → old.log ≡ flat_map (λ commands. commands) log → new ≡ log ++ deed ∷ [] → served ≡ suc old.served
+    → record {
+      log = flat_map (λ commands. commands) new;
+      clock = clock;
+      served = served;
+      holds = Some (record { place = place; used = true });
+      stopped = old.stopped;
+      stuck = old.stuck;
+    } ≡ having_served (logging old deed clock) place
+having_logged old log new deed clock served place was is counted =
+    ap (λ (all : List Command). record { log = all; clock = clock; served = served; holds = Some (record { place = place; used = true }); stopped = old.stopped; stuck = old.stuck })
+    (ap (flat_map (λ commands. commands)) is ∙ one_deed_more log deed ∙ ap (λ (all : List Command). all ++ deed) (sym was))
+    ∙ ap (λ (n : ℕ). record { log = old.log ++ deed; clock = clock; served = n; holds = Some (record { place = place; used = true }); stopped = old.stopped; stuck = old.stuck }) counted
+
+-- the same where it serves nothing
+pub just_logged : (old : Worker) (log new : List (List Command)) (deed : List Command) (clock : Reading)
+    → old.log ≡ flat_map (λ commands. commands) log → new ≡ log ++ deed ∷ []
+    → record {
+      log = flat_map (λ commands. commands) new;
+      clock = clock;
+      served = old.served;
+      holds = old.holds;
+      stopped = old.stopped;
+      stuck = old.stuck;
+    } ≡ logging old deed clock
+just_logged old log new deed clock was is =
+    ap (λ (all : List Command). record { log = all; clock = clock; served = old.served; holds = old.holds; stopped = old.stopped; stuck = old.stuck })
+    (ap (flat_map (λ commands. commands)) is ∙ one_deed_more log deed ∙ ap (λ (all : List Command). all ++ deed) (sym was))

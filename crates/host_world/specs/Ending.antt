@@ -1,0 +1,26 @@
+-- Where a clock ends.
+use Rattle.std.specs.Prelude.{ℕ, ◌==◌, Bool, true, false, is_none, get_or, Option, Some, None, if◌then◌else◌}
+use Rattle.lamport_clocks.specs.Clock.{last_epoch}
+use Rattle.host_core.specs.Host.{Host}
+use Rattle.host_core.specs.World.{World, Worker, worker_at, shard_at}
+use Rattle.host_core.specs.WorldEvent.{WorldEvent, takes, loses, serves, gives, advances, moves, opens}
+use Rattle.host_world.specs.declared.fault.ClockEnd.{ClockEnd}
+
+-- the end of a worker's clock, where it stands
+abbrev pub end_at : {C R : Type 0} → Host C R → World C → ℕ → ClockEnd
+end_at host world i = record { worker = i; at = (worker_at host world i).clock.at }
+
+-- The end that an event comes to, if it does: of the worker's clock, where what it is to do takes a counter past the end;
+-- and of worker 0's, where there is no epoch to come.
+abbrev pub end_of : {C R : Type 0} → Host C R → World C → WorldEvent R → Option ClockEnd
+end_of host world (takes i place) = None
+end_of host world (loses i place) = None
+end_of host world (serves i place request) =
+    if is_none (host.serve i (worker_at host world i).clock (get_or (shard_at world place.shard).contents place.seat host.vacant) request)
+    then Some (end_at host world i) else None
+end_of host world (gives i place) = None
+end_of host world (advances i) =
+    if (worker_at host world i).clock.at.epoch == last_epoch then Some (end_at host world 0) else None
+end_of host world (moves i s) =
+    if is_none (host.move i (worker_at host world i).clock s (shard_at world s).contents) then Some (end_at host world i) else None
+end_of host world opens = None

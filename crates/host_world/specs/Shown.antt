@@ -1,0 +1,41 @@
+-- What the code's world shows: a world of the machine.
+use Rattle.std.specs.Prelude.{ℕ, suc, ◌/◌, ◌%◌, List, map}
+use Rattle.record_text.specs.declared.request.Request.{Request}
+use Rattle.host_core.specs.World.{Place, Holding}
+use Rattle.host_core.specs.World as machine
+use Rattle.host_core.specs.WorldEvent.{WorldEvent, takes, loses, serves, gives, advances, moves, opens}
+use Rattle.host_shard.specs.Content.{Content}
+use Rattle.host_shard.specs.Shown.{shown_content}
+use Rattle.host_world.specs.declared.event.Event.{Event}
+use Rattle.host_world.specs.declared.event.Event.TheVariants as events
+use Rattle.host_world.specs.declared.seats.Seats.{Seats}
+use Rattle.host_world.specs.declared.world.World.{World}
+use Rattle.host_world.specs.Places.{place_of}
+
+-- the event, with the place of each number
+abbrev pub shown_event : Event → WorldEvent Request
+shown_event (events.Take worker place) = takes worker (place_of place)
+shown_event (events.Lose worker place) = loses worker (place_of place)
+shown_event (events.Serve worker place request) = serves worker (place_of place) request
+shown_event (events.Give worker place) = gives worker (place_of place)
+shown_event (events.Next worker) = advances worker
+shown_event (events.Move worker shard) = moves worker shard
+shown_event events.Open = opens
+
+-- the seats, with the contents as they show
+abbrev pub shown_seats : Seats → machine.Seats Content
+shown_seats seats = record { contents = map shown_content seats.contents.items; moved = seats.moved }
+
+-- the world, with the shards so
+abbrev pub shown_world : {D : Type 0} → World D → machine.World Content
+shown_world world = record {
+  shards = map shown_seats world.shards.items;
+  workers = world.workers.items;
+  phase = world.phase;
+  closing = world.closing;
+  over = world.over;
+}
+
+-- the value whose functions are the world's digests
+abbrev pub digests_of : {D : Type 0} → World D → D
+digests_of world = world.d.now

@@ -1,0 +1,177 @@
+//! One worker of a world.
+ghost use Rattle.std.specs.Prelude.{◌≡◌, ◌≢◌, ◌↔◌, ◌<◌, [], ◌∷◌, false, true, Some, None, Ok, IfOk, OnOk, OnErr, is_some};
+ghost use Rattle.std.specs.List.{flat_map};
+ghost use Rattle.record_text.specs.Format.{short_keys};
+ghost use Rattle.lamport_clocks.specs.Clock.{last_epoch};
+ghost use Rattle.log_codec.specs.declared.command.Command.TheVariants.{NextEpoch};
+ghost use Rattle.host_core.specs.World.{idle, fresh};
+ghost use Rattle.host_core.specs.WorldEvent.{logging, next_clock};
+ghost use Rattle.host_shard.specs.Shown.{shown_content};
+ghost use Rattle.host_plan.specs.Plan.{Owns, IsOpenAt};
+ghost use Rattle.host_world.specs.Places.{place_of};
+ghost use Rattle.host_world.specs.Doing.{HasServed};
+ghost use Rattle.host_world.specs.ShippedHost.{serve_at};
+
+use host_plan::{Commands, PlanFault, plan};
+use host_shard::Content;
+use lamport_clocks::{Clock, Header};
+use log_codec::Command;
+use record_hash::Digests;
+use record_text::Request;
+use std::alloc::Global;
+use std::marker::Model;
+use want_of_memory::Memory;
+
+/// A place that a worker holds, by its number, and whether it has served there since it took it.
+#[derive(Clone, Copy, Debug, PartialEq, Eq)]
+pub struct Held {
+    pub place: u32,
+    pub used: bool,
+}
+
+/// A worker: its log, deed by deed, its clock, and what it holds. Contracts see the machine's worker.
+#[derive(Drop)]
+pub struct Worker {
+    log: Vec<Commands>,
+    clock: Clock,
+    served: u64,
+    holds: Option<Held>,
+    stopped: bool,
+    stuck: bool,
+}
+
+impl Model for Worker {
+    ghost use Rattle.std.specs.List.{flat_map};
+    ghost use Rattle.std.specs.Option.{option_map};
+    ghost use Rattle.host_core.specs.World.{Worker};
+    ghost use Rattle.host_world.specs.Places.{shown_held};
+
+    ghost Value = { Worker };
+
+    ghost view = { λ w. record {
+      log = flat_map (λ commands. commands) w.log.items;
+      clock = w.clock;
+      served = w.served;
+      holds = option_map shown_held w.holds;
+      stopped = w.stopped;
+      stuck = w.stuck;
+    } };
+}
+
+impl Worker {
+    /// A worker before its first command. Its log takes memory from `alloc` as it grows.
+    pub(crate) fn new(alloc: Global, header: &Header) -> Self
+        ensures value { result ≡ fresh header.now }
+    {
+        Worker {
+            log: Vec::new(alloc),
+            clock: Clock::new(header.first, header.end),
+            served: 0,
+            holds: None,
+            stopped: false,
+            stuck: false,
+        }
+    }
+
+    /// What it logged, deed by deed.
+    pub fn log(&self) -> &[Commands]
+        ensures value { flat_map (λ commands. commands) result.now ≡ self.now.log }
+    {
+        self.log.as_slice()
+    }
+
+    /// Its clock.
+    pub fn clock(&self) -> Clock
+        ensures value { result ≡ self.now.clock }
+    {
+        self.clock
+    }
+
+    // It holds the place of this number.
+    pub(crate) fn take(&mut self, place: u32)
+        ensures taken { self.new ≡ record self.old { holds = Some (record { place = place_of place; used = false }) } }
+    {
+        self.holds = Some(Held { place, used: false });
+    }
+
+    // It holds nothing.
+    pub(crate) fn give(&mut self)
+        ensures given { self.new ≡ record self.old { holds = None } }
+    {
+        self.holds = None;
+    }
+
+    // Its clock ended in this phase.
+    pub(crate) fn stop(&mut self)
+        ensures stopped { self.new ≡ record self.old { stopped = true } }
+    {
+        self.stopped = true;
+    }
+
+    // Its clock ended in this close.
+    pub(crate) fn get_stuck(&mut self)
+        ensures stuck { self.new ≡ record self.old { stuck = true } }
+    {
+        self.stuck = true;
+    }
+
+    // Logs that it goes to the next epoch, and goes there, if there is one: it answers that. For want of memory all is as
+    // before.
+    pub(crate) fn advance(&mut self, alloc: Global) -> Result<bool, Memory>
+        ensures last { IfOk result (λ advanced. (advanced ≡ false) ↔ (self.old.clock.at.epoch ≡ last_epoch)) }
+        ensures advanced { result ≡ Ok true
+            → self.new ≡ logging self.old (NextEpoch ∷ []) (next_clock self.old.clock) }
+        ensures no_epoch { result ≡ Ok false → self.new ≡ self.old }
+        ensures as_before { OnErr result (self.new ≡ self.old) }
+    {
+        let mut later = self.clock;
+        if later.next_epoch().is_err() {
+            return Ok(false);
+        }
+        let mut commands = Vec::with_capacity(alloc, 1)?;
+        self.log.reserve(1)?;
+        commands.push_reserved(Command::NextEpoch);
+        self.log.push_reserved(Commands::of(commands));
+        self.clock = later;
+        Ok(true)
+    }
+
+    // Serves a request with the content of the place that it holds, where its clock does not pass its end: it answers
+    // that. Else, and for want of memory, all is as before.
+    pub(crate) fn serve<D: Digests>(
+        &mut self,
+        alloc: Global,
+        d: &D,
+        number: u16,
+        place: u32,
+        content: &mut Content,
+        request: &Request,
+    ) -> Result<bool, Memory>
+        requires own { Owns short_keys (shown_content content.old) request.now.key }
+        requires open { IsOpenAt self.old.clock (shown_content content.old) }
+        ensures within { IfOk result (λ served. served ≡ is_some (serve_at short_keys (D.functions d.now).digest
+            number self.old.clock (shown_content content.old) request.now)) }
+        ensures served { result ≡ Ok true
+            → HasServed (place_of place) (serve_at short_keys (D.functions d.now).digest
+            number self.old.clock (shown_content content.old) request.now)
+            self.old (shown_content content.new) self.new }
+        ensures worker_as_before { result ≢ Ok true → self.new ≡ self.old }
+        ensures content_as_before { result ≢ Ok true → shown_content content.new ≡ shown_content content.old }
+    {
+        let served = match self.served.checked_add(1) {
+            Some(served) => served,
+            None => return Err(Memory),
+        };
+        self.log.reserve(1)?;
+        match plan(alloc, d, content, request, number, &mut self.clock) {
+            Ok(plan) => {
+                self.log.push_reserved(plan.commands);
+                self.served = served;
+                self.holds = Some(Held { place, used: true });
+                Ok(true)
+            }
+            Err(PlanFault::ClockEnd) => Ok(false),
+            Err(PlanFault::Memory) => Err(Memory),
+        }
+    }
+}
