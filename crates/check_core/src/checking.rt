@@ -83,6 +83,7 @@ fn check_bundle<R: Threads + Sync, D: Digests + Sync, S: Source, O: Sink>(
     };
     match next {
         Next::Head(header) => check_frames(rt, alloc, d, &header, &mut reader, source, out),
+        // No frame comes before the header.
         Next::Frame(_) => write_bad_header(out),
         Next::End => write_bad_header(out),
     }
