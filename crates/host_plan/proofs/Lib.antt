@@ -1,3 +1,4 @@
 -- Lemmas on plans.
+mod OwnLemmas
 mod TypedLemmas
 mod SetupLemmas

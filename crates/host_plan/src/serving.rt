@@ -1,5 +1,5 @@
 //! How one request is served: `plan`.
-ghost use Rattle.std.specs.Prelude.{◌≡◌, ◌↔◌, ◌<◌, IfOk, OnErr, IsTrue, Err};
+ghost use Rattle.std.specs.Prelude.{◌≡◌, ◌↔◌, ℕ, ◌<◌, IfOk, OnErr, IsTrue, Err};
 ghost use Rattle.std.specs.List.{AllByRecursion};
 ghost use Rattle.lamport_clocks.specs.Clock.{is_open};
 ghost use Rattle.record_text.specs.declared.value.Value.{Value};
@@ -43,6 +43,9 @@ pub fn plan<D: Digests>(
         (shown_content content.old) request.now clock.old plan (shown_content content.new) clock.new) }
     ensures typed { IfOk result (λ plan. AllByRecursion (IsCommand short_keys) plan.commands) }
     ensures clock_end { (result ≡ Err ClockEnd) ↔ IsPastEnd (shown_content content.old) clock.old }
+    ensures owns { (key : ℕ) → Owns short_keys (shown_content content.old) key
+        → Owns short_keys (shown_content content.new) key }
+    ensures open { IsOpenAt clock.new (shown_content content.new) }
     ensures content_as_before { OnErr result (shown_content content.new ≡ shown_content content.old) }
     ensures clock_as_before { OnErr result (clock.new ≡ clock.old) }
 {
@@ -68,6 +71,9 @@ fn serve_shard<D: Digests>(
         (cold (shown shard.old)) request.now clock.old plan (cold (shown shard.new)) clock.new) }
     ensures typed { IfOk result (λ plan. AllByRecursion (IsCommand short_keys) plan.commands) }
     ensures clock_end { (result ≡ Err ClockEnd) ↔ IsPastEnd (cold (shown shard.old)) clock.old }
+    ensures owns { (key : ℕ) → Owns short_keys (cold (shown shard.old)) key
+        → Owns short_keys (cold (shown shard.new)) key }
+    ensures open { IsOpenAt clock.new (cold (shown shard.new)) }
     ensures shard_as_before { OnErr result (shown shard.new ≡ shown shard.old) }
     ensures clock_as_before { OnErr result (clock.new ≡ clock.old) }
 {
@@ -102,6 +108,8 @@ fn serve_hot(
         (hot kept.old) request.now clock.old plan (hot kept.new) clock.new) }
     ensures typed { IfOk result (λ plan. AllByRecursion (IsCommand short_keys) plan.commands) }
     ensures clock_end { (result ≡ Err ClockEnd) ↔ IsPastEnd (hot kept.old) clock.old }
+    ensures owns { kept.new.key ≡ kept.old.key }
+    ensures open { IsOpenAt clock.new (hot kept.new) }
     ensures record_as_before { OnErr result (kept.new ≡ kept.old) }
     ensures clock_as_before { OnErr result (clock.new ≡ clock.old) }
 {
@@ -142,6 +150,7 @@ fn answer_of(request: &Request, found: &Value) -> Blob
 fn command_of(request: &Request, answer: &Blob) -> Command
     ensures command { (found : Value) → values.Blob answer.now ≡ value_after request.now found
         → result ≡ command_of short_keys request.now found }
+    ensures kind { IsOf short_keys (key_path short_keys request.now.key) (values.Blob answer.now) }
     ensures typed { IsCommand short_keys result }
 {
     let path = Path::of_key(request.key);

@@ -1,5 +1,6 @@
 -- Lemmas on shards and chains.
 pub mod ChainLaws
+pub mod ShardLaws
 mod ChainLemmas
 mod RecordLemmas
 mod SettleLemmas

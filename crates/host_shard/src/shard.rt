@@ -1,10 +1,11 @@
 //! Shards.
-ghost use Rattle.std.specs.Prelude.{◌≡◌, ◌<◌, ◌^◌, IsSome};
+ghost use Rattle.std.specs.Prelude.{◌≡◌, ◌<◌, ◌^◌, length, IsSome};
 ghost use Rattle.std.specs.Option.{option_copied};
 ghost use Rattle.record_text.specs.Format.{short_keys};
 ghost use Rattle.record_text.specs.Element.{IsStamp};
 ghost use Rattle.host_shard.specs.Content.{key_path};
 ghost use Rattle.host_shard.specs.Shard.{tree_of, new_shard, pending_shard, touched};
+ghost use Rattle.host_shard.specs.Mirrors.{IsShard};
 ghost use Rattle.host_shard.specs.Shown.{shown};
 
 use crate::records::Records;
@@ -33,6 +34,8 @@ impl Shard {
     /// A shard without records, whose frontier has its initial value.
     pub fn new(alloc: Global, frontier: Path, stamp: Stamp, evictor: u16) -> Self
         ensures shard { shown result ≡ new_shard short_keys frontier stamp evictor }
+        ensures fits { 0 < length frontier → length frontier < 64
+            → IsShard short_keys (shown result) }
     {
         Shard {
             frontier,

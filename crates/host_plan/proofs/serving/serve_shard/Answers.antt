@@ -1,4 +1,4 @@
-use Rattle.std.proofs.Common.{List, subst, ap, sym, ◌∙◌}
+use Rattle.std.proofs.Common.{ℕ, List, Option, subst, ap, sym, ◌∙◌}
 use Rattle.std.specs.List.{AllByRecursion}
 use Rattle.record_text.specs.declared.element.Element.{Element}
 use Rattle.record_text.specs.declared.value.Value.{Value}
@@ -9,9 +9,10 @@ use Rattle.log_codec.specs.Command.{IsCommand}
 use Rattle.host_shard.specs.declared.link.Link.{Link}
 use Rattle.host_shard.specs.Chain.{IsChain, last_value}
 use Rattle.host_shard.specs.Content.{key_path}
-use Rattle.host_shard.specs.Shard.{tree_of}
+use Rattle.host_shard.specs.Shard.{Shard, tree_of, touched}
 use Rattle.host_shard.specs.Shown.{shown}
 use Rattle.host_shard.proofs.ChainLaws.{frontier_kind, last_kind}
+use Rattle.host_plan.proofs.OwnLemmas.{served_is, served_owns}
 use Rattle.host_plan.proofs.TypedLemmas.{chain_typed, settled_there}
 use Rattle.host_plan.proofs.serving.serve_shard.Goals as goal
 
@@ -46,3 +47,22 @@ returns-clause-typed g c =
     subst (AllByRecursion (IsCommand short_keys)) (sym c.in_ok-commands.ensures.commands)
     (chain_typed short_keys tree key c.pending-element.result links c.command_of-command.result c.at.result c.requires.own.1.whole c.requires.own.0.kinds kind chain
     c.pending-element.ensures.stamp c.pending-element.ensures.verifier c.in_ok-commands.ensures.stamp c.command_of-command.ensures.typed)
+
+pub returns-clause-owns : goal.returns-clause-owns
+returns-clause-owns g c key own =
+    let digest = (g.D.Digests.functions c.args.d.now).digest in
+    let shard : Shard = shown c.args.shard.now in
+    let mine = key_path short_keys c.args.request.now.key in
+    let links : List Link = c.as_slice-3.result.now in
+    let chain = subst (λ (ls : List Link). IsChain short_keys (tree_of shard) mine shard.frontier shard.value ls) (sym c.as_slice-3.ensures.value) c.in_ok-links.ensures.chain in
+    let end : IsOf short_keys mine (values.Blob c.copy.result) =
+    subst (λ (blob : Option (List ℕ)). IsOf short_keys mine (values.Blob blob)) (sym c.copy.ensures.value) c.command_of-command.ensures.kind in
+    let touches = touched (shown c.settle.new.self).touches mine in (
+      served_is short_keys digest shard (shown c.settle.new.self) (shown c.touch.new.self) mine links (values.Blob c.copy.result) touches c.at-shard.result c.args.worker
+          (λ text. (g.met.D.Digests.text_digest_shape c.args.d.now text).size) c.requires.own.0 c.requires.own.1 end chain c.in_ok-settle.ensures.settled c.touch.ensures.touched,
+      record {
+        whole = own.1.whole;
+        below = served_owns short_keys digest shard (shown c.settle.new.self) (shown c.touch.new.self) (key_path short_keys key) links (values.Blob c.copy.result) touches
+            c.in_ok-settle.ensures.settled c.touch.ensures.touched own.1;
+      },
+    )
