@@ -1,0 +1,10 @@
+-- Shards that the tests serve requests on.
+use Rattle.std.specs.Prelude.{ℕ, Bool, List}
+use Rattle.tree_keys.specs.Path.{IsBelow}
+use Rattle.record_text.specs.Format.{short_keys}
+use Rattle.host_shard.specs.Content.{Content, key_path}
+use Rattle.host_plan.specs.Plan.{Owns}
+
+-- the content owns each key below this frontier
+abbrev pub OwnsBelow : List Bool → Content → Type 0
+OwnsBelow frontier content = (key : ℕ) → IsBelow frontier (key_path short_keys key) → Owns short_keys content key

@@ -1,0 +1,347 @@
+//! Plans, beside the rows that `tools/slow_plans.py` prints for the same requests.
+ghost use Rattle.std.specs.Prelude.{◌≡◌, ◌∷◌, [], true, false};
+ghost use Rattle.lamport_clocks.specs.Header.{IsHeader};
+ghost use Rattle.host_shard.specs.Shown.{shown_content};
+ghost use Rattle.host_tests.specs.Owned.{OwnsBelow};
+
+use crate::shards::{Host, clock_at, push_all, request_of, serve};
+use bundle_rows::log_of;
+use host_plan::setup;
+use host_shard::{Content, HotRecord};
+use lamport_clocks::{Header, Stamp};
+use record_hash::{Digests, ShaDigests, ToyDigests};
+use record_text::{Blob, Request};
+use stamp_order::PlainMap;
+use std::alloc::Global;
+use std::test::Fail;
+use verifier_run::Run;
+
+// What is tried, the worker, its clock's counter, requests on two shards, and the rows of the log.
+const CASES: [(&str, u16, u32, &str, &str); 6] = [
+    (
+        "a put and a get",
+        0,
+        2,
+        "
+put 5 6162
+get 5
+",
+        "
+addB /0 -,- 0.1 v0
+addM 5 none /0
+put 5 6162
+evictM 5 /0
+evictB /0 0.4
+addB /0 5:c6,- 0.4 v0
+addM 5 6162 /0
+get 5 6162
+evictM 5 /0
+evictB /0 0.6
+",
+    ),
+    (
+        "another worker's shard",
+        1,
+        0,
+        "
+put 9223372036854775808 01
+",
+        "
+addB /1 -,- 0.2 v0
+addM 9223372036854775808 none /1
+put 9223372036854775808 01
+evictM 9223372036854775808 /1
+evictB /1 0.4
+",
+    ),
+    (
+        "an unknown key, twice",
+        0,
+        2,
+        "
+get 7
+get 7
+",
+        "
+addB /0 -,- 0.1 v0
+addM 7 none /0
+get 7 none
+evictM 7 /0
+evictB /0 0.4
+addB /0 7:00,- 0.4 v0
+addM 7 none /0
+get 7 none
+evictM 7 /0
+evictB /0 0.6
+",
+    ),
+    (
+        "no bytes and no value",
+        0,
+        2,
+        "
+put 5 .
+get 5
+del 5
+get 5
+",
+        "
+addB /0 -,- 0.1 v0
+addM 5 none /0
+put 5 .
+evictM 5 /0
+evictB /0 0.4
+addB /0 5:01,- 0.4 v0
+addM 5 . /0
+get 5 .
+evictM 5 /0
+evictB /0 0.6
+addB /0 5:01,- 0.6 v0
+addM 5 . /0
+put 5 none
+evictM 5 /0
+evictB /0 0.8
+addB /0 5:00,- 0.8 v0
+addM 5 none /0
+get 5 none
+evictM 5 /0
+evictB /0 0.10
+",
+    ),
+    (
+        "keys that part at their last bit",
+        0,
+        2,
+        "
+put 0 61
+put 1 62
+put 18446744073709551615 63
+get 0
+",
+        "
+addB /0 -,- 0.1 v0
+addM 0 none /0
+put 0 61
+evictM 0 /0
+evictB /0 0.4
+addB /0 0:63,- 0.4 v0
+addM 0/63 -,- /0
+addM 1 none 0/63
+put 1 62
+evictM 1 0/63
+evictM 0/63 /0
+evictB /0 0.6
+addB /1 -,- 0.2 v0
+addM 18446744073709551615 none /1
+put 18446744073709551615 63
+evictM 18446744073709551615 /1
+evictB /1 0.8
+addB /0 0/63:014a,- 0.6 v0
+addM 0/63 0:63,1:64 /0
+addM 0 61 0/63
+get 0 61
+evictM 0 0/63
+evictM 0/63 /0
+evictB /0 0.10
+",
+    ),
+    (
+        "forks above and below a fork",
+        2,
+        9,
+        "
+put 6 01
+put 4 02
+put 5 03
+del 6
+get 5
+get 9223372036854775809
+",
+        "
+addB /0 -,- 0.1 v0
+addM 6 none /0
+put 6 01
+evictM 6 /0
+evictB /0 0.11
+addB /0 6:03,- 0.11 v2
+addM 4/62 -,- /0
+addM 4 none 4/62
+put 4 02
+evictM 4 4/62
+evictM 4/62 /0
+evictB /0 0.13
+addB /0 4/62:93,- 0.13 v2
+addM 4/62 4:04,6:03 /0
+addM 4/63 -,- 4/62
+addM 5 none 4/63
+put 5 03
+evictM 5 4/63
+evictM 4/63 4/62
+evictM 4/62 /0
+evictB /0 0.15
+addB /0 4/62:0122,- 0.15 v2
+addM 4/62 4/63:94,6:03 /0
+addM 6 01 4/62
+put 6 none
+evictM 6 4/62
+evictM 4/62 /0
+evictB /0 0.17
+addB /0 4/62:011f,- 0.17 v2
+addM 4/62 4/63:94,6:00 /0
+addM 4/63 4:04,5:05 4/62
+addM 5 03 4/63
+get 5 03
+evictM 5 4/63
+evictM 4/63 4/62
+evictM 4/62 /0
+evictB /0 0.19
+addB /1 -,- 0.2 v0
+addM 9223372036854775809 none /1
+get 9223372036854775809 none
+evictM 9223372036854775809 /1
+evictB /1 0.21
+",
+    ),
+];
+
+// The bytes that a worker logs for these requests on two new shards.
+fn logged(alloc: Global, worker: u16, counter: u32, requests: &str) -> Result<Vec<u8>, Fail> {
+    let mut host = Host::new(alloc, worker, counter);
+    for row in requests.trim().lines() {
+        let request = request_of(alloc, row)?;
+        host.serve(alloc, &ToyDigests, &request)?;
+    }
+    Ok(host.log)
+}
+
+#[test]
+fn plans_are_those_of_the_slow_program(rt: HostRuntime) -> Result<(), Fail> {
+    for (label, worker, counter, requests, rows) in CASES {
+        let log = logged(rt.alloc(), worker, counter, requests)?;
+        let wanted = match log_of(rt.alloc(), rows.trim()) {
+            Ok(bytes) => bytes,
+            Err(_) => return Err("a row that is no command")?,
+        };
+        assert_eq!(rt; log.as_slice(), wanted.as_slice(), "{label}");
+    }
+    Ok(())
+}
+
+// The next number of a linear congruential generator.
+fn next(x: u64) -> u64 {
+    x.wrapping_mul(6_364_136_223_846_793_005)
+        .wrapping_add(1_442_695_040_888_963_407)
+}
+
+// The request that a number stands for: one of 24 keys, half of them in each shard.
+fn request_by(number: u64) -> Option<Request> {
+    let key = (number >> 33) % 12 * 715_827_883 + (number >> 63 << 63);
+    let value = match (number >> 60) % 4 {
+        0 | 1 => None,
+        2 => Some(number.to_be_bytes()),
+        _ => Some([7; 8]),
+    };
+    Some(Request {
+        put: (number >> 59) % 2 == 1,
+        key,
+        value: match &value {
+            Some(bytes) => Blob::of_bytes(bytes)?,
+            None => Blob::none(),
+        },
+    })
+}
+
+// Serves so many requests, and compares each answer with what a plain map has at the key.
+fn serve_many<D: Digests>(alloc: Global, d: &D, host: &mut Host, count: u32) -> Result<(), Fail>
+    requires low { OwnsBelow (false ∷ []) (shown_content host.old.low) }
+    requires high { OwnsBelow (true ∷ []) (shown_content host.old.high) }
+{
+    let mut map = PlainMap::new(alloc);
+    let mut x = 5;
+    for _ in 0..count {
+        x = next(x);
+        let request = request_by(x).ok_or("no request")?;
+        let answer = host.serve(alloc, d, &request)?;
+        if request.put && map.put(request.key, request.value.copy()).is_err() {
+            return Err("no memory")?;
+        }
+        if answer != map.get(request.key) {
+            return Err("another answer")?;
+        }
+    }
+    Ok(())
+}
+
+#[test]
+fn a_verifier_accepts_what_the_host_logs(rt: HostRuntime) -> Result<(), Fail> {
+    let d = ShaDigests::new(&[7; 32]);
+    let header = header();
+    let mut host = Host::new(rt.alloc(), 0, 2);
+    let Ok((commands, _)) = setup(rt.alloc(), 2, &header) else {
+        return Err("no setup")?;
+    };
+    push_all(&mut host.log, commands.as_slice())?;
+    serve_many(rt.alloc(), &d, &mut host, 200)?;
+    let Ok(mut run) = Run::new(rt.alloc(), 0, &header) else {
+        return Err("no memory")?;
+    };
+    if run.feed(&d, host.log.as_slice()).is_err() {
+        return Err("no memory")?;
+    }
+    run.end();
+    assert_eq!(rt; run.refused(), None);
+    assert_eq!(rt; run.ops().len(), 200);
+    Ok(())
+}
+
+// One verifier, from epoch 0 on.
+fn header() -> Header
+    ensures header { IsHeader result }
+    ensures one { result.verifiers ≡ 1 }
+{
+    Header {
+        verifiers: 1,
+        cache: 128,
+        first: 0,
+        end: 16_777_215,
+    }
+}
+
+#[test]
+fn a_hot_key_is_taken_alone(rt: HostRuntime) -> Result<(), Fail> {
+    let mut content = Content::Hot(HotRecord {
+        key: 5,
+        value: Blob::of_bytes(b"ab").ok_or("no value")?,
+        stamp: Stamp {
+            epoch: 0,
+            counter: 7,
+        },
+        evictor: 3,
+        touches: 1,
+    });
+    let request = request_of(rt.alloc(), "get 5")?;
+    if request.key != 5 {
+        return Err("another key")?;
+    }
+    let mut clock = clock_at(2);
+    let mut log = Vec::new(rt.alloc());
+    let answer = serve(
+        rt.alloc(),
+        &ToyDigests,
+        &mut content,
+        &request,
+        1,
+        &mut clock,
+        &mut log,
+    )?;
+    assert_eq!(rt; answer, Blob::of_bytes(b"ab").ok_or("no value")?);
+    let Ok(wanted) = log_of(rt.alloc(), "addB 5 6162 0.7 v3\nget 5 6162\nevictB 5 0.9") else {
+        return Err("a row that is no command")?;
+    };
+    assert_eq!(rt; log, wanted);
+    let Content::Hot(kept) = &content else {
+        return Err("no hot record")?;
+    };
+    assert_eq!(rt; (kept.stamp.counter, kept.evictor, kept.touches), (9, 1, 2));
+    Ok(())
+}

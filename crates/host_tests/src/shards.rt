@@ -1,0 +1,173 @@
+//! A host of two shards, which requests are served on, and what it logs.
+ghost use Rattle.std.specs.Prelude.{◌≡◌, ◌<◌, ◌∷◌, [], ℕ, true, false, length};
+ghost use Rattle.record_text.specs.Format.{short_keys};
+ghost use Rattle.host_shard.specs.Shown.{shown_content};
+ghost use Rattle.host_plan.specs.Plan.{Owns};
+ghost use Rattle.host_tests.specs.Owned.{OwnsBelow};
+
+use host_plan::plan;
+use host_shard::{Content, Link, Shard, chain};
+use lamport_clocks::{Clock, Stamp};
+use log_codec::{Command, write};
+use record_hash::Digests;
+use record_text::{Blob, Request};
+use std::alloc::Global;
+use std::test::Fail;
+use tree_keys::Path;
+
+/// Two shards, a worker's clock, and what it logged.
+#[derive(Drop)]
+pub struct Host {
+    pub low: Content,
+    pub high: Content,
+    pub worker: u16,
+    pub clock: Clock,
+    pub log: Vec<u8>,
+}
+
+impl Host {
+    /// Two shards without records, as a setup leaves them, and a worker whose clock is at this counter.
+    pub fn new(alloc: Global, worker: u16, counter: u32) -> Self
+        ensures low { OwnsBelow (false ∷ []) (shown_content result.low) }
+        ensures high { OwnsBelow (true ∷ []) (shown_content result.high) }
+    {
+        let root = Path::root();
+        Host {
+            low: fresh(alloc, &root.child(false), 1),
+            high: fresh(alloc, &root.child(true), 2),
+            worker,
+            clock: clock_at(counter),
+            log: Vec::new(alloc),
+        }
+    }
+
+    /// Serves a request on the shard of its key, and logs its plan.
+    pub fn serve<D: Digests>(
+        &mut self,
+        alloc: Global,
+        d: &D,
+        request: &Request,
+    ) -> Result<Blob, Fail>
+        requires low { OwnsBelow (false ∷ []) (shown_content self.old.low) }
+        requires high { OwnsBelow (true ∷ []) (shown_content self.old.high) }
+        ensures low { OwnsBelow (false ∷ []) (shown_content self.new.low) }
+        ensures high { OwnsBelow (true ∷ []) (shown_content self.new.high) }
+    {
+        let path = Path::of_key(request.key);
+        let worker = self.worker;
+        if path.is_below(&Path::root().child(false)) {
+            return serve(
+                alloc,
+                d,
+                &mut self.low,
+                request,
+                worker,
+                &mut self.clock,
+                &mut self.log,
+            );
+        }
+        if path.is_below(&Path::root().child(true)) {
+            return serve(
+                alloc,
+                d,
+                &mut self.high,
+                request,
+                worker,
+                &mut self.clock,
+                &mut self.log,
+            );
+        }
+        Err("no shard")?
+    }
+
+    /// The links to a key of the lower shard.
+    pub fn links_to(&self, alloc: Global, key: u64) -> Result<Vec<Link>, Fail>
+        requires low { OwnsBelow (false ∷ []) (shown_content self.now.low) }
+    {
+        if !Path::of_key(key).is_below(&Path::root().child(false)) {
+            return Err("a key of the other shard")?;
+        }
+        match &self.low {
+            Content::Cold(shard) => match chain(alloc, shard, key) {
+                Ok(links) => Ok(links),
+                Err(_) => Err("no memory")?,
+            },
+            _ => Err("no shard")?,
+        }
+    }
+}
+
+// A shard without records, evicted last with this counter of epoch 0.
+fn fresh(alloc: Global, frontier: &Path, counter: u32) -> Content
+    requires below_root { 0 < length frontier.now }
+    requires no_data { length frontier.now < 64 }
+    ensures owns { OwnsBelow frontier.now (shown_content result) }
+{
+    let stamp = Stamp { epoch: 0, counter };
+    Content::Cold(Shard::new(alloc, *frontier, stamp, 0))
+}
+
+/// A clock of epoch 0 at this counter.
+pub fn clock_at(counter: u32) -> Clock {
+    let mut clock = Clock::new(0, 16_777_215);
+    let _ = clock.on_evict(Stamp { epoch: 0, counter });
+    clock
+}
+
+/// Serves a request on the content that owns its key, and logs its plan.
+pub fn serve<D: Digests>(
+    alloc: Global,
+    d: &D,
+    content: &mut Content,
+    request: &Request,
+    worker: u16,
+    clock: &mut Clock,
+    log: &mut Vec<u8>,
+) -> Result<Blob, Fail>
+    requires own { Owns short_keys (shown_content content.old) request.now.key }
+    ensures owns { (key : ℕ) → Owns short_keys (shown_content content.old) key
+        → Owns short_keys (shown_content content.new) key }
+{
+    let epoch = match content.pending() {
+        Some(element) => element.stamp.epoch,
+        None => return Err("a vacant place")?,
+    };
+    if epoch != clock.at().epoch {
+        return Err("another epoch")?;
+    }
+    match plan(alloc, d, content, request, worker, clock) {
+        Ok(plan) => {
+            push_all(log, plan.commands.as_slice())?;
+            Ok(plan.answer)
+        }
+        Err(_) => Err("no plan")?,
+    }
+}
+
+/// Adds the bytes of these commands to a log.
+pub fn push_all(log: &mut Vec<u8>, commands: &[Command]) -> Result<(), Fail> {
+    for command in commands {
+        log.extend_from_slice(write(command).as_slice())?;
+    }
+    Ok(())
+}
+
+/// The request of a row, as `get 5`, `del 5` and `put 5 6162`; a dot is no bytes.
+pub fn request_of(alloc: Global, row: &str) -> Result<Request, Fail> {
+    let mut words = row.split_whitespace();
+    let verb = words.next().ok_or("no request")?;
+    let key = words.next().ok_or("no key")?.parse()?;
+    let value = match words.next() {
+        None => Blob::none(),
+        Some(".") => Blob::of_bytes(&[]).ok_or("no value")?,
+        Some(digits) => {
+            let bytes = hex::decode(alloc, digits)?;
+            Blob::of_bytes(bytes.as_slice()).ok_or("a value too long")?
+        }
+    };
+    Ok(Request {
+        put: verb != "get",
+        key,
+        value,
+    })
+}
