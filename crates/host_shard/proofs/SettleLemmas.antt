@@ -46,7 +46,7 @@ opened_touches format kept p = fun_ext each
     each : (k : List Bool) → touches_in (opened format kept p) k ≡ touches_in kept k
     each k = at k (same_path k p) refl
 
--- opening is undone where the path is closed, if it had no record; else nothing was done
+-- opening is undone where the path is removed, if it had no record; else nothing was done
 pub reopened : (format : Format) (kept : Kept) (p : List Bool) → is_some (kept p) ≡ true → opened format kept p ≡ kept
 reopened format kept p some = sym (kept_same kept p _ (there (kept p) (new_record format p) some))
 
@@ -156,7 +156,7 @@ not_not : (b c : Bool) → b ≡ not c → c ≡ not b
 not_not b true is = ap not (sym is)
 not_not b false is = ap not (sym is)
 
--- a path that was opened anew is closed again
+-- a path that was opened anew is removed again
 pub undone_if_new : (format : Format) (kept mid : Kept) (p : List Bool) (new : Bool) → mid ≡ opened format kept p → new ≡ not (is_some (kept p)) → new ≡ true → with_kept mid p None ≡ kept
 undone_if_new format kept mid p new same is was =
     ap (λ (m : Kept). with_kept m p None) same ∙ undone format kept p (not_not new (is_some (kept p)) is ∙ ap not was)

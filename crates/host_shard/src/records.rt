@@ -64,8 +64,8 @@ impl Records {
     }
 
     /// Drops the record of a path.
-    pub fn close(&mut self, path: &Path)
-        ensures closed { record_at self.new ≡ with_kept (record_at self.old) path.now None }
+    pub fn remove(&mut self, path: &Path)
+        ensures removed { record_at self.new ≡ with_kept (record_at self.old) path.now None }
     {
         self.map.remove(path);
     }

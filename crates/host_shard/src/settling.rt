@@ -37,7 +37,7 @@ fn aimed<D: Digests>(d: &D, at: &Path, value: &Value, path: &Path, below: &Value
 }
 
 // Opens a record for each link on the way in, and sets its value on the way back, where the last one's becomes `last`. It
-// answers the value of the path before the links. For want of memory what was opened is closed again.
+// answers the value of the path before the links. For want of memory what was opened is removed again.
 pub(crate) fn settle<D: Digests>(
     d: &D,
     records: &mut Records,
@@ -66,7 +66,7 @@ pub(crate) fn settle<D: Digests>(
         }
         Err(memory) => {
             if new {
-                records.close(&link.path);
+                records.remove(&link.path);
             }
             Err(memory)
         }

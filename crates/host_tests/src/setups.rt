@@ -1,10 +1,10 @@
 //! Setups of two and of four shards, and where the counters end before each shard has one.
+use crate::rows::bytes_of;
 use crate::shards::push_all;
 use bundle_rows::log_of;
 use host_plan::{SetupFault, setup};
 use host_shard::Content;
 use lamport_clocks::{Header, Stamp};
-use std::alloc::Global;
 use std::test::Fail;
 use tree_keys::Path;
 
@@ -41,15 +41,6 @@ addM /11 initial /1
 evictBM /11 /1 0.4
 evictM /1 root
 ";
-
-// The bytes that these digits spell, between which blanks stand.
-fn bytes_of(alloc: Global, digits: &str) -> Result<Vec<u8>, Fail> {
-    let mut bytes = Vec::new(alloc);
-    for part in digits.split_whitespace() {
-        bytes.extend_from_slice(&hex::decode(alloc, part)?)?;
-    }
-    Ok(bytes)
-}
 
 // Whether a content is a shard without records at this frontier, evicted by verifier 0 with this counter.
 fn is_fresh(content: &Content, frontier: &Path, counter: u32) -> bool {

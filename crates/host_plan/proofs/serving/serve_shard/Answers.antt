@@ -58,7 +58,7 @@ returns-clause-owns g c key own =
     let end : IsOf short_keys mine (values.Blob c.copy.result) =
     subst (λ (blob : Option (List ℕ)). IsOf short_keys mine (values.Blob blob)) (sym c.copy.ensures.value) c.command_of-command.ensures.kind in
     let touches = touched (shown c.settle.new.self).touches mine in (
-      served_is short_keys digest shard (shown c.settle.new.self) (shown c.touch.new.self) mine links (values.Blob c.copy.result) touches c.at-shard.result c.args.worker
+      served_is short_keys digest shard (shown c.settle.new.self) (shown c.touch.new.self) mine links (values.Blob c.copy.result) touches _ _
           (λ text. (g.met.D.Digests.text_digest_shape c.args.d.now text).size) c.requires.own.0 c.requires.own.1 end chain c.in_ok-settle.ensures.settled c.touch.ensures.touched,
       record {
         whole = own.1.whole;

@@ -28,7 +28,7 @@ returns-in-Ok-clause-touches g t c =
 pub returns-after-new-clause-as_before : goal.returns-after-new-clause-as_before
 returns-after-new-clause-as_before g t c = elim c.if-new.branch [
   | then-new w ↦
-      ap record_at w.records-is ∙ w.close.ensures.closed
+      ap record_at w.records-is ∙ w.remove.ensures.removed
       ∙ undone_if_new short_keys (record_at c.args.records.now) (record_at c.settle.new.records) c.in-Some.parts.0.now.path c.in_ok-new.new
       (c.in-Err.ensures.as_before ∙ c.in_ok-new.ensures.opened) c.in_ok-new.ensures.new w.if-new.true
   | else-new w ↦
