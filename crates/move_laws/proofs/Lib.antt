@@ -5,3 +5,5 @@ mod RenewLemmas
 mod StageLemmas
 mod SteadyLaws
 mod CounterLaws
+mod EventLemmas
+mod DeedLemmas

@@ -2,7 +2,8 @@
 use Rattle.std.proofs.Common.{◌≡◌, ◌⊎◌, ℕ, ◌+◌, ◌*◌, ◌<◌, ◌≤◌, Bool, true, false, List, [], ◌∷◌, ◌++◌, map, length, if◌then◌else◌, Ok, refl, ◌∙◌, ap, inl, inr, arith}
 use Rattle.std.specs.Prelude.{◌==◌}
 use Rattle.std.specs.Int.{Width, w8, w16, w32, w64, w128, byte_len}
-use Rattle.std.specs.List.{AllByRecursion}
+use Rattle.std.specs.List.{AllByRecursion, flat_map}
+use Rattle.soundness.specs.Certified.{sealed_by}
 use Rattle.std.proofs.Math.Nat.{le-max_left}
 use Rattle.std.proofs.lemmas.Bool.{false≢true}
 use Rattle.tree_keys.specs.BitsLaws.{length-bits_of}
@@ -115,6 +116,11 @@ evicted-renewing rules clock (found ∷ more) =
 pub no_access-renewing : (rules : Rules) (clock : Reading) (records : List HotRecord) → accesses_told (told_renewing rules clock records) ≡ []
 no_access-renewing rules clock [] = refl
 no_access-renewing rules clock (found ∷ more) = no_access-renewing rules (renewing clock found.stamp) more
+
+pub unsealed-renewing : (rules : Rules) (clock : Reading) (records : List HotRecord)
+    → flat_map (λ (one : Stamp × Change). sealed_by one.1) (told_renewing rules clock records) ≡ []
+unsealed-renewing rules clock [] = refl
+unsealed-renewing rules clock (found ∷ more) = unsealed-renewing rules (renewing clock found.stamp) more
 
 -- no record is carried
 pub carried-renewing : (rules : Rules) (clock : Reading) (records : List HotRecord) (path : List Bool) → carried path (told_renewing rules clock records) ≡ []

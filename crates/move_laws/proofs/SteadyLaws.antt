@@ -2,7 +2,13 @@
 use Rattle.std.proofs.Common.{◌≡◌, ◌⊎◌, ℕ, ◌<◌, ◌≤◌, Bool, true, false, List, [], ◌∷◌, ◌++◌, map, length, Option, Some, refl, sym, ◌∙◌, ap, subst, inl, inr, arith}
 use Rattle.std.specs.List.{AllByRecursion}
 use Rattle.std.proofs.lemmas.Bool.{false≢true, cases_lt}
+use Rattle.std.proofs.lemmas.List.Concat.{flat_map-append}
+use Rattle.lamport_clocks.specs.declared.stamp.Stamp.{Stamp}
 use Rattle.lamport_clocks.specs.Reading.{Reading}
+use Rattle.lamport_clocks.specs.Stamp.{IsLater}
+use Rattle.lamport_clocks.proofs.ClockLaws.{received-above, sent-later}
+use Rattle.soundness.specs.Certified.{sealed_by}
+use Rattle.host_laws.proofs.RunLaws.{received-taken, sent-given}
 use Rattle.lamport_clocks.specs.Clock.{is_open}
 use Rattle.soundness.specs.Permutation.{count_of}
 use Rattle.record_text.specs.declared.element.Element.{Element}
@@ -40,7 +46,7 @@ use Rattle.move_laws.specs.Kept.{AreCarried}
 use Rattle.move_laws.specs.Moved.{StageMirrors, CanMove, IsOfClock, IsTakable, MoveRuns, IsSteady, at_stage}
 use Rattle.move_laws.proofs.CountLemmas.{weight, count-front, count-append}
 use Rattle.move_laws.proofs.PlaceLemmas.{IsOne, AreApart, all-are, all-map}
-use Rattle.move_laws.proofs.RenewLemmas.{not_root, renewing-up, renewing_each-open, renewing_each-end, renewing_each-epoch, told_renewing, renewing-runs, renewed_each, added-renewing, evicted-renewing, no_access-renewing, carried-renewing, carries-renewing, renewed-weight, renewed-keys, renewed-all, renewed-fresh, IsFresh}
+use Rattle.move_laws.proofs.RenewLemmas.{not_root, renewing-up, renewing_each-open, renewing_each-end, renewing_each-epoch, told_renewing, renewing-runs, renewed_each, added-renewing, evicted-renewing, no_access-renewing, unsealed-renewing, carried-renewing, carries-renewing, renewed-weight, renewed-keys, renewed-all, renewed-fresh, IsFresh}
 use Rattle.move_laws.proofs.StageLemmas.{all-images, images-all, apart_from-pairs, all_split, weight_split, all_touched, apart_touched, no_trips}
 
 -- the clock once the touched hot records are renewed
@@ -64,6 +70,13 @@ not_past counter end past = go (cases_lt end counter)
     go : (end < counter) ⊎ (counter ≤ end) → counter ≤ end
     go (inl over) = absurd (past over)
     go (inr within) = within
+
+-- later than what is later
+later-trans : (s t u : Stamp) → IsLater t s → IsLater u t → IsLater u s
+later-trans s t u (inl a) (inl b) = inl (omega arith)
+later-trans s t u (inl a) (inr b) = inl (omega arith)
+later-trans s t u (inr a) (inl b) = inl (omega arith)
+later-trans s t u (inr a) (inr b) = inr (a.0 ∙ b.0, omega arith)
 
 steady_runs : (rules : Rules) (cache : Held) (threshold : Option ℕ) (stage : Stage) (due : List ℕ)
     → IsSteady threshold stage → AreDue rules.scheme.format stage threshold due → CanMove rules cache threshold stage
@@ -99,6 +112,13 @@ steady_runs rules cache threshold stage due steady are can mirrors = record {
   renewed = ((refl, renewing_each-epoch stage.clock touched), images-all (pending_hot format) (IsOfClock rules stage.clock) (hot_records new.places) fresh);
   no_access = accesses_told-append (told_renewing rules stage.clock touched) _
       ∙ ap (λ (xs : List Access). xs ++ []) (no_access-renewing rules stage.clock touched);
+  unsealed = flat_map-append (λ (one : Stamp × Change). sealed_by one.1) (told_renewing rules stage.clock touched) _
+      ∙ ap (λ (xs : List ℕ). xs ++ []) (unsealed-renewing rules stage.clock touched);
+  rises = later-trans stage.shard.stamp (taking (renewed_clock stage) stage.shard.stamp).at new.shard.stamp
+      (received-above (renewed_clock stage) (taking (renewed_clock stage) stage.shard.stamp) stage.shard.stamp
+      (received-taken (renewed_clock stage) stage.shard.stamp open_still (omega (arith, within))))
+      (sent-later (taking (renewed_clock stage) stage.shard.stamp) (renewing (renewed_clock stage) stage.shard.stamp) new.shard.stamp
+      (sent-given (taking (renewed_clock stage) stage.shard.stamp) within));
   kept = λ path. subst (AreCarried path (stage.shard.records path) (stage.shard.records path)) (sym (carried_none path)) (λ value is. is);
   own = λ path not_below. carried_none path;
   within = λ path. all-append _ (told_renewing rules stage.clock touched) _

@@ -1,7 +1,8 @@
 -- What the commands of a move do to the verifier of its worker, and when a stage mirrors what the verifiers hold of it.
 use Rattle.std.specs.Prelude.{◌≡◌, ℕ, ◌<◌, Bool, true, List, [], ◌∷◌, map, Option, Some, None, IsTrue, Ok}
-use Rattle.std.specs.List.{AllByRecursion}
+use Rattle.std.specs.List.{AllByRecursion, flat_map}
 use Rattle.tree_keys.specs.Path.{IsBelow}
+use Rattle.lamport_clocks.specs.Stamp.{IsLater}
 use Rattle.lamport_clocks.specs.Reading.{Reading}
 use Rattle.lamport_clocks.specs.Clock.{is_open}
 use Rattle.record_text.specs.declared.element.Element.{Element}
@@ -12,7 +13,8 @@ use Rattle.merkle_records.specs.Merkle.{Digest}
 use Rattle.verifier_cache.specs.Cache.{Held}
 use Rattle.verifier_commands.specs.declared.state.State.{State}
 use Rattle.verifier_commands.specs.Transition.{Rules}
-use Rattle.soundness.specs.Permutation.{count_of}
+use Rattle.soundness.specs.Certified.{sealed_by}
+use Rattle.host_core.specs.Deeds.{AreSame}
 use Rattle.host_shard.specs.Shard.{pending_shard}
 use Rattle.host_shard.specs.Content.{pending_hot}
 use Rattle.host_laws.specs.Running.{Told, run, added_told, evicted_told, accesses_told}
@@ -26,10 +28,6 @@ use Rattle.move_laws.specs.Kept.{AreCarried}
 -- the elements with which a shard and its hot places wait
 abbrev pub waiting_in : Format → Stage → List Element
 waiting_in format stage = pending_shard stage.shard ∷ map (pending_hot format) (hot_records stage.places)
-
--- the same elements, each as often
-abbrev pub AreSame : List Element → List Element → Type 0
-AreSame xs ys = (x : Element) → count_of x xs ≡ count_of x ys
 
 -- The stage mirrors: the shard does where the records in hot places are hot, and each of these has a value of its kind.
 pub record StageMirrors (format : Format) (digest : Digest) (stage : Stage) : Type 0 where
@@ -58,7 +56,7 @@ IsOfClock rules clock element = (element.verifier ≡ rules.number) × (element.
 
 -- The move runs: the verifier accepts its commands at the stage's clock, the same entries are cached afterwards, and the
 -- clock is the new stage's. They add the elements with which the stage waited and evict those with which the new one waits, which are of
--- this verifier and this epoch; they read and write no data. Each record below the frontier is carried as it is kept before and
+-- this verifier and this epoch; they read and write no data and seal no epoch. Each record below the frontier is carried as it is kept before and
 -- after, no other is, and what carries one is done after the frontier's old stamp, up to its new one.
 pub record MoveRuns (rules : Rules) (cache : Held) (old new : Stage) (commands : List Command) : Type 0 where
   pub told : Told
@@ -67,10 +65,12 @@ pub record MoveRuns (rules : Rules) (cache : Held) (old new : Stage) (commands :
   pub evicted : AreSame (evicted_told told) (waiting_in rules.scheme.format new)
   pub renewed : AllByRecursion (IsOfClock rules old.clock) (waiting_in rules.scheme.format new)
   pub no_access : accesses_told told ≡ []
+  pub unsealed : flat_map (λ one. sealed_by one.1) told ≡ []
   pub kept : (path : List Bool) → AreCarried path (old.shard.records path) (new.shard.records path) (carried path told)
   pub own : (path : List Bool) → (IsBelow old.shard.frontier path → ⊥) → carried path told ≡ []
   pub within : (path : List Bool) → AllByRecursion
       (λ one. carries path one.1 ≡ true → IsWithin (Some (pending_shard old.shard)) (Some (pending_shard new.shard)) one.0) told
+  pub rises : IsLater new.shard.stamp old.shard.stamp
 
 -- No hot record comes back and no key becomes hot: each hot record was touched, and no threshold is given.
 pub record IsSteady (threshold : Option ℕ) (stage : Stage) : Type 0 where

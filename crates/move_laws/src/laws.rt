@@ -11,6 +11,7 @@ ghost use Rattle.soundness.specs.Typed.{IsTyped};
 ghost use Rattle.protection_moves.specs.Stage.{Stage};
 ghost use Rattle.protection_moves.specs.Errand.{clock_needed};
 ghost use Rattle.protection_moves.specs.Move.{IsMove};
+ghost use Rattle.move_laws.specs.Deed.{IsClearMove, IsMoveDeed};
 ghost use Rattle.move_laws.specs.Moved.{CanMove, IsSteady, MoveRuns, StageMirrors};
 
 /// A verifier at rest accepts the commands of a move: it takes in what waited, hands out what then waits, and rests again.
@@ -40,4 +41,13 @@ pub fn a_move_is_typed()
 pub fn a_move_takes_what_is_counted()
     ensures clock { (format : Format) (digest : Digest) (worker : ℕ) (threshold : Option ℕ) (old new : Stage) (commands : List Command)
         → (is : IsMove format digest worker threshold old commands new) → new.clock ≡ clock_needed old is.due }
+{}
+
+/// A move that runs is a deed of a machine that knows the events of its commands, and a clear one: there is nothing to
+/// show of it against the verifiers.
+pub fn a_move_is_a_deed()
+    ensures deed { (rules : Rules) (cache : Held) (old new : Stage) (commands : List Command)
+        → MoveRuns rules cache old new commands → IsMoveDeed rules cache old new commands }
+    ensures clear { (rules : Rules) (cache : Held) (old new : Stage) (commands : List Command)
+        → MoveRuns rules cache old new commands → IsClearMove rules cache old new commands }
 {}

@@ -6,4 +6,6 @@
 
 mod laws;
 
-pub use laws::{a_move_is_typed, a_move_mirrors, a_move_runs, a_move_takes_what_is_counted};
+pub use laws::{
+    a_move_is_a_deed, a_move_is_typed, a_move_mirrors, a_move_runs, a_move_takes_what_is_counted,
+};
