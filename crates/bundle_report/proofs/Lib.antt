@@ -17,5 +17,5 @@ mod MoreLaws
 pub mod SoFarLaws
 pub mod LinesLaws
 pub mod DueLaws
-pub mod AnswerLaws
+mod AnswerLaws
 pub mod HeadlineLaws

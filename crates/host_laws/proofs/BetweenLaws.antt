@@ -26,7 +26,7 @@ use Rattle.host_plan.specs.Moments.{taking, renewing}
 use Rattle.host_plan.specs.Visit.{between}
 use Rattle.host_laws.specs.Running.{Told, run}
 use Rattle.host_laws.specs.Served.{IsBare}
-use Rattle.host_laws.proofs.MomentLemmas.{received-taken, sent-given, received-ended, sent-ended}
+use Rattle.host_laws.proofs.MomentLaws.{received-taken, sent-given, received-ended, sent-ended}
 use Rattle.host_laws.proofs.StepLemmas.{test-passed, need-there, timed-there}
 use Rattle.host_laws.proofs.RunLaws.{run-one, run-step, run-append, run-refused, run-step_refused, run-append_refused}
 use Rattle.host_laws.proofs.StandingLemmas.{entry_of-last, without-last}

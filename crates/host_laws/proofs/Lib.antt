@@ -5,7 +5,7 @@ pub mod RunLaws
 pub mod ToldLaws
 mod StandingLemmas
 mod FamilyLemmas
-mod MomentLemmas
+pub mod MomentLaws
 pub mod WorksLaws
 pub mod ForkLaws
 pub mod ChainLaws

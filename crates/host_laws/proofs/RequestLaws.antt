@@ -36,7 +36,7 @@ use Rattle.host_laws.specs.Served.{IsResting, CanTake, IsWithin, waiting, kept_i
 use Rattle.host_laws.proofs.ToldLaws.{added_told-append, evicted_told-append, accesses_told-append, carried-append, all-append}
 use Rattle.host_laws.proofs.EndLemmas.{IsEnd, change_by, told_request, works_request}
 use Rattle.host_laws.proofs.VisitLemmas.{Visited, visited}
-use Rattle.host_laws.proofs.MomentLemmas.{received-taken, sent-given}
+use Rattle.host_laws.proofs.MomentLaws.{received-taken, sent-given}
 use Rattle.host_laws.proofs.FrontierLaws.{leads, frontier_there, frontier_of, frontier_based, chain_length}
 use Rattle.host_laws.proofs.BetweenLaws.{clear-bare, length-bare, told_between, between_runs, between_ends}
 

@@ -32,7 +32,7 @@ use Rattle.host_laws.proofs.StepLemmas.{test-passed, need-there, and_then-there,
 use Rattle.host_laws.proofs.RunLaws.{run-none, run-one, run-step, run-append}
 use Rattle.host_laws.proofs.StandingLemmas.{entry_of-last, entry_of-front, entry_of-neither, replaced-last, replaced-front, without-last}
 use Rattle.host_laws.proofs.FamilyLemmas.{Fits, parent_of, leaves, lending, is_lent}
-use Rattle.host_laws.proofs.MomentLemmas.{sent-given}
+use Rattle.host_laws.proofs.MomentLaws.{sent-given}
 
 -- nothing of this path or below it stands among the entries
 abbrev pub IsClear : List Bool → List Entry → Type 0

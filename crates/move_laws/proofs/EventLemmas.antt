@@ -16,7 +16,8 @@ use Rattle.verifier_commands.specs.declared.state.State.{State}
 use Rattle.verifier_commands.specs.Change.{Change, did_add_m, did_evict_m, did_add_b, did_evict_b, did_evict_bm, did_get, did_put, did_next_epoch}
 use Rattle.verifier_commands.specs.Changes.{above}
 use Rattle.verifier_commands.specs.Transition.{Rules, Step}
-use Rattle.soundness.specs.History.{Event, machinery_under}
+use Rattle.soundness.specs.History.{Event}
+use Rattle.soundness.specs.StateHistory.{machinery_under}
 use Rattle.soundness.specs.Certified.{added_by, evicted_by, sealed_by, operations_in}
 use Rattle.soundness.specs.Timed.{added_among, evicted_among}
 use Rattle.soundness.specs.Clash.{LastEvicted, is_known, differing, clash_at, first_clash, with_last_evicted}

@@ -8,7 +8,7 @@ use Rattle.lamport_clocks.specs.Reading.{Reading}
 use Rattle.lamport_clocks.specs.Stamp.{IsLater}
 use Rattle.lamport_clocks.proofs.ClockLaws.{received-above, sent-later}
 use Rattle.soundness.specs.Certified.{sealed_by}
-use Rattle.host_laws.proofs.RunLaws.{received-taken, sent-given}
+use Rattle.host_laws.proofs.MomentLaws.{received-taken, sent-given}
 use Rattle.lamport_clocks.specs.Clock.{is_open}
 use Rattle.soundness.specs.Permutation.{count_of}
 use Rattle.record_text.specs.declared.element.Element.{Element}

@@ -6,7 +6,8 @@ use Rattle.lamport_clocks.specs.Stamp.{IsLater}
 use Rattle.log_codec.specs.declared.command.Command.{Command}
 use Rattle.verifier_cache.specs.Cache.{Held}
 use Rattle.verifier_commands.specs.Transition.{Rules}
-use Rattle.soundness.specs.History.{Event, events_from, machinery_under}
+use Rattle.soundness.specs.History.{Event}
+use Rattle.soundness.specs.StateHistory.{events_from, machinery_under}
 use Rattle.soundness.specs.Certified.{operations_in, sealed_count}
 use Rattle.soundness.specs.Timed.{added_among, evicted_among}
 use Rattle.soundness.specs.Clash.{LastEvicted, first_clash}
