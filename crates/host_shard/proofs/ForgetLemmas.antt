@@ -19,9 +19,9 @@ record_at-forgotten listed = fun_ext (λ path. each path listed)
     each path [] = refl
     each path (e ∷ more) =
         elim (same_path path e.0) as (λ b. cond b (Some (forgotten e.1)) (lookup (same_path path) (map (λ (o : List Bool × Record). (o.0, forgotten o.1)) more))
-            ≡ option_map forgotten (cond b (Some e.1) (lookup (same_path path) more))) [
-          true ↦ refl
-        | false ↦ each path more
+        ≡ option_map forgotten (cond b (Some e.1) (lookup (same_path path) more))) [
+          | true ↦ refl
+          | false ↦ each path more
         ]
 
 -- their values are the same

@@ -93,7 +93,7 @@ module _ (format : Format) (tree : Tree) (key : List Bool) where
         link = link_behind format tree key at value
 
         go : (length key ≤ steps + length link.path → is_prefix link.path key ≡ true → IsOf format link.path link.taken
-                → IsChain format tree key link.path link.taken (links_within steps format tree key link.path link.taken))
+            → IsChain format tree key link.path link.taken (links_within steps format tree key link.path link.taken))
             → (b : Bool) → same_path at key ≡ b
             → IsChain format tree key at value (if same_path at key then [] else link ∷ links_within steps format tree key link.path link.taken)
         go more true same =

@@ -19,7 +19,7 @@ links_within zero format tree key at value = []
 links_within (suc steps) format tree key at value =
     if same_path at key then []
     else link_behind format tree key at value
-        ∷ links_within steps format tree key (link_behind format tree key at value).path (link_behind format tree key at value).taken
+    ∷ links_within steps format tree key (link_behind format tree key at value).path (link_behind format tree key at value).taken
 
 -- The links from a shard's frontier to a path: no chain has more than a key has bits.
 abbrev pub links_in : Format → Shard → List Bool → List Link
