@@ -1,3 +1,3 @@
 -- Lemmas on the shipped host.
-pub mod LinkLaws
+mod LinkLaws
 mod ServeLemmas
