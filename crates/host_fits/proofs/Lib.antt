@@ -1,7 +1,7 @@
--- How it is proved that the host fits the machine, in reading order: what is told of a run as events, the way to a key, a
+-- How it is proved that the host fits the machine, in reading order: what it keeps, what is told of a run as events, a
 -- request, a close, the setup, and the whole.
+mod Keeping
 mod EventLemmas
-mod WayLemmas
 mod DeedLemmas
 mod PlaceLemmas
 mod ServeLemmas
@@ -9,6 +9,8 @@ mod ClearLemmas
 mod FitLemmas
 mod RestLemmas
 mod OpenLemmas
+mod SettingLemmas
+mod RangeLemmas
 mod PlanLemmas
 mod SteadyLemmas
 mod PromiseLemmas

@@ -37,8 +37,8 @@ use Rattle.host_laws.proofs.ContentsLaws.{length-child}
 use Rattle.host_laws.proofs.RunLaws.{run-history}
 use Rattle.host_laws.proofs.SetUpLaws.{setup_runs}
 use Rattle.host_mirrors.proofs.FirstLaws.{new_mirrors}
-use Rattle.host_fits.specs.Shipped.{Setting, with_seats, shipped, PlacesMirror, kept_of}
-use Rattle.host_fits.specs.Promise.{IsSetting}
+use Rattle.host_world.specs.ShippedHost.{hot_places, new_seats}
+use Rattle.host_fits.proofs.Keeping.{Setting, IsSetting, ranged, PlacesMirror, kept_of}
 use Rattle.host_fits.proofs.EventLemmas.{ask_of, touching-events, touching-none}
 use Rattle.host_fits.proofs.DeedLemmas.{is_deed}
 use Rattle.host_fits.proofs.PlaceLemmas.{home_of, waiting_behind}
@@ -83,7 +83,7 @@ module _ (setting : Setting) (is_setting : IsSetting setting) where
   first = setting.header.first
 
   abbrev after_of : List (List Bool) → List (List Content)
-  after_of frontiers = with_seats setting.seats format first frontiers
+  after_of frontiers = map new_seats (first_contents format first frontiers)
 
   new_places : (frontiers : List (List Bool)) (number : ℕ) → AreNumbered setting.bits number frontiers → (s : ℕ) → s < length (after_of frontiers)
       → PlacesMirror setting (number + s) (get_or (after_of frontiers) s [])
@@ -100,41 +100,41 @@ module _ (setting : Setting) (is_setting : IsSetting setting) where
       subst (λ (n : ℕ). PlacesMirror setting n (get_or (after_of frontiers) s [])) (omega arith)
       (new_places frontiers (suc number) numbered.2 s (omega (arith, within)))
 
-  pub setup_mirrored : (s : ℕ) → s < length (shipped setting).setup.after → PlacesMirror setting s (get_or (shipped setting).setup.after s [])
+  pub setup_mirrored : (s : ℕ) → s < length (ranged setting).setup.after → PlacesMirror setting s (get_or (ranged setting).setup.after s [])
   setup_mirrored s within =
-      subst (λ (n : ℕ). PlacesMirror setting n (get_or (shipped setting).setup.after s [])) (ap (λ (n : ℕ). n * 2 ^ setting.bits + s) number_of-none ∙ omega arith)
+      subst (λ (n : ℕ). PlacesMirror setting n (get_or (ranged setting).setup.after s [])) (ap (λ (n : ℕ). n * 2 ^ setting.bits + s) number_of-none ∙ omega arith)
       (new_places (paths_below setting.bits []) (number_of [] * 2 ^ setting.bits) (numbered_below setting.bits setting.bits [] (omega arith)) s within)
 
   -- what waits there
-  waits_first : (frontiers : List (List Bool)) → pending_of (shipped setting) (flat_map (λ contents. contents) (after_of frontiers))
+  waits_first : (frontiers : List (List Bool)) → pending_of (ranged setting) (flat_map (λ contents. contents) (after_of frontiers))
       ≡ flat_map (λ content. waiting (pending format content)) (first_contents format first frontiers)
   waits_first [] = refl
   waits_first (frontier ∷ frontiers) =
-      flat_map-append (λ (content : Content). waiting (pending format content)) (first_content format first frontier ∷ replicate setting.seats vacant) (flat_map (λ contents. contents) (after_of frontiers))
-      ∙ (ap (λ (xs : List Element). (waiting (pending format (first_content format first frontier)) ++ xs) ++ pending_of (shipped setting) (flat_map (λ contents. contents) (after_of frontiers)))
-      (waiting_behind format setting.seats)
+      flat_map-append (λ (content : Content). waiting (pending format content)) (first_content format first frontier ∷ replicate hot_places vacant) (flat_map (λ contents. contents) (after_of frontiers))
+      ∙ (ap (λ (xs : List Element). (waiting (pending format (first_content format first frontier)) ++ xs) ++ pending_of (ranged setting) (flat_map (λ contents. contents) (after_of frontiers)))
+      (waiting_behind format hot_places)
       ∙ ap (λ (xs : List Element). waiting (pending format (first_content format first frontier)) ++ xs) (waits_first frontiers))
 
-  stamped_first : (frontiers : List (List Bool)) → AllByRecursion (IsStamped (shipped setting) first) (flat_map (λ content. waiting (pending format content)) (first_contents format first frontiers))
+  stamped_first : (frontiers : List (List Bool)) → AllByRecursion (IsStamped (ranged setting) first) (flat_map (λ content. waiting (pending format content)) (first_contents format first frontiers))
   stamped_first [] = tt
   stamped_first (frontier ∷ frontiers) = ((is_setting.some, refl), stamped_first frontiers)
 
-  abbrev ran : SetupRuns (scheme (shipped setting)) setting.header setting.bits
-  ran = setup_runs (scheme (shipped setting)) setting.header setting.bits is_setting.shards
+  abbrev ran : SetupRuns (scheme (ranged setting)) setting.header setting.bits
+  ran = setup_runs (scheme (ranged setting)) setting.header setting.bits is_setting.shards
 
-  pub setup_deed : IsDeed (shipped setting) 0 (opening 0 setting.header) (shipped setting).setup.commands (shipped setting).setup.clock
-      [] (flat_map (λ contents. contents) (shipped setting).setup.after) []
+  pub setup_deed : IsDeed (ranged setting) 0 (opening 0 setting.header) (ranged setting).setup.commands (ranged setting).setup.clock
+      [] (flat_map (λ contents. contents) (ranged setting).setup.after) []
   setup_deed =
-      is_deed (shipped setting) 0 (opening 0 setting.header) (shipped setting).setup.commands ran.told (shipped setting).setup.clock [] (flat_map (λ contents. contents) (shipped setting).setup.after) []
+      is_deed (ranged setting) 0 (opening 0 setting.header) (ranged setting).setup.commands ran.told (ranged setting).setup.clock [] (flat_map (λ contents. contents) (ranged setting).setup.after) []
       ran.runs ran.typed
       (record { first = refl; end = refl; reading = record { within = is_setting.shards.counters; from_first = omega arith } })
       refl
-      (subst (AllByRecursion (IsStamped (shipped setting) first)) (sym (waits_first (paths_below setting.bits []))) (stamped_first (paths_below setting.bits [])))
+      (subst (AllByRecursion (IsStamped (ranged setting) first)) (sym (waits_first (paths_below setting.bits []))) (stamped_first (paths_below setting.bits [])))
       ran.added (ran.evicted ∙ sym (waits_first (paths_below setting.bits [])))
       (ap (λ (xs : List Access). map (ask_of first) xs) ran.accesses)
 
   -- the verifiers that set nothing up are at rest
-  pub others_rest : (i : ℕ) → 1 ≤ i → opening i setting.header ≡ resting (shipped setting) i (opening_reading setting.header.first setting.header.end)
+  pub others_rest : (i : ℕ) → 1 ≤ i → opening i setting.header ≡ resting (ranged setting) i (opening_reading setting.header.first setting.header.end)
   others_rest i some = both_none (i == 0) root_entry _ (grind (arith, nat_tests))
     where
       both_none : (b : Bool) (x y : Entry) → b ≡ false
@@ -169,11 +169,11 @@ module _ (setting : Setting) (is_setting : IsSetting setting) where
       behind (did_put before after) is rest = rest last
       behind (did_next_epoch sealed) is rest = rest last
 
-  history : IsHistory (rules_under (scheme (shipped setting)) setting.header 0) (opening 0 setting.header) (shipped setting).setup.commands ran.told
-  history = run-history (rules_under (scheme (shipped setting)) setting.header 0) (opening 0 setting.header) (set_up_state (scheme (shipped setting)) setting.header setting.bits) (shipped setting).setup.commands ran.told ran.runs
+  history : IsHistory (rules_under (scheme (ranged setting)) setting.header 0) (opening 0 setting.header) (ranged setting).setup.commands ran.told
+  history = run-history (rules_under (scheme (ranged setting)) setting.header 0) (opening 0 setting.header) (set_up_state (scheme (ranged setting)) setting.header setting.bits) (ranged setting).setup.commands ran.told ran.runs
 
   abbrev events : List Event
-  events = events_from (machinery (shipped setting) 0) 0 0 (opening 0 setting.header) (shipped setting).setup.commands
+  events = events_from (machinery (ranged setting) 0) 0 0 (opening 0 setting.header) (ranged setting).setup.commands
 
   pub setup_clear : (path : List Bool) → first_clash format none_evicted (changes_in (touching path events)) ≡ None
   setup_clear path =
@@ -187,7 +187,7 @@ module _ (setting : Setting) (is_setting : IsSetting setting) where
   none_kept (frontier ∷ frontiers) zero path = refl
   none_kept (frontier ∷ frontiers) (suc s) path = none_kept frontiers s path
 
-  pub setup_apart : (path : List Bool) (s : ℕ) → home_of setting.bits path ≡ Some s → (touching path events ≡ []) × (kept_of (get_or (shipped setting).setup.after s []) path ≡ None)
+  pub setup_apart : (path : List Bool) (s : ℕ) → home_of setting.bits path ≡ Some s → (touching path events ≡ []) × (kept_of (get_or (ranged setting).setup.after s []) path ≡ None)
   setup_apart path s home = (
     ap (λ (es : List Event). touching path es) (history.events 0 0) ∙ touching-none path 0 0 ran.told (ran.apart path longer),
     none_kept (paths_below setting.bits []) s path,

@@ -1,5 +1,5 @@
 -- The places of a shard: which one a request is served at, what waits at them, and which paths are the shard's.
-use Rattle.std.proofs.Common.{◌≡◌, ◌⊎◌, ℕ, zero, suc, ◌<◌, ◌≤◌, Bool, true, false, List, [], length, take, replicate, get_or, Option, Some, None, IsSome, is_some, nat_lt, nat_le, if◌then◌else◌, refl, sym, ◌∙◌, ap, subst, inl, inr, arith}
+use Rattle.std.proofs.Common.{◌≡◌, ◌⊎◌, ℕ, zero, suc, ◌<◌, ◌≤◌, Bool, true, false, List, [], length, take, replicate, get_or, Option, Some, None, IsSome, is_some, nat_lt, if◌then◌else◌, refl, sym, ◌∙◌, ap, subst, inl, inr, arith}
 use Rattle.std.specs.Prelude.{◌&&◌}
 use Rattle.std.specs.List.{flat_map}
 use Rattle.std.proofs.lemmas.List.{length-take}
@@ -16,21 +16,38 @@ use Rattle.record_text.specs.Format.{Format}
 use Rattle.host_shard.specs.Content.{vacant, pending}
 use Rattle.host_laws.specs.Served.{waiting}
 use Rattle.host_core.specs.Host.{Done}
-use Rattle.host_fits.specs.Shipped.{within_end}
 
 -- both of two tests
 pub both : (a b : Bool) → (a && b) ≡ true → (a ≡ true) × (b ≡ true)
 both true b is = (refl, is)
 both false b is = absurd (false≢true is)
 
--- what is done within the end
-pub done_within : {X : Type 0} (done found : Done X) → within_end done ≡ Some found → (done ≡ found) × (done.clock.at.counter ≤ done.clock.end)
-done_within done found is = go (nat_le done.clock.at.counter done.clock.end) refl is
+-- what is done where no counter passes the end
+pub done_within : {X : Type 0} (end counter : ℕ) (done found : Done X) → (if nat_lt end counter then None else Some done) ≡ Some found
+    → (done ≡ found) × (counter ≤ end)
+done_within end counter done found is = go (nat_lt end counter) refl is
   where
-    go : (b : Bool) → nat_le done.clock.at.counter done.clock.end ≡ b → (if b then Some done else None) ≡ Some found
-        → (done ≡ found) × (done.clock.at.counter ≤ done.clock.end)
-    go true within is = (same_Some done found is, grind (arith, nat_tests))
-    go false past is = absurd (none-some found is)
+    go : (b : Bool) → nat_lt end counter ≡ b → (if b then None else Some done) ≡ Some found → (done ≡ found) × (counter ≤ end)
+    go true past is = absurd (none-some found is)
+    go false within is = (same_Some done found is, grind (arith, nat_tests))
+
+-- and where one does
+pub none_past : {X : Type 0} (end counter : ℕ) (done : Done X) → (if nat_lt end counter then None else Some done) ≡ None → end < counter
+none_past end counter done is = go (nat_lt end counter) refl is
+  where
+    go : (b : Bool) → nat_lt end counter ≡ b → (if b then None else Some done) ≡ None → end < counter
+    go true past none = grind (arith, nat_tests)
+    go false within none = absurd (none-some done (sym none))
+
+pub past_none : {X : Type 0} (end counter : ℕ) (done : Done X) → end < counter → (if nat_lt end counter then None else Some done) ≡ None
+past_none end counter done past =
+    let test : nat_lt end counter ≡ true = grind (arith, nat_tests) in
+    ap (λ (b : Bool). if b then None else Some done) test
+
+pub within_some : {X : Type 0} (end counter : ℕ) (done : Done X) → counter ≤ end → (if nat_lt end counter then None else Some done) ≡ Some done
+within_some end counter done within =
+    let test : nat_lt end counter ≡ false = grind (arith, nat_tests) in
+    ap (λ (b : Bool). if b then None else Some done) test
 
 -- a place behind the first is vacant
 pub vacant_behind : (seats j : ℕ) → get_or (replicate seats vacant) j vacant ≡ vacant

@@ -26,13 +26,13 @@ use Rattle.host_laws.proofs.BetweenLaws.{clear-bare, length-bare, told_between, 
 use Rattle.host_laws.proofs.FrontierLaws.{frontier_there}
 use Rattle.host_laws.proofs.RequestLaws.{not_root, within_between}
 use Rattle.host_mirrors.specs.Mirroring.{IsMirrored}
-use Rattle.host_fits.specs.Shipped.{Setting, rested, rested_at, shipped, PlacesMirror, shipped_keeping}
-use Rattle.host_fits.specs.Promise.{IsSetting}
+use Rattle.host_world.specs.ShippedHost.{hot_places}
+use Rattle.host_fits.proofs.Keeping.{Setting, IsSetting, ranged, rested, rested_at, places, PlacesMirror, keeping_of}
 use Rattle.host_fits.proofs.DeedLemmas.{is_deed}
 use Rattle.host_fits.proofs.PlaceLemmas.{done_within, waiting_behind}
 use Rattle.host_fits.proofs.ClearLemmas.{not_after, renewing-rises}
 use Rattle.host_fits.proofs.ServeLemmas.{bare_at_rest}
-use Rattle.host_fits.proofs.FitLemmas.{AtShard, places, at_shard, all-weaker, clear_deed}
+use Rattle.host_fits.proofs.FitLemmas.{AtShard, at_shard, all-weaker, clear_deed}
 
 open_before : (clock : Reading) (first epoch stamp : ℕ) → clock.first ≡ first → clock.at.epoch ≡ suc epoch → stamp ≡ epoch → first ≤ stamp → is_open clock stamp ≡ true
 open_before clock first epoch stamp one two three four = grind (arith, nat_tests)
@@ -41,10 +41,10 @@ module _ (setting : Setting) (worker : ℕ) (clock : Reading) (epoch s : ℕ) (s
     (at : AtShard setting worker clock epoch s shard) (turned : clock.at.epoch ≡ suc epoch)
     (within : (renewing clock shard.stamp).at.counter ≤ clock.end) where
   abbrev rules : Rules
-  rules = rules_under (scheme (shipped setting)) setting.header worker
+  rules = rules_under (scheme (ranged setting)) setting.header worker
 
   abbrev state : State
-  state = resting (shipped setting) worker clock
+  state = resting (ranged setting) worker clock
 
   abbrev left : Shard
   left = rested worker shard clock
@@ -53,7 +53,7 @@ module _ (setting : Setting) (worker : ℕ) (clock : Reading) (epoch s : ℕ) (s
   told = told_between rules (pending_shard shard) shard.value clock []
 
   abbrev done : Done (List Content)
-  done = rested_at worker clock (places setting (cold shard))
+  done = rested_at worker clock shard
 
   taken : is_open clock shard.stamp.epoch ≡ true
   taken = open_before clock setting.header.first epoch shard.stamp.epoch at.is_clock.first turned at.epoch_there at.from_first
@@ -61,25 +61,25 @@ module _ (setting : Setting) (worker : ℕ) (clock : Reading) (epoch s : ℕ) (s
   apart : is_root shard.frontier ≡ false
   apart = not_root shard.frontier at.mirrored.fits.below_root
 
-  runs : run rules state done.commands ≡ Ok (told, resting (shipped setting) worker done.clock)
+  runs : run rules state done.commands ≡ Ok (told, resting (ranged setting) worker done.clock)
   runs =
       between_runs rules state (pending_shard shard) 0 [] [] shard.value apart (clear-bare state.cache.entries shard.frontier (bare_at_rest setting worker) apart)
       (omega (arith, length-bare state.cache.entries (bare_at_rest setting worker), at.settled.room)) at.known taken within
       (works-none rules 0 shard.frontier B shard.value (taking clock shard.stamp))
 
   -- the element of the places of a shard
-  waits : (content : Content) → flat_map (λ c. waiting (pending (format_of setting.header) c)) (places setting content) ≡ waiting (pending (format_of setting.header) content)
+  waits : (content : Content) → flat_map (λ c. waiting (pending (format_of setting.header) c)) (places content) ≡ waiting (pending (format_of setting.header) content)
   waits content =
-      ap (λ (xs : List Element). waiting (pending (format_of setting.header) content) ++ xs) (waiting_behind (format_of setting.header) setting.seats)
+      ap (λ (xs : List Element). waiting (pending (format_of setting.header) content) ++ xs) (waiting_behind (format_of setting.header) hot_places)
       ∙ append-nil (waiting (pending (format_of setting.header) content))
 
-  rest_deed : IsDeed (shipped setting) worker state done.commands done.clock (places setting (cold shard)) done.after []
+  rest_deed : IsDeed (ranged setting) worker state done.commands done.clock (places (cold shard)) done.after []
   rest_deed =
-      is_deed (shipped setting) worker state done.commands told done.clock (places setting (cold shard)) done.after [] runs
+      is_deed (ranged setting) worker state done.commands told done.clock (places (cold shard)) done.after [] runs
       (at.mirrored.fits.kinds shard.frontier shard.value (frontier_there shard), (tt, tt))
       (record { first = at.is_clock.first; end = at.is_clock.end; reading = record { within = within; from_first = at.is_clock.reading.from_first } })
       refl
-      (subst (AllByRecursion (IsStamped (shipped setting) clock.at.epoch)) (sym (waits (cold left))) ((at.there, refl), tt))
+      (subst (AllByRecursion (IsStamped (ranged setting) clock.at.epoch)) (sym (waits (cold left))) ((at.there, refl), tt))
       (sym (waits (cold shard))) (sym (waits (cold left))) refl
 
   rest_mirrors : IsMirrored (format_of setting.header) setting.functions.digest left []
@@ -95,7 +95,7 @@ module _ (setting : Setting) (worker : ℕ) (clock : Reading) (epoch s : ℕ) (s
     };
   }
 
-  pub rest_fits : MoveFits (PlacesMirror setting) (shipped setting) worker clock s (places setting (cold shard)) done
+  pub rest_fits : MoveFits (PlacesMirror setting) (ranged setting) worker clock s (places (cold shard)) done
   rest_fits = record {
     deed = rest_deed;
     mirrored = record {
@@ -108,9 +108,9 @@ module _ (setting : Setting) (worker : ℕ) (clock : Reading) (epoch s : ℕ) (s
     };
   }
 
-  pub rest_clear : IsClearDeed (PlacesMirror setting) (shipped_keeping setting) (shipped setting) worker state done.commands s (places setting (cold shard)) done.after
+  pub rest_clear : IsClearDeed (PlacesMirror setting) (keeping_of setting) (ranged setting) worker state done.commands s (places (cold shard)) done.after
   rest_clear =
-      clear_deed setting worker state (resting (shipped setting) worker done.clock) done.commands told s (places setting (cold shard)) done.after runs
+      clear_deed setting worker state (resting (ranged setting) worker done.clock) done.commands told s (places (cold shard)) done.after runs
       (λ path. inl (refl, refl)) (λ path not_home. refl)
       (all-weaker (IsWithin (Some (pending_shard shard)) (Some (pending_shard left))) (λ stamp. IsLater stamp shard.stamp) (λ stamp is. is.0) told stamps)
       (all-weaker (IsWithin (Some (pending_shard shard)) (Some (pending_shard left))) (λ stamp. IsNotAfter stamp left.stamp) (λ stamp is. not_after stamp left.stamp is.1) told stamps)
@@ -122,17 +122,17 @@ module _ (setting : Setting) (worker : ℕ) (clock : Reading) (epoch s : ℕ) (s
 -- it fits, and is clear
 abbrev pub BothMove : Setting → ℕ → Reading → ℕ → List Content → Done (List Content) → Type 0
 BothMove setting worker clock s contents found =
-    MoveFits (PlacesMirror setting) (shipped setting) worker clock s contents found
-    × IsClearDeed (PlacesMirror setting) (shipped_keeping setting) (shipped setting) worker (resting (shipped setting) worker clock) found.commands s contents found.after
+    MoveFits (PlacesMirror setting) (ranged setting) worker clock s contents found
+    × IsClearDeed (PlacesMirror setting) (keeping_of setting) (ranged setting) worker (resting (ranged setting) worker clock) found.commands s contents found.after
 
 -- what a worker does for a shard at a close
 pub rest_any : (setting : Setting) (worker epoch : ℕ) (clock : Reading) (s : ℕ) (contents : List Content) (found : Done (List Content))
-    → IsSetting setting → IsReady (PlacesMirror setting) (shipped setting) worker clock epoch s contents → clock.at.epoch ≡ suc epoch
-    → (shipped setting).move worker clock s contents ≡ Some found → BothMove setting worker clock s contents found
+    → IsSetting setting → IsReady (PlacesMirror setting) (ranged setting) worker clock epoch s contents → clock.at.epoch ≡ suc epoch
+    → (ranged setting).move worker clock s contents ≡ Some found → BothMove setting worker clock s contents found
 rest_any setting worker epoch clock s contents found is_setting ready turned is =
     subst (λ (cs : List Content). BothMove setting worker clock s cs found) (sym ready.mirrored.all)
-    (let did = done_within (rested_at worker clock (places setting (cold ready.mirrored.shard))) found
-    (subst (λ (cs : List Content). (shipped setting).move worker clock s cs ≡ Some found) ready.mirrored.all is) in
+    (let did = done_within clock.end (renewing clock ready.mirrored.shard.stamp).at.counter (rested_at worker clock ready.mirrored.shard) found
+    (subst (λ (cs : List Content). (ranged setting).move worker clock s cs ≡ Some found) ready.mirrored.all is) in
     let at = at_shard setting worker clock epoch s contents is_setting ready in
-    subst (λ (f : Done (List Content)). BothMove setting worker clock s (places setting (cold ready.mirrored.shard)) f) did.0
+    subst (λ (f : Done (List Content)). BothMove setting worker clock s (places (cold ready.mirrored.shard)) f) did.0
     (rest_fits setting worker clock epoch s ready.mirrored.shard at turned did.1, rest_clear setting worker clock epoch s ready.mirrored.shard at turned did.1))

@@ -3,7 +3,7 @@ use Rattle.std.proofs.Common.{◌≡◌, ◌⊎◌, ℕ, ◌^◌, ◌<◌, ◌�
 use Rattle.std.specs.Prelude.{◌==◌}
 use Rattle.std.proofs.lemmas.Bool.Decides.{nat_tests}
 use Rattle.tree_keys.specs.BitsLaws.{length-bits_of, number_back}
-use Rattle.tree_keys.specs.Path.{side, IsBelow}
+use Rattle.tree_keys.specs.Path.{side, is_prefix, IsBelow}
 use Rattle.tree_keys.proofs.SideLaws.{prefix_cases}
 use Rattle.lamport_clocks.specs.Reading.{Reading}
 use Rattle.lamport_clocks.specs.Clock.{is_open}
@@ -32,6 +32,9 @@ use Rattle.host_plan.specs.Plan.{IsServable, IsPlan}
 use Rattle.host_plan.specs.declared.plans.Plan.{Plan}
 use Rattle.host_core.specs.Host.{Done, scheme, resting}
 use Rattle.host_core.specs.Deeds.{IsClock, IsDeed}
+use Rattle.host_world.specs.Links.{links_of}
+use Rattle.host_world.specs.ShippedHost.{is_blob, told, resting_cache}
+use Rattle.host_world.proofs.LinkLaws.{shard_links_are}
 use Rattle.host_laws.specs.Served.{IsBare, CanTake, PlanRuns}
 use Rattle.host_laws.specs.SettingUp.{set_up_root}
 use Rattle.host_laws.proofs.ChainLaws.{LeadTo}
@@ -40,16 +43,13 @@ use Rattle.host_laws.proofs.RequestLaws.{plan_runs}
 use Rattle.host_mirrors.specs.Mirroring.{IsMirrored}
 use Rattle.host_mirrors.proofs.FirstLaws.{among_none}
 use Rattle.host_mirrors.proofs.MirrorLaws.{last_kind, served_mirrors, plan_typed}
-use Rattle.host_fits.specs.Shipped.{Setting, links_to, served_at, is_short, is_request, is_owner, cached_at_rest, told_request, shipped}
-use Rattle.host_fits.specs.Promise.{IsSetting}
+use Rattle.host_fits.proofs.Keeping.{Setting, IsSetting, served_at, ranged}
 use Rattle.host_fits.proofs.EventLemmas.{ask_of}
-use Rattle.host_fits.proofs.WayLemmas.{way_chain}
 use Rattle.host_fits.proofs.DeedLemmas.{is_deed}
-use Rattle.host_fits.proofs.PlaceLemmas.{both}
 
 -- ---- requests
 
-short_blob : (format : Format) (blob : Option (List ℕ)) → is_short format blob ≡ true → IsBlob format blob
+short_blob : (format : Format) (blob : Option (List ℕ)) → is_blob format blob ≡ true → IsBlob format blob
 short_blob format None is = tt
 short_blob format (Some bytes) is = grind (arith, nat_tests)
 
@@ -73,7 +73,7 @@ bare_if : (b : Bool) (root : Entry) → root.path ≡ [] → IsBare (if b then r
 bare_if true root is = inr (root, is, refl)
 bare_if false root is = inl refl
 
-pub bare_at_rest : (setting : Setting) (worker : ℕ) → IsBare (cached_at_rest setting worker)
+pub bare_at_rest : (setting : Setting) (worker : ℕ) → IsBare (resting_cache setting.functions setting.header setting.bits worker).entries
 bare_at_rest setting worker =
     bare_if (worker == 0) (new_entry [] (values.Node (set_up_root (format_of setting.header) setting.functions.digest setting.bits)) Root) refl
 
@@ -88,8 +88,9 @@ pub record MayServeShard (setting : Setting) (worker : ℕ) (clock : Reading) (s
   pub known : shard.evictor < setting.header.verifiers
   pub epoch : shard.stamp.epoch ≡ clock.at.epoch
   pub mirrored : IsMirrored (format_of setting.header) setting.functions.digest shard []
-  pub asked : is_request (format_of setting.header) request ≡ true
-  pub owned : is_owner (format_of setting.header) (cold shard) request.key ≡ true
+  pub in_range : nat_lt request.key (2 ^ path_bits (format_of setting.header)) ≡ true
+  pub short : is_blob (format_of setting.header) request.value ≡ true
+  pub owned : is_prefix shard.frontier (key_path (format_of setting.header) request.key) ≡ true
   pub counters : (renewing clock shard.stamp).at.counter ≤ clock.end
 
 module _ (setting : Setting) (worker : ℕ) (clock : Reading) (shard : Shard) (request : Request) (may : MayServeShard setting worker clock shard request) where
@@ -101,13 +102,13 @@ module _ (setting : Setting) (worker : ℕ) (clock : Reading) (shard : Shard) (r
 
   -- the links, and what is done
   abbrev links : List Link
-  links = links_to format (cold shard) request.key
+  links = links_of format (cold shard) request.key
 
   abbrev done : Done Content
   done = served_at setting worker clock (cold shard) request
 
   abbrev rules : Rules
-  rules = rules_under (scheme (shipped setting)) setting.header worker
+  rules = rules_under (scheme (ranged setting)) setting.header worker
 
   whole : length key ≡ path_bits format
   whole = length-bits_of (path_bits format) request.key
@@ -129,7 +130,7 @@ module _ (setting : Setting) (worker : ℕ) (clock : Reading) (shard : Shard) (r
   kind = may.mirrored.fits.kinds shard.frontier shard.value (frontier_there shard)
 
   chain : IsChain format (tree_of shard) key shard.frontier shard.value links
-  chain = way_chain format setting.functions.digest (tree_of shard) key lead (path_bits format) shard.frontier shard.value kind (frontier_of shard) may.owned (omega arith)
+  chain = shard_links_are format shard key may.mirrored.fits own
 
   abbrev found : Value
   found = last_value shard.value links
@@ -154,7 +155,7 @@ module _ (setting : Setting) (worker : ℕ) (clock : Reading) (shard : Shard) (r
   is_plan : IsPlan format setting.functions.digest worker (cold shard) request clock plan done.after done.clock
   is_plan = record { links = links; way = chain; commands = refl; answer = answers; content = refl; clock = refl }
 
-  can : CanTake rules (resting (shipped setting) worker clock) (cold shard)
+  can : CanTake rules (resting (ranged setting) worker clock) (cold shard)
   can = record {
     rest = record {
       bare = bare_at_rest setting worker;
@@ -165,19 +166,19 @@ module _ (setting : Setting) (worker : ℕ) (clock : Reading) (shard : Shard) (r
     counters = may.counters;
   }
 
-  pub plan_run : PlanRuns rules (resting (shipped setting) worker clock) (cold shard) done.after request plan done.clock
-  plan_run = plan_runs rules (resting (shipped setting) worker clock) (cold shard) done.after request plan done.clock can servable is_plan
+  pub plan_run : PlanRuns rules (resting (ranged setting) worker clock) (cold shard) done.after request plan done.clock
+  plan_run = plan_runs rules (resting (ranged setting) worker clock) (cold shard) done.after request plan done.clock can servable is_plan
 
   fits_blob : IsBlob format request.value
-  fits_blob = short_blob format request.value (both (nat_lt request.key (2 ^ path_bits format)) (is_short format request.value) may.asked).1
+  fits_blob = short_blob format request.value may.short
 
   small : request.key < 2 ^ path_bits format
-  small = let test = (both (nat_lt request.key (2 ^ path_bits format)) (is_short format request.value) may.asked).0 in grind (arith, nat_tests)
+  small = let test = may.in_range in grind (arith, nat_tests)
 
-  pub deed : worker < setting.header.verifiers → IsClock (shipped setting) clock
-      → IsDeed (shipped setting) worker (resting (shipped setting) worker clock) done.commands done.clock (cold shard ∷ []) (done.after ∷ []) ((clock.at.epoch, told_request request) ∷ [])
+  pub deed : worker < setting.header.verifiers → IsClock (ranged setting) clock
+      → IsDeed (ranged setting) worker (resting (ranged setting) worker clock) done.commands done.clock (cold shard ∷ []) (done.after ∷ []) ((clock.at.epoch, told request) ∷ [])
   deed there is_clock =
-      is_deed (shipped setting) worker (resting (shipped setting) worker clock) done.commands plan_run.told done.clock (cold shard ∷ []) (done.after ∷ []) ((clock.at.epoch, told_request request) ∷ [])
+      is_deed (ranged setting) worker (resting (ranged setting) worker clock) done.commands plan_run.told done.clock (cold shard ∷ []) (done.after ∷ []) ((clock.at.epoch, told request) ∷ [])
       plan_run.runs
       (plan_typed format setting.functions.digest worker [] (cold shard) done.after request clock done.clock plan fits_blob may.mirrored (may.mirrored.fits, own) (among_none key) is_plan)
       (record { first = is_clock.first; end = is_clock.end; reading = record { within = may.counters; from_first = is_clock.reading.from_first } })

@@ -1,7 +1,7 @@
 -- What a request does to a clock and to an element, whatever else there is.
-use Rattle.std.proofs.Common.{◌≡◌, ◌≢◌, ℕ, ◌<◌, ◌≤◌, max, Bool, true, false, List, [], ◌∷◌, length, get_or, set, nat_eq, nat_le, nat_lt, Some, None, if◌then◌else◌, eq-eqb, refl, sym, ◌∙◌, ap, subst, arith}
-use Rattle.std.specs.Prelude.{◌&&◌}
-use Rattle.std.specs.List.{AllByRecursion}
+use Rattle.std.proofs.Common.{◌≡◌, ◌≢◌, ℕ, zero, suc, ◌<◌, ◌≤◌, max, Bool, true, false, List, [], ◌∷◌, length, get_or, set, nat_eq, nat_lt, not, Some, None, if◌then◌else◌, eq-eqb, refl, sym, ◌∙◌, ap, subst, arith}
+use Rattle.std.specs.Prelude.{◌&&◌, ◌||◌}
+use Rattle.std.specs.List.{AllByRecursion, list_any}
 use Rattle.std.proofs.lemmas.Bool.{false≢true}
 use Rattle.std.proofs.lemmas.Bool.Decides.{nat_tests}
 use Rattle.std.proofs.lemmas.List.{get_or_past, get_or-set_same, get_or-set_other}
@@ -10,21 +10,34 @@ use Rattle.lamport_clocks.specs.declared.stamp.Stamp.{Stamp}
 use Rattle.lamport_clocks.specs.Reading.{Reading}
 use Rattle.lamport_clocks.specs.Clock.{greater_counter}
 use Rattle.lamport_clocks.proofs.ClockLaws.{greater_than_other}
+use Rattle.tree_keys.specs.Path.{is_prefix}
+use Rattle.record_hash.specs.Functions.{DigestFunctions}
 use Rattle.record_text.specs.declared.element.Element.{Element}
 use Rattle.record_text.specs.declared.request.Request.{Request}
 use Rattle.record_text.specs.Format.{Format, format_of}
+use Rattle.merkle_records.specs.Merkle.{Digest}
+use Rattle.script_text.specs.declared.task.Task.{Task}
 use Rattle.host_shard.specs.declared.link.Link.{Link}
+use Rattle.host_shard.specs.declared.content.HotRecord.{HotRecord}
 use Rattle.host_shard.specs.Shard.{pending_shard}
-use Rattle.host_shard.specs.Content.{Content, cold, hot, vacant, pending_hot}
+use Rattle.host_shard.specs.Content.{Content, cold, hot, vacant, key_path, pending_hot}
 use Rattle.host_plan.specs.Moments.{renewing}
 use Rattle.host_plan.specs.Request.{served, served_hot}
 use Rattle.host_plan.specs.Plan.{content_after, clock_after}
-use Rattle.host_core.specs.Host.{Done}
+use Rattle.host_core.specs.Host.{Done, Host}
 use Rattle.host_order.specs.Steady.{HasOne, MovesOn, IsUpFrom, IsSteady}
 use Rattle.host_order.specs.Close.{MovesKeepEpoch}
-use Rattle.host_fits.specs.Shipped.{Setting, links_to, served_at, is_request, is_owner, rested_at, within_end, shipped}
-use Rattle.host_fits.proofs.PlaceLemmas.{both, done_within}
-use Rattle.host_fits.proofs.PlanLemmas.{past-done}
+use Rattle.protection_moves.specs.Stage.{Stage, is_hot_at, touched_in}
+use Rattle.protection_moves.specs.Renewing.{renewing_each}
+use Rattle.protection_moves.specs.Errand.{Errand, demotes, promotes, clock_needed}
+use Rattle.protection_moves.specs.Trip.{Trip, done_by, done_by_each}
+use Rattle.protection_moves.specs.Move.{begun}
+use Rattle.host_world.specs.declared.settings.Settings.{Settings}
+use Rattle.host_world.specs.Links.{links_of}
+use Rattle.host_world.specs.Moving.{stage_of, trips_of, done_with, move_seats}
+use Rattle.host_world.specs.ShippedHost.{is_blob, serves_key, shipped_host}
+use Rattle.host_fits.proofs.Keeping.{Setting, setting_of, served_at}
+use Rattle.host_fits.proofs.PlaceLemmas.{both, done_within, none_past, past_none}
 
 one_same : (x y : Element) → ◌≡◌ {A = List Element} (x ∷ []) (y ∷ []) → x ≡ y
 one_same x y is = cc
@@ -32,31 +45,76 @@ one_same x y is = cc
 none_one : (x : Element) → ◌≡◌ {A = List Element} [] (x ∷ []) → ⊥
 none_one x is = absurd (cc)
 
-module _ (setting : Setting) where
+-- a test of the contents doesn't change with one that is put there, where it finds that as it found the one before
+any_set : (test : Content → Bool) (contents : List Content) (k : ℕ) (new : Content) → test new ≡ test (get_or contents k vacant)
+    → list_any test (set contents k new) ≡ list_any test contents
+any_set test [] zero new same = refl
+any_set test [] (suc k) new same = refl
+any_set test (content ∷ contents) zero new same = ap (λ (b : Bool). b || list_any test contents) same
+any_set test (content ∷ contents) (suc k) new same = ap (λ (b : Bool). test content || b) (any_set test contents k new same)
+
+-- ---- the epoch of a move
+
+renew_epoch : (clock : Reading) (found : List HotRecord) → (renewing_each clock found).at.epoch ≡ clock.at.epoch
+renew_epoch clock [] = refl
+renew_epoch clock (one ∷ more) = renew_epoch (renewing clock one.stamp) more
+
+errand_epoch : (format : Format) (digest : Digest) (worker : ℕ) (stage : Stage) (errand : Errand) (links : List Link)
+    → (done_by format digest worker stage errand links).clock.at.epoch ≡ stage.clock.at.epoch
+errand_epoch format digest worker stage (demotes found) links = refl
+errand_epoch format digest worker stage (promotes key) links = refl
+
+trips_epoch : (format : Format) (digest : Digest) (worker : ℕ) (stage : Stage) (trips : List Trip)
+    → (done_by_each format digest worker stage trips).clock.at.epoch ≡ stage.clock.at.epoch
+trips_epoch format digest worker stage [] = refl
+trips_epoch format digest worker stage (trip ∷ trips) =
+    trips_epoch format digest worker (done_by format digest worker stage trip.errand trip.links) trips
+    ∙ errand_epoch format digest worker stage trip.errand trip.links
+
+move_epoch : (format : Format) (digest : Digest) (worker : ℕ) (clock : Reading) (contents : List Content) (done : Done (List Content))
+    → move_seats format digest worker (stage_of clock contents) ≡ Some done → done.clock.at.epoch ≡ clock.at.epoch
+move_epoch format digest worker clock [] done is = absurd (none-some done is)
+move_epoch format digest worker clock (cold shard ∷ rest) done is =
+    ap (λ (d : Done (List Content)). d.clock.at.epoch)
+    (sym (done_within clock.end (clock_needed stage []).at.counter (done_with format digest worker stage (trips_of format digest worker stage [])) done is).0)
+    ∙ (trips_epoch format digest worker (begun worker stage) (trips_of format digest worker stage []) ∙ renew_epoch clock (touched_in rest))
+  where
+    stage : Stage
+    stage = record { shard = shard; places = rest; clock = clock }
+move_epoch format digest worker clock (hot found ∷ rest) done is = absurd (none-some done is)
+move_epoch format digest worker clock (vacant ∷ rest) done is = absurd (none-some done is)
+
+module _ (functions : DigestFunctions) (settings : Settings) (script : List (List Task)) where
+  abbrev host : Host Content Request
+  host = shipped_host functions settings script
+
+  abbrev setting : Setting
+  setting = setting_of functions settings script
+
   abbrev format : Format
-  format = format_of setting.header
+  format = format_of settings.header
 
   -- ---- the clock
 
   -- an element's stamp is taken in and the next counter handed out
-  renewed : (content : Content) (clock : Reading) (element : Element) → (shipped setting).pending content ≡ element ∷ []
+  renewed : (content : Content) (clock : Reading) (element : Element) → host.pending content ≡ element ∷ []
       → clock_after content clock ≡ renewing clock element.stamp
   renewed (cold shard) clock element is = ap (λ (x : Element). renewing clock x.stamp) (one_same (pending_shard shard) element is)
   renewed (hot found) clock element is = ap (λ (x : Element). renewing clock x.stamp) (one_same (pending_hot format found) element is)
   renewed vacant clock element is = absurd (none_one element is)
 
   -- and it is left with that stamp
-  leaves_one : (worker : ℕ) (content : Content) (links : List Link) (request : Request) (clock : Reading) (element : Element) → (shipped setting).pending content ≡ element ∷ []
-      → (new : Element) × ((shipped setting).pending (content_after format setting.functions.digest worker content links request clock) ≡ new ∷ []) × (new.stamp ≡ (clock_after content clock).at)
+  leaves_one : (worker : ℕ) (content : Content) (links : List Link) (request : Request) (clock : Reading) (element : Element) → host.pending content ≡ element ∷ []
+      → (new : Element) × (host.pending (content_after format functions.digest worker content links request clock) ≡ new ∷ []) × (new.stamp ≡ (clock_after content clock).at)
   leaves_one worker (cold shard) links request clock element is =
-      (pending_shard (served format setting.functions.digest worker shard links request clock), refl, refl)
+      (pending_shard (served format functions.digest worker shard links request clock), refl, refl)
   leaves_one worker (hot found) links request clock element is = (pending_hot format (served_hot worker found request clock), refl, refl)
   leaves_one worker vacant links request clock element is = absurd (none_one element is)
 
-  moves_on : (worker : ℕ) (clock : Reading) (before : Content) (request : Request) (done : Done Content) → HasOne (shipped setting) before
-      → (shipped setting).serve worker clock before request ≡ Some done → MovesOn (shipped setting) clock before done
+  moves_on : (worker : ℕ) (clock : Reading) (before : Content) (request : Request) (done : Done Content) → HasOne host before
+      → host.serve worker clock before request ≡ Some done → MovesOn host clock before done
   moves_on worker clock before request done one is =
-      subst (MovesOn (shipped setting) clock before) (done_within (served_at setting worker clock before request) done is).0
+      subst (MovesOn host clock before) (done_within clock.end (clock_after before clock).at.counter (served_at setting worker clock before request) done is).0
       (record {
         epoch = ap (λ (r : Reading). r.at.epoch) after;
         later = subst (λ (r : Reading). clock.at.counter < r.at.counter) (sym after) (omega arith);
@@ -64,7 +122,7 @@ module _ (setting : Setting) where
             let of_epoch = subst (λ (xs : List Element). AllByRecursion (λ (e : Element). e.stamp.epoch ≡ clock.at.epoch) xs) one.1 all in
             subst (λ (xs : List Element). AllByRecursion (λ (e : Element). e.stamp.counter < (clock_after before clock).at.counter) xs) (sym one.1)
             (subst (λ (r : Reading). one.0.stamp.counter < r.at.counter) (sym after) (omega (arith, greater_than_other clock.at one.0.stamp of_epoch.0)), tt);
-        new = leaves_one worker before (links_to format before request.key) request clock one.0 one.1;
+        new = leaves_one worker before (links_of format before request.key) request clock one.0 one.1;
       })
     where
       after : clock_after before clock ≡ renewing clock one.0.stamp
@@ -72,60 +130,77 @@ module _ (setting : Setting) where
 
   -- ---- who owns what
 
-  owner_after : (worker : ℕ) (content : Content) (links : List Link) (request : Request) (clock : Reading) (key : ℕ)
-      → is_owner format (content_after format setting.functions.digest worker content links request clock) key ≡ is_owner format content key
-  owner_after worker (cold shard) links request clock key = refl
-  owner_after worker (hot found) links request clock key = refl
-  owner_after worker vacant links request clock key = refl
+  -- what comes of a content serves the same keys
+  serves_after : (seats : List Content) (key : ℕ) (worker : ℕ) (content : Content) (links : List Link) (request : Request) (clock : Reading)
+      → serves_key format seats key (content_after format functions.digest worker content links request clock) ≡ serves_key format seats key content
+  serves_after seats key worker (cold shard) links request clock = refl
+  serves_after seats key worker (hot found) links request clock = refl
+  serves_after seats key worker vacant links request clock = refl
+
+  hot_after : (key worker : ℕ) (content : Content) (links : List Link) (request : Request) (clock : Reading)
+      → is_hot_at key (content_after format functions.digest worker content links request clock) ≡ is_hot_at key content
+  hot_after key worker (cold shard) links request clock = refl
+  hot_after key worker (hot found) links request clock = refl
+  hot_after key worker vacant links request clock = refl
+
+  -- of the other seats it counts only whether one has the key
+  serves_as : (old new : List Content) (key : ℕ) (content : Content) → list_any (is_hot_at key) new ≡ list_any (is_hot_at key) old
+      → serves_key format new key content ≡ serves_key format old key content
+  serves_as old new key (cold shard) same = ap (λ (b : Bool). is_prefix shard.frontier (key_path format key) && not b) same
+  serves_as old new key (hot found) same = refl
+  serves_as old new key vacant same = refl
 
   owners : (worker : ℕ) (clock : Reading) (s seat : ℕ) (contents : List Content) (request : Request) (done : Done Content)
-      → HasOne (shipped setting) (get_or contents seat vacant)
-      → (shipped setting).serve worker clock (get_or contents seat vacant) request ≡ Some done
-      → (other : ℕ) (ask : Request) → (shipped setting).owns s (set contents seat done.after) other ask ≡ (shipped setting).owns s contents other ask
+      → HasOne host (get_or contents seat vacant)
+      → host.serve worker clock (get_or contents seat vacant) request ≡ Some done
+      → (other : ℕ) (ask : Request) → host.owns s (set contents seat done.after) other ask ≡ host.owns s contents other ask
   owners worker clock s seat contents request done one is other ask =
-      ap (λ (b : Bool). is_request format ask && b) (go (nat_eq other seat) refl)
+      ap (λ (b : Bool). b && is_blob format ask.value)
+      (serves_as contents (set contents seat done.after) ask.key (get_or (set contents seat done.after) other vacant) hot_keys ∙ go (nat_eq other seat) refl)
     where
+      left : done.after ≡ content_after format functions.digest worker (get_or contents seat vacant) (links_of format (get_or contents seat vacant) request.key) request clock
+      left = ap (λ (d : Done Content). d.after)
+          (sym (done_within clock.end (clock_after (get_or contents seat vacant) clock).at.counter (served_at setting worker clock (get_or contents seat vacant) request) done is).0)
+
+      hot_keys : list_any (is_hot_at ask.key) (set contents seat done.after) ≡ list_any (is_hot_at ask.key) contents
+      hot_keys = any_set (is_hot_at ask.key) contents seat done.after
+          (ap (λ (c : Content). is_hot_at ask.key c) left
+          ∙ hot_after ask.key worker (get_or contents seat vacant) (links_of format (get_or contents seat vacant) request.key) request clock)
+
       within : (b : Bool) → nat_lt seat (length contents) ≡ b → seat < length contents
       within true inside = grind (arith, nat_tests)
       within false outside =
           let past : length contents ≤ seat = grind (arith, nat_tests) in
-          absurd (none_one one.0 (sym (ap (λ (c : Content). (shipped setting).pending c) (get_or_past contents seat vacant past)) ∙ one.1))
+          absurd (none_one one.0 (sym (ap (λ (c : Content). host.pending c) (get_or_past contents seat vacant past)) ∙ one.1))
 
-      here : is_owner format (get_or (set contents seat done.after) seat vacant) ask.key ≡ is_owner format (get_or contents seat vacant) ask.key
+      here : serves_key format contents ask.key (get_or (set contents seat done.after) seat vacant) ≡ serves_key format contents ask.key (get_or contents seat vacant)
       here =
-          ap (λ (c : Content). is_owner format c ask.key)
-          (get_or-set_same contents seat done.after vacant (within (nat_lt seat (length contents)) refl)
-          ∙ ap (λ (d : Done Content). d.after) (sym (done_within (served_at setting worker clock (get_or contents seat vacant) request) done is).0))
-          ∙ owner_after worker (get_or contents seat vacant) (links_to format (get_or contents seat vacant) request.key) request clock ask.key
+          ap (λ (c : Content). serves_key format contents ask.key c)
+          (get_or-set_same contents seat done.after vacant (within (nat_lt seat (length contents)) refl) ∙ left)
+          ∙ serves_after contents ask.key worker (get_or contents seat vacant) (links_of format (get_or contents seat vacant) request.key) request clock
 
-      go : (b : Bool) → nat_eq other seat ≡ b → is_owner format (get_or (set contents seat done.after) other vacant) ask.key ≡ is_owner format (get_or contents other vacant) ask.key
+      go : (b : Bool) → nat_eq other seat ≡ b
+          → serves_key format contents ask.key (get_or (set contents seat done.after) other vacant) ≡ serves_key format contents ask.key (get_or contents other vacant)
       go true same =
           let at : other ≡ seat = grind (arith, nat_tests) in
-          subst (λ (n : ℕ). is_owner format (get_or (set contents seat done.after) n vacant) ask.key ≡ is_owner format (get_or contents n vacant) ask.key) (sym at) here
+          subst (λ (n : ℕ). serves_key format contents ask.key (get_or (set contents seat done.after) n vacant) ≡ serves_key format contents ask.key (get_or contents n vacant)) (sym at) here
       go false apart =
           let elsewhere : other ≢ seat = grind (arith, nat_tests) in
-          ap (λ (c : Content). is_owner format c ask.key) (get_or-set_other contents seat other done.after vacant elsewhere)
+          ap (λ (c : Content). serves_key format contents ask.key c) (get_or-set_other contents seat other done.after vacant elsewhere)
 
-  owner_waits : (content : Content) (key : ℕ) → is_owner format content key ≡ true → HasOne (shipped setting) content
-  owner_waits (cold shard) key owns = (pending_shard shard, refl)
-  owner_waits (hot found) key owns = absurd (false≢true owns)
-  owner_waits vacant key owns = absurd (false≢true owns)
+  owner_waits : (seats : List Content) (key : ℕ) (content : Content) → serves_key format seats key content ≡ true → HasOne host content
+  owner_waits seats key (cold shard) owns = (pending_shard shard, refl)
+  owner_waits seats key (hot found) owns = (pending_hot format found, refl)
+  owner_waits seats key vacant owns = absurd (false≢true owns)
 
   -- ---- where a clock ends
 
   greater_same : (at t : Stamp) → t.epoch ≡ at.epoch → greater_counter at t ≡ max at.counter t.counter
   greater_same at t same = ap (λ (b : Bool). max at.counter (if b then t.counter else 0)) (eq-eqb t.epoch at.epoch same)
 
-  none_past : (done : Done Content) → within_end done ≡ None → done.clock.end < done.clock.at.counter
-  none_past done is = go (nat_le done.clock.at.counter done.clock.end) refl is
-    where
-      go : (b : Bool) → nat_le done.clock.at.counter done.clock.end ≡ b → (if b then Some done else None) ≡ None → done.clock.end < done.clock.at.counter
-      go true within none = absurd (none-some done (sym none))
-      go false past none = grind (arith, nat_tests)
-
-  ends : (worker : ℕ) (clock : Reading) (old new : Content) (request : Request) → IsUpFrom (shipped setting) clock.at.epoch old new
-      → (shipped setting).serve worker clock old request ≡ None → (shipped setting).serve worker clock new request ≡ None
-  ends worker clock old new request up is = past-done (served_at setting worker clock new request) past
+  ends : (worker : ℕ) (clock : Reading) (old new : Content) (request : Request) → IsUpFrom host clock.at.epoch old new
+      → host.serve worker clock old request ≡ None → host.serve worker clock new request ≡ None
+  ends worker clock old new request up is = past_none clock.end (clock_after new clock).at.counter (served_at setting worker clock new request) past
     where
       before : clock_after old clock ≡ renewing clock up.was.stamp
       before = renewed old clock up.was up.was_there
@@ -133,31 +208,27 @@ module _ (setting : Setting) where
       after : clock_after new clock ≡ renewing clock up.now.stamp
       after = renewed new clock up.now up.now_there
 
-      ended : (renewing clock up.was.stamp).end < (renewing clock up.was.stamp).at.counter
-      ended = subst (λ (r : Reading). r.end < r.at.counter) before (none_past (served_at setting worker clock old request) is)
+      ended : clock.end < (renewing clock up.was.stamp).at.counter
+      ended =
+          subst (λ (r : Reading). clock.end < r.at.counter) before
+          (none_past clock.end (clock_after old clock).at.counter (served_at setting worker clock old request) is)
 
-      past : (clock_after new clock).end < (clock_after new clock).at.counter
+      past : clock.end < (clock_after new clock).at.counter
       past =
-          subst (λ (r : Reading). r.end < r.at.counter) (sym after)
+          subst (λ (r : Reading). clock.end < r.at.counter) (sym after)
           (omega (arith, ended, up.rises, greater_same clock.at up.was.stamp up.was_of, greater_same clock.at up.now.stamp up.now_of))
 
   -- A request moves the clock on, and leaves the owners as they were.
-  pub is_steady : IsSteady (shipped setting)
+  pub is_steady : IsSteady host
   is_steady = record {
     moves_on = moves_on;
     owners = owners;
     waits = λ s seat contents request owns.
-        owner_waits (get_or contents seat vacant) request.key (both (is_request format request) (is_owner format (get_or contents seat vacant) request.key) owns).1;
+        owner_waits contents request.key (get_or contents seat vacant)
+        (both (serves_key format contents request.key (get_or contents seat vacant)) (is_blob format request.value) owns).0;
     ends = ends;
   }
 
-  rest_epoch : (worker : ℕ) (clock : Reading) (contents : List Content) → (rested_at worker clock contents).clock.at.epoch ≡ clock.at.epoch
-  rest_epoch worker clock [] = refl
-  rest_epoch worker clock (cold shard ∷ rest) = refl
-  rest_epoch worker clock (hot found ∷ rest) = refl
-  rest_epoch worker clock (vacant ∷ rest) = refl
-
   -- Nor does a close of a shard leave the epoch.
-  pub moves_keep_epoch : MovesKeepEpoch (shipped setting)
-  moves_keep_epoch worker clock s contents done is =
-      ap (λ (d : Done (List Content)). d.clock.at.epoch) (sym (done_within (rested_at worker clock contents) done is).0) ∙ rest_epoch worker clock contents
+  pub moves_keep_epoch : MovesKeepEpoch host
+  moves_keep_epoch worker clock s contents done is = move_epoch format functions.digest worker clock contents done is

@@ -1,3 +1,2 @@
--- The shipped host as a machine, and what it promises.
-pub mod Shipped
+-- What the shipped host promises.
 pub mod Promise

@@ -1,36 +1,42 @@
 -- What the shipped host promises, while no key is hot.
-use Rattle.std.specs.Prelude.{◌<◌, ◌≤◌}
-use Rattle.record_text.specs.Format.{path_bits, format_of}
+use Rattle.std.specs.Prelude.{◌^◌, ◌<◌, ◌≤◌, List}
+use Rattle.std.specs.List.{AllByRecursion}
+use Rattle.record_hash.specs.Functions.{DigestFunctions}
 use Rattle.merkle_records.specs.Merkle.{GivesDigests}
-use Rattle.host_shard.specs.Content.{Content}
+use Rattle.script_text.specs.declared.task.Task.{Task}
+use Rattle.host_core.specs.Host.{Host}
 use Rattle.host_core.specs.World.{World}
 use Rattle.host_core.specs.Core.{AreAccepted, AreAnswered, IsDone, IsEven, IsInPhase, IsBehindClose, AreSealed, SealedArePermuted, AllCertified, IsWhole}
 use Rattle.host_core.specs.Clear.{HasNothingToShow, IsServedSerially}
-use Rattle.host_laws.specs.SettingUp.{CanSetUp}
-use Rattle.host_fits.specs.Shipped.{Setting, shipped}
+use Rattle.host_world.specs.declared.settings.Settings.{Settings}
+use Rattle.host_world.specs.Settings.{IsSettings}
 
--- What is asked of the numbers of a host: a worker at least, shards that can be set up, a cache with room for each path
--- above a key, and digests of 32 bytes.
-pub record IsSetting (setting : Setting) : Type 0 where
-  pub some : 1 ≤ setting.header.verifiers
-  pub shards : CanSetUp (format_of setting.header) setting.header setting.bits
-  pub room : path_bits (format_of setting.header) < setting.header.cache
-  pub digests : GivesDigests setting.functions.digest
+-- each key that the script asks for has no more than 64 bits
+abbrev pub AreInRange : List (List Task) → Type 0
+AreInRange script = AllByRecursion (λ phase. AllByRecursion (λ task. task.request.key < 2 ^ 64) phase) script
+
+-- What is asked of what a host is given: numbers in their ranges, a counter for each shard at the setup, keys in range, and
+-- digests of 32 bytes.
+pub record CanRun (functions : DigestFunctions) (settings : Settings) (script : List (List Task)) : Type 0 where
+  pub in_range : IsSettings settings
+  pub counters : settings.shards ≤ settings.header.end
+  pub keys : AreInRange script
+  pub digests : GivesDigests functions.digest
 
 -- What holds of a world of the host: no verifier refuses a command, what is answered is the front of what the script asks
 -- (and all of it at the end, where no clock ended), what was evicted was added or waits, each pending element is of the
 -- epoch, each epoch that all have sealed is certified, and behind a last close those of all phases are; an audit has
 -- nothing to show, and the certified answers are serial.
-pub record IsPromised (setting : Setting) (world : World Content) : Type 0 where
-  pub accepted : AreAccepted (shipped setting) world
-  pub answered : AreAnswered (shipped setting) world
-  pub done : IsDone (shipped setting) world
-  pub even : IsEven (shipped setting) world
-  pub in_phase : IsInPhase (shipped setting) world
-  pub behind_close : IsBehindClose (shipped setting) world
-  pub sealed : AreSealed (shipped setting) world
-  pub permuted : SealedArePermuted (shipped setting) world
-  pub certified : AllCertified (shipped setting) world
-  pub whole : IsWhole (shipped setting) world
-  pub nothing_to_show : HasNothingToShow (shipped setting) world
-  pub serially : IsServedSerially (shipped setting) world
+pub record IsPromised {C R : Type 0} (host : Host C R) (world : World C) : Type 0 where
+  pub accepted : AreAccepted host world
+  pub answered : AreAnswered host world
+  pub done : IsDone host world
+  pub even : IsEven host world
+  pub in_phase : IsInPhase host world
+  pub behind_close : IsBehindClose host world
+  pub sealed : AreSealed host world
+  pub permuted : SealedArePermuted host world
+  pub certified : AllCertified host world
+  pub whole : IsWhole host world
+  pub nothing_to_show : HasNothingToShow host world
+  pub serially : IsServedSerially host world

@@ -1,13 +1,14 @@
 //! The shipped host keeps its promise: whatever happens, its logs are accepted, its answers follow the script, and its
 //! sealed epochs are certified, with nothing to exhibit. So it is while no key is hot.
 //!
-//! `host_core` shows this of any host whose deeds fit and are clear. Here the deeds are those of `host_plan`, which
-//! `host_laws` and `host_mirrors` speak of, and they fit. The crate has no code to run. Begin with `laws.rt`, then read
-//! `specs/Promise.antt` and `specs/Shipped.antt`.
+//! `host_core` shows this of any host whose deeds fit and are clear. Here the deeds are those of `shipped_host` of
+//! `host_world`, which `host_laws` and `host_mirrors` speak of, and they fit. The crate has no code to run. Begin with
+//! `laws.rt`, then read `specs/Promise.antt`.
 #![tactic(auto)]
 
 mod laws;
 
 pub use laws::{
-    plans_are_what_the_host_does, the_shipped_host_is_steady, the_shipped_host_keeps_its_promise,
+    plans_are_what_the_host_does, scripts_ask_for_keys_in_range, the_shipped_host_is_steady,
+    the_shipped_host_keeps_its_promise,
 };

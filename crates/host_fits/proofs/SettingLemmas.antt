@@ -1,0 +1,68 @@
+-- Numbers in their ranges serve the proofs.
+use Rattle.std.proofs.Common.{◌≡◌, ℕ, zero, suc, ◌^◌, ◌<◌, ◌≤◌, Bool, true, false, List, nat_le, if◌then◌else◌, refl, arith}
+use Rattle.std.proofs.lemmas.Bool.Decides.{nat_tests}
+use Rattle.std.proofs.lemmas.Nat.{pow_pos}
+use Rattle.std.proofs.Math.Nat.{pow-suc}
+use Rattle.record_hash.specs.Functions.{DigestFunctions}
+use Rattle.record_text.specs.Format.{path_bits, format_of}
+use Rattle.script_text.specs.declared.task.Task.{Task}
+use Rattle.host_plan.specs.Setup.{IsShardCount}
+use Rattle.host_world.specs.declared.settings.Settings.{Settings}
+use Rattle.host_world.specs.Settings.{bits_within}
+use Rattle.host_fits.specs.Promise.{CanRun}
+use Rattle.host_fits.proofs.Keeping.{IsSetting, setting_of}
+
+bits_most : (most shards : ℕ) → bits_within most shards ≤ most
+bits_most zero shards = omega arith
+bits_most (suc most) shards = go (bits_most most shards) (nat_le (2 ^ suc most) shards)
+  where
+    go : bits_within most shards ≤ most → (b : Bool) → (if b then suc most else bits_within most shards) ≤ suc most
+    go fewer true = omega arith
+    go fewer false = omega (arith, fewer)
+
+bits_power : (most shards : ℕ) → 1 ≤ shards → 2 ^ bits_within most shards ≤ shards
+bits_power zero shards one = omega (arith, one)
+bits_power (suc most) shards one = go (bits_power most shards one) (nat_le (2 ^ suc most) shards) refl
+  where
+    go : 2 ^ bits_within most shards ≤ shards → (b : Bool) → nat_le (2 ^ suc most) shards ≡ b → 2 ^ (if b then suc most else bits_within most shards) ≤ shards
+    go fewer true within = grind (arith, nat_tests)
+    go fewer false past = fewer
+
+bits_some : (most shards : ℕ) → 2 ≤ shards → 0 < bits_within (suc most) shards
+bits_some zero shards two = go (nat_le 2 shards) refl
+  where
+    go : (b : Bool) → nat_le 2 shards ≡ b → 0 < (if b then 1 else 0)
+    go true within = omega arith
+    go false past = absurd (grind (arith, nat_tests))
+bits_some (suc most) shards two = go (bits_some most shards two) (nat_le (2 ^ suc (suc most)) shards)
+  where
+    go : 0 < bits_within (suc most) shards → (b : Bool) → 0 < (if b then suc (suc most) else bits_within (suc most) shards)
+    go fewer true = omega arith
+    go fewer false = fewer
+
+two_shards : (shards : ℕ) → IsShardCount shards → 2 ≤ shards
+two_shards shards is = go is.bits is.some is.power
+  where
+    go : (bits : ℕ) → 0 < bits → shards ≡ 2 ^ bits → 2 ≤ shards
+    go zero some power = absurd (omega (arith, some))
+    go (suc bits) some power = omega (arith, power, pow-suc 2 bits, pow_pos bits)
+
+pub is_setting : (functions : DigestFunctions) (settings : Settings) (script : List (List Task)) → CanRun functions settings script
+    → IsSetting (setting_of functions settings script)
+is_setting functions settings script can = record {
+  some = can.in_range.header.some_verifiers;
+  shards = record {
+    some = bits_some 9 settings.shards two;
+    short = omega (arith, bits_most 10 settings.shards, width);
+    room = omega (arith, bits_most 10 settings.shards, can.in_range.cache);
+    counters = omega (arith, bits_power 10 settings.shards (omega (arith, two)), can.counters);
+  };
+  room = omega (arith, width, can.in_range.cache);
+  digests = can.digests;
+}
+  where
+    two : 2 ≤ settings.shards
+    two = two_shards settings.shards can.in_range.shards
+
+    width : path_bits (format_of settings.header) ≡ 64
+    width = refl

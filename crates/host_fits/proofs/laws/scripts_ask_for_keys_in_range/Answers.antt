@@ -1,0 +1,5 @@
+use Rattle.host_fits.proofs.RangeLemmas.{script_keys}
+use Rattle.host_fits.proofs.laws.scripts_ask_for_keys_in_range.Goals as goal
+
+pub returns : goal.returns
+returns c = record { keys = script_keys }
