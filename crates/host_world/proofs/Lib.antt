@@ -1,3 +1,3 @@
 -- Lemmas on the shipped host.
-mod LinkLaws
+pub mod LinkLaws
 mod ServeLemmas
