@@ -1,3 +1,8 @@
 -- Lemmas on the shipped host.
 pub mod LinkLaws
 mod ServeLemmas
+mod SeatLemmas
+mod OrderlyLemmas
+mod BehindLemmas
+mod WorldLemmas
+mod MovedLemmas

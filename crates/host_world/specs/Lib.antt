@@ -7,5 +7,6 @@ pub mod Places
 pub mod Doing
 pub mod Shown
 pub mod Ending
+pub mod Behind
 pub use Rattle.host_core.specs
 pub use Rattle.protection_moves.specs as protection_moves_specs

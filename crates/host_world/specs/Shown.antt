@@ -1,5 +1,5 @@
 -- What the code's world shows: a world of the machine.
-use Rattle.std.specs.Prelude.{ℕ, suc, ◌/◌, ◌%◌, List, map}
+use Rattle.std.specs.Prelude.{List, ◌∷◌, map}
 use Rattle.record_text.specs.declared.request.Request.{Request}
 use Rattle.host_core.specs.World.{Place, Holding}
 use Rattle.host_core.specs.World as machine
@@ -22,9 +22,13 @@ shown_event (events.Next worker) = advances worker
 shown_event (events.Move worker shard) = moves worker shard
 shown_event events.Open = opens
 
--- the seats, with the contents as they show
+-- what the seats have: the shard first, then its hot places
+abbrev pub contents_of : Seats → List Content
+contents_of seats = shown_content seats.first ∷ map shown_content seats.hot.items
+
+-- the seats, with these contents
 abbrev pub shown_seats : Seats → machine.Seats Content
-shown_seats seats = record { contents = map shown_content seats.contents.items; moved = seats.moved }
+shown_seats seats = record { contents = contents_of seats; moved = seats.moved }
 
 -- the world, with the shards so
 abbrev pub shown_world : {D : Type 0} → World D → machine.World Content

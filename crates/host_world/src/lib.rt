@@ -1,6 +1,7 @@
 //! The shipped host as a world: its places and workers, and what each event of them does.
 #![tactic(auto)]
 
+mod acting;
 mod event;
 mod fault;
 mod laws;

@@ -1,5 +1,5 @@
 //! One worker of a world.
-ghost use Rattle.std.specs.Prelude.{◌≡◌, ◌≢◌, ◌↔◌, ◌<◌, [], ◌∷◌, false, true, Some, None, Ok, IfOk, OnOk, OnErr, is_some};
+ghost use Rattle.std.specs.Prelude.{◌≡◌, ◌≢◌, ◌↔◌, ◌<◌, List, [], ◌∷◌, map, false, true, Some, None, Ok, IfOk, OnOk, OnErr, is_some};
 ghost use Rattle.std.specs.List.{flat_map};
 ghost use Rattle.record_text.specs.Format.{short_keys};
 ghost use Rattle.lamport_clocks.specs.Clock.{last_epoch};
@@ -9,13 +9,16 @@ ghost use Rattle.host_core.specs.WorldEvent.{logging, next_clock};
 ghost use Rattle.host_shard.specs.Shown.{shown_content};
 ghost use Rattle.host_plan.specs.Plan.{Owns, IsOpenAt};
 ghost use Rattle.host_world.specs.Places.{place_of};
-ghost use Rattle.host_world.specs.Doing.{HasServed};
+ghost use Rattle.host_world.specs.Behind.{CanTakeSeats};
+ghost use Rattle.host_world.specs.Doing.{HasDone, HasServed};
+ghost use Rattle.host_world.specs.Moving.{stage_of, move_seats};
 ghost use Rattle.host_world.specs.ShippedHost.{serve_at};
 
 use host_plan::{Commands, PlanFault, plan};
 use host_shard::Content;
 use lamport_clocks::{Clock, Header};
 use log_codec::Command;
+use protection_moves::{MoveFault, migrate};
 use record_hash::Digests;
 use record_text::Request;
 use std::alloc::Global;
@@ -172,6 +175,42 @@ impl Worker {
             }
             Err(PlanFault::ClockEnd) => Ok(false),
             Err(PlanFault::Memory) => Err(Memory),
+        }
+    }
+
+    // Moves a shard with its hot places, where its clock does not pass its end: it answers that. Else, and for want of
+    // memory, all is as before.
+    pub(crate) fn move_seats<D: Digests>(
+        &mut self,
+        alloc: Global,
+        d: &D,
+        number: u16,
+        first: &mut Content,
+        hot: &mut [Content],
+    ) -> Result<bool, Memory>
+        requires seats { CanTakeSeats self.old.clock (shown_content first.old ∷ map shown_content hot.old) }
+        ensures within { IfOk result (λ moved. moved ≡ is_some (move_seats short_keys (D.functions d.now).digest
+            number (stage_of self.old.clock (shown_content first.old ∷ map shown_content hot.old)))) }
+        ensures moved { result ≡ Ok true
+            → HasDone (move_seats short_keys (D.functions d.now).digest
+            number (stage_of self.old.clock (shown_content first.old ∷ map shown_content hot.old)))
+            self.old (shown_content first.new ∷ map shown_content hot.new) self.new }
+        ensures worker_as_before { result ≢ Ok true → self.new ≡ self.old }
+        ensures first_as_before { result ≢ Ok true → shown_content first.new ≡ shown_content first.old }
+        ensures hot_as_before { result ≢ Ok true → map shown_content hot.new ≡ map shown_content hot.old }
+    {
+        let shard = match first {
+            Content::Cold(shard) => shard,
+            _ => unreachable!(),
+        };
+        self.log.reserve(1)?;
+        match migrate(alloc, d, shard, hot, None, number, &mut self.clock) {
+            Ok(commands) => {
+                self.log.push_reserved(commands);
+                Ok(true)
+            }
+            Err(MoveFault::ClockEnd) => Ok(false),
+            Err(MoveFault::Memory) => Err(Memory),
         }
     }
 }

@@ -1,0 +1,98 @@
+-- What holds of a world behind the setup: its shards can be served and taken in.
+use Rattle.std.proofs.Common.{◌≡◌, ℕ, zero, suc, ◌+◌, ◌^◌, ◌<◌, ◌≤◌, ◌==◌, ◌||◌, ◌&&◌, Bool, true, false, List, length, get_or, nat_lt, nat_le, Some, IsTrue, if◌then◌else◌, refl, sym, ◌∙◌, ap, subst, arith, inl, inr, ◌⊎◌}
+use Rattle.std.proofs.lemmas.Bool.{false≢true, cases_eq, le-leb, leb-true, eq-eqb, lt-ltb, or_right, and_from}
+use Rattle.std.proofs.lemmas.Nat.{pow_below}
+use Rattle.lamport_clocks.specs.Clock.{is_open}
+use Rattle.lamport_clocks.specs.Reading.{Reading}
+use Rattle.record_hash.specs.Functions.{DigestFunctions}
+use Rattle.record_text.specs.declared.request.Request.{Request}
+use Rattle.record_text.specs.Format.{short_keys, path_bits}
+use Rattle.merkle_records.specs.Merkle.{GivesDigests}
+use Rattle.host_core.specs.World.{Place, World, worker_at, shard_at, epoch_of}
+use Rattle.host_core.specs.WorldEvent.{MayServe, MayMove}
+use Rattle.host_shard.specs.Content.{Content, cold, vacant, key_path}
+use Rattle.host_shard.specs.Mirrors.{IsShard}
+use Rattle.host_shard.specs.Shard.{Shard}
+use Rattle.host_plan.specs.Plan.{Owns, IsOpenAt}
+use Rattle.host_plan.specs.Setup.{IsShardCount}
+use Rattle.script_text.specs.declared.task.Task.{Task}
+use Rattle.host_world.specs.declared.settings.Settings.{Settings}
+use Rattle.host_world.specs.Settings.{bits_within, frontier_bits}
+use Rattle.host_world.specs.ShippedHost.{new_seats, is_place_of}
+use Rattle.host_world.specs.Behind.{IsBehindSetup, CanTakeSeats}
+use Rattle.host_world.proofs.SeatLemmas.{IsOrderlyShard, place_is, place_owns}
+use Rattle.host_world.proofs.OrderlyLemmas.{host, IsOrderly, moved_by, set_up_orderly, run_orderly}
+
+-- The number of bits is that of the power.
+pub bits_are : (most bits : ℕ) → bits ≤ most → bits_within most (2 ^ bits) ≡ bits
+bits_are zero bits few = omega (arith, few)
+bits_are (suc most) bits few = go (cases_eq bits (suc most)) (λ less. bits_are most bits less)
+  where
+    go : (bits ≡ suc most) ⊎ (bits ≡ suc most → ⊥) → (bits ≤ most → bits_within most (2 ^ bits) ≡ bits)
+        → (if nat_le (2 ^ suc most) (2 ^ bits) then suc most else bits_within most (2 ^ bits)) ≡ bits
+    go (inl same) rest =
+        subst (λ (n : ℕ). (if nat_le (2 ^ suc most) (2 ^ n) then suc most else bits_within most (2 ^ n)) ≡ n) (sym same)
+        (ap (λ (b : Bool). if b then suc most else bits_within most (2 ^ suc most)) (le-leb (2 ^ suc most) (2 ^ suc most) (omega arith)))
+    go (inr other) rest = under (nat_le (2 ^ suc most) (2 ^ bits)) refl
+      where
+        less : bits < suc most
+        less = omega (arith, few, other)
+
+        under : (b : Bool) → nat_le (2 ^ suc most) (2 ^ bits) ≡ b → (if b then suc most else bits_within most (2 ^ bits)) ≡ bits
+        under true is = absurd (omega (arith, leb-true (2 ^ suc most) (2 ^ bits) is, pow_below bits (suc most) less))
+        under false is = rest (omega (arith, less))
+
+-- the frontiers of so many shards
+pub frontier_bits_are : (shards : ℕ) (is : IsShardCount shards) → frontier_bits shards ≡ is.bits
+frontier_bits_are shards is = ap frontier_bits is.power ∙ bits_are 10 is.bits is.most
+
+module _ (functions : DigestFunctions) (settings : Settings) (script : List (List Task)) (digests : GivesDigests functions.digest) (world : World Content)
+    (behind : IsBehindSetup functions settings script world) where
+  -- The world is orderly.
+  pub behind_orderly : IsOrderly functions settings script world
+  behind_orderly =
+      let count = behind.settings_fit.shards in
+      let bits = frontier_bits_are settings.shards count in
+      subst (IsOrderly functions settings script) (sym behind.is)
+      (run_orderly functions settings script digests _ behind.events
+      (set_up_orderly functions settings script (omega (arith, bits, count.some)) (omega (arith, bits, count.most)) digests) behind.enabled)
+
+  -- The content of a request's place owns its key, and the worker's clock takes its stamp.
+  pub serves_there : (i : ℕ) (place : Place) (request : Request) → MayServe (host functions settings script) world i place request
+      → Owns short_keys (get_or (shard_at world place.shard).contents place.seat vacant) request.key
+      × IsOpenAt (worker_at (host functions settings script) world i).clock (get_or (shard_at world place.shard).contents place.seat vacant)
+  serves_there i place request may =
+      let still = behind_orderly.unmoved may.serving.phase place.shard may.there.0 in
+      let epoch = behind_orderly.clocked may.serving.phase i may.serving.there in
+      let whole = behind_orderly.shards place.shard may.there.0 in
+      let clock = (worker_at (host functions settings script) world i).clock in
+      subst (λ (seats : List Content). is_place_of short_keys seats place.seat request ≡ true
+          → Owns short_keys (get_or seats place.seat vacant) request.key × IsOpenAt clock (get_or seats place.seat vacant))
+      (sym whole.is)
+      (λ owns. at_seat whole.shard clock place.seat (place_is whole.shard place.seat request owns) owns whole.mirrored.fits
+      (omega (arith, epoch, whole.stamped, ap moved_by still)))
+      may.owns
+    where
+      at_seat : (shard : Shard) (clock : Reading) (seat : ℕ) → seat ≡ 0 → is_place_of short_keys (new_seats (cold shard)) seat request ≡ true → IsShard short_keys shard → shard.stamp.epoch ≡ clock.at.epoch
+          → Owns short_keys (get_or (new_seats (cold shard)) seat vacant) request.key × IsOpenAt clock (get_or (new_seats (cold shard)) seat vacant)
+      at_seat shard clock zero same owns fits epoch =
+          ((fits, (place_owns shard request fits owns).0), ap (λ (b : Bool). b || (nat_lt clock.first clock.at.epoch && shard.stamp.epoch + 1 == clock.at.epoch)) (eq-eqb shard.stamp.epoch clock.at.epoch epoch))
+      at_seat shard clock (suc more) same owns fits epoch = absurd (omega (arith, same))
+
+  -- The seats of a shard that is to be moved can be taken in.
+  pub moves_there : (i s : ℕ) → MayMove (host functions settings script) world i s
+      → CanTakeSeats (worker_at (host functions settings script) world i).clock (shard_at world s).contents
+  moves_there i s may =
+      let whole = behind_orderly.shards s may.shard in
+      let clock = (worker_at (host functions settings script) world i).clock in
+      record {
+        shard = whole.shard;
+        is = whole.is;
+        fits = whole.mirrored.fits;
+        open_epoch = opened clock whole.shard.stamp.epoch (omega (arith, behind_orderly.bounded i, may.turned)) (omega (arith, may.turned, whole.stamped, ap moved_by may.still));
+      }
+    where
+      opened : (clock : Reading) (epoch : ℕ) → clock.first < clock.at.epoch → epoch + 1 ≡ clock.at.epoch → IsTrue (is_open clock epoch)
+      opened clock epoch past next =
+          or_right (epoch == clock.at.epoch) (nat_lt clock.first clock.at.epoch && epoch + 1 == clock.at.epoch)
+          (and_from (nat_lt clock.first clock.at.epoch) (epoch + 1 == clock.at.epoch) (lt-ltb clock.first clock.at.epoch past) (eq-eqb (epoch + 1) clock.at.epoch next))

@@ -1,0 +1,102 @@
+-- What the code writes is what the machine's step changes.
+use Rattle.std.proofs.Common.{◌≡◌, ◌≢◌, ℕ, zero, suc, ◌+◌, ◌-◌, ◌<◌, ◌≤◌, Bool, true, false, List, [], ◌∷◌, length, get_or, set, map, Option, Some, None, is_some, Result, Ok, Err, OnErr, if◌then◌else◌, refl, sym, ◌∙◌, ap, subst, arith}
+use Rattle.std.proofs.lemmas.Bool.{false≢true}
+use Rattle.std.proofs.lemmas.List.{map-set, get_or-map, get_or_read, set-get_or, get_or-set_same, length-map, length-set}
+use Rattle.lamport_clocks.specs.declared.header.Header.{Header}
+use Rattle.host_core.specs.Host.{Done}
+use Rattle.host_core.specs.World.{Place, Worker, Seats, World, unmoved, fresh}
+use Rattle.host_core.specs.WorldEvent.{after_serve, after_move, logging, having_served}
+use Rattle.host_shard.specs.Content.{Content, vacant}
+use Rattle.host_world.specs.declared.seats.Seats as code
+use Rattle.host_world.specs.Shown.{contents_of, shown_seats}
+use Rattle.host_world.specs.Doing.{HasDone, HasServed}
+
+module _ {X Y : Type 0} (shown : X → Y) where
+  -- an element that was read, as it shows
+  pub read_shown : (xs : List X) (i : ℕ) (x : X) (d : Y) → i < length xs → x ≡ get_or xs i x → get_or (map shown xs) i d ≡ shown x
+  read_shown xs i x d there is = get_or-map shown xs i x d there ∙ ap shown (sym is)
+
+  -- the seat of a number behind the first
+  pub hot_there : (a : Y) (xs : List X) (k seat : ℕ) (c : X) (d : Y) → suc k ≡ seat → k < length xs → get_or (a ∷ map shown (set xs k c)) seat d ≡ shown c
+  hot_there a xs k seat c d is there =
+      ap (λ (n : ℕ). get_or (a ∷ map shown (set xs k c)) n d) (sym is)
+      ∙ get_or-map shown (set xs k c) k c d (omega (arith, there, length-set xs k c)) ∙ ap shown (get_or-set_same xs k c c there)
+
+  pub hot_read : (a : Y) (xs : List X) (k seat : ℕ) (x : X) (d : Y) → suc k ≡ seat → k < length xs → x ≡ get_or xs k x → get_or (a ∷ map shown xs) seat d ≡ shown x
+  hot_read a xs k seat x d is there at = ap (λ (n : ℕ). get_or (a ∷ map shown xs) n d) (sym is) ∙ read_shown xs k x d there at
+
+  pub hot_set : (a : Y) (xs : List X) (k seat : ℕ) (c : X) → suc k ≡ seat → a ∷ map shown (set xs k c) ≡ set (a ∷ map shown xs) seat (shown c)
+  hot_set a xs k seat c is =
+      ap (λ (ys : List Y). a ∷ ys) (map-set shown xs k c) ∙ ap (λ (n : ℕ). set (a ∷ map shown xs) n (shown c)) is
+
+  -- what shows as it was leaves all as it was
+  pub set_same : (xs : List X) (i : ℕ) (x c : X) → x ≡ get_or xs i x → shown c ≡ shown x → map shown (set xs i c) ≡ map shown xs
+  set_same xs i x c is same =
+      map-set shown xs i c ∙ ap (set (map shown xs) i) (same ∙ ap shown is) ∙ sym (map-set shown xs i (get_or xs i x)) ∙ ap (map shown) (set-get_or xs i x)
+
+-- a request that was served
+pub after_served : (world : World Content) (i : ℕ) (place : Place) (worker now : Worker) (seats new : Seats Content) (what : Option (Done Content))
+    → HasServed place what worker (get_or new.contents place.seat vacant) now
+    → new.contents ≡ set seats.contents place.seat (get_or new.contents place.seat vacant) → new.moved ≡ seats.moved
+    → record world { shards = set world.shards place.shard new; workers = set world.workers i now } ≡ after_serve world i worker place seats what
+after_served world i place worker now seats new what has alone close =
+    ap (λ (w : Worker). record world { shards = set world.shards place.shard new; workers = set world.workers i w }) has.logged
+    ∙ ap (λ (s : Seats Content). record world { shards = set world.shards place.shard s; workers = set world.workers i (having_served (logging worker has.done.commands has.done.clock) place) })
+    (ap (λ (contents : List Content). record { contents = contents; moved = new.moved }) (alone ∙ ap (set seats.contents place.seat) has.after_it)
+    ∙ ap (λ (moved : Bool). record { contents = set seats.contents place.seat has.done.after; moved = moved }) close)
+    ∙ sym (ap (after_serve world i worker place seats) has.is)
+
+-- a shard that was moved
+pub after_moved : (world : World Content) (i s : ℕ) (worker now : Worker) (new : List Content) (what : Option (Done (List Content)))
+    → HasDone what worker new now
+    → record world { shards = set world.shards s (record { contents = new; moved = true }); workers = set world.workers i now } ≡ after_move world i worker s what
+after_moved world i s worker now new what has =
+    ap (λ (w : Worker). record world { shards = set world.shards s (record { contents = new; moved = true }); workers = set world.workers i w }) has.logged
+    ∙ ap (λ (contents : List Content). record world { shards = set world.shards s (record { contents = contents; moved = true }); workers = set world.workers i (logging worker has.done.commands has.done.clock) }) has.after_it
+    ∙ sym (ap (after_move world i worker s) has.is)
+
+-- what is none is none
+pub none_of : {X : Type 0} (what : Option X) → false ≡ is_some what → what ≡ None
+none_of None is = refl
+none_of (Some x) is = absurd (false≢true is)
+
+-- a worker whose clock ended in a phase
+pub after_stopped : (world : World Content) (i : ℕ) (place : Place) (worker now : Worker) (seats : Seats Content) (what : Option (Done Content))
+    → what ≡ None → now ≡ record worker { stopped = true }
+    → record world { workers = set world.workers i now } ≡ after_serve world i worker place seats what
+after_stopped world i place worker now seats what none is =
+    ap (λ (w : Worker). record world { workers = set world.workers i w }) is ∙ sym (ap (after_serve world i worker place seats) none)
+
+-- the same in a close
+pub after_stuck : (world : World Content) (i s : ℕ) (worker now : Worker) (what : Option (Done (List Content)))
+    → what ≡ None → now ≡ record worker { stuck = true }
+    → record world { workers = set world.workers i now } ≡ after_move world i worker s what
+after_stuck world i s worker now what none is =
+    ap (λ (w : Worker). record world { workers = set world.workers i w }) is ∙ sym (ap (after_move world i worker s) none)
+
+-- seats that show the same
+pub same_seats : (old new : code.Seats) → contents_of new ≡ contents_of old → new.moved ≡ old.moved → shown_seats new ≡ shown_seats old
+same_seats old new contents moved =
+    ap (λ (cs : List Content). record { contents = cs; moved = new.moved }) contents
+    ∙ ap (λ (m : Bool). record { contents = contents_of old; moved = m }) moved
+
+-- what is put back where it was read leaves all as it was
+pub put_back : {X : Type 0} (xs : List X) (i : ℕ) (x c : X) → x ≡ get_or xs i x → c ≡ x → set xs i c ≡ xs
+put_back xs i x c is same = ap (set xs i) (same ∙ is) ∙ set-get_or xs i x
+
+-- what is read again where it was put
+pub read_back : {X : Type 0} (xs : List X) (i : ℕ) (c x : X) → i < length xs → x ≡ get_or (set xs i c) i x → x ≡ c
+read_back xs i c x there is = is ∙ get_or-set_same xs i c x there
+
+-- what holds, holds of an error
+pub on_err : {T E P : Type 0} (r : Result T E) → P → OnErr r P
+on_err (Ok value) p = tt
+on_err (Err fault) p = p
+
+-- two answers of one call are the same
+pub one_answer : {E : Type 0} (r : Result Bool E) (a b : Bool) → r ≡ Ok a → r ≡ Ok b → a ≡ b
+one_answer {E} r a b one two = ap answer (sym one ∙ two)
+  where
+    answer : Result Bool E → Bool
+    answer (Ok b) = b
+    answer (Err e) = false

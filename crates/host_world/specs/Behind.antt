@@ -1,0 +1,41 @@
+-- A world behind the setup, and what a worker can move there.
+use Rattle.std.specs.Prelude.{◌≡◌, ℕ, List, IsTrue}
+use Rattle.lamport_clocks.specs.Clock.{is_open}
+use Rattle.lamport_clocks.specs.Reading.{Reading}
+use Rattle.record_hash.specs.Functions.{DigestFunctions}
+use Rattle.record_text.specs.declared.request.Request.{Request}
+use Rattle.record_text.specs.Format.{short_keys}
+use Rattle.host_core.specs.Host.{Host}
+use Rattle.host_core.specs.World as machine
+use Rattle.host_core.specs.WorldEvent.{WorldEvent, AreEnabled, run_events}
+use Rattle.host_shard.specs.Content.{Content, cold}
+use Rattle.host_shard.specs.Mirrors.{IsShard}
+use Rattle.host_shard.specs.Shard.{Shard}
+use Rattle.script_text.specs.declared.task.Task.{Task}
+use Rattle.host_world.specs.declared.settings.Settings.{Settings}
+use Rattle.host_world.specs.declared.world.World.{World}
+use Rattle.host_world.specs.Settings.{IsSettings}
+use Rattle.host_world.specs.ShippedHost.{shipped_host, new_seats}
+use Rattle.host_world.specs.Shown.{shown_world}
+
+-- The world of a shipped host behind its setup and some events, each of which was enabled.
+pub record IsBehindSetup (functions : DigestFunctions) (settings : Settings) (script : List (List Task)) (world : machine.World Content) : Type 0 where
+  pub settings_fit : IsSettings settings
+  pub events : List (WorldEvent Request)
+  pub enabled : AreEnabled (shipped_host functions settings script) (machine.set_up (shipped_host functions settings script)) events
+  pub is : world ≡ run_events (shipped_host functions settings script) (machine.set_up (shipped_host functions settings script)) events
+
+-- the host of a world of the code
+abbrev pub host_of : {D : Type 0} → DigestFunctions → World D → Host Content Request
+host_of functions world = shipped_host functions world.settings world.requests
+
+-- The world of the code stands behind its host's setup.
+abbrev pub StandsBehind : {D : Type 0} → DigestFunctions → World D → Type 0
+StandsBehind functions world = IsBehindSetup functions world.settings world.requests (shown_world world)
+
+-- A worker whose clock stands so can take a shard's seats in: nothing is hot there, and the clock takes the shard's stamp.
+pub record CanTakeSeats (clock : Reading) (seats : List Content) : Type 0 where
+  pub shard : Shard
+  pub is : seats ≡ new_seats (cold shard)
+  pub fits : IsShard short_keys shard
+  pub open_epoch : IsTrue (is_open clock shard.stamp.epoch)

@@ -1,0 +1,69 @@
+//! What one worker of a world does.
+ghost use Rattle.std.specs.Prelude.{◌≡◌, IfOk, OnOk, OnErr, get_or, Some, None};
+ghost use Rattle.host_core.specs.World.{worker_at, shard_at};
+ghost use Rattle.host_core.specs.WorldEvent.{takes, serves, gives, advances, moves, opens, step, MayTake, MayServe, MayGive, MayAdvance, MayMove, MayOpen};
+ghost use Rattle.host_world.specs.Places.{place_of};
+ghost use Rattle.host_world.specs.Shown.{shown_world, digests_of};
+ghost use Rattle.host_world.specs.Ending.{end_of};
+ghost use Rattle.host_world.specs.Behind.{host_of, StandsBehind};
+
+use crate::fault::ClockEnd;
+use crate::world::World;
+use record_hash::Digests;
+use record_text::Request;
+use want_of_memory::Memory;
+
+// How many places a shard has: one for itself, and four hot ones.
+const PLACES_EACH: u32 = 5;
+
+impl<'a, D: Digests> World<'a, D> {
+    // A worker takes a place.
+    pub(crate) fn take(&mut self, worker: u16, place: u32)
+        requires may { MayTake (host_of (D.functions (digests_of self.old)) self.old) (shown_world self.old)
+            worker (place_of place) }
+        ensures stepped { shown_world self.new ≡ step (host_of (D.functions (digests_of self.old)) self.old)
+            (shown_world self.old) (takes worker (place_of place)) }
+        ensures host { host_of (D.functions (digests_of self.new)) self.new
+            ≡ host_of (D.functions (digests_of self.old)) self.old }
+    {
+        self.workers[worker as usize].take(place);
+    }
+
+    // A worker gives its place back.
+    pub(crate) fn give(&mut self, worker: u16, place: u32)
+        requires may { MayGive (host_of (D.functions (digests_of self.old)) self.old) (shown_world self.old)
+            worker (place_of place) }
+        ensures stepped { shown_world self.new ≡ step (host_of (D.functions (digests_of self.old)) self.old)
+            (shown_world self.old) (gives worker (place_of place)) }
+        ensures host { host_of (D.functions (digests_of self.new)) self.new
+            ≡ host_of (D.functions (digests_of self.old)) self.old }
+    {
+        self.workers[worker as usize].give();
+    }
+
+    // A worker serves a request at the place that it holds, or its clock ends.
+    pub(crate) fn serve(&mut self, worker: u16, place: u32, request: &Request) -> Result<Option<ClockEnd>, Memory>
+        requires behind { StandsBehind (D.functions (digests_of self.old)) self.old }
+        requires may { MayServe (host_of (D.functions (digests_of self.old)) self.old) (shown_world self.old)
+            worker (place_of place) request.now }
+        ensures stepped { OnOk result (shown_world self.new ≡ step (host_of (D.functions (digests_of self.old)) self.old)
+            (shown_world self.old) (serves worker (place_of place) request.now)) }
+        ensures ended { IfOk result (λ end. end ≡ end_of (host_of (D.functions (digests_of self.old)) self.old)
+            (shown_world self.old) (serves worker (place_of place) request.now)) }
+        ensures host { host_of (D.functions (digests_of self.new)) self.new
+            ≡ host_of (D.functions (digests_of self.old)) self.old }
+        ensures as_before { OnErr result (shown_world self.new ≡ shown_world self.old) }
+    {
+        let shard = (place / PLACES_EACH) as usize;
+        let seat = (place % PLACES_EACH) as usize;
+        let number = worker as usize;
+        let seats = &mut self.shards[shard];
+        let server = &mut self.workers[number];
+        if seats.serve(self.alloc, self.d, server, worker, place, seat, request)? {
+            return Ok(None);
+        }
+        let at = self.workers[number].clock().at();
+        self.workers[number].stop();
+        Ok(Some(ClockEnd { worker, at }))
+    }
+}
