@@ -16,7 +16,7 @@ use Rattle.host_shard.specs.Content.{Content, cold, vacant}
 use Rattle.host_shard.specs.Shard.{new_shard}
 use Rattle.host_plan.specs.Setup.{setup_contents, first_contents, first_content, first_stamp, paths_below}
 use Rattle.host_mirrors.specs.Mirroring.{ContentMirrors}
-use Rattle.host_mirrors.proofs.MirrorLaws.{contents_mirror}
+use Rattle.host_mirrors.proofs.FirstLaws.{contents_mirror}
 use Rattle.script_text.specs.declared.task.Task.{Task}
 use Rattle.host_world.specs.declared.settings.Settings.{Settings}
 use Rattle.host_world.specs.Settings.{frontier_bits}
