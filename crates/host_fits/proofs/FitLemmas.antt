@@ -30,7 +30,7 @@ use Rattle.host_plan.specs.Request.{served}
 use Rattle.host_laws.proofs.RunLaws.{run-history}
 use Rattle.host_world.specs.Links.{links_of}
 use Rattle.host_world.specs.ShippedHost.{hot_places, is_blob, serves_key, is_place_of}
-use Rattle.host_fits.proofs.Keeping.{Setting, IsSetting, ranged, served_at, places, PlacesMirror, kept_of, front_of, keeping_of}
+use Rattle.host_fits.proofs.Keeping.{Setting, IsSetting, bits_in, ranged, served_at, places, PlacesMirror, kept_of, front_of, keeping_of}
 use Rattle.host_fits.proofs.EventLemmas.{touching-events, touching-none, touching-stamps}
 use Rattle.host_fits.proofs.PlaceLemmas.{both, home_of, done_within, vacant_behind, home-below}
 use Rattle.host_fits.proofs.ClearLemmas.{carried-clear, carried-keeps, not_after, renewing-rises}
@@ -39,14 +39,14 @@ use Rattle.host_fits.proofs.ServeLemmas.{MayServeShard, open_now, deed, mirrors_
 -- A worker at a shard: the shard mirrors with no hot key, it is of this number, and waits since this epoch.
 pub record AtShard (setting : Setting) (worker : ℕ) (clock : Reading) (epoch s : ℕ) (shard : Shard) : Type 0 where
   pub settled : IsSetting setting
-  pub there : worker < setting.header.verifiers
+  pub there : worker < setting.settings.header.verifiers
   pub is_clock : IsClock (ranged setting) clock
-  pub known : shard.evictor < setting.header.verifiers
+  pub known : shard.evictor < setting.settings.header.verifiers
   pub epoch_there : shard.stamp.epoch ≡ epoch
-  pub mirrored : IsMirrored (format_of setting.header) setting.functions.digest shard []
-  pub levels : length shard.frontier ≡ setting.bits
+  pub mirrored : IsMirrored (format_of setting.settings.header) setting.functions.digest shard []
+  pub levels : length shard.frontier ≡ bits_in setting
   pub number : number_of shard.frontier ≡ s
-  pub from_first : setting.header.first ≤ shard.stamp.epoch
+  pub from_first : setting.settings.header.first ≤ shard.stamp.epoch
 
 -- what is ready is such a shard
 pub at_shard : (setting : Setting) (worker : ℕ) (clock : Reading) (epoch s : ℕ) (contents : List Content) → IsSetting setting
@@ -67,8 +67,8 @@ at_shard setting worker clock epoch s contents is_setting ready =
     }
 
 -- a shard whose element is another mirrors the same
-pub places_mirror : (setting : Setting) (s : ℕ) (shard : Shard) → IsMirrored (format_of setting.header) setting.functions.digest shard []
-    → length shard.frontier ≡ setting.bits → number_of shard.frontier ≡ s → setting.header.first ≤ shard.stamp.epoch
+pub places_mirror : (setting : Setting) (s : ℕ) (shard : Shard) → IsMirrored (format_of setting.settings.header) setting.functions.digest shard []
+    → length shard.frontier ≡ bits_in setting → number_of shard.frontier ≡ s → setting.settings.header.first ≤ shard.stamp.epoch
     → PlacesMirror setting s (places (cold shard))
 places_mirror setting s shard mirrored levels number from_first =
     record { shard = shard; all = refl; mirrored = mirrored; levels = levels; number = number; from_first = from_first }
@@ -82,7 +82,7 @@ module _ (setting : Setting) (worker : ℕ) (clock : Reading) (s : ℕ) (shard :
 
   may_serve : MayServeShard setting worker clock shard request
   may_serve =
-      let format = format_of setting.header in
+      let format = format_of setting.settings.header in
       let range = both (nat_lt request.key (2 ^ path_bits format)) (is_place_of format (places (cold shard)) 0 request) owns in
       let place = both (serves_key format (places (cold shard)) request.key (cold shard)) (is_blob format request.value) range.1 in
       let owned = both (is_prefix shard.frontier (key_path format request.key)) _ place.0 in
@@ -101,7 +101,7 @@ module _ (setting : Setting) (worker : ℕ) (clock : Reading) (s : ℕ) (shard :
   serve_fits = record {
     deed = deed setting worker clock shard request may_serve at.there at.is_clock;
     mirrored = record {
-      shard = served (format_of setting.header) setting.functions.digest worker shard (links_of (format_of setting.header) (cold shard) request.key) request clock;
+      shard = served (format_of setting.settings.header) setting.functions.digest worker shard (links_of (format_of setting.settings.header) (cold shard) request.key) request clock;
       all = refl;
       mirrored = mirrors_again setting worker clock shard request may_serve;
       levels = at.levels;
@@ -119,9 +119,9 @@ all-weaker P Q weaker (one ∷ told) all = (weaker one.0 all.0, all-weaker P Q w
 
 -- A run that carries each record of its shard as it is kept, and no other, within the stamps of the shard's front.
 pub clear_deed : (setting : Setting) (worker : ℕ) (from last : State) (commands : List Command) (told : Told) (s : ℕ) (old new : List Content)
-    → run (rules_under (scheme (ranged setting)) setting.header worker) from commands ≡ Ok (told, last)
+    → run (rules_under (scheme (ranged setting)) setting.settings.header worker) from commands ≡ Ok (told, last)
     → ((path : List Bool) → IsCarried path (kept_of old path) (kept_of new path) (carried path told))
-    → ((path : List Bool) → (home_of setting.bits path ≡ Some s → ⊥) → carried path told ≡ [])
+    → ((path : List Bool) → (home_of (bits_in setting) path ≡ Some s → ⊥) → carried path told ≡ [])
     → AllByRecursion (λ (one : Stamp × Change). IsLater one.0 (front_of old)) told
     → AllByRecursion (λ (one : Stamp × Change). IsNotAfter one.0 (front_of new)) told
     → IsNotAfter (front_of old) (front_of new)
@@ -129,9 +129,9 @@ pub clear_deed : (setting : Setting) (worker : ℕ) (from last : State) (command
 clear_deed setting worker from last commands told s old new runs once own behind up_to rises = record {
   apart = λ index path not_home. ap (λ (events : List Event). touching path events) (history.events worker index) ∙ touching-none path worker index told (own path not_home);
   clear = λ index path before home kept.
-      ap (λ (events : List Event). first_clash (format_of setting.header) before (changes_in (touching path events))) (history.events worker index)
-      ∙ (ap (λ (changes : List Change). first_clash (format_of setting.header) before changes) (touching-events path worker index told)
-      ∙ carried-clear (format_of setting.header) before path (kept_of old path) (kept_of new path) (carried path told) (once path) kept);
+      ap (λ (events : List Event). first_clash (format_of setting.settings.header) before (changes_in (touching path events))) (history.events worker index)
+      ∙ (ap (λ (changes : List Change). first_clash (format_of setting.settings.header) before changes) (touching-events path worker index told)
+      ∙ carried-clear (format_of setting.settings.header) before path (kept_of old path) (kept_of new path) (carried path told) (once path) kept);
   keeps = λ index path before home kept.
       subst (λ (events : List Event). IsKept (last_evicted_behind before (changes_in (touching path events))) path (kept_of new path)) (sym (history.events worker index))
       (subst (λ (changes : List Change). IsKept (last_evicted_behind before changes) path (kept_of new path)) (sym (touching-events path worker index told))
@@ -145,8 +145,8 @@ clear_deed setting worker from last commands told s old new runs once own behind
   rises = rises;
 }
   where
-    history : IsHistory (rules_under (scheme (ranged setting)) setting.header worker) from commands told
-    history = run-history (rules_under (scheme (ranged setting)) setting.header worker) from last commands told runs
+    history : IsHistory (rules_under (scheme (ranged setting)) setting.settings.header worker) from commands told
+    history = run-history (rules_under (scheme (ranged setting)) setting.settings.header worker) from last commands told runs
 
 module _ (setting : Setting) (worker : ℕ) (clock : Reading) (s : ℕ) (shard : Shard) (request : Request)
     (at : AtShard setting worker clock clock.at.epoch s shard)
@@ -158,17 +158,17 @@ module _ (setting : Setting) (worker : ℕ) (clock : Reading) (s : ℕ) (shard :
       clear_deed setting worker (resting (ranged setting) worker clock) _ (served_at setting worker clock (cold shard) request).commands did.told s
       (places (cold shard)) (places (served_at setting worker clock (cold shard) request).after)
       did.runs did.once
-      (λ path not_home. did.own path (λ below. not_home (home-below shard.frontier path setting.bits s at.levels at.number below)))
+      (λ path not_home. did.own path (λ below. not_home (home-below shard.frontier path (bits_in setting) s at.levels at.number below)))
       (all-weaker (IsWithin (Some (pending_shard shard)) (Some (pending_shard left))) (λ stamp. IsLater stamp shard.stamp) (λ stamp is. is.0) did.told did.within)
       (all-weaker (IsWithin (Some (pending_shard shard)) (Some (pending_shard left))) (λ stamp. IsNotAfter stamp left.stamp) (λ stamp is. not_after stamp left.stamp is.1) did.told did.within)
       (renewing-rises clock shard.stamp (open_now clock shard.stamp.epoch at.epoch_there))
     where
-      did : PlanRuns (rules_under (scheme (ranged setting)) setting.header worker) (resting (ranged setting) worker clock) (cold shard)
+      did : PlanRuns (rules_under (scheme (ranged setting)) setting.settings.header worker) (resting (ranged setting) worker clock) (cold shard)
           (served_at setting worker clock (cold shard) request).after request (plan setting worker clock shard request (may_serve setting worker clock s shard request at owns within)) (renewing clock shard.stamp)
       did = plan_run setting worker clock shard request (may_serve setting worker clock s shard request at owns within)
 
       left : Shard
-      left = served (format_of setting.header) setting.functions.digest worker shard (links_of (format_of setting.header) (cold shard) request.key) request clock
+      left = served (format_of setting.settings.header) setting.functions.digest worker shard (links_of (format_of setting.settings.header) (cold shard) request.key) request clock
 
 -- ---- any place
 
@@ -188,7 +188,7 @@ serve_place setting worker clock s zero shard request found at owns is =
     subst (λ (f : Done Content). BothFit setting worker clock s zero (places (cold shard)) request f) did.0
     (serve_fits setting worker clock s shard request at owns did.1, serve_clear setting worker clock s shard request at owns did.1)
 serve_place setting worker clock s (suc seat) shard request found at owns is =
-    let format = format_of setting.header in
+    let format = format_of setting.settings.header in
     let range = both (nat_lt request.key (2 ^ path_bits format)) (is_place_of format (places (cold shard)) (suc seat) request) owns in
     let place = both (serves_key format (places (cold shard)) request.key (get_or (replicate hot_places vacant) seat vacant)) (is_blob format request.value) range.1 in
     absurd (false≢true (ap (λ (c : Content). serves_key format (places (cold shard)) request.key c) (sym (vacant_behind hot_places seat)) ∙ place.0))

@@ -1,7 +1,6 @@
 -- What the shipped host keeps at the places of a shard, as the proofs speak of it.
-use Rattle.std.specs.Prelude.{◌≡◌, ℕ, ◌^◌, ◌<◌, ◌≤◌, ◌&&◌, nat_lt, Bool, List, [], ◌∷◌, length, map, take, replicate, Option, Some, None, if◌then◌else◌}
+use Rattle.std.specs.Prelude.{◌≡◌, ℕ, ◌^◌, ◌<◌, ◌≤◌, ◌&&◌, nat_lt, Bool, List, [], ◌∷◌, length, take, replicate, Option, Some, None, if◌then◌else◌}
 use Rattle.tree_keys.specs.Bits.{number_of}
-use Rattle.lamport_clocks.specs.declared.header.Header.{Header}
 use Rattle.lamport_clocks.specs.declared.stamp.Stamp.{Stamp}
 use Rattle.lamport_clocks.specs.Reading.{Reading}
 use Rattle.record_hash.specs.Functions.{DigestFunctions}
@@ -11,11 +10,10 @@ use Rattle.record_text.specs.Format.{path_bits, format_of}
 use Rattle.merkle_records.specs.Merkle.{GivesDigests}
 use Rattle.script_text.specs.declared.task.Task.{Task}
 use Rattle.host_shard.specs.Shard.{Shard, pending_shard}
-use Rattle.host_shard.specs.Content.{Content, cold, hot, vacant, pending}
+use Rattle.host_shard.specs.Content.{Content, cold, hot, vacant}
 use Rattle.host_plan.specs.Moments.{renewing}
 use Rattle.host_plan.specs.Visit.{between}
 use Rattle.host_plan.specs.Plan.{commands_of, content_after, clock_after}
-use Rattle.host_laws.specs.Served.{waiting}
 use Rattle.host_laws.specs.SettingUp.{CanSetUp}
 use Rattle.host_mirrors.specs.Mirroring.{IsMirrored}
 use Rattle.host_core.specs.Host.{Done, Host}
@@ -23,49 +21,34 @@ use Rattle.host_core.specs.Clear.{Keeping}
 use Rattle.host_world.specs.declared.settings.Settings.{Settings}
 use Rattle.host_world.specs.Links.{links_of}
 use Rattle.host_world.specs.Settings.{frontier_bits}
-use Rattle.host_world.specs.Moving.{stage_of, move_seats}
-use Rattle.host_world.specs.ShippedHost.{hot_places, is_place_of, told, serve_at, set_up_by, resting_cache, turn_of}
+use Rattle.host_world.specs.ShippedHost.{hot_places, is_place_of, shipped_host}
 
--- what a shipped host is given, with the number of bits that its frontiers have
+-- what a shipped host is given
 pub record Setting : Type 0 where
   pub functions : DigestFunctions
-  pub header : Header
-  pub bits : ℕ
+  pub settings : Settings
   pub script : List (List Task)
 
--- that host, where no seat owns a key that is out of range: no script asks for one
-abbrev pub ranged : Setting → Host Content Request
-ranged setting =
-    let format = format_of setting.header in
-    record {
-      functions = setting.functions;
-      header = setting.header;
-      cache = resting_cache setting.functions setting.header setting.bits;
-      vacant = vacant;
-      pending = λ content. waiting (pending format content);
-      owns = λ s seats seat request. nat_lt request.key (2 ^ path_bits format) && is_place_of format seats seat request;
-      telling = told;
-      script = map (map turn_of) setting.script;
-      setup = set_up_by format setting.header setting.bits;
-      serve = λ i clock content request. serve_at format setting.functions.digest i clock content request;
-      move = λ i clock s seats. move_seats format setting.functions.digest i (stage_of clock seats);
-    }
-
--- what such a host is given
 abbrev pub setting_of : DigestFunctions → Settings → List (List Task) → Setting
-setting_of functions settings script = record {
-  functions = functions;
-  header = settings.header;
-  bits = frontier_bits settings.shards;
-  script = script;
+setting_of functions settings script = record { functions = functions; settings = settings; script = script }
+
+-- how many bits its frontiers have
+abbrev pub bits_in : Setting → ℕ
+bits_in setting = frontier_bits setting.settings.shards
+
+-- the shipped host, where no seat owns a key that is out of range: no script asks for one
+abbrev pub ranged : Setting → Host Content Request
+ranged setting = record (shipped_host setting.functions setting.settings setting.script) {
+  owns = λ s seats seat request.
+      nat_lt request.key (2 ^ path_bits (format_of setting.settings.header)) && is_place_of (format_of setting.settings.header) seats seat request;
 }
 
 -- What the proofs take of its numbers: a worker at least, shards that can be set up, a cache with room for each path
 -- above a key, and digests of 32 bytes.
 pub record IsSetting (setting : Setting) : Type 0 where
-  pub some : 1 ≤ setting.header.verifiers
-  pub shards : CanSetUp (format_of setting.header) setting.header setting.bits
-  pub room : path_bits (format_of setting.header) < setting.header.cache
+  pub some : 1 ≤ setting.settings.header.verifiers
+  pub shards : CanSetUp (format_of setting.settings.header) setting.settings.header (bits_in setting)
+  pub room : path_bits (format_of setting.settings.header) < setting.settings.header.cache
   pub digests : GivesDigests setting.functions.digest
 
 -- ---- what is done
@@ -73,7 +56,7 @@ pub record IsSetting (setting : Setting) : Type 0 where
 -- for a request at a content
 abbrev pub served_at : Setting → ℕ → Reading → Content → Request → Done Content
 served_at setting worker clock content request =
-    let format = format_of setting.header in
+    let format = format_of setting.settings.header in
     let links = links_of format content request.key in
     record {
       commands = commands_of format content links request clock;
@@ -111,10 +94,10 @@ rested_at worker clock shard = record {
 pub record PlacesMirror (setting : Setting) (s : ℕ) (contents : List Content) : Type 0 where
   pub shard : Shard
   pub all : contents ≡ places (cold shard)
-  pub mirrored : IsMirrored (format_of setting.header) setting.functions.digest shard []
-  pub levels : length shard.frontier ≡ setting.bits
+  pub mirrored : IsMirrored (format_of setting.settings.header) setting.functions.digest shard []
+  pub levels : length shard.frontier ≡ bits_in setting
   pub number : number_of shard.frontier ≡ s
-  pub from_first : setting.header.first ≤ shard.stamp.epoch
+  pub from_first : setting.settings.header.first ≤ shard.stamp.epoch
 
 -- the records of a shard's places, and the stamp with which the shard waits
 abbrev pub kept_of : List Content → List Bool → Option Value
@@ -132,7 +115,7 @@ front_of (vacant ∷ rest) = record { epoch = 0; counter = 0 }
 -- What the host keeps of its records: a path longer than the frontiers is of the shard whose number its first bits spell.
 abbrev pub keeping_of : Setting → Keeping Content
 keeping_of setting = record {
-  home = λ path. if nat_lt setting.bits (length path) then Some (number_of (take setting.bits path)) else None;
+  home = λ path. if nat_lt (bits_in setting) (length path) then Some (number_of (take (bits_in setting) path)) else None;
   kept = λ s contents path. kept_of contents path;
   front = front_of;
 }

@@ -12,5 +12,6 @@ mod OpenLemmas
 mod SettingLemmas
 mod RangeLemmas
 mod PlanLemmas
+mod MoveLemmas
 mod SteadyLemmas
 mod PromiseLemmas

@@ -38,7 +38,7 @@ use Rattle.host_laws.proofs.RunLaws.{run-history}
 use Rattle.host_laws.proofs.SetUpLaws.{setup_runs}
 use Rattle.host_mirrors.proofs.FirstLaws.{new_mirrors}
 use Rattle.host_world.specs.ShippedHost.{hot_places, new_seats}
-use Rattle.host_fits.proofs.Keeping.{Setting, IsSetting, ranged, PlacesMirror, kept_of}
+use Rattle.host_fits.proofs.Keeping.{Setting, IsSetting, bits_in, ranged, PlacesMirror, kept_of}
 use Rattle.host_fits.proofs.EventLemmas.{ask_of, touching-events, touching-none}
 use Rattle.host_fits.proofs.DeedLemmas.{is_deed}
 use Rattle.host_fits.proofs.PlaceLemmas.{home_of, waiting_behind}
@@ -77,15 +77,15 @@ numbered_below (suc levels) bits path short =
 
 module _ (setting : Setting) (is_setting : IsSetting setting) where
   abbrev format : Format
-  format = format_of setting.header
+  format = format_of setting.settings.header
 
   abbrev first : ℕ
-  first = setting.header.first
+  first = setting.settings.header.first
 
   abbrev after_of : List (List Bool) → List (List Content)
   after_of frontiers = map new_seats (first_contents format first frontiers)
 
-  new_places : (frontiers : List (List Bool)) (number : ℕ) → AreNumbered setting.bits number frontiers → (s : ℕ) → s < length (after_of frontiers)
+  new_places : (frontiers : List (List Bool)) (number : ℕ) → AreNumbered (bits_in setting) number frontiers → (s : ℕ) → s < length (after_of frontiers)
       → PlacesMirror setting (number + s) (get_or (after_of frontiers) s [])
   new_places [] number numbered s within = absurd (omega arith)
   new_places (frontier ∷ frontiers) number numbered zero within = record {
@@ -102,8 +102,8 @@ module _ (setting : Setting) (is_setting : IsSetting setting) where
 
   pub setup_mirrored : (s : ℕ) → s < length (ranged setting).setup.after → PlacesMirror setting s (get_or (ranged setting).setup.after s [])
   setup_mirrored s within =
-      subst (λ (n : ℕ). PlacesMirror setting n (get_or (ranged setting).setup.after s [])) (ap (λ (n : ℕ). n * 2 ^ setting.bits + s) number_of-none ∙ omega arith)
-      (new_places (paths_below setting.bits []) (number_of [] * 2 ^ setting.bits) (numbered_below setting.bits setting.bits [] (omega arith)) s within)
+      subst (λ (n : ℕ). PlacesMirror setting n (get_or (ranged setting).setup.after s [])) (ap (λ (n : ℕ). n * 2 ^ bits_in setting + s) number_of-none ∙ omega arith)
+      (new_places (paths_below (bits_in setting) []) (number_of [] * 2 ^ bits_in setting) (numbered_below (bits_in setting) (bits_in setting) [] (omega arith)) s within)
 
   -- what waits there
   waits_first : (frontiers : List (List Bool)) → pending_of (ranged setting) (flat_map (λ contents. contents) (after_of frontiers))
@@ -119,27 +119,27 @@ module _ (setting : Setting) (is_setting : IsSetting setting) where
   stamped_first [] = tt
   stamped_first (frontier ∷ frontiers) = ((is_setting.some, refl), stamped_first frontiers)
 
-  abbrev ran : SetupRuns (scheme (ranged setting)) setting.header setting.bits
-  ran = setup_runs (scheme (ranged setting)) setting.header setting.bits is_setting.shards
+  abbrev ran : SetupRuns (scheme (ranged setting)) setting.settings.header (bits_in setting)
+  ran = setup_runs (scheme (ranged setting)) setting.settings.header (bits_in setting) is_setting.shards
 
-  pub setup_deed : IsDeed (ranged setting) 0 (opening 0 setting.header) (ranged setting).setup.commands (ranged setting).setup.clock
+  pub setup_deed : IsDeed (ranged setting) 0 (opening 0 setting.settings.header) (ranged setting).setup.commands (ranged setting).setup.clock
       [] (flat_map (λ contents. contents) (ranged setting).setup.after) []
   setup_deed =
-      is_deed (ranged setting) 0 (opening 0 setting.header) (ranged setting).setup.commands ran.told (ranged setting).setup.clock [] (flat_map (λ contents. contents) (ranged setting).setup.after) []
+      is_deed (ranged setting) 0 (opening 0 setting.settings.header) (ranged setting).setup.commands ran.told (ranged setting).setup.clock [] (flat_map (λ contents. contents) (ranged setting).setup.after) []
       ran.runs ran.typed
       (record { first = refl; end = refl; reading = record { within = is_setting.shards.counters; from_first = omega arith } })
       refl
-      (subst (AllByRecursion (IsStamped (ranged setting) first)) (sym (waits_first (paths_below setting.bits []))) (stamped_first (paths_below setting.bits [])))
-      ran.added (ran.evicted ∙ sym (waits_first (paths_below setting.bits [])))
+      (subst (AllByRecursion (IsStamped (ranged setting) first)) (sym (waits_first (paths_below (bits_in setting) []))) (stamped_first (paths_below (bits_in setting) [])))
+      ran.added (ran.evicted ∙ sym (waits_first (paths_below (bits_in setting) [])))
       (ap (λ (xs : List Access). map (ask_of first) xs) ran.accesses)
 
   -- the verifiers that set nothing up are at rest
-  pub others_rest : (i : ℕ) → 1 ≤ i → opening i setting.header ≡ resting (ranged setting) i (opening_reading setting.header.first setting.header.end)
+  pub others_rest : (i : ℕ) → 1 ≤ i → opening i setting.settings.header ≡ resting (ranged setting) i (opening_reading setting.settings.header.first setting.settings.header.end)
   others_rest i some = both_none (i == 0) root_entry _ (grind (arith, nat_tests))
     where
       both_none : (b : Bool) (x y : Entry) → b ≡ false
-          → ◌≡◌ {A = State} (record { cache = record { entries = if b then x ∷ [] else []; room = setting.header.cache }; clock = opening_reading setting.header.first setting.header.end })
-          (record { cache = record { entries = if b then y ∷ [] else []; room = setting.header.cache }; clock = opening_reading setting.header.first setting.header.end })
+          → ◌≡◌ {A = State} (record { cache = record { entries = if b then x ∷ [] else []; room = setting.settings.header.cache }; clock = opening_reading setting.settings.header.first setting.settings.header.end })
+          (record { cache = record { entries = if b then y ∷ [] else []; room = setting.settings.header.cache }; clock = opening_reading setting.settings.header.first setting.settings.header.end })
       both_none true x y is = absurd (cc)
       both_none false x y is = refl
 
@@ -169,11 +169,11 @@ module _ (setting : Setting) (is_setting : IsSetting setting) where
       behind (did_put before after) is rest = rest last
       behind (did_next_epoch sealed) is rest = rest last
 
-  history : IsHistory (rules_under (scheme (ranged setting)) setting.header 0) (opening 0 setting.header) (ranged setting).setup.commands ran.told
-  history = run-history (rules_under (scheme (ranged setting)) setting.header 0) (opening 0 setting.header) (set_up_state (scheme (ranged setting)) setting.header setting.bits) (ranged setting).setup.commands ran.told ran.runs
+  history : IsHistory (rules_under (scheme (ranged setting)) setting.settings.header 0) (opening 0 setting.settings.header) (ranged setting).setup.commands ran.told
+  history = run-history (rules_under (scheme (ranged setting)) setting.settings.header 0) (opening 0 setting.settings.header) (set_up_state (scheme (ranged setting)) setting.settings.header (bits_in setting)) (ranged setting).setup.commands ran.told ran.runs
 
   abbrev events : List Event
-  events = events_from (machinery (ranged setting) 0) 0 0 (opening 0 setting.header) (ranged setting).setup.commands
+  events = events_from (machinery (ranged setting) 0) 0 0 (opening 0 setting.settings.header) (ranged setting).setup.commands
 
   pub setup_clear : (path : List Bool) → first_clash format none_evicted (changes_in (touching path events)) ≡ None
   setup_clear path =
@@ -187,15 +187,15 @@ module _ (setting : Setting) (is_setting : IsSetting setting) where
   none_kept (frontier ∷ frontiers) zero path = refl
   none_kept (frontier ∷ frontiers) (suc s) path = none_kept frontiers s path
 
-  pub setup_apart : (path : List Bool) (s : ℕ) → home_of setting.bits path ≡ Some s → (touching path events ≡ []) × (kept_of (get_or (ranged setting).setup.after s []) path ≡ None)
+  pub setup_apart : (path : List Bool) (s : ℕ) → home_of (bits_in setting) path ≡ Some s → (touching path events ≡ []) × (kept_of (get_or (ranged setting).setup.after s []) path ≡ None)
   setup_apart path s home = (
     ap (λ (es : List Event). touching path es) (history.events 0 0) ∙ touching-none path 0 0 ran.told (ran.apart path longer),
-    none_kept (paths_below setting.bits []) s path,
+    none_kept (paths_below (bits_in setting) []) s path,
   )
     where
-      longer : setting.bits < length path
-      longer = go (nat_lt setting.bits (length path)) refl home
+      longer : bits_in setting < length path
+      longer = go (nat_lt (bits_in setting) (length path)) refl home
         where
-          go : (b : Bool) → nat_lt setting.bits (length path) ≡ b → (if b then Some (number_of (take setting.bits path)) else None) ≡ Some s → setting.bits < length path
+          go : (b : Bool) → nat_lt (bits_in setting) (length path) ≡ b → (if b then Some (number_of (take (bits_in setting) path)) else None) ≡ Some s → bits_in setting < length path
           go true long is = grind (arith, nat_tests)
           go false short is = absurd (none-some s is)

@@ -41,7 +41,7 @@ module _ (setting : Setting) (worker : ℕ) (clock : Reading) (epoch s : ℕ) (s
     (at : AtShard setting worker clock epoch s shard) (turned : clock.at.epoch ≡ suc epoch)
     (within : (renewing clock shard.stamp).at.counter ≤ clock.end) where
   abbrev rules : Rules
-  rules = rules_under (scheme (ranged setting)) setting.header worker
+  rules = rules_under (scheme (ranged setting)) setting.settings.header worker
 
   abbrev state : State
   state = resting (ranged setting) worker clock
@@ -56,7 +56,7 @@ module _ (setting : Setting) (worker : ℕ) (clock : Reading) (epoch s : ℕ) (s
   done = rested_at worker clock shard
 
   taken : is_open clock shard.stamp.epoch ≡ true
-  taken = open_before clock setting.header.first epoch shard.stamp.epoch at.is_clock.first turned at.epoch_there at.from_first
+  taken = open_before clock setting.settings.header.first epoch shard.stamp.epoch at.is_clock.first turned at.epoch_there at.from_first
 
   apart : is_root shard.frontier ≡ false
   apart = not_root shard.frontier at.mirrored.fits.below_root
@@ -68,10 +68,10 @@ module _ (setting : Setting) (worker : ℕ) (clock : Reading) (epoch s : ℕ) (s
       (works-none rules 0 shard.frontier B shard.value (taking clock shard.stamp))
 
   -- the element of the places of a shard
-  waits : (content : Content) → flat_map (λ c. waiting (pending (format_of setting.header) c)) (places content) ≡ waiting (pending (format_of setting.header) content)
+  waits : (content : Content) → flat_map (λ c. waiting (pending (format_of setting.settings.header) c)) (places content) ≡ waiting (pending (format_of setting.settings.header) content)
   waits content =
-      ap (λ (xs : List Element). waiting (pending (format_of setting.header) content) ++ xs) (waiting_behind (format_of setting.header) hot_places)
-      ∙ append-nil (waiting (pending (format_of setting.header) content))
+      ap (λ (xs : List Element). waiting (pending (format_of setting.settings.header) content) ++ xs) (waiting_behind (format_of setting.settings.header) hot_places)
+      ∙ append-nil (waiting (pending (format_of setting.settings.header) content))
 
   rest_deed : IsDeed (ranged setting) worker state done.commands done.clock (places (cold shard)) done.after []
   rest_deed =
@@ -82,7 +82,7 @@ module _ (setting : Setting) (worker : ℕ) (clock : Reading) (epoch s : ℕ) (s
       (subst (AllByRecursion (IsStamped (ranged setting) clock.at.epoch)) (sym (waits (cold left))) ((at.there, refl), tt))
       (sym (waits (cold shard))) (sym (waits (cold left))) refl
 
-  rest_mirrors : IsMirrored (format_of setting.header) setting.functions.digest left []
+  rest_mirrors : IsMirrored (format_of setting.settings.header) setting.functions.digest left []
   rest_mirrors = record {
     fits = record { below_root = at.mirrored.fits.below_root; no_data = at.mirrored.fits.no_data; kinds = at.mirrored.fits.kinds };
     mirrors = record {

@@ -43,7 +43,7 @@ use Rattle.host_laws.proofs.RequestLaws.{plan_runs}
 use Rattle.host_mirrors.specs.Mirroring.{IsMirrored}
 use Rattle.host_mirrors.proofs.FirstLaws.{among_none}
 use Rattle.host_mirrors.proofs.MirrorLaws.{last_kind, served_mirrors, plan_typed}
-use Rattle.host_fits.proofs.Keeping.{Setting, IsSetting, served_at, ranged}
+use Rattle.host_fits.proofs.Keeping.{Setting, IsSetting, bits_in, served_at, ranged}
 use Rattle.host_fits.proofs.EventLemmas.{ask_of}
 use Rattle.host_fits.proofs.DeedLemmas.{is_deed}
 
@@ -73,9 +73,9 @@ bare_if : (b : Bool) (root : Entry) → root.path ≡ [] → IsBare (if b then r
 bare_if true root is = inr (root, is, refl)
 bare_if false root is = inl refl
 
-pub bare_at_rest : (setting : Setting) (worker : ℕ) → IsBare (resting_cache setting.functions setting.header setting.bits worker).entries
+pub bare_at_rest : (setting : Setting) (worker : ℕ) → IsBare (resting_cache setting.functions setting.settings.header (bits_in setting) worker).entries
 bare_at_rest setting worker =
-    bare_if (worker == 0) (new_entry [] (values.Node (set_up_root (format_of setting.header) setting.functions.digest setting.bits)) Root) refl
+    bare_if (worker == 0) (new_entry [] (values.Node (set_up_root (format_of setting.settings.header) setting.functions.digest (bits_in setting))) Root) refl
 
 pub open_now : (clock : Reading) (epoch : ℕ) → epoch ≡ clock.at.epoch → is_open clock epoch ≡ true
 open_now clock epoch same = grind (arith, nat_tests)
@@ -85,17 +85,17 @@ open_now clock epoch same = grind (arith, nat_tests)
 -- a shard that mirrors with no hot key, at a worker that may serve a key of it
 pub record MayServeShard (setting : Setting) (worker : ℕ) (clock : Reading) (shard : Shard) (request : Request) : Type 0 where
   pub settled : IsSetting setting
-  pub known : shard.evictor < setting.header.verifiers
+  pub known : shard.evictor < setting.settings.header.verifiers
   pub epoch : shard.stamp.epoch ≡ clock.at.epoch
-  pub mirrored : IsMirrored (format_of setting.header) setting.functions.digest shard []
-  pub in_range : nat_lt request.key (2 ^ path_bits (format_of setting.header)) ≡ true
-  pub short : is_blob (format_of setting.header) request.value ≡ true
-  pub owned : is_prefix shard.frontier (key_path (format_of setting.header) request.key) ≡ true
+  pub mirrored : IsMirrored (format_of setting.settings.header) setting.functions.digest shard []
+  pub in_range : nat_lt request.key (2 ^ path_bits (format_of setting.settings.header)) ≡ true
+  pub short : is_blob (format_of setting.settings.header) request.value ≡ true
+  pub owned : is_prefix shard.frontier (key_path (format_of setting.settings.header) request.key) ≡ true
   pub counters : (renewing clock shard.stamp).at.counter ≤ clock.end
 
 module _ (setting : Setting) (worker : ℕ) (clock : Reading) (shard : Shard) (request : Request) (may : MayServeShard setting worker clock shard request) where
   abbrev format : Format
-  format = format_of setting.header
+  format = format_of setting.settings.header
 
   abbrev key : List Bool
   key = key_path format request.key
@@ -108,7 +108,7 @@ module _ (setting : Setting) (worker : ℕ) (clock : Reading) (shard : Shard) (r
   done = served_at setting worker clock (cold shard) request
 
   abbrev rules : Rules
-  rules = rules_under (scheme (ranged setting)) setting.header worker
+  rules = rules_under (scheme (ranged setting)) setting.settings.header worker
 
   whole : length key ≡ path_bits format
   whole = length-bits_of (path_bits format) request.key
@@ -160,7 +160,7 @@ module _ (setting : Setting) (worker : ℕ) (clock : Reading) (shard : Shard) (r
     rest = record {
       bare = bare_at_rest setting worker;
       room = may.settled.room;
-      known = λ element is. subst (λ (e : Element). e.verifier < setting.header.verifiers) (same_Some (pending_shard shard) element is) may.known;
+      known = λ element is. subst (λ (e : Element). e.verifier < setting.settings.header.verifiers) (same_Some (pending_shard shard) element is) may.known;
       open_epoch = open_now clock shard.stamp.epoch may.epoch;
     };
     counters = may.counters;
@@ -175,7 +175,7 @@ module _ (setting : Setting) (worker : ℕ) (clock : Reading) (shard : Shard) (r
   small : request.key < 2 ^ path_bits format
   small = let test = may.in_range in grind (arith, nat_tests)
 
-  pub deed : worker < setting.header.verifiers → IsClock (ranged setting) clock
+  pub deed : worker < setting.settings.header.verifiers → IsClock (ranged setting) clock
       → IsDeed (ranged setting) worker (resting (ranged setting) worker clock) done.commands done.clock (cold shard ∷ []) (done.after ∷ []) ((clock.at.epoch, told request) ∷ [])
   deed there is_clock =
       is_deed (ranged setting) worker (resting (ranged setting) worker clock) done.commands plan_run.told done.clock (cold shard ∷ []) (done.after ∷ []) ((clock.at.epoch, told request) ∷ [])

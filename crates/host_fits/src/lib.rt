@@ -9,6 +9,6 @@
 mod laws;
 
 pub use laws::{
-    plans_are_what_the_host_does, scripts_ask_for_keys_in_range, the_shipped_host_is_steady,
-    the_shipped_host_keeps_its_promise,
+    moves_are_what_the_host_does, plans_are_what_the_host_does, scripts_ask_for_keys_in_range,
+    the_shipped_host_is_steady, the_shipped_host_keeps_its_promise,
 };
