@@ -46,6 +46,9 @@ bits_are (suc most) bits few = go (cases_eq bits (suc most)) (λ less. bits_are 
 pub frontier_bits_are : (shards : ℕ) (is : IsShardCount shards) → frontier_bits shards ≡ is.bits
 frontier_bits_are shards is = ap frontier_bits is.power ∙ bits_are 10 is.bits is.most
 
+pub shards_are : (shards : ℕ) → IsShardCount shards → shards ≡ 2 ^ frontier_bits shards
+shards_are shards is = is.power ∙ ap (λ (bits : ℕ). 2 ^ bits) (sym (frontier_bits_are shards is))
+
 module _ (functions : DigestFunctions) (settings : Settings) (script : List (List Task)) (digests : GivesDigests functions.digest) (world : World Content)
     (behind : IsBehindSetup functions settings script world) where
   -- The world is orderly.

@@ -6,3 +6,4 @@ mod OrderlyLemmas
 mod BehindLemmas
 mod WorldLemmas
 mod MovedLemmas
+mod StandingLemmas

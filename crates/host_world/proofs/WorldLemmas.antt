@@ -1,7 +1,7 @@
 -- What the code writes is what the machine's step changes.
-use Rattle.std.proofs.Common.{◌≡◌, ◌≢◌, ℕ, zero, suc, ◌+◌, ◌-◌, ◌<◌, ◌≤◌, Bool, true, false, List, [], ◌∷◌, length, get_or, set, map, Option, Some, None, is_some, Result, Ok, Err, OnErr, if◌then◌else◌, refl, sym, ◌∙◌, ap, subst, arith}
+use Rattle.std.proofs.Common.{◌≡◌, ◌≢◌, ℕ, zero, suc, ◌+◌, ◌-◌, ◌<◌, ◌≤◌, Bool, true, false, List, [], ◌∷◌, length, get_or, set, map, take, drop, ◌++◌, Option, Some, None, is_some, Result, Ok, Err, OnErr, if◌then◌else◌, refl, sym, ◌∙◌, ap, subst, arith}
 use Rattle.std.proofs.lemmas.Bool.{false≢true}
-use Rattle.std.proofs.lemmas.List.{map-set, get_or-map, get_or_read, set-get_or, get_or-set_same, length-map, length-set}
+use Rattle.std.proofs.lemmas.List.{map-set, get_or-map, get_or_read, set-get_or, get_or-set_same, length-map, length-set, take_all, drop_all, append-nil}
 use Rattle.lamport_clocks.specs.declared.header.Header.{Header}
 use Rattle.host_core.specs.Host.{Done}
 use Rattle.host_core.specs.World.{Place, Worker, Seats, World, unmoved, fresh}
@@ -100,3 +100,18 @@ one_answer {E} r a b one two = ap answer (sym one ∙ two)
     answer : Result Bool E → Bool
     answer (Ok b) = b
     answer (Err e) = false
+
+-- seats that are not moved
+abbrev pub reopened : code.Seats → code.Seats
+reopened seats = record seats { moved = false }
+
+shown-reopened : (xs : List code.Seats) → map shown_seats (map reopened xs) ≡ map (λ (seats : Seats Content). unmoved seats.contents) (map shown_seats xs)
+shown-reopened [] = refl
+shown-reopened (seats ∷ xs) = ap (λ (more : List (Seats Content)). unmoved (contents_of seats) ∷ more) (shown-reopened xs)
+
+-- all seats, once each was reopened
+pub reopened-all : (old new : List code.Seats) (n : ℕ) → length old ≤ n → new ≡ map reopened (take n old) ++ drop n old
+    → map shown_seats new ≡ map (λ (seats : Seats Content). unmoved seats.contents) (map shown_seats old)
+reopened-all old new n long is =
+    ap (map shown_seats) (is ∙ ap (λ (xs : List code.Seats). map reopened xs ++ drop n old) (take_all n old long) ∙ ap (λ (xs : List code.Seats). map reopened old ++ xs) (drop_all n old long) ∙ append-nil (map reopened old))
+    ∙ shown-reopened old

@@ -16,7 +16,7 @@ use Rattle.host_world.specs.declared.settings.Settings.{Settings}
 use Rattle.host_world.specs.declared.world.World.{World}
 use Rattle.host_world.specs.Settings.{IsSettings}
 use Rattle.host_world.specs.ShippedHost.{shipped_host, new_seats}
-use Rattle.host_world.specs.Shown.{shown_world}
+use Rattle.host_world.specs.Shown.{shown_world, digests_of}
 
 -- The world of a shipped host behind its setup and some events, each of which was enabled.
 pub record IsBehindSetup (functions : DigestFunctions) (settings : Settings) (script : List (List Task)) (world : machine.World Content) : Type 0 where
@@ -32,6 +32,12 @@ host_of functions world = shipped_host functions world.settings world.requests
 -- The world of the code stands behind its host's setup.
 abbrev pub StandsBehind : {D : Type 0} → DigestFunctions → World D → Type 0
 StandsBehind functions world = IsBehindSetup functions world.settings world.requests (shown_world world)
+
+-- Both are worlds of one host.
+pub record AreOfOneHost {D : Type 0} (old new : World D) : Type 0 where
+  pub settings : new.settings ≡ old.settings
+  pub requests : new.requests ≡ old.requests
+  pub digests : digests_of new ≡ digests_of old
 
 -- A worker whose clock stands so can take a shard's seats in: nothing is hot there, and the clock takes the shard's stamp.
 pub record CanTakeSeats (clock : Reading) (seats : List Content) : Type 0 where

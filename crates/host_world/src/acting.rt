@@ -5,9 +5,10 @@ ghost use Rattle.host_core.specs.WorldEvent.{takes, serves, gives, advances, mov
 ghost use Rattle.host_world.specs.Places.{place_of};
 ghost use Rattle.host_world.specs.Shown.{shown_world, digests_of};
 ghost use Rattle.host_world.specs.Ending.{end_of};
-ghost use Rattle.host_world.specs.Behind.{host_of, StandsBehind};
+ghost use Rattle.host_world.specs.Behind.{host_of, StandsBehind, AreOfOneHost};
 
 use crate::fault::ClockEnd;
+use crate::seats::reopen;
 use crate::world::World;
 use record_hash::Digests;
 use record_text::Request;
@@ -23,8 +24,7 @@ impl<'a, D: Digests> World<'a, D> {
             worker (place_of place) }
         ensures stepped { shown_world self.new ≡ step (host_of (D.functions (digests_of self.old)) self.old)
             (shown_world self.old) (takes worker (place_of place)) }
-        ensures host { host_of (D.functions (digests_of self.new)) self.new
-            ≡ host_of (D.functions (digests_of self.old)) self.old }
+        ensures host { AreOfOneHost self.old self.new }
     {
         self.workers[worker as usize].take(place);
     }
@@ -35,8 +35,7 @@ impl<'a, D: Digests> World<'a, D> {
             worker (place_of place) }
         ensures stepped { shown_world self.new ≡ step (host_of (D.functions (digests_of self.old)) self.old)
             (shown_world self.old) (gives worker (place_of place)) }
-        ensures host { host_of (D.functions (digests_of self.new)) self.new
-            ≡ host_of (D.functions (digests_of self.old)) self.old }
+        ensures host { AreOfOneHost self.old self.new }
     {
         self.workers[worker as usize].give();
     }
@@ -50,8 +49,7 @@ impl<'a, D: Digests> World<'a, D> {
             (shown_world self.old) (serves worker (place_of place) request.now)) }
         ensures ended { IfOk result (λ end. end ≡ end_of (host_of (D.functions (digests_of self.old)) self.old)
             (shown_world self.old) (serves worker (place_of place) request.now)) }
-        ensures host { host_of (D.functions (digests_of self.new)) self.new
-            ≡ host_of (D.functions (digests_of self.old)) self.old }
+        ensures host { AreOfOneHost self.old self.new }
         ensures as_before { OnErr result (shown_world self.new ≡ shown_world self.old) }
     {
         let shard = (place / PLACES_EACH) as usize;
@@ -65,5 +63,61 @@ impl<'a, D: Digests> World<'a, D> {
         let at = self.workers[number].clock().at();
         self.workers[number].stop();
         Ok(Some(ClockEnd { worker, at }))
+    }
+
+    // A worker goes to the next epoch, or there is none.
+    pub(crate) fn advance(&mut self, worker: u16) -> Result<Option<ClockEnd>, Memory>
+        requires may { MayAdvance (host_of (D.functions (digests_of self.old)) self.old) (shown_world self.old) worker }
+        ensures stepped { OnOk result (shown_world self.new ≡ step (host_of (D.functions (digests_of self.old)) self.old)
+            (shown_world self.old) (advances worker)) }
+        ensures ended { IfOk result (λ end. end ≡ end_of (host_of (D.functions (digests_of self.old)) self.old)
+            (shown_world self.old) (advances worker)) }
+        ensures host { AreOfOneHost self.old self.new }
+        ensures as_before { OnErr result (shown_world self.new ≡ shown_world self.old) }
+    {
+        if self.workers[worker as usize].advance(self.alloc)? {
+            self.closing = true;
+            return Ok(None);
+        }
+        self.over = true;
+        let at = self.workers[0].clock().at();
+        Ok(Some(ClockEnd { worker: 0, at }))
+    }
+
+    // A worker moves a shard, or its clock ends.
+    pub(crate) fn move_shard(&mut self, worker: u16, shard: u32) -> Result<Option<ClockEnd>, Memory>
+        requires behind { StandsBehind (D.functions (digests_of self.old)) self.old }
+        requires may { MayMove (host_of (D.functions (digests_of self.old)) self.old) (shown_world self.old) worker shard }
+        ensures stepped { OnOk result (shown_world self.new ≡ step (host_of (D.functions (digests_of self.old)) self.old)
+            (shown_world self.old) (moves worker shard)) }
+        ensures ended { IfOk result (λ end. end ≡ end_of (host_of (D.functions (digests_of self.old)) self.old)
+            (shown_world self.old) (moves worker shard)) }
+        ensures host { AreOfOneHost self.old self.new }
+        ensures as_before { OnErr result (shown_world self.new ≡ shown_world self.old) }
+    {
+        let number = worker as usize;
+        let seats = &mut self.shards[shard as usize];
+        let mover = &mut self.workers[number];
+        if seats.move_by(self.alloc, self.d, mover, worker)? {
+            return Ok(None);
+        }
+        let at = self.workers[number].clock().at();
+        self.workers[number].get_stuck();
+        Ok(Some(ClockEnd { worker, at }))
+    }
+
+    // The next phase begins.
+    pub(crate) fn open(&mut self)
+        requires may { MayOpen (host_of (D.functions (digests_of self.old)) self.old) (shown_world self.old) }
+        ensures stepped { shown_world self.new ≡ step (host_of (D.functions (digests_of self.old)) self.old)
+            (shown_world self.old) opens }
+        ensures host { AreOfOneHost self.old self.new }
+    {
+        let phases = self.requests.len();
+        let more = self.phase < phases;
+        prove!(more);
+        self.phase += 1;
+        self.closing = false;
+        reopen(self.shards.as_mut_slice());
     }
 }

@@ -29,3 +29,9 @@ impl From<Memory> for WorldFault {
         WorldFault::Memory
     }
 }
+
+/// Want of memory within a list of events: so many of them are done.
+#[derive(Clone, Copy, Debug, PartialEq, Eq)]
+pub struct EventStop {
+    pub done: usize,
+}

@@ -14,7 +14,3 @@ pub fn a_chain_is_its_links()
     ensures only { (format : Format) (shard : Shard) (key : List Bool) (links : List Link) → IsShard format shard → IsKeyOf format shard key
         → IsChain format (tree_of shard) key shard.frontier shard.value links → links ≡ links_in format shard key }
 {}
-
-pub fn probe()
-    ensures there { (x : Bool) → x ≡ x }
-{}

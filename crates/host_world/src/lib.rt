@@ -2,16 +2,18 @@
 #![tactic(auto)]
 
 mod acting;
+mod beginning;
 mod event;
 mod fault;
 mod laws;
 mod seats;
 mod settings;
+mod stepping;
 mod worker;
 mod world;
 
 pub use event::Event;
-pub use fault::{ClockEnd, WorldFault};
+pub use fault::{ClockEnd, EventStop, WorldFault};
 pub use laws::a_chain_is_its_links;
 pub use seats::Seats;
 pub use settings::Settings;

@@ -1,14 +1,16 @@
 //! The places of one shard.
-ghost use Rattle.std.specs.Prelude.{◌≡◌, ◌≢◌, ◌<◌, List, [], ◌∷◌, length, get_or, set, true, Ok, IfOk, OnOk, OnErr, is_some};
+ghost use Rattle.std.specs.Prelude.{◌≡◌, ◌≢◌, ◌<◌, List, [], ◌∷◌, length, get_or, set, map, true, Ok, IfOk, OnOk, OnErr, is_some};
 ghost use Rattle.record_text.specs.Format.{short_keys};
+ghost use Rattle.host_core.specs.World.{unmoved};
 ghost use Rattle.host_shard.specs.Content.{vacant};
+ghost use Rattle.host_shard.specs.Shown.{shown_content};
 ghost use Rattle.host_plan.specs.Plan.{Owns, IsOpenAt};
 ghost use Rattle.host_world.specs.Behind.{CanTakeSeats};
 ghost use Rattle.host_world.specs.Places.{place_of};
 ghost use Rattle.host_world.specs.Doing.{HasDone, HasServed};
 ghost use Rattle.host_world.specs.Moving.{stage_of, move_seats};
-ghost use Rattle.host_world.specs.ShippedHost.{serve_at};
-ghost use Rattle.host_world.specs.Shown.{contents_of};
+ghost use Rattle.host_world.specs.ShippedHost.{serve_at, new_seats};
+ghost use Rattle.host_world.specs.Shown.{contents_of, shown_seats};
 
 use crate::worker::Worker;
 use host_shard::Content;
@@ -29,6 +31,22 @@ pub struct Seats {
 }
 
 impl Seats {
+    // The places of a shard as it is set up: its hot places are vacant.
+    fn new(alloc: Global, first: Content) -> Result<Self, Memory>
+        ensures seats { IfOk result (λ seats. shown_seats seats ≡ unmoved (new_seats (shown_content first))) }
+    {
+        let mut hot = Vec::with_capacity(alloc, 4)?;
+        hot.push_reserved(Content::Vacant);
+        hot.push_reserved(Content::Vacant);
+        hot.push_reserved(Content::Vacant);
+        hot.push_reserved(Content::Vacant);
+        Ok(Seats {
+            first,
+            hot,
+            moved: false,
+        })
+    }
+
     // A worker serves a request with what a seat has, where its clock does not pass its end: it answers that. Else, and for
     // want of memory, all is as before.
     pub(crate) fn serve<D: Digests>(
@@ -61,4 +79,53 @@ impl Seats {
         }
         worker.serve(alloc, d, number, place, &mut self.hot[seat - 1], request)
     }
+
+    // A worker moves the shard, where its clock does not pass its end: it answers that. Else, and for want of memory, all
+    // is as before.
+    pub(crate) fn move_by<D: Digests>(
+        &mut self,
+        alloc: Global,
+        d: &D,
+        worker: &mut Worker,
+        number: u16,
+    ) -> Result<bool, Memory>
+        requires seats { CanTakeSeats worker.old.clock (contents_of self.old) }
+        ensures within { IfOk result (λ moved. moved ≡ is_some (move_seats short_keys (D.functions d.now).digest
+            number (stage_of worker.old.clock (contents_of self.old)))) }
+        ensures moved { result ≡ Ok true
+            → HasDone (move_seats short_keys (D.functions d.now).digest
+            number (stage_of worker.old.clock (contents_of self.old)))
+            worker.old (contents_of self.new) worker.new }
+        ensures counted { result ≡ Ok true → self.new.moved ≡ true }
+        ensures worker_as_before { result ≢ Ok true → worker.new ≡ worker.old }
+        ensures as_before { result ≢ Ok true → shown_seats self.new ≡ shown_seats self.old }
+    {
+        let moved = worker.move_seats(alloc, d, number, &mut self.first, self.hot.as_mut_slice())?;
+        if moved {
+            self.moved = true;
+        }
+        Ok(moved)
+    }
+}
+
+// No shard is moved any more.
+pub(crate) fn reopen(shards: &mut [Seats])
+    ensures reopened { map shown_seats shards.new
+        ≡ map (λ seats. unmoved seats.contents) (map shown_seats shards.old) }
+{
+    for seats in shards.iter_mut() {
+        seats.moved = false;
+    }
+}
+
+// The places of shards as they are set up.
+pub(crate) fn seats_for(alloc: Global, contents: Vec<Content>) -> Result<Vec<Seats>, Memory>
+    ensures seats { IfOk result (λ shards. map shown_seats shards.items
+        ≡ map unmoved (map new_seats (map shown_content contents.items))) }
+{
+    let mut shards = Vec::with_capacity(alloc, contents.len())?;
+    for content in contents {
+        shards.push(Seats::new(alloc, content)?)?;
+    }
+    Ok(shards)
 }

@@ -1,5 +1,5 @@
 //! One worker of a world.
-ghost use Rattle.std.specs.Prelude.{◌≡◌, ◌≢◌, ◌↔◌, ◌<◌, List, [], ◌∷◌, map, false, true, Some, None, Ok, IfOk, OnOk, OnErr, is_some};
+ghost use Rattle.std.specs.Prelude.{◌≡◌, ◌≢◌, ◌↔◌, ◌-◌, ◌<◌, ◌≤◌, List, [], ◌∷◌, map, replicate, false, true, Some, None, Ok, IfOk, OnOk, OnErr, is_some};
 ghost use Rattle.std.specs.List.{flat_map};
 ghost use Rattle.record_text.specs.Format.{short_keys};
 ghost use Rattle.lamport_clocks.specs.Clock.{last_epoch};
@@ -8,6 +8,7 @@ ghost use Rattle.host_core.specs.World.{idle, fresh};
 ghost use Rattle.host_core.specs.WorldEvent.{logging, next_clock};
 ghost use Rattle.host_shard.specs.Shown.{shown_content};
 ghost use Rattle.host_plan.specs.Plan.{Owns, IsOpenAt};
+ghost use Rattle.host_laws.specs.SettingUp.{first_clock};
 ghost use Rattle.host_world.specs.Places.{place_of};
 ghost use Rattle.host_world.specs.Behind.{CanTakeSeats};
 ghost use Rattle.host_world.specs.Doing.{HasDone, HasServed};
@@ -16,7 +17,7 @@ ghost use Rattle.host_world.specs.ShippedHost.{serve_at};
 
 use host_plan::{Commands, PlanFault, plan};
 use host_shard::Content;
-use lamport_clocks::{Clock, Header};
+use lamport_clocks::{Clock, Header, Stamp};
 use log_codec::Command;
 use protection_moves::{MoveFault, migrate};
 use record_hash::Digests;
@@ -74,6 +75,31 @@ impl Worker {
             stopped: false,
             stuck: false,
         }
+    }
+
+    // Worker 0 behind the setup of so many shards, which it logged.
+    pub(crate) fn behind_setup(
+        alloc: Global,
+        header: &Header,
+        shards: u32,
+        commands: Commands,
+    ) -> Result<Self, Memory>
+        requires some { 0 < shards }
+        requires counters { shards ≤ header.now.end }
+        ensures value { IfOk result (λ worker. worker
+            ≡ idle commands (first_clock header.now.first header.now.end shards)) }
+    {
+        let mut worker = Worker::new(alloc, header);
+        worker.log.reserve(1)?;
+        let last = Stamp {
+            epoch: header.first,
+            counter: shards,
+        };
+        if worker.clock.on_evict(last).is_err() {
+            unreachable!()
+        }
+        worker.log.push_reserved(commands);
+        Ok(worker)
     }
 
     /// What it logged, deed by deed.
@@ -213,4 +239,26 @@ impl Worker {
             Err(MoveFault::Memory) => Err(Memory),
         }
     }
+}
+
+// The workers behind the setup of so many shards, which worker 0 logged.
+pub(crate) fn workers_for(
+    alloc: Global,
+    header: &Header,
+    shards: u32,
+    commands: Commands,
+) -> Result<Vec<Worker>, Memory>
+    requires verifiers { 0 < header.now.verifiers }
+    requires some { 0 < shards }
+    requires counters { shards ≤ header.now.end }
+    ensures workers { IfOk result (λ workers. workers.items
+        ≡ idle commands (first_clock header.now.first header.now.end shards)
+        ∷ replicate (header.now.verifiers - 1) (fresh header.now)) }
+{
+    let mut workers = Vec::with_capacity(alloc, usize::from(header.verifiers))?;
+    workers.push(Worker::behind_setup(alloc, header, shards, commands)?)?;
+    for _ in 0..header.verifiers - 1 {
+        workers.push(Worker::new(alloc, header))?;
+    }
+    Ok(workers)
 }

@@ -1,4 +1,7 @@
 //! Worlds.
+ghost use Rattle.std.specs.Prelude.{◌≡◌};
+ghost use Rattle.host_world.specs.Shown.{shown_world};
+
 use crate::seats::Seats;
 use crate::settings::Settings;
 use crate::worker::Worker;
@@ -17,4 +20,13 @@ pub struct World<'a, D> {
     pub(crate) phase: usize,
     pub(crate) closing: bool,
     pub(crate) over: bool,
+}
+
+impl<'a, D> World<'a, D> {
+    /// The workers, in the order of their numbers.
+    pub fn workers(&self) -> &[Worker]
+        ensures value { result.now ≡ (shown_world self.now).workers }
+    {
+        self.workers.as_slice()
+    }
 }

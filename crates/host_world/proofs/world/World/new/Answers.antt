@@ -1,0 +1,29 @@
+use Rattle.std.proofs.Common.{◌≡◌, ◌-◌, ◌^◌, ℕ, List, ◌∷◌, [], map, replicate, refl, false, ap, sym, ◌∙◌}
+use Rattle.log_codec.specs.declared.command.Command.{Command}
+use Rattle.record_text.specs.Format.{short_keys}
+use Rattle.host_core.specs.World.{Worker, Seats, World, idle, fresh, unmoved, set_up}
+use Rattle.host_laws.specs.SettingUp.{first_clock}
+use Rattle.host_plan.specs.Setup.{setup_commands}
+use Rattle.host_shard.specs.Content.{Content}
+use Rattle.host_world.specs.Settings.{frontier_bits}
+use Rattle.host_world.specs.ShippedHost.{shipped_host, new_seats}
+use Rattle.host_world.proofs.BehindLemmas.{shards_are}
+use Rattle.host_world.proofs.world.World.new.Goals as goal
+
+pub returns-clause-set_up : goal.returns-clause-set_up
+returns-clause-set_up g c =
+    let settings = c.args.settings.now in
+    let header = settings.header in
+    let bits = frontier_bits settings.shards in
+    let power : settings.shards ≡ 2 ^ bits = shards_are settings.shards c.requires.settings.shards in
+    let others = replicate (header.verifiers - 1) (fresh header) in
+    let world : List (Seats Content) → List Worker → World Content = λ (shards : List (Seats Content)) (workers : List Worker). record { shards = shards; workers = workers; phase = 0; closing = false; over = false } in
+    ap (λ (shards : List (Seats Content)). world shards c.in_ok-workers.workers.items)
+    (c.in_ok-shards.ensures.seats ∙ ap (λ (contents : List Content). map unmoved (map new_seats contents)) (c.in-Ok.ensures.contents bits power))
+    ∙ ap (world _)
+    (c.in_ok-workers.ensures.workers
+    ∙ ap (λ (commands : List Command). idle commands (first_clock header.first header.end settings.shards) ∷ others) (c.in-Ok.ensures.commands bits power)
+    ∙ ap (λ (n : ℕ). idle (setup_commands short_keys header.first bits) (first_clock header.first header.end n) ∷ others) power)
+
+pub returns-clause-behind : goal.returns-clause-behind
+returns-clause-behind g c = record { settings_fit = c.requires.settings; events = []; enabled = tt; is = returns-clause-set_up g c }

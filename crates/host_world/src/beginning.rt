@@ -1,0 +1,65 @@
+//! How a world begins.
+ghost use Rattle.std.specs.Prelude.{◌≡◌, ◌<◌, ◌↔◌, IfOk, Err};
+ghost use Rattle.host_core.specs.World.{set_up};
+ghost use Rattle.host_world.specs.declared.fault.ClockEnd.{ClockEnd};
+ghost use Rattle.host_world.specs.declared.fault.WorldFault.TheVariants as faults;
+ghost use Rattle.host_world.specs.Settings.{IsSettings};
+ghost use Rattle.host_world.specs.ShippedHost.{shipped_host};
+ghost use Rattle.host_world.specs.Shown.{shown_world, digests_of};
+ghost use Rattle.host_world.specs.Behind.{host_of, StandsBehind};
+
+use crate::fault::{ClockEnd, WorldFault};
+use crate::seats::seats_for;
+use crate::settings::Settings;
+use crate::worker::workers_for;
+use crate::world::World;
+use host_plan::{SetupFault, setup};
+use lamport_clocks::Clock;
+use record_hash::Digests;
+use script_text::Requests;
+use std::alloc::Global;
+
+impl<'a, D: Digests> World<'a, D> {
+    /// The world behind the setup, which worker 0 did, for these requests. It keeps taking memory from `alloc`.
+    pub fn new(
+        alloc: Global,
+        d: &'a D,
+        settings: &Settings,
+        requests: Requests,
+    ) -> Result<Self, WorldFault>
+        requires settings { IsSettings settings.now }
+        ensures set_up { IfOk result (λ world. shown_world world
+            ≡ set_up (shipped_host (D.functions d.now) settings.now requests)) }
+        ensures host { IfOk result (λ world. host_of (D.functions (digests_of world)) world
+            ≡ shipped_host (D.functions d.now) settings.now requests) }
+        ensures behind { IfOk result (λ world. StandsBehind (D.functions (digests_of world)) world) }
+        ensures clock_end { (end : ClockEnd) → (result ≡ Err (faults.ClockEnd end))
+            ↔ ((settings.now.header.end < settings.now.shards)
+            × (end ≡ record { worker = 0; at = record { epoch = settings.now.header.first; counter = 0 } })) }
+    {
+        let header = &settings.header;
+        let (commands, contents) = match setup(alloc, settings.shards, header) {
+            Ok(done) => done,
+            Err(SetupFault::ClockEnd) => {
+                return Err(WorldFault::ClockEnd(ClockEnd {
+                    worker: 0,
+                    at: Clock::new(header.first, header.end).at(),
+                }));
+            }
+            Err(SetupFault::Memory) => return Err(WorldFault::Memory),
+        };
+        let shards = seats_for(alloc, contents)?;
+        let workers = workers_for(alloc, header, settings.shards, commands)?;
+        Ok(World {
+            alloc,
+            d,
+            settings: *settings,
+            requests,
+            shards,
+            workers,
+            phase: 0,
+            closing: false,
+            over: false,
+        })
+    }
+}
