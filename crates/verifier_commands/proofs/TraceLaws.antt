@@ -10,7 +10,7 @@ use Rattle.verifier_commands.specs.Change.{Change}
 use Rattle.verifier_commands.specs.Outcome.{outcome_of, told}
 use Rattle.verifier_commands.specs.Transition.{Step, transition}
 use Rattle.verifier_commands.specs.Machine.{Machine, machine_after, concluded, stepped, rules_for}
-use Rattle.verifier_commands.specs.Trace.{Done, done_with, changed, done_by, performed, trace, trace_behind, events_from, events_behind}
+use Rattle.verifier_commands.specs.Trace.{done_with, changed, done_by, performed, trace, trace_behind, events_from, events_behind}
 
 -- A command was accepted with this change, which left this state; so it was performed, with this effect.
 pub record WasPerformed (scheme : Scheme) (machine : Machine) (command : Command) (effect : Effect) (after : Machine) : Type 0 where
