@@ -19,7 +19,7 @@ use Rattle.soundness.specs.Certified.{order_of, sealed_count, sealed_by_all, bal
 use Rattle.bundle_report.specs.declared.judged.Judged.{Judged}
 use Rattle.bundle_report.specs.BundleReport.{refused_end, done_or_bad, end_or, end_of, histories_in}
 use Rattle.bundle_report.specs.RunReport.{courses_from, courses_of, parts_at, first_refused}
-use Rattle.bundle_report.specs.Judged.{judged_by, judged_from, judged, CanBeJudged, first_parts, refused_log_by, refused_log, end_by, end_of_runs}
+use Rattle.bundle_report.specs.Judged.{judged_by, judged_from, judged, CanBeJudged, first_parts, refused_log_by, refused_log, end_by}
 use Rattle.bundle_report.proofs.PartLemmas.{part_of, log-parts}
 use Rattle.bundle_report.proofs.EpochPartLemmas.{parts-numbers, parts-once, parts-counts}
 use Rattle.bundle_report.proofs.EpochVerdictLemmas.{epoch_verdict}
@@ -242,11 +242,3 @@ judged-end scheme header (log ∷ logs) bad good whole =
     (by_verifiers scheme header (log ∷ logs) whole ∙ judged-found scheme header log logs good whole)
     ∙ ap (λ (n : ℕ). end_by n own.unbalanced (refused_log 0 (courses_of scheme header (log ∷ logs))) bad) same
     ∙ (found-judged scheme header log logs good whole bad).1
-
--- The same as the runs of all logs tell it.
-pub end-many : (scheme : Scheme) (header : Header) (logs : List (List ℕ)) (bad : Option ℕ) → IsHeader header → length logs ≡ header.verifiers
-    → end_of_runs (courses_of scheme header logs) bad
-    ≡ end_of scheme header (map (read_log scheme.format) logs) (histories_in scheme header (map (read_log scheme.format) logs)) bad
-end-many scheme header logs bad good whole =
-    ap (λ (j : Judged). end_by j.count j.unbalanced (refused_log 0 (courses_of scheme header logs)) bad) (sym (by_verifiers scheme header logs whole))
-    ∙ judged-end scheme header logs bad good whole

@@ -21,7 +21,7 @@ ghost use Rattle.certified_epochs.specs.Turn.{AreFed, next_epoch, parts_left, tu
 
 use crate::ending::{end_of, first_refused};
 use crate::fed_run::FedRun;
-use crate::judging::gather;
+use crate::gathering::gather;
 use crate::lines::write_epoch_lines;
 use bundle_report::{Judged, ReportStop, Uneven};
 use epoch_gather::{Verdict, verdict};

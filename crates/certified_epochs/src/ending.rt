@@ -7,7 +7,7 @@ use bundle_report::{Judged, RefusedLog};
 use report_text::BundleEnd;
 
 /// The first of the logs that is refused.
-pub fn first_refused(runs: &[FedRun]) -> Option<RefusedLog>
+pub(crate) fn first_refused(runs: &[FedRun]) -> Option<RefusedLog>
     requires few { length runs.now ≤ 64 }
     ensures value { result ≡ refused_log 0 (map (λ fed. fed.run.course) runs.now) }
 {

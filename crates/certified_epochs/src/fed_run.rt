@@ -2,15 +2,13 @@
 ghost use Rattle.std.specs.Prelude.{◌≡◌, ◌+◌, ◌<◌, ◌≤◌, ◌^◌, false, true, length, IfOk};
 ghost use Rattle.lamport_clocks.specs.Header.{IsHeader};
 ghost use Rattle.merkle_records.specs.Scheme.{scheme_of};
-ghost use Rattle.verifier_commands.specs.Machine.{opening_machine};
 ghost use Rattle.verifier_run.specs.Kept.{keeps_operations};
-ghost use Rattle.verifier_run.specs.LogCourse.{log_course};
 ghost use Rattle.verifier_run.specs.Progress.{opening_progress, fed, weight};
 
 use lamport_clocks::Header;
 use record_hash::Digests;
 use std::alloc::Global;
-use verifier_run::{Run, run_log};
+use verifier_run::Run;
 use want_of_memory::Memory;
 
 /// A run that takes its log where no answer can be given, as in a thread: that memory was wanting is kept until
@@ -32,26 +30,6 @@ impl FedRun {
     {
         Ok(FedRun {
             run: Run::new(alloc, number, header)?,
-            is_starved: false,
-        })
-    }
-
-    /// The run of the verifier of this number over a whole log.
-    pub fn over<D: Digests>(
-        alloc: Global,
-        d: &D,
-        number: u16,
-        header: &Header,
-        log: &[u8],
-    ) -> Result<Self, Memory>
-        requires header { IsHeader header.now }
-        requires number { number < header.now.verifiers }
-        ensures course { IfOk result (λ fed. fed.run.course
-            ≡ log_course keeps_operations (scheme_of (D.functions d.now) header.now) (opening_machine number header.now) log.now) }
-        ensures not_starved { IfOk result (λ fed. fed.is_starved ≡ false) }
-    {
-        Ok(FedRun {
-            run: run_log(alloc, d, number, header, log)?,
             is_starved: false,
         })
     }

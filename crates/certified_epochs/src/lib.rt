@@ -7,10 +7,9 @@
 mod certifier;
 mod ending;
 mod fed_run;
-mod judging;
+mod gathering;
 mod lines;
 
 pub use certifier::Certifier;
-pub use ending::{end_of, first_refused};
+pub use ending::end_of;
 pub use fed_run::FedRun;
-pub use judging::judge;

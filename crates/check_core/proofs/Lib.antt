@@ -4,7 +4,6 @@ mod ConcludingLemmas
 mod FeedingLemmas
 mod LogLemmas
 mod MeaningLemmas
-mod RunningLemmas
 mod StreamLemmas
 mod EndingLemmas
 mod HeaderLemmas

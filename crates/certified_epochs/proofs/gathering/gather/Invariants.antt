@@ -1,6 +1,6 @@
 use Rattle.std.proofs.Common.{◌≡◌, ◌++◌, map, drop}
 use Rattle.bundle_report.specs.RunReport.{parts_at}
-use Rattle.certified_epochs.proofs.judging.gather.Given as goal
+use Rattle.certified_epochs.proofs.gathering.gather.Given as goal
 
 -- what was gathered, and with what the runs that are left have handed in it is all
 abbrev pub invariant-loop-fed : goal.invariant-loop-fed
