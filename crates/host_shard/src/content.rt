@@ -33,7 +33,36 @@ pub enum Content {
     Vacant,
 }
 
+// What an unused place of a table of fixed size holds.
+impl Default for HotRecord {
+    fn default() -> Self {
+        HotRecord {
+            key: 0,
+            value: Blob::none(),
+            stamp: Stamp {
+                epoch: 0,
+                counter: 0,
+            },
+            evictor: 0,
+            touches: 0,
+        }
+    }
+}
+
 impl HotRecord {
+    /// The same record.
+    pub fn copy(&self) -> Self
+        ensures value { result ≡ self.now }
+    {
+        HotRecord {
+            key: self.key,
+            value: self.value.copy(),
+            stamp: self.stamp,
+            evictor: self.evictor,
+            touches: self.touches,
+        }
+    }
+
     /// The element with which the record waits, until a verifier takes it in.
     pub fn pending(&self) -> Element
         ensures value { result ≡ pending_hot short_keys self.now }

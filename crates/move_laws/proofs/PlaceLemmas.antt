@@ -8,6 +8,7 @@ use Rattle.record_text.specs.Format.{Format}
 use Rattle.stamp_order.specs.InOrder.{put_in_order, in_order}
 use Rattle.host_shard.specs.declared.content.HotRecord.{HotRecord}
 use Rattle.host_shard.specs.Content.{Content, cold, hot, vacant}
+use Rattle.protection_moves.proofs.TouchedLaws.{all-filter, all-put, all-order}
 use Rattle.protection_moves.specs.Stage.{hot_records, replaced}
 use Rattle.move_laws.proofs.CountLemmas.{weight, weight-front}
 
@@ -48,28 +49,6 @@ all-map P Q step [] all = tt
 all-map P Q step (found ∷ records) all = (step found all.0, all-map P Q step records all.1)
 
 -- ---- some of them, in some order
-
-pub all-filter : (P : HotRecord → Type 0) (test : HotRecord → Bool) (records : List HotRecord) → AllByRecursion P records → AllByRecursion P (filter test records)
-all-filter P test [] all = tt
-all-filter P test (found ∷ records) all =
-    elim (test found) as (λ b. AllByRecursion P (cond b (found ∷ filter test records) (filter test records))) [
-      | true ↦ (all.0, all-filter P test records all.1)
-      | false ↦ all-filter P test records all.1
-    ]
-
-all-put : (P : HotRecord → Type 0) (before : HotRecord → HotRecord → Bool) (found : HotRecord) (records : List HotRecord) → P found → AllByRecursion P records
-    → AllByRecursion P (put_in_order before found records)
-all-put P before found [] one all = (one, tt)
-all-put P before found (first ∷ records) one all =
-    elim (before first found) as (λ b. AllByRecursion P (cond b (first ∷ put_in_order before found records) (found ∷ first ∷ records))) [
-      | true ↦ (all.0, all-put P before found records one all.1)
-      | false ↦ (one, all)
-    ]
-
-pub all-order : (P : HotRecord → Type 0) (before : HotRecord → HotRecord → Bool) (records : List HotRecord) → AllByRecursion P records
-    → AllByRecursion P (in_order before records)
-all-order P before [] all = tt
-all-order P before (found ∷ records) all = all-put P before found (in_order before records) all.0 (all-order P before records all.1)
 
 pub apart-filter : (test : HotRecord → Bool) (records : List HotRecord) → AreApart records → AreApart (filter test records)
 apart-filter test [] apart = tt

@@ -26,34 +26,14 @@ use Rattle.host_laws.specs.Served.{IsBare}
 use Rattle.host_laws.proofs.RunLaws.{run-none, run-append}
 use Rattle.host_laws.proofs.WorksLaws.{works-none}
 use Rattle.host_laws.proofs.BetweenLaws.{clear-bare, length-bare, told_between, between_runs}
+use Rattle.protection_moves.proofs.RenewingLaws.{renewing_each-up}
 use Rattle.protection_moves.specs.Stage.{hot_records, replaced}
 use Rattle.protection_moves.specs.Renewing.{renewed_record, renewing_each, renewed_places, renewing_commands}
 use Rattle.move_laws.specs.Moved.{IsTakable}
 use Rattle.move_laws.proofs.CountLemmas.{weight, weight-front}
 use Rattle.move_laws.proofs.PlaceLemmas.{IsOne, HasNone, AreApart, replaced-weight, replaced-keys, apart-replaced, all-replaced, one-replaced}
 
--- ---- clocks and paths
-
--- a clock doesn't go back
-pub renewing-up : (clock : Reading) (stamp : Stamp) → clock.at.counter ≤ (renewing clock stamp).at.counter
-renewing-up clock stamp = omega (arith, le-max_left clock.at.counter (if stamp.epoch == clock.at.epoch then stamp.counter else 0))
-
-pub renewing_each-up : (clock : Reading) (records : List HotRecord) → clock.at.counter ≤ (renewing_each clock records).at.counter
-renewing_each-up clock [] = omega arith
-renewing_each-up clock (found ∷ more) = omega (arith, renewing-up clock found.stamp, renewing_each-up (renewing clock found.stamp) more)
-
--- its epoch and its bounds stay
-pub renewing_each-open : (clock : Reading) (records : List HotRecord) (epoch : ℕ) → is_open (renewing_each clock records) epoch ≡ is_open clock epoch
-renewing_each-open clock [] epoch = refl
-renewing_each-open clock (found ∷ more) epoch = renewing_each-open (renewing clock found.stamp) more epoch
-
-pub renewing_each-end : (clock : Reading) (records : List HotRecord) → (renewing_each clock records).end ≡ clock.end
-renewing_each-end clock [] = refl
-renewing_each-end clock (found ∷ more) = renewing_each-end (renewing clock found.stamp) more
-
-pub renewing_each-epoch : (clock : Reading) (records : List HotRecord) → (renewing_each clock records).at.epoch ≡ clock.at.epoch
-renewing_each-epoch clock [] = refl
-renewing_each-epoch clock (found ∷ more) = renewing_each-epoch (renewing clock found.stamp) more
+-- ---- paths
 
 -- a path that isn't empty isn't the root
 pub not_root : (path : List Bool) → 0 < length path → is_root path ≡ false

@@ -11,10 +11,11 @@ use Rattle.host_shard.specs.Content.{Content}
 use Rattle.protection_moves.specs.Stage.{Stage, hot_records, is_touched, touched_in, untouched_in}
 use Rattle.protection_moves.specs.Errand.{AreDue, errands_of}
 use Rattle.protection_moves.specs.Trip.{Trip}
+use Rattle.protection_moves.proofs.TouchedLaws.{all-filter, all-order, touched_all}
 use Rattle.protection_moves.proofs.ErrandLaws.{no_errands}
 use Rattle.move_laws.specs.Moved.{IsSteady}
 use Rattle.move_laws.proofs.CountLemmas.{weight, weight-order, weight-split}
-use Rattle.move_laws.proofs.PlaceLemmas.{IsOne, AreApart, all-are, all-filter, all-order, all-map, apart-filter, apart-order}
+use Rattle.move_laws.proofs.PlaceLemmas.{IsOne, AreApart, all-are, all-map, apart-filter, apart-order}
 
 -- ---- hot keys are apart
 
@@ -112,9 +113,6 @@ weight_split format x places =
     )
 
 -- what holds of all hot records holds of those that were touched, and of the others
-pub all_touched : (P : HotRecord → Type 0) (places : List Content) → AllByRecursion P (hot_records places) → AllByRecursion P (touched_in places)
-all_touched P places all = all-order P _ _ (all-filter P is_touched (hot_records places) all)
-
 pub all_untouched : (P : HotRecord → Type 0) (places : List Content) → AllByRecursion P (hot_records places) → AllByRecursion P (untouched_in places)
 all_untouched P places all = all-order P _ _ (all-filter P _ (hot_records places) all)
 

@@ -41,13 +41,15 @@ use Rattle.protection_moves.specs.Renewing.{renewing_each, renewing_commands}
 use Rattle.protection_moves.specs.Errand.{AreDue, clock_by_each, clock_needed}
 use Rattle.protection_moves.specs.Trip.{Trip}
 use Rattle.protection_moves.specs.Move.{IsMove, moved, move_commands}
+use Rattle.protection_moves.proofs.RenewingLaws.{renewing-up, renewing_each-open, renewing_each-end, renewing_each-epoch}
+use Rattle.protection_moves.proofs.TouchedLaws.{touched_all}
 use Rattle.protection_moves.proofs.ErrandLaws.{no_errands}
 use Rattle.move_laws.specs.Kept.{AreCarried}
 use Rattle.move_laws.specs.Moved.{StageMirrors, CanMove, IsOfClock, IsTakable, MoveRuns, IsSteady, at_stage}
 use Rattle.move_laws.proofs.CountLemmas.{weight, count-front, count-append}
 use Rattle.move_laws.proofs.PlaceLemmas.{IsOne, AreApart, all-are, all-map}
-use Rattle.move_laws.proofs.RenewLemmas.{not_root, renewing-up, renewing_each-open, renewing_each-end, renewing_each-epoch, told_renewing, renewing-runs, renewed_each, added-renewing, evicted-renewing, no_access-renewing, unsealed-renewing, carried-renewing, carries-renewing, renewed-weight, renewed-keys, renewed-all, renewed-fresh, IsFresh}
-use Rattle.move_laws.proofs.StageLemmas.{all-images, images-all, apart_from-pairs, all_split, weight_split, all_touched, apart_touched, no_trips}
+use Rattle.move_laws.proofs.RenewLemmas.{not_root, told_renewing, renewing-runs, renewed_each, added-renewing, evicted-renewing, no_access-renewing, unsealed-renewing, carried-renewing, carries-renewing, renewed-weight, renewed-keys, renewed-all, renewed-fresh, IsFresh}
+use Rattle.move_laws.proofs.StageLemmas.{all-images, images-all, apart_from-pairs, all_split, weight_split, apart_touched, no_trips}
 
 -- the clock once the touched hot records are renewed
 abbrev renewed_clock : Stage → Reading
@@ -87,7 +89,7 @@ steady_runs rules cache threshold stage due steady are can mirrors = record {
   told = told_steady rules stage;
   runs = run-append rules (at_stage cache stage) _ _ _ _ (record { cache = cache; clock = renewed_clock stage }) (at_stage cache new)
       (renewing-runs rules (at_stage cache stage) touched can.bare (omega (arith, below_root, can.room, no_data))
-      (all_touched (λ found. IsTakable rules stage.clock (pending_hot format found)) stage.places hot_takable)
+      (touched_all (λ found. IsTakable rules stage.clock (pending_hot format found)) stage.places hot_takable)
       (omega (arith, renewing-up (renewed_clock stage) stage.shard.stamp, within, renewing_each-end stage.clock touched)))
       (between_runs rules (record { cache = cache; clock = renewed_clock stage }) (pending_shard stage.shard) 0 [] [] stage.shard.value
       apart (clear-bare cache.entries stage.shard.frontier can.bare apart) (omega (arith, length-bare cache.entries can.bare, below_root, can.room, no_data))
@@ -165,7 +167,7 @@ steady_runs rules cache threshold stage due steady are can mirrors = record {
     apart_hot = apart_from-pairs (key_path format) (hot_records stage.places) mirrors.shard.mirrors.hot_keys.once
 
     there : AllByRecursion (IsOne (hot_records stage.places)) touched
-    there = all_touched (IsOne (hot_records stage.places)) stage.places (all-are (hot_records stage.places))
+    there = touched_all (IsOne (hot_records stage.places)) stage.places (all-are (hot_records stage.places))
 
     weight_touched : (x : Element) → weight format x (hot_records stage.places) ≡ weight format x touched
     weight_touched x = omega (arith, weight_split format x stage.places, ap (λ (xs : List HotRecord). weight format x xs) steady.all_touched)
@@ -212,7 +214,7 @@ steady_mirrors format digest worker stage mirrors = record {
         });
   };
   blobs = renewed-all (λ found. IsBlob format found.value) (λ number clock found is. is) worker stage.clock stage.places (touched_in stage.places)
-      (all_touched (λ found. IsBlob format found.value) stage.places mirrors.blobs) mirrors.blobs;
+      (touched_all (λ found. IsBlob format found.value) stage.places mirrors.blobs) mirrors.blobs;
 }
   where
     new : Stage
@@ -230,7 +232,7 @@ steady_typed : (format : Format) (digest : Digest) (worker : ℕ) (stage : Stage
     → AllByRecursion (IsTyped format) (move_commands format digest worker stage [])
 steady_typed format digest worker stage mirrors =
     all-append (IsTyped format) (renewing_commands format stage.clock (touched_in stage.places)) _
-    (renewing-typed format stage.clock (touched_in stage.places) (all_touched (λ found. IsBlob format found.value) stage.places mirrors.blobs))
+    (renewing-typed format stage.clock (touched_in stage.places) (touched_all (λ found. IsBlob format found.value) stage.places mirrors.blobs))
     (mirrors.shard.fits.kinds stage.shard.frontier stage.shard.value (frontier_there stage.shard), (tt, tt))
 
 -- ---- the laws

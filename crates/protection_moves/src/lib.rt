@@ -5,7 +5,10 @@
 #![tactic(auto)]
 
 mod fault;
+mod hot_places;
 mod migrating;
+mod renewing;
 
 pub use fault::MoveFault;
+pub use hot_places::HOT_PLACES;
 pub use migrating::migrate;

@@ -1,0 +1,11 @@
+use Rattle.std.proofs.Common.{arith}
+use Rattle.protection_moves.proofs.RenewingLaws.{past_by_first}
+use Rattle.protection_moves.proofs.renewing.+log_renewals.Goals as goal
+
+pub unreachable-requires : goal.unreachable-requires
+unreachable-requires t c =
+    omega (
+      arith,
+      c.requires.within,
+      past_by_first c.args.clock.now c.args.records.now c.in-Some.parts.1.now c.in-Some.parts.0.now c.in-Some.ensures.cases.0 c.in-None-renewed.ensures.past,
+    )

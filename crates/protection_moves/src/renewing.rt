@@ -1,0 +1,162 @@
+//! Hot records that stay hot: each is taken in and handed out again.
+ghost use Rattle.std.specs.Prelude.{◌≡◌, ◌<◌, ◌≤◌, ◌^◌, [], ◌++◌, length, map, IfSome, IfNone, IfOk, OnOk, IsTrue};
+ghost use Rattle.std.specs.List.{AllByRecursion};
+ghost use Rattle.lamport_clocks.specs.Clock.{is_open};
+ghost use Rattle.record_text.specs.Format.{short_keys};
+ghost use Rattle.record_text.specs.Value.{IsOf};
+ghost use Rattle.record_text.specs.Element.{IsStamp};
+ghost use Rattle.log_codec.specs.Command.{IsCommand};
+ghost use Rattle.host_shard.specs.Shown.{shown_content};
+ghost use Rattle.host_plan.specs.Moments.{renewing};
+ghost use Rattle.host_plan.specs.Visit.{between};
+ghost use Rattle.protection_moves.specs.Renewing.{renewing_commands, renewing_each, renewed_places};
+
+use crate::hot_places::replace;
+use host_plan::{Commands, renewed};
+use host_shard::{Content, HotRecord};
+use lamport_clocks::{Clock, Stamp};
+use log_codec::Command;
+use record_text::Element;
+use std::alloc::Global;
+use want_of_memory::Memory;
+
+// The clock once these records were renewed one after another, if that is not past the end.
+fn renewed_by_each(clock: &Clock, records: &[HotRecord]) -> Option<Clock>
+    requires open { AllByRecursion (λ found. IsTrue (is_open clock.now found.stamp.epoch)) records.now }
+    ensures renewed { IfSome result (λ later. later ≡ renewing_each clock.now records.now) }
+    ensures within { IfSome result (λ later. later.at.counter ≤ clock.now.end) }
+    ensures past { IfNone result (clock.now.end < (renewing_each clock.now records.now).at.counter) }
+{
+    match records.split_first() {
+        None => {
+            let _at = clock.at();
+            Some(*clock)
+        }
+        Some((first, rest)) => match renewed(clock, first.stamp) {
+            Some(next) => renewed_by_each(&next, rest),
+            None => None,
+        },
+    }
+}
+
+// The clock once these records and then an element of this stamp were renewed, if that is not past the end.
+pub(crate) fn counted(clock: &Clock, records: &[HotRecord], stamp: Stamp) -> Option<Clock>
+    requires open { IsTrue (is_open clock.now stamp.epoch) }
+    requires hot_open { AllByRecursion (λ found. IsTrue (is_open clock.now found.stamp.epoch)) records.now }
+    ensures counted { IfSome result (λ later. later ≡ renewing (renewing_each clock.now records.now) stamp) }
+    ensures within { IfSome result (λ later. later.at.counter ≤ clock.now.end) }
+    ensures past { IfNone result (clock.now.end < (renewing (renewing_each clock.now records.now) stamp).at.counter) }
+{
+    match renewed_by_each(clock, records) {
+        Some(between) => renewed(&between, stamp),
+        None => None,
+    }
+}
+
+// The commands that renew these records and then an element.
+pub(crate) fn log(
+    alloc: Global,
+    clock: &Clock,
+    records: &[HotRecord],
+    element: Element,
+    stamp: Stamp,
+) -> Result<Commands, Memory>
+    requires few { length records.now ≤ 4 }
+    requires open { AllByRecursion (λ found. IsTrue (is_open clock.now found.stamp.epoch)) records.now }
+    requires within { (renewing_each clock.now records.now).at.counter ≤ clock.now.end }
+    requires kind { IsOf short_keys element.path element.value }
+    requires added { IsStamp element.stamp }
+    requires verifier { element.verifier < 2 ^ 16 }
+    ensures logged { IfOk result (λ commands. commands
+        ≡ renewing_commands short_keys clock.now records.now ++ between element stamp []) }
+    ensures typed { IfOk result (λ commands. AllByRecursion (IsCommand short_keys) commands) }
+{
+    let mut commands = room_for(alloc, records.len() + 1)?;
+    log_renewals(&mut commands, clock, records)?;
+    log_renewal(&mut commands, element, stamp)?;
+    Ok(Commands::of(commands))
+}
+
+// Room for the commands of so many renewals.
+fn room_for(alloc: Global, renewals: usize) -> Result<Vec<Command>, Memory>
+    requires few { renewals ≤ 5 }
+    ensures empty { IfOk result (λ commands. commands.items ≡ []) }
+{
+    Ok(Vec::with_capacity(alloc, 2 * renewals)?)
+}
+
+// Logs that an element is taken in and its path handed out with this stamp.
+fn log_renewal(commands: &mut Vec<Command>, element: Element, stamp: Stamp) -> Result<(), Memory>
+    requires kind { IsOf short_keys element.path element.value }
+    requires added { IsStamp element.stamp }
+    requires verifier { element.verifier < 2 ^ 16 }
+    ensures logged { OnOk result (commands.new.items ≡ commands.old.items ++ between element stamp []) }
+    ensures typed { OnOk result (AllByRecursion (IsCommand short_keys) commands.old.items
+        → AllByRecursion (IsCommand short_keys) commands.new.items) }
+{
+    let path = element.path;
+    commands.push(Command::AddB {
+        path,
+        value: element.value,
+        stamp: element.stamp,
+        verifier: element.verifier,
+    })?;
+    commands.push(Command::EvictB { path, stamp })?;
+    Ok(())
+}
+
+// Logs that these records are renewed one after another.
+fn log_renewals(
+    commands: &mut Vec<Command>,
+    clock: &Clock,
+    records: &[HotRecord],
+) -> Result<(), Memory>
+    requires open { AllByRecursion (λ found. IsTrue (is_open clock.now found.stamp.epoch)) records.now }
+    requires within { (renewing_each clock.now records.now).at.counter ≤ clock.now.end }
+    ensures logged { OnOk result (commands.new.items
+        ≡ commands.old.items ++ renewing_commands short_keys clock.now records.now) }
+    ensures typed { OnOk result (AllByRecursion (IsCommand short_keys) commands.old.items
+        → AllByRecursion (IsCommand short_keys) commands.new.items) }
+{
+    let (first, rest) = match records.split_first() {
+        Some(parts) => parts,
+        None => return Ok(()),
+    };
+    match renewed(clock, first.stamp) {
+        Some(next) => {
+            log_renewal(commands, first.pending(), next.at())?;
+            log_renewals(commands, &next, rest)
+        }
+        None => unreachable!(),
+    }
+}
+
+// Puts these records in the places of their keys, as they are once they were renewed by this worker.
+pub(crate) fn renew_places(
+    places: &mut [Content],
+    worker: u16,
+    clock: &Clock,
+    records: &[HotRecord],
+)
+    requires open { AllByRecursion (λ found. IsTrue (is_open clock.now found.stamp.epoch)) records.now }
+    requires within { (renewing_each clock.now records.now).at.counter ≤ clock.now.end }
+    ensures renewed { map shown_content places.new
+        ≡ renewed_places worker clock.now (map shown_content places.old) records.now }
+{
+    if let Some((first, rest)) = records.split_first() {
+        match renewed(clock, first.stamp) {
+            Some(next) => {
+                let new = HotRecord {
+                    key: first.key,
+                    value: first.value.copy(),
+                    stamp: next.at(),
+                    evictor: worker,
+                    touches: 0,
+                };
+                replace(places, &new);
+                renew_places(places, worker, &next, rest);
+            }
+            None => unreachable!(),
+        }
+    }
+}
