@@ -11,7 +11,7 @@ use Rattle.host_shard.specs.Content.{Content}
 use Rattle.protection_moves.specs.Stage.{Stage, hot_records, is_touched, touched_in, untouched_in}
 use Rattle.protection_moves.specs.Errand.{AreDue, errands_of}
 use Rattle.protection_moves.specs.Trip.{Trip}
-use Rattle.protection_moves.proofs.TouchedLaws.{all-filter, all-order, touched_all}
+use Rattle.protection_moves.proofs.TouchedLaws.{all-filter, all-order}
 use Rattle.protection_moves.proofs.ErrandLaws.{no_errands}
 use Rattle.move_laws.specs.Moved.{IsSteady}
 use Rattle.move_laws.proofs.CountLemmas.{weight, weight-order, weight-split}
