@@ -1,5 +1,8 @@
-use Rattle.std.proofs.Common.{◌≡◌, ℕ, List, [], ◌∷◌, ◌++◌, map, drop, length, true, false, Option, Some, None, Err, is_ok, is_some, ap, sym, subst, ◌∙◌, refl, arith}
+use Rattle.std.proofs.Common.{◌≡◌, ℕ, List, [], ◌∷◌, ◌++◌, map, drop, length, true, false, Option, Some, None, Err, is_ok, is_some, IsTrue, ap, sym, subst, ◌∙◌, refl, arith}
 use Rattle.std.proofs.lemmas.Bool.{false≢true}
+use Rattle.std.proofs.lemmas.List.{length-map}
+use Rattle.std.specs.List.{AllByRecursion}
+use Rattle.lamport_clocks.specs.Clock.{is_open}
 use Rattle.log_codec.specs.declared.command.Command.{Command}
 use Rattle.record_text.specs.Format.{short_keys}
 use Rattle.host_core.specs.Host.{Done}
@@ -9,16 +12,26 @@ use Rattle.host_shard.specs.Content.{Content, cold}
 use Rattle.host_shard.specs.Shown.{shown, shown_content}
 use Rattle.protection_moves.specs.Shown.{shown_stage}
 use Rattle.host_shard.specs.declared.content.Content as place
-use Rattle.protection_moves.specs.Stage.{Stage, untouched_in}
+use Rattle.protection_moves.specs.Stage.{Stage, hot_records, untouched_in}
 use Rattle.protection_moves.specs.Move.{IsPastEnd}
 use Rattle.host_world.specs.contracts.worker.Worker.{the_view}
 use Rattle.host_world.specs.Moving.{stage_of, seats_of, move_seats}
-use Rattle.host_world.proofs.MovedLemmas.{all_vacant, move_past, move_is_done}
+use Rattle.host_world.proofs.MovedLemmas.{move_past, move_is_done}
 use Rattle.host_world.proofs.ServeLemmas.{just_logged}
 use Rattle.host_world.proofs.worker.Worker.move_seats.Goals as goal
 
-pub migrate-requires-clause-vacant : goal.migrate-requires-clause-vacant
-migrate-requires-clause-vacant g c = all_vacant 4 c.args.hot.now (ap (λ (cs : List Content). drop 1 cs) c.requires.seats.is)
+pub migrate-requires-clause-places : goal.migrate-requires-clause-places
+migrate-requires-clause-places g c =
+    omega (arith, length-map c.args.hot.now shown_content, ap (λ (cs : List Content). length (drop 1 cs)) c.requires.seats.is)
+
+-- no record is hot
+pub migrate-requires-clause-hot_open : goal.migrate-requires-clause-hot_open
+migrate-requires-clause-hot_open g c =
+    subst (AllByRecursion (λ found. IsTrue (is_open c.self.inside.clock found.stamp.epoch)))
+    (sym (ap (λ (cs : List Content). hot_records (drop 1 cs)) c.requires.seats.is)) tt
+
+pub migrate-requires-clause-all_touched : goal.migrate-requires-clause-all_touched
+migrate-requires-clause-all_touched g c = ap (λ (cs : List Content). untouched_in (drop 1 cs)) c.requires.seats.is
 
 pub returns-in-Ok-clause-moved : goal.returns-in-Ok-clause-moved
 returns-in-Ok-clause-moved g c is =
