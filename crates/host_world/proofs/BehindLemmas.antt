@@ -1,16 +1,16 @@
 -- What holds of a world behind the setup: its shards can be served and taken in.
-use Rattle.std.proofs.Common.{◌≡◌, ℕ, zero, suc, ◌+◌, ◌^◌, ◌<◌, ◌≤◌, ◌==◌, ◌||◌, ◌&&◌, Bool, true, false, List, length, get_or, nat_lt, nat_le, Some, IsTrue, if◌then◌else◌, refl, sym, ◌∙◌, ap, subst, arith, inl, inr, ◌⊎◌}
-use Rattle.std.proofs.lemmas.Bool.{false≢true, cases_eq, le-leb, leb-true, eq-eqb, lt-ltb, or_right, and_from}
+use Rattle.std.proofs.Common.{◌≡◌, ℕ, zero, suc, ◌+◌, ◌^◌, ◌<◌, ◌≤◌, ◌==◌, ◌||◌, ◌&&◌, Bool, true, false, List, get_or, nat_lt, nat_le, IsTrue, if◌then◌else◌, refl, sym, ◌∙◌, ap, subst, arith, inl, inr, ◌⊎◌}
+use Rattle.std.proofs.lemmas.Bool.{cases_eq, le-leb, leb-true, eq-eqb, lt-ltb, or_right, and_from}
 use Rattle.std.proofs.lemmas.Nat.{pow_below}
 use Rattle.lamport_clocks.specs.Clock.{is_open}
 use Rattle.lamport_clocks.specs.Reading.{Reading}
 use Rattle.record_hash.specs.Functions.{DigestFunctions}
 use Rattle.record_text.specs.declared.request.Request.{Request}
-use Rattle.record_text.specs.Format.{short_keys, path_bits}
+use Rattle.record_text.specs.Format.{short_keys}
 use Rattle.merkle_records.specs.Merkle.{GivesDigests}
-use Rattle.host_core.specs.World.{Place, World, worker_at, shard_at, epoch_of}
+use Rattle.host_core.specs.World.{Place, World, worker_at, shard_at}
 use Rattle.host_core.specs.WorldEvent.{MayServe, MayMove}
-use Rattle.host_shard.specs.Content.{Content, cold, vacant, key_path}
+use Rattle.host_shard.specs.Content.{Content, cold, vacant}
 use Rattle.host_shard.specs.Mirrors.{IsShard}
 use Rattle.host_shard.specs.Shard.{Shard}
 use Rattle.host_plan.specs.Plan.{Owns, IsOpenAt}
@@ -20,7 +20,7 @@ use Rattle.host_world.specs.declared.settings.Settings.{Settings}
 use Rattle.host_world.specs.Settings.{bits_within, frontier_bits}
 use Rattle.host_world.specs.ShippedHost.{new_seats, is_place_of}
 use Rattle.host_world.specs.Behind.{IsBehindSetup, CanTakeSeats}
-use Rattle.host_world.proofs.SeatLemmas.{IsOrderlyShard, place_is, place_owns}
+use Rattle.host_world.proofs.SeatLemmas.{place_is, place_owns}
 use Rattle.host_world.proofs.OrderlyLemmas.{host, IsOrderly, moved_by, set_up_orderly, run_orderly}
 
 -- The number of bits is that of the power.
@@ -70,7 +70,7 @@ module _ (functions : DigestFunctions) (settings : Settings) (script : List (Lis
       let whole = behind_orderly.shards place.shard may.there.0 in
       let clock = (worker_at (host functions settings script) world i).clock in
       subst (λ (seats : List Content). is_place_of short_keys seats place.seat request ≡ true
-          → Owns short_keys (get_or seats place.seat vacant) request.key × IsOpenAt clock (get_or seats place.seat vacant))
+      → Owns short_keys (get_or seats place.seat vacant) request.key × IsOpenAt clock (get_or seats place.seat vacant))
       (sym whole.is)
       (λ owns. at_seat whole.shard clock place.seat (place_is whole.shard place.seat request owns) owns whole.mirrored.fits
       (omega (arith, epoch, whole.stamped, ap moved_by still)))

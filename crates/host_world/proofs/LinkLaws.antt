@@ -1,8 +1,8 @@
 -- The chain to a key is one list of links, and there is one where each value is of its path's kind.
-use Rattle.std.proofs.Common.{◌≡◌, ℕ, zero, suc, ◌+◌, ◌≤◌, ◌<◌, Bool, true, false, List, [], ◌∷◌, length, Option, Some, None, is_some, inl, inr, ◌⊎◌, if◌then◌else◌, refl, sym, ◌∙◌, ap, subst, arith}
+use Rattle.std.proofs.Common.{◌≡◌, ℕ, zero, suc, ◌+◌, ◌≤◌, Bool, true, false, List, [], ◌∷◌, length, Option, Some, None, is_some, inl, inr, ◌⊎◌, if◌then◌else◌, refl, sym, ◌∙◌, ap, subst, arith}
 use Rattle.std.proofs.lemmas.Bool.{false≢true}
 use Rattle.tree_keys.specs.Path.{side, same_path, is_prefix, IsBelow}
-use Rattle.tree_keys.proofs.PathLaws.{same_path-self, same_path-true, same_path-apart, is_prefix-length}
+use Rattle.tree_keys.proofs.PathLaws.{same_path-self, same_path-true, same_path-apart}
 use Rattle.tree_keys.proofs.SideLaws.{prefix_cases, prefix_of_side, above_apart}
 use Rattle.record_text.specs.declared.value.Value.{Value}
 use Rattle.record_text.specs.Format.{Format, path_bits}
@@ -13,7 +13,7 @@ use Rattle.host_shard.specs.Tree.{Tree}
 use Rattle.host_shard.specs.Chain.{IsChain, IsNextLink, next_link, pointer_toward}
 use Rattle.host_shard.specs.Shard.{Shard, tree_of}
 use Rattle.host_shard.specs.Mirrors.{IsShard, IsKeyOf}
-use Rattle.host_shard.proofs.ChainLaws.{AreOf, IsLinkOf, next_of, frontier_kind}
+use Rattle.host_shard.proofs.ChainLaws.{AreOf, next_of, frontier_kind}
 use Rattle.host_world.specs.Links.{link_behind, links_within, links_in}
 
 -- the side of what lies below a path

@@ -1,20 +1,18 @@
 -- A move is what the shipped host does for a shard where nothing is hot.
-use Rattle.std.proofs.Common.{◌≡◌, ℕ, zero, suc, ◌<◌, Bool, true, false, List, [], ◌∷◌, length, drop, get_or, map, replicate, nat_lt, Option, Some, None, if◌then◌else◌, refl, sym, ◌∙◌, ap, subst, arith}
+use Rattle.std.proofs.Common.{◌≡◌, ℕ, zero, suc, ◌<◌, Bool, true, false, List, [], ◌∷◌, length, drop, get_or, map, replicate, nat_lt, Some, None, if◌then◌else◌, refl, sym, ◌∙◌, ap, subst, arith}
 use Rattle.std.proofs.lemmas.Bool.{false≢true, lt-ltb, ltb-true}
 use Rattle.std.specs.List.{AllByRecursion}
-use Rattle.lamport_clocks.specs.Reading.{Reading}
 use Rattle.record_text.specs.Format.{short_keys}
 use Rattle.log_codec.specs.declared.command.Command.{Command}
 use Rattle.merkle_records.specs.Merkle.{Digest}
-use Rattle.host_core.specs.Host.{Done}
 use Rattle.host_shard.specs.declared.content.Content as place
 use Rattle.host_shard.specs.declared.content.Content.TheVariants as places
 use Rattle.host_shard.specs.Content.{Content, cold, hot, vacant}
 use Rattle.host_shard.specs.Shown.{shown_content}
 use Rattle.protection_moves.specs.Stage.{Stage, untouched_in}
-use Rattle.protection_moves.specs.Errand.{Errand, errands_of, clock_needed}
+use Rattle.protection_moves.specs.Errand.{Errand, clock_needed}
 use Rattle.protection_moves.specs.Trip.{Trip}
-use Rattle.protection_moves.specs.Move.{IsMove, IsPastEnd, begun, moved, move_commands}
+use Rattle.protection_moves.specs.Move.{IsMove, IsPastEnd, begun, moved}
 use Rattle.protection_moves.proofs.ErrandLaws.{none_due, no_due, no_errands}
 use Rattle.host_world.specs.Moving.{seats_of, trips_for, trips_of, done_with, move_due}
 

@@ -1,5 +1,5 @@
 -- A world behind the setup: its clocks stand in the phase's epoch, and its shards are whole.
-use Rattle.std.proofs.Common.{◌≡◌, ◌≢◌, ℕ, zero, suc, ◌+◌, ◌-◌, ◌^◌, ◌<◌, ◌≤◌, ◌==◌, Bool, true, false, List, [], ◌∷◌, length, get_or, set, map, replicate, Option, Some, None, inl, inr, ◌⊎◌, if◌then◌else◌, refl, sym, ◌∙◌, ap, subst, arith}
+use Rattle.std.proofs.Common.{◌≡◌, ℕ, zero, suc, ◌+◌, ◌-◌, ◌<◌, ◌≤◌, ◌==◌, Bool, true, false, List, [], ◌∷◌, length, get_or, set, map, replicate, Option, Some, None, inl, inr, ◌⊎◌, if◌then◌else◌, refl, sym, ◌∙◌, ap, subst, arith}
 use Rattle.std.proofs.lemmas.Bool.{false≢true, cases_eq, cases_lt}
 use Rattle.std.proofs.lemmas.List.{length-set, get_or-set_same, get_or-set_other, set_past, get_or-map, length-map}
 use Rattle.std.specs.List.{AllByRecursion}
@@ -7,22 +7,22 @@ use Rattle.lamport_clocks.specs.Clock.{last_epoch}
 use Rattle.record_hash.specs.Functions.{DigestFunctions}
 use Rattle.record_text.specs.declared.request.Request.{Request}
 use Rattle.record_text.specs.Format.{short_keys, path_bits}
-use Rattle.merkle_records.specs.Merkle.{Digest, GivesDigests}
+use Rattle.merkle_records.specs.Merkle.{GivesDigests}
 use Rattle.host_core.specs.Host.{Done, Host}
 use Rattle.host_core.specs.World.{Place, Worker, Seats, World, fresh, unmoved, worker_at, shard_at, epoch_of, set_up}
 use Rattle.host_core.specs.WorldEvent.{WorldEvent, takes, loses, serves, gives, advances, moves, opens, IsEnabled, AreEnabled, MayServe, MayMove, MayOpen, step, run_events, with_worker, with_shard, after_serve, after_move, after_advance, next_clock, logging}
 use Rattle.log_codec.specs.declared.command.Command.TheVariants.{NextEpoch}
-use Rattle.host_shard.specs.Content.{Content, cold, vacant}
+use Rattle.host_shard.specs.Content.{Content, vacant}
 use Rattle.host_shard.specs.Shard.{new_shard}
-use Rattle.host_plan.specs.Setup.{setup_contents, first_contents, first_content, first_stamp, paths_below}
+use Rattle.host_plan.specs.Setup.{setup_contents, first_content, first_stamp, paths_below}
 use Rattle.host_mirrors.specs.Mirroring.{ContentMirrors}
 use Rattle.host_mirrors.proofs.FirstLaws.{contents_mirror}
 use Rattle.script_text.specs.declared.task.Task.{Task}
 use Rattle.host_world.specs.declared.settings.Settings.{Settings}
 use Rattle.host_world.specs.Settings.{frontier_bits}
 use Rattle.host_world.specs.Moving.{stage_of, move_seats}
-use Rattle.host_world.specs.ShippedHost.{shipped_host, new_seats, is_place_of, serve_at}
-use Rattle.host_world.proofs.SeatLemmas.{IsOrderlyShard, SameEpoch, serve_keeps, move_keeps}
+use Rattle.host_world.specs.ShippedHost.{shipped_host, new_seats, serve_at}
+use Rattle.host_world.proofs.SeatLemmas.{IsOrderlyShard, serve_keeps, move_keeps}
 
 -- one epoch more, where a shard was moved
 abbrev pub moved_by : Bool → ℕ
@@ -135,7 +135,7 @@ module _ (functions : DigestFunctions) (settings : Settings) (script : List (Lis
         let still = orderly.unmoved may.serving.phase place.shard may.there.0 in
         let epoch : clock.at.epoch ≡ epoch_of host world = orderly.clocked may.serving.phase i may.serving.there in
         let whole : IsOrderlyShard functions.digest clock.at.epoch seats.contents =
-            subst (λ (e : ℕ). IsOrderlyShard functions.digest e seats.contents) (omega (arith, epoch, ap moved_by still)) (orderly.shards place.shard may.there.0) in
+        subst (λ (e : ℕ). IsOrderlyShard functions.digest e seats.contents) (omega (arith, epoch, ap moved_by still)) (orderly.shards place.shard may.there.0) in
         let kept = serve_keeps functions.digest i clock seats.contents place.seat request done digests whole may.owns is in
         shard_keeps (with_worker world i _) place.shard _
         (worker_keeps world i _ orderly (kept.1.first ∙ orderly.bounded i) (λ there phase. kept.1.epoch ∙ epoch))

@@ -1,29 +1,28 @@
 -- The seats of a shard where nothing is hot, behind a request and behind a move.
-use Rattle.std.proofs.Common.{◌≡◌, ℕ, zero, suc, ◌+◌, ◌<◌, ◌≤◌, Bool, true, false, not, ◌&&◌, List, [], ◌∷◌, length, get_or, set, nat_lt, nat_le, Option, Some, None, IsSome, is_some, inl, inr, ◌⊎◌, if◌then◌else◌, refl, sym, ◌∙◌, ap, subst, arith}
-use Rattle.std.proofs.lemmas.Bool.{false≢true, and_parts, leb-true, ltb-true}
+use Rattle.std.proofs.Common.{◌≡◌, ℕ, zero, suc, Bool, true, false, not, List, [], ◌∷◌, length, get_or, set, nat_lt, Option, Some, None, is_some, inl, inr, ◌⊎◌, if◌then◌else◌, refl, sym, ap, subst, arith}
+use Rattle.std.proofs.lemmas.Bool.{false≢true, and_parts, leb-true}
 use Rattle.std.proofs.lemmas.Option.{same_Some}
 use Rattle.std.specs.List.{list_any, IsAmong}
 use Rattle.tree_keys.specs.BitsLaws.{length-bits_of}
 use Rattle.tree_keys.specs.Path.{side, is_prefix, IsBelow}
 use Rattle.tree_keys.proofs.SideLaws.{prefix_cases}
 use Rattle.lamport_clocks.specs.Reading.{Reading}
-use Rattle.lamport_clocks.specs.declared.stamp.Stamp.{Stamp}
 use Rattle.record_text.specs.declared.request.Request.{Request}
 use Rattle.record_text.specs.Format.{Format, short_keys, path_bits}
 use Rattle.record_text.specs.Value.{IsBlob}
 use Rattle.merkle_records.specs.Merkle.{Digest, GivesDigests}
 use Rattle.host_core.specs.Host.{Done}
 use Rattle.host_shard.specs.Shard.{Shard, pending_shard}
-use Rattle.host_shard.specs.Content.{Content, cold, hot, vacant, key_path}
+use Rattle.host_shard.specs.Content.{Content, cold, vacant, key_path}
 use Rattle.host_shard.specs.Mirrors.{IsShard, IsKeyOf, Mirrors}
-use Rattle.host_plan.specs.Plan.{Owns, clock_after}
+use Rattle.host_plan.specs.Plan.{clock_after}
 use Rattle.host_plan.specs.Moments.{renewing}
 use Rattle.host_plan.specs.Visit.{between}
 use Rattle.host_mirrors.specs.Mirroring.{IsMirrored}
 use Rattle.host_mirrors.proofs.MirrorLaws.{served_mirrors}
-use Rattle.protection_moves.specs.Stage.{Stage, is_hot_at}
+use Rattle.protection_moves.specs.Stage.{is_hot_at}
 use Rattle.host_world.specs.Links.{links_of, links_in}
-use Rattle.host_world.specs.Moving.{stage_of, move_seats, move_due}
+use Rattle.host_world.specs.Moving.{stage_of, move_seats}
 use Rattle.host_world.specs.ShippedHost.{new_seats, is_blob, serves_key, is_place_of, serve_at}
 use Rattle.host_world.proofs.LinkLaws.{shard_links_are}
 use Rattle.host_world.proofs.ServeLemmas.{done_along}
@@ -97,8 +96,8 @@ pub serve_keeps : (digest : Digest) (i : ℕ) (clock : Reading) (seats : List Co
     → IsOrderlyShard digest clock.at.epoch (set seats seat done.after) × SameEpoch clock done.clock
 serve_keeps digest i clock seats seat request done digests orderly owned served =
     subst (λ (xs : List Content). is_place_of short_keys xs seat request ≡ true
-        → serve_at short_keys digest i clock (get_or xs seat vacant) request ≡ Some done
-        → IsOrderlyShard digest clock.at.epoch (set xs seat done.after) × SameEpoch clock done.clock)
+    → serve_at short_keys digest i clock (get_or xs seat vacant) request ≡ Some done
+    → IsOrderlyShard digest clock.at.epoch (set xs seat done.after) × SameEpoch clock done.clock)
     (sym orderly.is) (λ owns is. at_seat seat (place_is orderly.shard seat request owns) owns is) owned served
   where
     shard : Shard
@@ -110,14 +109,16 @@ serve_keeps digest i clock seats seat request done digests orderly owned served 
     at_zero owns is =
         let own = place_owns shard request orderly.mirrored.fits owns in
         subst (λ (d : Done Content). IsOrderlyShard digest clock.at.epoch (d.after ∷ vacant ∷ vacant ∷ vacant ∷ vacant ∷ []) × SameEpoch clock d.clock)
-        (sym (done_is digest i clock (cold shard) request done is))
-        (record {
-          shard = _;
-          is = refl;
-          mirrored = served_mirrors short_keys digest i shard [] (links_in short_keys shard (key_path short_keys request.key)) request clock digests own.1 orderly.mirrored own.0
-              (none_among (key_path short_keys request.key)) (shard_links_are short_keys shard (key_path short_keys request.key) orderly.mirrored.fits own.0);
-          stamped = refl;
-        }, record { first = refl; epoch = refl })
+        (sym (done_is digest i clock (cold shard) request done is)) (
+          record {
+            shard = _;
+            is = refl;
+            mirrored = served_mirrors short_keys digest i shard [] (links_in short_keys shard (key_path short_keys request.key)) request clock digests own.1 orderly.mirrored own.0
+                (none_among (key_path short_keys request.key)) (shard_links_are short_keys shard (key_path short_keys request.key) orderly.mirrored.fits own.0);
+            stamped = refl;
+          },
+          record { first = refl; epoch = refl },
+        )
 
     at_seat : (seat : ℕ) → seat ≡ 0 → is_place_of short_keys (new_seats (cold shard)) seat request ≡ true
         → serve_at short_keys digest i clock (get_or (new_seats (cold shard)) seat vacant) request ≡ Some done
@@ -150,17 +151,19 @@ move_keeps digest i epoch clock seats done orderly moved =
     }
 
     go : (b : Bool) → (if b then None else Some (record {
-          commands = between (pending_shard shard) (renewing clock shard.stamp).at [];
-          after = new_seats (cold after);
-          clock = renewing clock shard.stamp;
-        })) ≡ Some done
+      commands = between (pending_shard shard) (renewing clock shard.stamp).at [];
+      after = new_seats (cold after);
+      clock = renewing clock shard.stamp;
+    })) ≡ Some done
         → IsOrderlyShard digest clock.at.epoch done.after × SameEpoch clock done.clock
     go true is = absurd (false≢true (ap is_some is))
     go false is =
-        subst (λ (d : Done (List Content)). IsOrderlyShard digest clock.at.epoch d.after × SameEpoch clock d.clock) (same_Some _ _ is)
-        (record {
-          shard = after;
-          is = refl;
-          mirrored = record { fits = record { below_root = orderly.mirrored.fits.below_root; no_data = orderly.mirrored.fits.no_data; kinds = orderly.mirrored.fits.kinds }; mirrors = mirrors };
-          stamped = refl;
-        }, record { first = refl; epoch = refl })
+        subst (λ (d : Done (List Content)). IsOrderlyShard digest clock.at.epoch d.after × SameEpoch clock d.clock) (same_Some _ _ is) (
+          record {
+            shard = after;
+            is = refl;
+            mirrored = record { fits = record { below_root = orderly.mirrored.fits.below_root; no_data = orderly.mirrored.fits.no_data; kinds = orderly.mirrored.fits.kinds }; mirrors = mirrors };
+            stamped = refl;
+          },
+          record { first = refl; epoch = refl },
+        )

@@ -1,10 +1,9 @@
 -- What the code writes is what the machine's step changes.
-use Rattle.std.proofs.Common.{◌≡◌, ◌≢◌, ℕ, zero, suc, ◌+◌, ◌-◌, ◌<◌, ◌≤◌, Bool, true, false, List, [], ◌∷◌, length, get_or, set, map, take, drop, ◌++◌, Option, Some, None, is_some, Result, Ok, Err, OnErr, if◌then◌else◌, refl, sym, ◌∙◌, ap, subst, arith}
+use Rattle.std.proofs.Common.{◌≡◌, ℕ, suc, ◌<◌, ◌≤◌, Bool, true, false, List, [], ◌∷◌, length, get_or, set, map, take, drop, ◌++◌, Option, Some, None, is_some, Result, Ok, Err, OnErr, refl, sym, ◌∙◌, ap, arith}
 use Rattle.std.proofs.lemmas.Bool.{false≢true}
-use Rattle.std.proofs.lemmas.List.{map-set, get_or-map, get_or_read, set-get_or, get_or-set_same, length-map, length-set, take_all, drop_all, append-nil}
-use Rattle.lamport_clocks.specs.declared.header.Header.{Header}
+use Rattle.std.proofs.lemmas.List.{map-set, get_or-map, set-get_or, get_or-set_same, length-set, take_all, drop_all, append-nil}
 use Rattle.host_core.specs.Host.{Done}
-use Rattle.host_core.specs.World.{Place, Worker, Seats, World, unmoved, fresh}
+use Rattle.host_core.specs.World.{Place, Worker, Seats, World, unmoved}
 use Rattle.host_core.specs.WorldEvent.{after_serve, after_move, logging, having_served}
 use Rattle.host_shard.specs.Content.{Content, vacant}
 use Rattle.host_world.specs.declared.seats.Seats as code

@@ -1,5 +1,5 @@
 -- A world behind the setup, and what a worker can move there.
-use Rattle.std.specs.Prelude.{◌≡◌, ℕ, List, IsTrue}
+use Rattle.std.specs.Prelude.{◌≡◌, List, IsTrue}
 use Rattle.lamport_clocks.specs.Clock.{is_open}
 use Rattle.lamport_clocks.specs.Reading.{Reading}
 use Rattle.record_hash.specs.Functions.{DigestFunctions}

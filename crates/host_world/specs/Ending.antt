@@ -1,8 +1,8 @@
 -- Where a clock ends.
-use Rattle.std.specs.Prelude.{ℕ, ◌==◌, Bool, true, false, is_none, get_or, Option, Some, None, if◌then◌else◌}
+use Rattle.std.specs.Prelude.{ℕ, ◌==◌, is_none, get_or, Option, Some, None, if◌then◌else◌}
 use Rattle.lamport_clocks.specs.Clock.{last_epoch}
 use Rattle.host_core.specs.Host.{Host}
-use Rattle.host_core.specs.World.{World, Worker, worker_at, shard_at}
+use Rattle.host_core.specs.World.{World, worker_at, shard_at}
 use Rattle.host_core.specs.WorldEvent.{WorldEvent, takes, loses, serves, gives, advances, moves, opens}
 use Rattle.host_world.specs.declared.fault.ClockEnd.{ClockEnd}
 

@@ -1,5 +1,5 @@
 -- The numbers of places.
-use Rattle.std.specs.Prelude.{ℕ, suc, ◌/◌, ◌%◌, Bool}
+use Rattle.std.specs.Prelude.{ℕ, suc, ◌/◌, ◌%◌}
 use Rattle.host_core.specs.World.{Place, Holding}
 use Rattle.host_world.specs.declared.worker.Held.{Held}
 use Rattle.host_world.specs.ShippedHost.{hot_places}

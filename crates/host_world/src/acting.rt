@@ -41,7 +41,12 @@ impl<'a, D: Digests> World<'a, D> {
     }
 
     // A worker serves a request at the place that it holds, or its clock ends.
-    pub(crate) fn serve(&mut self, worker: u16, place: u32, request: &Request) -> Result<Option<ClockEnd>, Memory>
+    pub(crate) fn serve(
+        &mut self,
+        worker: u16,
+        place: u32,
+        request: &Request,
+    ) -> Result<Option<ClockEnd>, Memory>
         requires behind { StandsBehind (D.functions (digests_of self.old)) self.old }
         requires may { MayServe (host_of (D.functions (digests_of self.old)) self.old) (shown_world self.old)
             worker (place_of place) request.now }

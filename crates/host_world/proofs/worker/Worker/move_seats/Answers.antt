@@ -1,4 +1,4 @@
-use Rattle.std.proofs.Common.{◌≡◌, ℕ, List, [], ◌∷◌, ◌++◌, map, drop, length, true, false, Option, Some, None, Err, is_ok, is_some, IsTrue, ap, sym, subst, ◌∙◌, refl, arith}
+use Rattle.std.proofs.Common.{◌≡◌, List, [], ◌∷◌, ◌++◌, map, drop, length, false, Some, None, Err, is_ok, is_some, IsTrue, ap, sym, subst, ◌∙◌, refl, arith}
 use Rattle.std.proofs.lemmas.Bool.{false≢true}
 use Rattle.std.proofs.lemmas.List.{length-map}
 use Rattle.std.specs.List.{AllByRecursion}
@@ -49,13 +49,13 @@ returns-in-Ok-clause-moved g c is =
           (move_is_done digest c.args.number stage untouched new c.in-Ok.commands within c.in-Ok.ensures.moved));
       after_it = refl;
       logged = subst (λ (w : Worker). the_view (record {
-            log = c.push_reserved.new.self;
-            clock = c.migrate.new.clock;
-            served = c.self.inside.served;
-            holds = c.self.inside.holds;
-            stopped = c.self.inside.stopped;
-            stuck = c.self.inside.stuck;
-          }) ≡ logging w c.in-Ok.commands c.migrate.new.clock)
+        log = c.push_reserved.new.self;
+        clock = c.migrate.new.clock;
+        served = c.self.inside.served;
+        holds = c.self.inside.holds;
+        stopped = c.self.inside.stopped;
+        stuck = c.self.inside.stuck;
+      }) ≡ logging w c.in-Ok.commands c.migrate.new.clock)
           c.self.view_is
           (just_logged (the_view c.self.inside) c.self.inside.log.items c.push_reserved.new.self.items c.in-Ok.commands c.migrate.new.clock refl
           (c.push_reserved.ensures.items ∙ ap (λ (l : List (List Command)). l ++ c.in-Ok.commands ∷ []) c.reserve.ensures.items));

@@ -1,7 +1,5 @@
-use Rattle.std.proofs.Common.{◌≡◌, ◌++◌, ℕ, List, [], ◌∷◌, true, Option, Some, is_ok, ap, sym, subst, ◌∙◌, refl, rules}
-use Rattle.std.specs.List.{flat_map}
+use Rattle.std.proofs.Common.{◌≡◌, ◌++◌, List, [], ◌∷◌, true, Some, is_ok, ap, sym, subst, ◌∙◌, refl, rules}
 use Rattle.std.proofs.lemmas.Bool.{false≢true}
-use Rattle.lamport_clocks.specs.Reading.{Reading}
 use Rattle.log_codec.specs.declared.command.Command.{Command}
 use Rattle.record_text.specs.Format.{short_keys}
 use Rattle.host_core.specs.World.{Worker}

@@ -1,4 +1,4 @@
-use Rattle.std.proofs.Common.{◌≡◌, ◌<◌, ℕ, List, ◌∷◌, [], Bool, set, get_or, map, length, Ok, true, false, is_ok, ap, sym, subst, ◌∙◌, arith}
+use Rattle.std.proofs.Common.{◌≡◌, ◌<◌, List, [], Bool, set, get_or, length, Ok, true, is_ok, ap, sym, subst, ◌∙◌, arith}
 use Rattle.std.proofs.lemmas.List.{length-map, map-set, get_or_read, set-set}
 use Rattle.std.proofs.lemmas.Bool.{false≢true}
 use Rattle.record_text.specs.Format.{short_keys}
@@ -53,7 +53,7 @@ returns-then-branch-clause-stepped g c =
     ∙ after_moved world i s c.index_mut-mover.result.now c.move_by.new.worker (contents_of c.move_by.new.self) _ (c.move_by.ensures.moved ok)
     ∙ ap (λ (w : Worker). after_move world i w s (moving w (contents_of c.index_mut-seats.result.now))) worker
     ∙ ap (λ (found : Seats Content). after_move world i (get_or old.workers.items i (fresh old.settings.header)) s
-        (moving (get_or old.workers.items i (fresh old.settings.header)) found.contents)) (sym seats)
+    (moving (get_or old.workers.items i (fresh old.settings.header)) found.contents)) (sym seats)
 
 pub returns-clause-stepped : goal.returns-clause-stepped
 returns-clause-stepped g c =
@@ -67,8 +67,8 @@ returns-clause-stepped g c =
     let moving = λ (w : Worker) (contents : List Content). move_seats short_keys (g.D.Digests.functions old.d.now).digest i (stage_of w.clock contents) in
     let not = λ (ok : c.move_by.result ≡ Ok true). false≢true (sym c.if-branch.false ∙ one_answer c.move_by.result c.in_ok-move_by.field-0 true c.in_ok-move_by.was ok) in
     let stuck = c.get_stuck.ensures.stuck
-        ∙ ap (λ (w : Worker). record w { stuck = true })
-        (read_back old.workers.items i c.move_by.new.worker c.index_mut.result.now c.requires.may.there c.index_mut.ensures.value ∙ c.move_by.ensures.worker_as_before not) in
+    ∙ ap (λ (w : Worker). record w { stuck = true })
+    (read_back old.workers.items i c.move_by.new.worker c.index_mut.result.now c.requires.may.there c.index_mut.ensures.value ∙ c.move_by.ensures.worker_as_before not) in
     ap (λ (shards : List (Seats Content)). record world { shards = shards; workers = set (set old.workers.items i c.move_by.new.worker) i c.get_stuck.new.self })
     (set_same shown_seats old.shards.items s c.index_mut-seats.result.now c.move_by.new.self c.index_mut-seats.ensures.value (c.move_by.ensures.as_before not))
     ∙ ap (λ (workers : List Worker). record world { workers = workers }) (set-set old.workers.items i c.move_by.new.worker c.get_stuck.new.self)
@@ -76,4 +76,4 @@ returns-clause-stepped g c =
     (none_of _ (sym c.if-branch.false ∙ c.in_ok-move_by.ensures.within)) stuck
     ∙ ap (λ (w : Worker). after_move world i w s (moving w (contents_of c.index_mut-seats.result.now))) worker
     ∙ ap (λ (found : Seats Content). after_move world i (get_or old.workers.items i (fresh old.settings.header)) s
-        (moving (get_or old.workers.items i (fresh old.settings.header)) found.contents)) (sym seats)
+    (moving (get_or old.workers.items i (fresh old.settings.header)) found.contents)) (sym seats)

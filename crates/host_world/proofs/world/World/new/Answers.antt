@@ -1,12 +1,12 @@
-use Rattle.std.proofs.Common.{◌≡◌, ◌-◌, ◌^◌, ℕ, List, ◌∷◌, [], map, replicate, refl, false, ap, sym, ◌∙◌}
+use Rattle.std.proofs.Common.{◌≡◌, ◌-◌, ◌^◌, ℕ, List, ◌∷◌, [], map, replicate, false, ap, ◌∙◌}
 use Rattle.log_codec.specs.declared.command.Command.{Command}
 use Rattle.record_text.specs.Format.{short_keys}
-use Rattle.host_core.specs.World.{Worker, Seats, World, idle, fresh, unmoved, set_up}
+use Rattle.host_core.specs.World.{Worker, Seats, World, idle, fresh, unmoved}
 use Rattle.host_laws.specs.SettingUp.{first_clock}
 use Rattle.host_plan.specs.Setup.{setup_commands}
 use Rattle.host_shard.specs.Content.{Content}
 use Rattle.host_world.specs.Settings.{frontier_bits}
-use Rattle.host_world.specs.ShippedHost.{shipped_host, new_seats}
+use Rattle.host_world.specs.ShippedHost.{new_seats}
 use Rattle.host_world.proofs.BehindLemmas.{shards_are}
 use Rattle.host_world.proofs.world.World.new.Goals as goal
 

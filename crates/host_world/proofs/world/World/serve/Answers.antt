@@ -1,12 +1,11 @@
-use Rattle.std.proofs.Common.{◌≡◌, ◌/◌, ◌%◌, ◌<◌, ℕ, List, [], ◌∷◌, Bool, set, get_or, map, length, Some, None, Ok, Err, Result, IfOk, OnErr, true, false, is_ok, if◌then◌else◌, is_none, ap, sym, subst, ◌∙◌, refl, rules, arith}
+use Rattle.std.proofs.Common.{◌≡◌, ◌/◌, ◌%◌, ◌<◌, List, [], set, get_or, length, Ok, true, is_ok, ap, sym, subst, ◌∙◌, arith}
 use Rattle.std.proofs.lemmas.List.{length-map, map-set, get_or_read, set-set}
 use Rattle.std.proofs.lemmas.Bool.{false≢true}
 use Rattle.record_text.specs.Format.{short_keys}
-use Rattle.host_core.specs.World.{Worker, Seats, World, fresh, unmoved, worker_at, shard_at}
-use Rattle.host_core.specs.WorldEvent.{step, serves, after_serve}
+use Rattle.host_core.specs.World.{Worker, Seats, fresh, unmoved}
+use Rattle.host_core.specs.WorldEvent.{after_serve}
 use Rattle.host_plan.specs.Plan.{Owns, IsOpenAt}
 use Rattle.host_shard.specs.Content.{Content, vacant}
-use Rattle.host_world.specs.Behind.{host_of}
 use Rattle.host_world.specs.Places.{place_of}
 use Rattle.host_world.specs.ShippedHost.{serve_at}
 use Rattle.host_world.specs.Shown.{shown_world, shown_seats, contents_of, digests_of}
@@ -60,9 +59,9 @@ returns-then-branch-clause-stepped g c =
     ∙ after_served world i place c.index_mut-server.result.now c.serve.new.worker (shown_seats c.index_mut-seats.result.now) (shown_seats c.serve.new.self) _
     (c.serve.ensures.served (c.in_ok-serve.was ∙ ap Ok c.if-branch.true)) c.serve.ensures.seat_alone c.serve.ensures.same_close
     ∙ ap (λ (w : Worker). after_serve world i w place (shown_seats c.index_mut-seats.result.now)
-        (serving w.clock (get_or (contents_of c.index_mut-seats.result.now) place.seat vacant) c.args.request.now)) worker
+    (serving w.clock (get_or (contents_of c.index_mut-seats.result.now) place.seat vacant) c.args.request.now)) worker
     ∙ ap (λ (s : Seats Content). after_serve world i (get_or old.workers.items i (fresh old.settings.header)) place s
-        (serving (get_or old.workers.items i (fresh old.settings.header)).clock (get_or s.contents place.seat vacant) c.args.request.now)) (sym seats)
+    (serving (get_or old.workers.items i (fresh old.settings.header)).clock (get_or s.contents place.seat vacant) c.args.request.now)) (sym seats)
 
 pub returns-clause-stepped : goal.returns-clause-stepped
 returns-clause-stepped g c =
@@ -76,8 +75,8 @@ returns-clause-stepped g c =
     let serving = serve_at short_keys (g.D.Digests.functions old.d.now).digest i in
     let not = λ (ok : c.serve.result ≡ Ok true). false≢true (sym c.if-branch.false ∙ one_answer c.serve.result c.in_ok-serve.field-0 true c.in_ok-serve.was ok) in
     let stopped = c.stop.ensures.stopped
-        ∙ ap (λ (w : Worker). record w { stopped = true })
-        (read_back old.workers.items i c.serve.new.worker c.index_mut.result.now c.requires.may.serving.there c.index_mut.ensures.value ∙ c.serve.ensures.worker_as_before not) in
+    ∙ ap (λ (w : Worker). record w { stopped = true })
+    (read_back old.workers.items i c.serve.new.worker c.index_mut.result.now c.requires.may.serving.there c.index_mut.ensures.value ∙ c.serve.ensures.worker_as_before not) in
     ap (λ (shards : List (Seats Content)). record world { shards = shards; workers = set (set old.workers.items i c.serve.new.worker) i c.stop.new.self })
     (set_same shown_seats old.shards.items (c.args.place / 5) c.index_mut-seats.result.now c.serve.new.self c.index_mut-seats.ensures.value
     (same_seats c.index_mut-seats.result.now c.serve.new.self (c.serve.ensures.as_before not) c.serve.ensures.same_close))
@@ -85,6 +84,6 @@ returns-clause-stepped g c =
     ∙ after_stopped world i place c.index_mut-server.result.now c.stop.new.self (shown_seats c.index_mut-seats.result.now) _
     (none_of _ (sym c.if-branch.false ∙ c.in_ok-serve.ensures.within)) stopped
     ∙ ap (λ (w : Worker). after_serve world i w place (shown_seats c.index_mut-seats.result.now)
-        (serving w.clock (get_or (contents_of c.index_mut-seats.result.now) place.seat vacant) c.args.request.now)) worker
+    (serving w.clock (get_or (contents_of c.index_mut-seats.result.now) place.seat vacant) c.args.request.now)) worker
     ∙ ap (λ (s : Seats Content). after_serve world i (get_or old.workers.items i (fresh old.settings.header)) place s
-        (serving (get_or old.workers.items i (fresh old.settings.header)).clock (get_or s.contents place.seat vacant) c.args.request.now)) (sym seats)
+    (serving (get_or old.workers.items i (fresh old.settings.header)).clock (get_or s.contents place.seat vacant) c.args.request.now)) (sym seats)
