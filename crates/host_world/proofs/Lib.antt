@@ -7,3 +7,4 @@ mod BehindLemmas
 mod WorldLemmas
 mod MovedLemmas
 mod StandingLemmas
+mod PlannedLemmas

@@ -3,6 +3,7 @@ pub mod Links
 pub mod Settings
 pub mod Moving
 pub mod ShippedHost
+pub mod Planned
 pub mod Places
 pub mod Doing
 pub mod Shown

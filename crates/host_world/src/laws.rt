@@ -1,5 +1,15 @@
 //! What follows from the definitions of the shipped host. These functions do nothing: their contracts are the laws.
-ghost use Rattle.std.specs.Prelude.{◌≡◌, Bool, List};
+ghost use Rattle.std.specs.Prelude.{◌≡◌, ℕ, Bool, List, [], Some};
+ghost use Rattle.lamport_clocks.specs.Reading.{Reading};
+ghost use Rattle.record_text.specs.declared.request.Request.{Request};
+ghost use Rattle.merkle_records.specs.Merkle.{Digest};
+ghost use Rattle.host_core.specs.Host.{Done};
+ghost use Rattle.host_plan.specs.Plan.{Owns};
+ghost use Rattle.host_shard.specs.Content.{Content};
+ghost use Rattle.protection_moves.specs.Stage.{Stage, untouched_in};
+ghost use Rattle.host_world.specs.Moving.{move_due};
+ghost use Rattle.host_world.specs.Planned.{IsPlanned, IsMoved};
+ghost use Rattle.host_world.specs.ShippedHost.{serve_at};
 ghost use Rattle.record_text.specs.Format.{Format};
 ghost use Rattle.host_shard.specs.declared.link.Link.{Link};
 ghost use Rattle.host_shard.specs.Chain.{IsChain};
@@ -13,4 +23,18 @@ pub fn a_chain_is_its_links()
         → IsChain format (tree_of shard) key shard.frontier shard.value (links_in format shard key) }
     ensures only { (format : Format) (shard : Shard) (key : List Bool) (links : List Link) → IsShard format shard → IsKeyOf format shard key
         → IsChain format (tree_of shard) key shard.frontier shard.value links → links ≡ links_in format shard key }
+{}
+
+/// What the shipped host serves is the plan of the request.
+pub fn what_is_served_is_planned()
+    ensures planned { (format : Format) (digest : Digest) (worker : ℕ) (clock : Reading) (content : Content) (request : Request) (done : Done Content)
+        → Owns format content request.key → serve_at format digest worker clock content request ≡ Some done
+        → IsPlanned format digest worker clock content request done }
+{}
+
+/// What the shipped host moves at a close is a move, where no hot record comes back.
+pub fn what_is_moved_is_a_move()
+    ensures moved { (format : Format) (digest : Digest) (worker : ℕ) (stage : Stage) (done : Done (List Content))
+        → untouched_in stage.places ≡ [] → move_due format digest worker stage [] ≡ Some done
+        → IsMoved format digest worker stage done }
 {}

@@ -1,0 +1,111 @@
+-- What the shipped host does is a plan, and a move.
+use Rattle.std.proofs.Common.{◌≡◌, ℕ, ◌<◌, Bool, true, false, List, [], length, nat_lt, Option, Some, None, is_some, if◌then◌else◌, refl, sym, ◌∙◌, ap, subst, arith}
+use Rattle.std.proofs.lemmas.Bool.{false≢true, lt-ltb}
+use Rattle.std.proofs.lemmas.Option.{same_Some}
+use Rattle.lamport_clocks.specs.Reading.{Reading}
+use Rattle.record_text.specs.declared.request.Request.{Request}
+use Rattle.record_text.specs.declared.value.Value.{Value}
+use Rattle.record_text.specs.declared.value.Value.TheVariants as values
+use Rattle.record_text.specs.Format.{Format, path_bits}
+use Rattle.record_text.specs.Value.{IsOf}
+use Rattle.merkle_records.specs.Merkle.{Digest}
+use Rattle.host_core.specs.Host.{Done}
+use Rattle.host_shard.specs.Chain.{last_value}
+use Rattle.host_shard.specs.Content.{Content, cold, hot, vacant, key_path}
+use Rattle.host_shard.specs.Shard.{tree_of}
+use Rattle.host_shard.proofs.ChainLaws.{frontier_kind, last_kind}
+use Rattle.host_plan.specs.Plan.{Owns, AreLinks, clock_after, value_found}
+use Rattle.host_plan.specs.Request.{value_after}
+use Rattle.protection_moves.specs.Stage.{Stage, untouched_in}
+use Rattle.protection_moves.specs.Errand.{clock_needed}
+use Rattle.protection_moves.specs.Move.{begun, moved}
+use Rattle.protection_moves.proofs.ErrandLaws.{none_due, no_due, no_errands}
+use Rattle.host_world.specs.Links.{links_of}
+use Rattle.host_world.specs.Moving.{trips_for, trips_of, done_with, move_due}
+use Rattle.host_world.specs.Planned.{IsPlanned, IsMoved}
+use Rattle.host_world.specs.ShippedHost.{serve_at}
+use Rattle.host_world.proofs.LinkLaws.{shard_links_are}
+use Rattle.host_world.proofs.ServeLemmas.{done_along}
+
+-- the data behind a request
+answer_of : (format : Format) (request : Request) (found : Value) (path : List Bool) → length path ≡ path_bits format → IsOf format path found
+    → (answer : Option (List ℕ)) × (values.Blob answer ≡ value_after request found)
+answer_of format request found path whole kind = go request.put found kind
+  where
+    go : (b : Bool) (v : Value) → IsOf format path v → (answer : Option (List ℕ)) × (values.Blob answer ≡ (if b then values.Blob request.value else v))
+    go true v kind = (request.value, refl)
+    go false (values.Blob blob) kind = (blob, refl)
+    go false (values.Node node) kind = absurd (omega (arith, kind.0, whole))
+
+-- the links of a content that owns a key lead to it, and to data
+links_lead : (format : Format) (content : Content) (request : Request) → Owns format content request.key
+    → AreLinks format content request.key (links_of format content request.key)
+    × ((answer : Option (List ℕ)) × (values.Blob answer ≡ value_after request (value_found content (links_of format content request.key))))
+links_lead format (cold shard) request own =
+    let key = key_path format request.key in
+    let chain = shard_links_are format shard key own.0 own.1 in (
+      chain,
+      answer_of format request (last_value shard.value (links_of format (cold shard) request.key)) key own.1.whole
+          (last_kind format (tree_of shard) key shard.frontier shard.value (links_of format (cold shard) request.key) own.1.whole own.0.kinds (frontier_kind format shard own.0.kinds) chain),
+    )
+links_lead format (hot found) request own = (refl, go request.put)
+  where
+    go : (b : Bool) → (answer : Option (List ℕ)) × (values.Blob answer ≡ (if b then values.Blob request.value else values.Blob found.value))
+    go true = (request.value, refl)
+    go false = (found.value, refl)
+links_lead format vacant request own = absurd own
+
+-- What is served is planned.
+pub served_is_planned : (format : Format) (digest : Digest) (worker : ℕ) (clock : Reading) (content : Content) (request : Request) (done : Done Content)
+    → Owns format content request.key → serve_at format digest worker clock content request ≡ Some done → IsPlanned format digest worker clock content request done
+served_is_planned format digest worker clock content request done own served = go (nat_lt clock.end (clock_after content clock).at.counter) refl served
+  where
+    made : Done Content
+    made = done_along format digest worker clock content request (links_of format content request.key)
+
+    lead : AreLinks format content request.key (links_of format content request.key)
+        × ((answer : Option (List ℕ)) × (values.Blob answer ≡ value_after request (value_found content (links_of format content request.key))))
+    lead = links_lead format content request own
+
+    go : (b : Bool) → nat_lt clock.end (clock_after content clock).at.counter ≡ b → (if b then None else Some made) ≡ Some done
+        → IsPlanned format digest worker clock content request done
+    go true past is = absurd (false≢true (ap is_some is))
+    go false open' is =
+        subst (IsPlanned format digest worker clock content request) (same_Some _ _ is)
+        (record {
+          plan = record { commands = made.commands; answer = lead.1.0 };
+          is = record { links = links_of format content request.key; way = lead.0; commands = refl; answer = lead.1.1; content = refl; clock = refl };
+          logged = refl;
+          within = λ past. false≢true (sym open' ∙ lt-ltb clock.end (clock_after content clock).at.counter past);
+        })
+
+-- What is moved is a move, where no hot record comes back.
+pub moved_is_move : (format : Format) (digest : Digest) (worker : ℕ) (stage : Stage) (done : Done (List Content))
+    → untouched_in stage.places ≡ [] → move_due format digest worker stage [] ≡ Some done → IsMoved format digest worker stage done
+moved_is_move format digest worker stage done untouched is = go (nat_lt stage.clock.end (clock_needed stage []).at.counter) refl is
+  where
+    none_else : trips_of format digest worker stage [] ≡ []
+    none_else = ap (trips_for format digest worker (begun worker stage)) (no_errands format None stage [] untouched refl (none_due format stage))
+
+    go : (b : Bool) → nat_lt stage.clock.end (clock_needed stage []).at.counter ≡ b
+        → (if b then None else Some (done_with format digest worker stage (trips_of format digest worker stage []))) ≡ Some done
+        → IsMoved format digest worker stage done
+    go true past is' = absurd (false≢true (ap is_some is'))
+    go false open' is' =
+        subst (IsMoved format digest worker stage) (ap (done_with format digest worker stage) (sym none_else) ∙ same_Some _ _ is')
+        (record {
+          new = moved format digest worker stage [];
+          is = record {
+            due = [];
+            are_due = none_due format stage;
+            trips = [];
+            errands = sym (no_errands format None stage [] untouched refl (none_due format stage));
+            ways = tt;
+            commands = refl;
+            after = refl;
+          };
+          after = refl;
+          clock = refl;
+          within = λ past. false≢true (sym open' ∙ lt-ltb stage.clock.end (clock_needed stage []).at.counter
+              (subst (λ (due : List ℕ). stage.clock.end < (clock_needed stage due).at.counter) (no_due format stage None past.due refl past.are_due) past.past));
+        })
