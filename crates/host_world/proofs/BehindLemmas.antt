@@ -19,9 +19,10 @@ use Rattle.script_text.specs.declared.task.Task.{Task}
 use Rattle.host_world.specs.declared.settings.Settings.{Settings}
 use Rattle.host_world.specs.Settings.{bits_within, frontier_bits}
 use Rattle.host_world.specs.ShippedHost.{new_seats, is_place_of}
+use Rattle.host_world.specs.Orderly.{IsOrderly, moved_by}
 use Rattle.host_world.specs.Behind.{IsBehindSetup, CanTakeSeats}
 use Rattle.host_world.proofs.SeatLemmas.{place_is, place_owns}
-use Rattle.host_world.proofs.OrderlyLemmas.{host, IsOrderly, moved_by, set_up_orderly, run_orderly}
+use Rattle.host_world.proofs.OrderlyLemmas.{host, set_up_orderly, run_orderly}
 
 -- The number of bits is that of the power.
 pub bits_are : (most bits : ℕ) → bits ≤ most → bits_within most (2 ^ bits) ≡ bits

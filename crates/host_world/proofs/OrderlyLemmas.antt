@@ -22,12 +22,8 @@ use Rattle.host_world.specs.declared.settings.Settings.{Settings}
 use Rattle.host_world.specs.Settings.{frontier_bits}
 use Rattle.host_world.specs.Moving.{stage_of, move_seats}
 use Rattle.host_world.specs.ShippedHost.{shipped_host, new_seats, serve_at}
-use Rattle.host_world.proofs.SeatLemmas.{IsOrderlyShard, serve_keeps, move_keeps}
-
--- one epoch more, where a shard was moved
-abbrev pub moved_by : Bool → ℕ
-moved_by true = 1
-moved_by false = 0
+use Rattle.host_world.specs.Orderly.{IsOrderlyShard, IsOrderly, moved_by}
+use Rattle.host_world.proofs.SeatLemmas.{serve_keeps, move_keeps}
 
 -- what is found in a list behind a change: what was put there, or what was there
 found_in_set : {X : Type 0} (xs : List X) (i : ℕ) (x d : X) (j : ℕ)
@@ -56,18 +52,9 @@ module _ (functions : DigestFunctions) (settings : Settings) (script : List (Lis
   abbrev pub host : Host Content Request
   host = shipped_host functions settings script
 
-  -- The clocks are of this header; in a phase they stand in its epoch; and each shard waits in the phase's epoch, or in the
-  -- next once it was moved.
-  pub record IsOrderly (world : World Content) : Type 0 where
-    pub bounded : (i : ℕ) → (worker_at host world i).clock.first ≡ settings.header.first
-    pub clocked : world.closing ≡ false → (i : ℕ) → i < length world.workers → (worker_at host world i).clock.at.epoch ≡ epoch_of host world
-    pub shards : (s : ℕ) → s < length world.shards
-        → IsOrderlyShard functions.digest (epoch_of host world + moved_by (shard_at world s).moved) (shard_at world s).contents
-    pub unmoved : world.closing ≡ false → (s : ℕ) → s < length world.shards → (shard_at world s).moved ≡ false
-
   -- Another worker leaves it so, where its clock is of the same epoch, or the world is being closed.
-  worker_keeps : (world : World Content) (i : ℕ) (new : Worker) → IsOrderly world → new.clock.first ≡ settings.header.first
-      → (i < length world.workers → world.closing ≡ false → new.clock.at.epoch ≡ epoch_of host world) → IsOrderly (with_worker world i new)
+  worker_keeps : (world : World Content) (i : ℕ) (new : Worker) → IsOrderly functions settings script world → new.clock.first ≡ settings.header.first
+      → (i < length world.workers → world.closing ≡ false → new.clock.at.epoch ≡ epoch_of host world) → IsOrderly functions settings script (with_worker world i new)
   worker_keeps world i new orderly first epoch = record {
     bounded = λ j. bounded j (found_in_set world.workers i new (fresh settings.header) j);
     clocked = λ phase j there. clocked phase j (omega (arith, there, length-set world.workers i new)) (found_in_set world.workers i new (fresh settings.header) j);
@@ -89,15 +76,15 @@ module _ (functions : DigestFunctions) (settings : Settings) (script : List (Lis
       clocked phase j there (inr is) = ap (λ (w : Worker). w.clock.at.epoch) is ∙ orderly.clocked phase j there
 
   -- the same where the clock stays
-  same_clock_keeps : (world : World Content) (i : ℕ) (new : Worker) → IsOrderly world → new.clock ≡ (worker_at host world i).clock → IsOrderly (with_worker world i new)
+  same_clock_keeps : (world : World Content) (i : ℕ) (new : Worker) → IsOrderly functions settings script world → new.clock ≡ (worker_at host world i).clock → IsOrderly functions settings script (with_worker world i new)
   same_clock_keeps world i new orderly same =
       worker_keeps world i new orderly (ap (λ clock. clock.first) same ∙ orderly.bounded i)
       (λ there phase. ap (λ clock. clock.at.epoch) same ∙ orderly.clocked phase i there)
 
   -- other seats of a shard leave it so
-  shard_keeps : (world : World Content) (s : ℕ) (new : Seats Content) → IsOrderly world
+  shard_keeps : (world : World Content) (s : ℕ) (new : Seats Content) → IsOrderly functions settings script world
       → IsOrderlyShard functions.digest (epoch_of host world + moved_by new.moved) new.contents → (world.closing ≡ false → new.moved ≡ false)
-      → IsOrderly (with_shard world s new)
+      → IsOrderly functions settings script (with_shard world s new)
   shard_keeps world s new orderly whole still = record {
     bounded = orderly.bounded;
     clocked = orderly.clocked;
@@ -123,10 +110,10 @@ module _ (functions : DigestFunctions) (settings : Settings) (script : List (Lis
 
   module _ (digests : GivesDigests functions.digest) where
     -- a request
-    serve_orderly : (world : World Content) (i : ℕ) (place : Place) (request : Request) → IsOrderly world → MayServe host world i place request
+    serve_orderly : (world : World Content) (i : ℕ) (place : Place) (request : Request) → IsOrderly functions settings script world → MayServe host world i place request
         → (done : Option (Done Content))
         → serve_at short_keys functions.digest i (worker_at host world i).clock (get_or (shard_at world place.shard).contents place.seat vacant) request ≡ done
-        → IsOrderly (after_serve world i (worker_at host world i) place (shard_at world place.shard) done)
+        → IsOrderly functions settings script (after_serve world i (worker_at host world i) place (shard_at world place.shard) done)
     serve_orderly world i place request orderly may None is =
         same_clock_keeps world i (record (worker_at host world i) { stopped = true }) orderly refl
     serve_orderly world i place request orderly may (Some done) is =
@@ -143,10 +130,10 @@ module _ (functions : DigestFunctions) (settings : Settings) (script : List (Lis
         (λ phase. still)
 
     -- a move
-    move_orderly : (world : World Content) (i s : ℕ) → IsOrderly world → MayMove host world i s
+    move_orderly : (world : World Content) (i s : ℕ) → IsOrderly functions settings script world → MayMove host world i s
         → (done : Option (Done (List Content)))
         → move_seats short_keys functions.digest i (stage_of (worker_at host world i).clock (shard_at world s).contents) ≡ done
-        → IsOrderly (after_move world i (worker_at host world i) s done)
+        → IsOrderly functions settings script (after_move world i (worker_at host world i) s done)
     move_orderly world i s orderly may None is =
         same_clock_keeps world i (record (worker_at host world i) { stuck = true }) orderly refl
     move_orderly world i s orderly may (Some done) is =
@@ -158,13 +145,13 @@ module _ (functions : DigestFunctions) (settings : Settings) (script : List (Lis
         (λ phase. absurd (false≢true (sym phase ∙ may.closing)))
 
     -- the next epoch
-    advance_orderly : (world : World Content) (i : ℕ) → IsOrderly world → IsOrderly (after_advance world i (worker_at host world i))
+    advance_orderly : (world : World Content) (i : ℕ) → IsOrderly functions settings script world → IsOrderly functions settings script (after_advance world i (worker_at host world i))
     advance_orderly world i orderly = go ((worker_at host world i).clock.at.epoch == last_epoch)
       where
         closed : World Content
         closed = record world { closing = true }
 
-        closed_is : IsOrderly closed
+        closed_is : IsOrderly functions settings script closed
         closed_is = record {
           bounded = orderly.bounded;
           clocked = λ phase. absurd (false≢true (sym phase));
@@ -172,14 +159,14 @@ module _ (functions : DigestFunctions) (settings : Settings) (script : List (Lis
           unmoved = λ phase. absurd (false≢true (sym phase));
         }
 
-        go : (b : Bool) → IsOrderly (if b then record world { over = true }
+        go : (b : Bool) → IsOrderly functions settings script (if b then record world { over = true }
             else record (with_worker world i (logging (worker_at host world i) (NextEpoch ∷ []) (next_clock (worker_at host world i).clock))) { closing = true })
         go true = record { bounded = orderly.bounded; clocked = orderly.clocked; shards = orderly.shards; unmoved = orderly.unmoved }
         go false = worker_keeps closed i (logging (worker_at host world i) (NextEpoch ∷ []) (next_clock (worker_at host world i).clock)) closed_is (orderly.bounded i)
             (λ there phase. absurd (false≢true (sym phase)))
 
     -- the next phase
-    open_orderly : (world : World Content) → IsOrderly world → MayOpen host world → IsOrderly (step host world opens)
+    open_orderly : (world : World Content) → IsOrderly functions settings script world → MayOpen host world → IsOrderly functions settings script (step host world opens)
     open_orderly world orderly may = record {
       bounded = orderly.bounded;
       clocked = λ phase i there. may.turned i there ∙ omega arith;
@@ -199,7 +186,7 @@ module _ (functions : DigestFunctions) (settings : Settings) (script : List (Lis
             (omega (arith, ap moved_by (may.moved s there))) (orderly.shards s there))
 
     -- an event that is enabled
-    pub step_orderly : (world : World Content) (event : WorldEvent Request) → IsOrderly world → IsEnabled host world event → IsOrderly (step host world event)
+    pub step_orderly : (world : World Content) (event : WorldEvent Request) → IsOrderly functions settings script world → IsEnabled host world event → IsOrderly functions settings script (step host world event)
     step_orderly world (takes i place) orderly may = same_clock_keeps world i _ orderly refl
     step_orderly world (loses i place) orderly may = orderly
     step_orderly world (serves i place request) orderly may = serve_orderly world i place request orderly may _ refl
@@ -209,13 +196,13 @@ module _ (functions : DigestFunctions) (settings : Settings) (script : List (Lis
     step_orderly world opens orderly may = open_orderly world orderly may
 
     -- events that are enabled
-    pub run_orderly : (world : World Content) (events : List (WorldEvent Request)) → IsOrderly world → AreEnabled host world events → IsOrderly (run_events host world events)
+    pub run_orderly : (world : World Content) (events : List (WorldEvent Request)) → IsOrderly functions settings script world → AreEnabled host world events → IsOrderly functions settings script (run_events host world events)
     run_orderly world [] orderly enabled = orderly
     run_orderly world (event ∷ events) orderly enabled =
         run_orderly (step host world event) events (step_orderly world event orderly enabled.0) enabled.1
 
   -- the setup
-  pub set_up_orderly : 0 < frontier_bits settings.shards → frontier_bits settings.shards < path_bits short_keys → GivesDigests functions.digest → IsOrderly (set_up host)
+  pub set_up_orderly : 0 < frontier_bits settings.shards → frontier_bits settings.shards < path_bits short_keys → GivesDigests functions.digest → IsOrderly functions settings script (set_up host)
   set_up_orderly some short digests = record {
     bounded = first;
     clocked = λ phase i there. epoch i;

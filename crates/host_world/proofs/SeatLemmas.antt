@@ -21,18 +21,12 @@ use Rattle.host_plan.specs.Visit.{between}
 use Rattle.host_mirrors.specs.Mirroring.{IsMirrored}
 use Rattle.host_mirrors.proofs.MirrorLaws.{served_mirrors}
 use Rattle.protection_moves.specs.Stage.{is_hot_at}
+use Rattle.host_world.specs.Orderly.{IsOrderlyShard}
 use Rattle.host_world.specs.Links.{links_of, links_in}
 use Rattle.host_world.specs.Moving.{stage_of, move_seats}
 use Rattle.host_world.specs.ShippedHost.{new_seats, is_blob, serves_key, is_place_of, serve_at}
 use Rattle.host_world.proofs.LinkLaws.{shard_links_are}
 use Rattle.host_world.proofs.ServeLemmas.{done_along}
-
--- These seats are a shard that mirrors and waits in this epoch, and no key is hot.
-pub record IsOrderlyShard (digest : Digest) (epoch : ℕ) (seats : List Content) : Type 0 where
-  pub shard : Shard
-  pub is : seats ≡ new_seats (cold shard)
-  pub mirrored : IsMirrored short_keys digest shard []
-  pub stamped : shard.stamp.epoch ≡ epoch
 
 -- the value fits
 pub blob_fits : (format : Format) (blob : Option (List ℕ)) → is_blob format blob ≡ true → IsBlob format blob

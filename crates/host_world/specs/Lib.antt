@@ -9,5 +9,6 @@ pub mod Doing
 pub mod Shown
 pub mod Ending
 pub mod Behind
+pub mod Orderly
 pub use Rattle.host_core.specs
 pub use Rattle.protection_moves.specs as protection_moves_specs

@@ -2,7 +2,13 @@
 ghost use Rattle.std.specs.Prelude.{◌≡◌, ℕ, Bool, List, [], Some};
 ghost use Rattle.lamport_clocks.specs.Reading.{Reading};
 ghost use Rattle.record_text.specs.declared.request.Request.{Request};
-ghost use Rattle.merkle_records.specs.Merkle.{Digest};
+ghost use Rattle.merkle_records.specs.Merkle.{Digest, GivesDigests};
+ghost use Rattle.record_hash.specs.Functions.{DigestFunctions};
+ghost use Rattle.host_core.specs.World.{World};
+ghost use Rattle.script_text.specs.declared.task.Task.{Task};
+ghost use Rattle.host_world.specs.declared.settings.Settings.{Settings};
+ghost use Rattle.host_world.specs.Behind.{IsBehindSetup};
+ghost use Rattle.host_world.specs.Orderly.{IsOrderly};
 ghost use Rattle.host_core.specs.Host.{Done};
 ghost use Rattle.host_plan.specs.Plan.{Owns};
 ghost use Rattle.host_shard.specs.Content.{Content};
@@ -37,4 +43,12 @@ pub fn what_is_moved_is_a_move()
     ensures moved { (format : Format) (digest : Digest) (worker : ℕ) (stage : Stage) (done : Done (List Content))
         → untouched_in stage.places ≡ [] → move_due format digest worker stage [] ≡ Some done
         → IsMoved format digest worker stage done }
+{}
+
+/// A world behind the setup is orderly: in a phase the clocks stand in its epoch, and each shard mirrors what the verifiers
+/// hold of it and waits in the phase's epoch, or in the next once it was moved. It is asked that digests have 32 bytes.
+pub fn worlds_are_orderly()
+    ensures orderly { (functions : DigestFunctions) (settings : Settings) (script : List (List Task)) (world : World Content)
+        → GivesDigests functions.digest → IsBehindSetup functions settings script world
+        → IsOrderly functions settings script world }
 {}

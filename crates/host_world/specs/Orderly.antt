@@ -1,0 +1,34 @@
+-- What holds of every world behind the setup: how its clocks and its shards stand.
+use Rattle.std.specs.Prelude.{◌≡◌, ℕ, ◌+◌, ◌<◌, Bool, true, false, List, [], length}
+use Rattle.record_hash.specs.Functions.{DigestFunctions}
+use Rattle.record_text.specs.Format.{short_keys}
+use Rattle.merkle_records.specs.Merkle.{Digest}
+use Rattle.host_core.specs.World.{World, worker_at, shard_at, epoch_of}
+use Rattle.host_shard.specs.Content.{Content, cold}
+use Rattle.host_shard.specs.Shard.{Shard}
+use Rattle.host_mirrors.specs.Mirroring.{IsMirrored}
+use Rattle.script_text.specs.declared.task.Task.{Task}
+use Rattle.host_world.specs.declared.settings.Settings.{Settings}
+use Rattle.host_world.specs.ShippedHost.{shipped_host, new_seats}
+
+-- These seats are a shard that mirrors and waits in this epoch, and no key is hot.
+pub record IsOrderlyShard (digest : Digest) (epoch : ℕ) (seats : List Content) : Type 0 where
+  pub shard : Shard
+  pub is : seats ≡ new_seats (cold shard)
+  pub mirrored : IsMirrored short_keys digest shard []
+  pub stamped : shard.stamp.epoch ≡ epoch
+
+-- one epoch more, where a shard was moved
+abbrev pub moved_by : Bool → ℕ
+moved_by true = 1
+moved_by false = 0
+
+-- The clocks are of the host's header; in a phase they stand in its epoch; and each shard waits in the phase's epoch, or in
+-- the next once it was moved.
+pub record IsOrderly (functions : DigestFunctions) (settings : Settings) (script : List (List Task)) (world : World Content) : Type 0 where
+  pub bounded : (i : ℕ) → (worker_at (shipped_host functions settings script) world i).clock.first ≡ settings.header.first
+  pub clocked : world.closing ≡ false → (i : ℕ) → i < length world.workers
+      → (worker_at (shipped_host functions settings script) world i).clock.at.epoch ≡ epoch_of (shipped_host functions settings script) world
+  pub shards : (s : ℕ) → s < length world.shards
+      → IsOrderlyShard functions.digest (epoch_of (shipped_host functions settings script) world + moved_by (shard_at world s).moved) (shard_at world s).contents
+  pub unmoved : world.closing ≡ false → (s : ℕ) → s < length world.shards → (shard_at world s).moved ≡ false
