@@ -10,5 +10,6 @@ pub mod Shown
 pub mod Ending
 pub mod Behind
 pub mod Orderly
+pub mod Worked
 pub use Rattle.host_core.specs
 pub use Rattle.protection_moves.specs as protection_moves_specs

@@ -1,5 +1,5 @@
 //! What follows from the definitions of the shipped host. These functions do nothing: their contracts are the laws.
-ghost use Rattle.std.specs.Prelude.{◌≡◌, ℕ, Bool, List, [], Some};
+ghost use Rattle.std.specs.Prelude.{◌≡◌, ℕ, Bool, List, [], ◌∷◌, Some};
 ghost use Rattle.lamport_clocks.specs.Reading.{Reading};
 ghost use Rattle.record_text.specs.declared.request.Request.{Request};
 ghost use Rattle.merkle_records.specs.Merkle.{Digest, GivesDigests};
@@ -9,6 +9,7 @@ ghost use Rattle.script_text.specs.declared.task.Task.{Task};
 ghost use Rattle.host_world.specs.declared.settings.Settings.{Settings};
 ghost use Rattle.host_world.specs.Behind.{IsBehindSetup};
 ghost use Rattle.host_world.specs.Orderly.{IsOrderly};
+ghost use Rattle.host_world.specs.Worked.{logs_behind, last_close, empty_log, five_events, five_log};
 ghost use Rattle.host_core.specs.Host.{Done};
 ghost use Rattle.host_plan.specs.Plan.{Owns};
 ghost use Rattle.host_shard.specs.Content.{Content};
@@ -51,4 +52,11 @@ pub fn worlds_are_orderly()
     ensures orderly { (functions : DigestFunctions) (settings : Settings) (script : List (List Task)) (world : World Content)
         → GivesDigests functions.digest → IsBehindSetup functions settings script world
         → IsOrderly functions settings script world }
+{}
+
+/// A host of one worker and two shards logs what was worked out by hand, for an empty script, and for a put and a get of a key.
+pub fn logs_are_as_worked_out()
+    ensures empty { (functions : DigestFunctions) → logs_behind functions ([] ∷ []) last_close ≡ empty_log ∷ [] }
+    ensures five { (functions : DigestFunctions) (script : List (List Task))
+        → logs_behind functions script five_events ≡ five_log functions ∷ [] }
 {}
