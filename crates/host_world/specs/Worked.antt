@@ -1,5 +1,5 @@
--- Logs that are worked out: what a host of one worker and two shards logs for two scripts.
-use Rattle.std.specs.Prelude.{◌≡◌, ℕ, Bool, true, false, List, [], ◌∷◌, ◌++◌, Some, None}
+-- Logs that are worked out: what a host of two shards logs for small scripts.
+use Rattle.std.specs.Prelude.{◌≡◌, ℕ, Bool, true, false, List, [], ◌∷◌, ◌++◌, Option, Some, None}
 use Rattle.lamport_clocks.specs.declared.stamp.Stamp.{Stamp}
 use Rattle.record_hash.specs.Functions.{DigestFunctions}
 use Rattle.record_text.specs.declared.request.Request.{Request}
@@ -18,9 +18,13 @@ use Rattle.script_text.specs.declared.task.Task.{Task}
 use Rattle.host_world.specs.declared.settings.Settings.{Settings}
 use Rattle.host_world.specs.ShippedHost.{shipped_host}
 
--- one worker and two shards
-abbrev pub small_settings : Settings
-small_settings = record { header = record { verifiers = 1; cache = 128; first = 0; end = 16777215 }; shards = 2 }
+-- so many workers, whose counters end there, and two shards
+abbrev pub two_shards : ℕ → ℕ → Settings
+two_shards workers end = record { header = record { verifiers = workers; cache = 128; first = 0; end = end }; shards = 2 }
+
+-- where counters end at most
+abbrev pub most : ℕ
+most = 16777215
 
 -- the frontiers of the two shards
 abbrev pub left : List Bool
@@ -50,17 +54,17 @@ empty_log =
     ∷ AddB right (values.Node empty_node) (stamp 0 2) 0 ∷ EvictB right (stamp 1 4) ∷ NextEpoch ∷ []
 
 -- the host's logs behind its setup and these events
-abbrev pub logs_behind : DigestFunctions → List (List Task) → List (WorldEvent Request) → List (List Command)
-logs_behind functions script events =
-    logs_of (run_events (shipped_host functions small_settings script) (set_up (shipped_host functions small_settings script)) events)
+abbrev pub logs_behind : DigestFunctions → Settings → List (List Task) → List (WorldEvent Request) → List (List Command)
+logs_behind functions settings script events =
+    logs_of (run_events (shipped_host functions settings script) (set_up (shipped_host functions settings script)) events)
 
 -- ---- a put and a get of one key
 
 abbrev pub five : List Bool
 five = key_path short_keys 5
 
-abbrev pub put_five : Request
-put_five = record { put = true; key = 5; value = Some (97 ∷ 98 ∷ []) }
+abbrev pub put_five : Option (List ℕ) → Request
+put_five value = record { put = true; key = 5; value = value }
 
 abbrev pub get_five : Request
 get_five = record { put = false; key = 5; value = None }
@@ -69,25 +73,112 @@ get_five = record { put = false; key = 5; value = None }
 abbrev pub place_five : Place
 place_five = record { shard = 0; seat = 0 }
 
--- the two requests, and the last close
-abbrev pub five_events : List (WorldEvent Request)
-five_events =
-    takes 0 place_five ∷ serves 0 place_five put_five ∷ gives 0 place_five
-    ∷ takes 0 place_five ∷ serves 0 place_five get_five ∷ gives 0 place_five ∷ last_close
+-- a worker takes the place, serves the request and gives the place back
+abbrev pub serving : ℕ → Request → List (WorldEvent Request)
+serving i request = takes i place_five ∷ serves i place_five request ∷ gives i place_five ∷ []
 
-abbrev pub value_five : Value
-value_five = values.Blob (Some (97 ∷ 98 ∷ []))
+-- a value of bytes
+abbrev pub bytes : List ℕ → Value
+bytes of = values.Blob (Some of)
 
 -- the shard's frontier once the key has this value
-abbrev pub frontier_five : DigestFunctions → Value
-frontier_five functions = values.Node (record { side0 = Some (pointer_to short_keys functions.digest five value_five); side1 = None })
+abbrev pub frontier_of : DigestFunctions → Value → Value
+frontier_of functions value = values.Node (record { side0 = Some (pointer_to short_keys functions.digest five value); side1 = None })
 
--- What is logged for the two requests.
+-- What one request logs, where the frontier waits with this value, counter and verifier and the key has this value.
+abbrev pub request_log : Value → ℕ → ℕ → Value → Command → ℕ → List Command
+request_log frontier counter verifier found command last =
+    AddB left frontier (stamp 0 counter) verifier ∷ AddM five found left ∷ command ∷ EvictM five left ∷ EvictB left (stamp 0 last) ∷ []
+
+-- what moving the left shard logs, and the right one, first or second
+abbrev pub left_log : Value → ℕ → ℕ → List Command
+left_log frontier counter verifier = AddB left frontier (stamp 0 counter) verifier ∷ EvictB left (stamp 1 2) ∷ []
+
+abbrev pub right_log : ℕ → List Command
+right_log last = AddB right (values.Node empty_node) (stamp 0 2) 0 ∷ EvictB right (stamp 1 last) ∷ []
+
+-- a put and a get by one worker, and the last close
+abbrev pub five_events : List (WorldEvent Request)
+five_events = serving 0 (put_five (Some (97 ∷ 98 ∷ []))) ++ (serving 0 get_five ++ last_close)
+
+abbrev pub value_ab : Value
+value_ab = bytes (97 ∷ 98 ∷ [])
+
+-- What is logged for them.
 abbrev pub five_log : DigestFunctions → List Command
 five_log functions =
     setup_log
-    ++ AddB left (values.Node empty_node) (stamp 0 1) 0 ∷ AddM five (values.Blob None) left ∷ Put five value_five ∷ EvictM five left ∷ EvictB left (stamp 0 4)
-    ∷ AddB left (frontier_five functions) (stamp 0 4) 0 ∷ AddM five value_five left ∷ Get five value_five ∷ EvictM five left ∷ EvictB left (stamp 0 6)
-    ∷ NextEpoch
-    ∷ AddB left (frontier_five functions) (stamp 0 6) 0 ∷ EvictB left (stamp 1 2)
-    ∷ AddB right (values.Node empty_node) (stamp 0 2) 0 ∷ EvictB right (stamp 1 4) ∷ NextEpoch ∷ []
+    ++ (request_log (values.Node empty_node) 1 0 (values.Blob None) (Put five value_ab) 4
+    ++ (request_log (frontier_of functions value_ab) 4 0 value_ab (Get five value_ab) 6
+    ++ NextEpoch ∷ (left_log (frontier_of functions value_ab) 6 0 ++ (right_log 4 ++ NextEpoch ∷ []))))
+
+-- What is logged for them where counters end at 4: the get is not served.
+abbrev pub stopped_log : DigestFunctions → List Command
+stopped_log functions =
+    setup_log
+    ++ (request_log (values.Node empty_node) 1 0 (values.Blob None) (Put five value_ab) 4
+    ++ NextEpoch ∷ (left_log (frontier_of functions value_ab) 4 0 ++ (right_log 4 ++ NextEpoch ∷ [])))
+
+-- ---- two workers at one key
+
+-- the last close of two workers
+abbrev pub close_of_two : List (WorldEvent Request)
+close_of_two = advances 0 ∷ advances 1 ∷ moves 0 0 ∷ moves 1 1 ∷ advances 0 ∷ advances 1 ∷ []
+
+abbrev pub value_a : Value
+value_a = bytes (97 ∷ [])
+
+abbrev pub value_b : Value
+value_b = bytes (98 ∷ [])
+
+abbrev pub put_a : Request
+put_a = put_five (Some (97 ∷ []))
+
+abbrev pub put_b : Request
+put_b = put_five (Some (98 ∷ []))
+
+-- the last close in their logs, the first of which moves the left shard
+abbrev pub first_close : Value → ℕ → ℕ → List Command
+first_close frontier counter verifier = NextEpoch ∷ (left_log frontier counter verifier ++ NextEpoch ∷ [])
+
+abbrev pub second_close : List Command
+second_close = NextEpoch ∷ (right_log 2 ++ NextEpoch ∷ [])
+
+-- Worker 0 puts, then worker 1, then worker 0 gets.
+abbrev pub between_events : List (WorldEvent Request)
+between_events = serving 0 put_a ++ (serving 1 put_b ++ (serving 0 get_five ++ close_of_two))
+
+abbrev pub between_logs : DigestFunctions → List (List Command)
+between_logs functions =
+    (setup_log
+    ++ (request_log (values.Node empty_node) 1 0 (values.Blob None) (Put five value_a) 4
+    ++ (request_log (frontier_of functions value_b) 6 1 value_b (Get five value_b) 8
+    ++ first_close (frontier_of functions value_b) 8 0)))
+    ∷ (request_log (frontier_of functions value_a) 4 0 value_a (Put five value_b) 6 ++ second_close)
+    ∷ []
+
+-- Worker 1 puts first.
+abbrev pub before_events : List (WorldEvent Request)
+before_events = serving 1 put_b ++ (serving 0 put_a ++ (serving 0 get_five ++ close_of_two))
+
+abbrev pub before_logs : DigestFunctions → List (List Command)
+before_logs functions =
+    (setup_log
+    ++ (request_log (frontier_of functions value_b) 3 1 value_b (Put five value_a) 5
+    ++ (request_log (frontier_of functions value_a) 5 0 value_a (Get five value_a) 7
+    ++ first_close (frontier_of functions value_a) 7 0)))
+    ∷ (request_log (values.Node empty_node) 1 0 (values.Blob None) (Put five value_b) 3 ++ second_close)
+    ∷ []
+
+-- Worker 1 puts last.
+abbrev pub behind_events : List (WorldEvent Request)
+behind_events = serving 0 put_a ++ (serving 0 get_five ++ (serving 1 put_b ++ close_of_two))
+
+abbrev pub behind_logs : DigestFunctions → List (List Command)
+behind_logs functions =
+    (setup_log
+    ++ (request_log (values.Node empty_node) 1 0 (values.Blob None) (Put five value_a) 4
+    ++ (request_log (frontier_of functions value_a) 4 0 value_a (Get five value_a) 6
+    ++ first_close (frontier_of functions value_b) 8 1)))
+    ∷ (request_log (frontier_of functions value_a) 6 0 value_a (Put five value_b) 8 ++ second_close)
+    ∷ []

@@ -9,7 +9,7 @@ ghost use Rattle.script_text.specs.declared.task.Task.{Task};
 ghost use Rattle.host_world.specs.declared.settings.Settings.{Settings};
 ghost use Rattle.host_world.specs.Behind.{IsBehindSetup};
 ghost use Rattle.host_world.specs.Orderly.{IsOrderly};
-ghost use Rattle.host_world.specs.Worked.{logs_behind, last_close, empty_log, five_events, five_log};
+ghost use Rattle.host_world.specs.Worked.{two_shards, most, logs_behind, last_close, empty_log, five_events, five_log, stopped_log, between_events, between_logs, before_events, before_logs, behind_events, behind_logs};
 ghost use Rattle.host_core.specs.Host.{Done};
 ghost use Rattle.host_plan.specs.Plan.{Owns};
 ghost use Rattle.host_shard.specs.Content.{Content};
@@ -54,9 +54,18 @@ pub fn worlds_are_orderly()
         → IsOrderly functions settings script world }
 {}
 
-/// A host of one worker and two shards logs what was worked out by hand, for an empty script, and for a put and a get of a key.
+/// A host of two shards logs what was worked out by hand: for an empty script; for a put and a get of a key, also where the
+/// counters end between them; and for two workers at one key, in each order of their requests.
 pub fn logs_are_as_worked_out()
-    ensures empty { (functions : DigestFunctions) → logs_behind functions ([] ∷ []) last_close ≡ empty_log ∷ [] }
+    ensures empty { (functions : DigestFunctions) → logs_behind functions (two_shards 1 most) ([] ∷ []) last_close ≡ empty_log ∷ [] }
     ensures five { (functions : DigestFunctions) (script : List (List Task))
-        → logs_behind functions script five_events ≡ five_log functions ∷ [] }
+        → logs_behind functions (two_shards 1 most) script five_events ≡ five_log functions ∷ [] }
+    ensures stopped { (functions : DigestFunctions) (script : List (List Task))
+        → logs_behind functions (two_shards 1 4) script five_events ≡ stopped_log functions ∷ [] }
+    ensures between { (functions : DigestFunctions) (script : List (List Task))
+        → logs_behind functions (two_shards 2 most) script between_events ≡ between_logs functions }
+    ensures before { (functions : DigestFunctions) (script : List (List Task))
+        → logs_behind functions (two_shards 2 most) script before_events ≡ before_logs functions }
+    ensures behind { (functions : DigestFunctions) (script : List (List Task))
+        → logs_behind functions (two_shards 2 most) script behind_events ≡ behind_logs functions }
 {}
