@@ -18,7 +18,6 @@ use Rattle.host_shard.specs.Mirrors.{IsShard, IsKeyOf, Mirrors}
 use Rattle.host_plan.specs.Plan.{clock_after}
 use Rattle.host_plan.specs.Moments.{renewing}
 use Rattle.host_plan.specs.Visit.{between}
-use Rattle.host_mirrors.specs.Mirroring.{IsMirrored}
 use Rattle.host_mirrors.proofs.MirrorLaws.{served_mirrors}
 use Rattle.protection_moves.specs.Stage.{is_hot_at}
 use Rattle.host_world.specs.Orderly.{IsOrderlyShard}

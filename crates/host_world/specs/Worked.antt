@@ -1,5 +1,5 @@
 -- Logs that are worked out: what a host of two shards logs for small scripts.
-use Rattle.std.specs.Prelude.{◌≡◌, ℕ, Bool, true, false, List, [], ◌∷◌, ◌++◌, Option, Some, None}
+use Rattle.std.specs.Prelude.{ℕ, Bool, true, false, List, [], ◌∷◌, ◌++◌, Option, Some, None}
 use Rattle.lamport_clocks.specs.declared.stamp.Stamp.{Stamp}
 use Rattle.record_hash.specs.Functions.{DigestFunctions}
 use Rattle.record_text.specs.declared.request.Request.{Request}
@@ -10,12 +10,13 @@ use Rattle.record_text.specs.Value.{empty_node}
 use Rattle.log_codec.specs.declared.command.Command.{Command}
 use Rattle.log_codec.specs.declared.command.Command.TheVariants.{AddM, EvictM, AddB, EvictB, EvictBM, Get, Put, NextEpoch}
 use Rattle.merkle_records.specs.Merkle.{pointer_to}
-use Rattle.host_core.specs.Host.{Host}
 use Rattle.host_core.specs.World.{Place, logs_of, set_up}
 use Rattle.host_core.specs.WorldEvent.{WorldEvent, takes, serves, gives, advances, moves, run_events}
-use Rattle.host_shard.specs.Content.{Content, key_path}
+use Rattle.host_shard.specs.Content.{key_path}
 use Rattle.script_text.specs.declared.task.Task.{Task}
+use Rattle.host_world.specs.declared.fault.ClockEnd.{ClockEnd}
 use Rattle.host_world.specs.declared.settings.Settings.{Settings}
+use Rattle.host_world.specs.Ending.{end_of}
 use Rattle.host_world.specs.ShippedHost.{shipped_host}
 
 -- so many workers, whose counters end there, and two shards
@@ -182,3 +183,19 @@ behind_logs functions =
     ++ first_close (frontier_of functions value_b) 8 1)))
     ∷ (request_log (frontier_of functions value_a) 6 0 value_a (Put five value_b) 8 ++ second_close)
     ∷ []
+
+-- ---- clocks that end
+
+-- where a clock ends in this event, behind the setup and those events
+abbrev pub end_behind : DigestFunctions → Settings → List (List Task) → List (WorldEvent Request) → WorldEvent Request → Option ClockEnd
+end_behind functions settings script events event =
+    end_of (shipped_host functions settings script)
+    (run_events (shipped_host functions settings script) (set_up (shipped_host functions settings script)) events) event
+
+-- worker 0's clock ended here
+abbrev pub ended_at : ℕ → ℕ → Option ClockEnd
+ended_at epoch counter = Some (record { worker = 0; at = stamp epoch counter })
+
+-- one worker and two shards, where the first epoch is the last that there is
+abbrev pub in_last_epoch : Settings
+in_last_epoch = record { header = record { verifiers = 1; cache = 128; first = 4294967295; end = most }; shards = 2 }

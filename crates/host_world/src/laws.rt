@@ -1,5 +1,5 @@
 //! What follows from the definitions of the shipped host. These functions do nothing: their contracts are the laws.
-ghost use Rattle.std.specs.Prelude.{◌≡◌, ℕ, Bool, List, [], ◌∷◌, Some};
+ghost use Rattle.std.specs.Prelude.{◌≡◌, ℕ, Bool, List, [], ◌∷◌, ◌++◌, Some};
 ghost use Rattle.lamport_clocks.specs.Reading.{Reading};
 ghost use Rattle.record_text.specs.declared.request.Request.{Request};
 ghost use Rattle.merkle_records.specs.Merkle.{Digest, GivesDigests};
@@ -9,7 +9,8 @@ ghost use Rattle.script_text.specs.declared.task.Task.{Task};
 ghost use Rattle.host_world.specs.declared.settings.Settings.{Settings};
 ghost use Rattle.host_world.specs.Behind.{IsBehindSetup};
 ghost use Rattle.host_world.specs.Orderly.{IsOrderly};
-ghost use Rattle.host_world.specs.Worked.{two_shards, most, logs_behind, last_close, empty_log, five_events, five_log, stopped_log, between_events, between_logs, before_events, before_logs, behind_events, behind_logs};
+ghost use Rattle.host_core.specs.WorldEvent.{takes, serves, advances, moves};
+ghost use Rattle.host_world.specs.Worked.{serving, put_five, get_five, place_five, end_behind, ended_at, in_last_epoch, two_shards, most, logs_behind, last_close, empty_log, five_events, five_log, stopped_log, between_events, between_logs, before_events, before_logs, behind_events, behind_logs};
 ghost use Rattle.host_core.specs.Host.{Done};
 ghost use Rattle.host_plan.specs.Plan.{Owns};
 ghost use Rattle.host_shard.specs.Content.{Content};
@@ -68,4 +69,18 @@ pub fn logs_are_as_worked_out()
         → logs_behind functions (two_shards 2 most) script before_events ≡ before_logs functions }
     ensures behind { (functions : DigestFunctions) (script : List (List Task))
         → logs_behind functions (two_shards 2 most) script behind_events ≡ behind_logs functions }
+{}
+
+/// A clock ends where it was worked out by hand: at a request, at the second shard of a close, and where no epoch is to come.
+pub fn clocks_end_as_worked_out()
+    ensures request { (functions : DigestFunctions) (script : List (List Task))
+        → end_behind functions (two_shards 1 4) script
+        (serving 0 (put_five (Some (97 ∷ 98 ∷ []))) ++ takes 0 place_five ∷ [])
+        (serves 0 place_five get_five) ≡ ended_at 0 4 }
+    ensures close { (functions : DigestFunctions) (script : List (List Task))
+        → end_behind functions (two_shards 1 3) script (advances 0 ∷ moves 0 0 ∷ []) (moves 0 1) ≡ ended_at 1 2 }
+    ensures epoch { (functions : DigestFunctions) (script : List (List Task))
+        → end_behind functions in_last_epoch script
+        (serving 0 (put_five (Some (97 ∷ 98 ∷ []))) ++ serving 0 get_five)
+        (advances 0) ≡ ended_at 4294967295 6 }
 {}
