@@ -2,14 +2,16 @@
 ghost use Rattle.std.specs.Prelude.{◌≡◌, ◌<◌, ◌∷◌, [], ℕ, true, false, IsTrue, IfOk, length};
 ghost use Rattle.record_text.specs.Format.{short_keys};
 ghost use Rattle.lamport_clocks.specs.Clock.{is_open};
+ghost use Rattle.host_shard.specs.declared.content.Content.TheVariants.{Hot};
 ghost use Rattle.host_shard.specs.Mirrors.{IsShard};
 ghost use Rattle.host_shard.specs.Shown.{shown};
 
-use host_shard::{Content, Shard};
+use host_shard::{Content, HotRecord, Shard};
 use lamport_clocks::{Clock, Stamp};
 use log_codec::{Command, write};
 use protection_moves::{MoveFault, migrate};
 use record_hash::ShaDigests;
+use record_text::Blob;
 use std::alloc::Global;
 use std::test::Fail;
 use tree_keys::Path;
@@ -23,6 +25,16 @@ const CLOSE: &str = "
 03 018000000000000000 0000 0000000000000002 0000
 04 018000000000000000 0000000100000004
 08
+";
+
+// The bytes of a move with two hot records that were touched: these come first, by key.
+const TOUCHED: &str = "
+03 400000000000000003 010161 0000000000000004 0000
+04 400000000000000003 0000000100000002
+03 400000000000000007 00 0000000000000005 0001
+04 400000000000000007 0000000100000004
+03 010000000000000000 0000 0000000000000001 0000
+04 010000000000000000 0000000100000006
 ";
 
 // The bytes that these digits spell, between which blanks stand.
@@ -146,5 +158,66 @@ fn the_clock_ends_at_the_second_shard(rt: HostRuntime) -> Result<(), Fail> {
             counter: 2
         }
     );
+    Ok(())
+}
+
+// A hot record that was touched once, evicted last by this verifier with this counter of epoch 0.
+fn touched(key: u64, value: Blob, counter: u32, evictor: u16) -> Content
+    ensures record { result ≡ Hot (record {
+      key = key;
+      value = value;
+      stamp = record { epoch = 0; counter = counter };
+      evictor = evictor;
+      touches = 1;
+    }) }
+{
+    Content::Hot(HotRecord {
+        key,
+        value,
+        stamp: Stamp { epoch: 0, counter },
+        evictor,
+        touches: 1,
+    })
+}
+
+#[test]
+fn touched_hot_records_come_first_by_key(rt: HostRuntime) -> Result<(), Fail> {
+    let d = ShaDigests::new(b"a key");
+    let mut low = fresh(rt.alloc(), false, 1);
+    let mut clock = second_epoch(16_777_215)?;
+    let value = Blob::of_bytes(b"a").ok_or("no value")?;
+    let mut hot = [
+        Content::Vacant,
+        touched(7, Blob::none(), 5, 1),
+        touched(3, value, 4, 0),
+        Content::Vacant,
+    ];
+    let Ok(commands) = migrate(rt.alloc(), &d, &mut low, &mut hot, None, 2, &mut clock) else {
+        return Err("no move")?;
+    };
+    let mut log = Vec::new(rt.alloc());
+    push_all(&mut log, commands.as_slice())?;
+    assert_eq!(rt; log, bytes_of(rt.alloc(), TOUCHED)?);
+    match (&hot[1], &hot[2]) {
+        (Content::Hot(seven), Content::Hot(three)) => {
+            assert_eq!(rt; (seven.key, seven.evictor, seven.touches), (7, 2, 0));
+            assert_eq!(rt;
+                seven.stamp,
+                Stamp {
+                    epoch: 1,
+                    counter: 4
+                }
+            );
+            assert_eq!(rt; (three.key, three.evictor, three.touches), (3, 2, 0));
+            assert_eq!(rt;
+                three.stamp,
+                Stamp {
+                    epoch: 1,
+                    counter: 2
+                }
+            );
+        }
+        _ => Err("a place without its record")?,
+    }
     Ok(())
 }
