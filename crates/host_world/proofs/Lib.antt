@@ -1,5 +1,6 @@
 -- Lemmas on the shipped host.
 pub mod LinkLaws
+pub mod FrontLaws
 mod ServeLemmas
 mod SeatLemmas
 mod OrderlyLemmas
