@@ -5,6 +5,7 @@ mod ServeLemmas
 mod SeatLemmas
 mod OrderlyLemmas
 mod BehindLemmas
+pub mod FrontierLaws
 mod WorldLemmas
 mod MovedLemmas
 mod StandingLemmas
