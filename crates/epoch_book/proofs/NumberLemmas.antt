@@ -1,6 +1,6 @@
 -- The numbers of parts: how large they are, and that they add up to those of the joined sums.
-use Rattle.std.proofs.Common.{◌≡◌, ℕ, zero, suc, ◌+◌, ◌-◌, ◌*◌, ◌^◌, ◌<◌, ◌≤◌, ◌==◌, ◌&&◌, Bool, true, List, [], ◌∷◌, ◌++◌, length, take, drop, map, fold, refl, sym, ap, ◌∙◌, subst, arith, length-append, mul-le-mul_right}
-use Rattle.std.specs.Prelude.{slice_index, sum_by}
+use Rattle.std.proofs.Common.{◌≡◌, ℕ, zero, suc, ◌+◌, ◌-◌, ◌^◌, ◌<◌, ◌≤◌, ◌==◌, ◌&&◌, Bool, List, [], ◌∷◌, ◌++◌, length, take, drop, map, fold, refl, sym, ap, ◌∙◌, subst, arith, mul-le-mul_right}
+use Rattle.std.specs.Prelude.{slice_index}
 use Rattle.std.specs.Str.{bytes_eq}
 use Rattle.std.proofs.Math.ListN.{get_or-append}
 use Rattle.std.proofs.Math.Seq.{get_or-append_right}
@@ -61,8 +61,8 @@ sum-bounded s tally few k =
     dite (dec_lt k 8)
     (λ lane. omega (arith, get_or-append (eight (slice_index s.lanes)) (s.count ∷ []) 0 k lane, eight-at (slice_index s.lanes) k lane, lane-bounded s tally few k lane))
     (λ apart. dite (ℕ_discrete k 8)
-        (λ last. subst (λ (j : ℕ). slice_index (numbers_of_sum s) j ≤ 2 ^ 57) (sym last) (omega arith))
-        (λ past. omega (arith, past-end (numbers_of_sum s) k (omega arith))))
+    (λ last. subst (λ (j : ℕ). slice_index (numbers_of_sum s) j ≤ 2 ^ 57) (sym last) (omega arith))
+    (λ past. omega (arith, past-end (numbers_of_sum s) k (omega arith))))
 
 -- no number of a part is more than 2^57
 pub numbers-bounded : (part : Part) → IsTally part.added → IsTally part.evicted → part.added.count < 2 ^ 25 → part.evicted.count < 2 ^ 25 → (word : ℕ) → slice_index (numbers_of part) word ≤ 2 ^ 57

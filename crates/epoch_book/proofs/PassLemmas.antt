@@ -1,15 +1,13 @@
 -- Passes in the order of their verifiers.
-use Rattle.std.proofs.Common.{◌≡◌, ◌≢◌, ◌⊎◌, ℕ, zero, suc, ◌+◌, ◌-◌, ◌<◌, List, [], ◌∷◌, ◌++◌, length, Option, Some, None, refl, sym, ap, ◌∙◌, subst, inl, inr, ⊎_elim, arith, length-append, append_assoc, get_or, map}
+use Rattle.std.proofs.Common.{◌≡◌, ◌⊎◌, ℕ, zero, suc, ◌+◌, ◌-◌, List, [], ◌∷◌, ◌++◌, length, Some, refl, sym, ap, ◌∙◌, subst, inl, inr, ⊎_elim, arith, length-append, append_assoc, get_or}
 use Rattle.std.specs.Prelude.{slice_get, All}
 use Rattle.std.proofs.Math.ListN.{get_or-append}
 use Rattle.std.proofs.Math.Seq.{get_or-append_seam}
 use Rattle.std.proofs.lemmas.List.{map-append}
-use mathlib.Core.Logic.{dite}
-use native.Mathlib.Decide.{dec_lt}
 use Rattle.atomic_table.specs.Table.{Me}
 use Rattle.epoch_book.specs.declared.rule.Account.{Account}
 use Rattle.epoch_book.specs.declared.pass.Pass.{Pass}
-use Rattle.epoch_book.specs.Words.{account, dealt_from}
+use Rattle.epoch_book.specs.Words.{account_of, dealt_from}
 use Rattle.epoch_book.specs.Numbers.{row_of}
 use Rattle.epoch_book.specs.Passes.{rows_of}
 
@@ -28,20 +26,11 @@ dealt-each P all xs x is each last k y at =
     (λ (here : (k ≡ length xs) × (x ≡ y)). subst (P k) here.1 (subst (λ (j : ℕ). P j x) (sym here.0) last))
     (get-snoc xs x y k (ap (λ zs. slice_get zs k) (sym is) ∙ at))
 
--- what holds of all holds with one more
-pub dealt-all : {X : Type 0} (P : X → Type 0) (all xs : List X) (x : X) → all ≡ xs ++ x ∷ [] → All P xs → P x → All P all
-dealt-all P all xs x is each last k d within =
-    dite (dec_lt k (length xs))
-    (λ front. subst P (sym (ap (λ zs. get_or zs k d) is ∙ get_or-append xs (x ∷ []) d k front)) (each k d front))
-    (λ apart.
-        let place : k ≡ length xs = omega (arith, ap length is, length-append xs (x ∷ [])) in
-        subst P (sym (ap (λ zs. get_or zs k d) is ∙ ap (λ (j : ℕ). get_or (xs ++ x ∷ []) j d) place ∙ get_or-append_seam xs x [] d)) last)
-
 -- what is left to deal
-pub one_less : (verifiers number : ℕ) (me : Me (Unit {0}) Account) → me ≡ (account (verifiers - number) [], []) → (let now : Me (Unit {0}) Account = (dealt_from me.0, me.1) in now) ≡ (account (verifiers - (number + 1)) [], [])
+pub one_less : (verifiers number : ℕ) (me : Me (Unit {0}) Account) → me ≡ (account_of (verifiers - number) [], []) → (let now : Me (Unit {0}) Account = (dealt_from me.0, me.1) in now) ≡ (account_of (verifiers - (number + 1)) [], [])
 one_less verifiers number me is =
     ap (λ (m : Me (Unit {0}) Account). let now : Me (Unit {0}) Account = (dealt_from m.0, m.1) in now) is
-    ∙ ap (λ (k : ℕ). let now : Me (Unit {0}) Account = (account k [], []) in now) (omega arith)
+    ∙ ap (λ (k : ℕ). let now : Me (Unit {0}) Account = (account_of k [], []) in now) (omega arith)
 
 -- ---- the last pass leaves
 

@@ -1,11 +1,11 @@
 -- What the passes of a book say together.
-use Rattle.std.proofs.Common.{◌≡◌, ◌≢◌, ℕ, zero, suc, ◌+◌, ◌*◌, ◌^◌, ◌<◌, ◌≤◌, ◌==◌, ◌&&◌, ◌||◌, if◌then◌else◌, eqb, ne_eqb, eq-eqb, Bool, true, false, not, cond, List, [], ◌∷◌, ◌++◌, length, take, drop, get_or, map, filter, fold, find, Option, Some, None, All, refl, sym, ap, ◌∙◌, subst, arith, length-take, append-nil}
+use Rattle.std.proofs.Common.{◌≡◌, ◌≢◌, ℕ, zero, suc, ◌+◌, ◌*◌, ◌^◌, ◌<◌, ◌≤◌, ◌==◌, ◌&&◌, ◌||◌, if◌then◌else◌, ne_eqb, eq-eqb, Bool, false, not, cond, List, [], ◌∷◌, ◌++◌, length, take, drop, get_or, map, fold, find, Option, Some, None, All, refl, sym, ap, ◌∙◌, subst, arith, length-take, append-nil}
 use Rattle.std.specs.Prelude.{slice_get, slice_index, is_none, is_some}
 use Rattle.std.specs.Option.{ForSome, option_map}
 use Rattle.std.specs.Str.{bytes_eq}
 use Rattle.std.proofs.Math.Bool.{and-false}
 use Rattle.std.proofs.lemmas.Bool.{and_from}
-use Rattle.std.specs.List.{cons_option, list_any, range_with_len}
+use Rattle.std.specs.List.{cons_option, range_with_len}
 use Rattle.std.proofs.lemmas.List.{take_more}
 use Rattle.std.proofs.lemmas.List.Elements.{filter_map-append}
 use Rattle.std.proofs.lemmas.List.Sums.{fold_push}
@@ -128,7 +128,7 @@ has-own epoch from (first ∷ passes) numbered all zero pass at =
     let same : first ≡ pass = cc in
     subst (λ (p : Pass). has epoch (from + 0) (parts_of (first ∷ passes)) ≡ is_some p.part) same
     (own_by epoch (from + 0) first.part (parts_of passes) (λ part is. (first.fits part is).0 ∙ numbered 0 first refl) all
-        (lower_has_none epoch (from + 0) (from + 1) passes (omega arith) (numbered_rest from first passes numbered)))
+    (lower_has_none epoch (from + 0) (from + 1) passes (omega arith) (numbered_rest from first passes numbered)))
 has-own epoch from (first ∷ passes) numbered all (suc k) pass at =
     apart_by epoch (from + suc k) first.part (parts_of passes) (λ part is same. let own = (first.fits part is).0 in let number = numbered 0 first refl in absurd (omega arith))
     ∙ ap (λ (verifier : ℕ). has epoch verifier (parts_of passes)) (let sum : from + suc k ≡ (from + 1) + k = omega arith in sum)
@@ -161,8 +161,8 @@ settled-verdict_of verifiers passes count numbers epoch all =
     let parts = parts_of passes in
     let numbered : Numbered 0 passes = λ (k : ℕ) (pass : Pass) (at : slice_get passes k ≡ Some pass). numbers k pass at ∙ omega arith in
     let missing : first_without passes ≡ lowest_missing verifiers epoch parts =
-        sym (first-same (has_part parts epoch) 0 passes numbered (has-own epoch 0 passes numbered all))
-        ∙ ap (λ (n : ℕ). lowest_missing n epoch parts) count in
+    sym (first-same (has_part parts epoch) 0 passes numbered (has-own epoch 0 passes numbered all))
+    ∙ ap (λ (n : ℕ). lowest_missing n epoch parts) count in
     let own = sym (of_epoch-all epoch parts all) in
     ap (λ m. verdict_by m (total (λ part. part.added) parts) (total (λ part. part.evicted) parts)) missing
     ∙ ap (λ ps. verdict_by (lowest_missing verifiers epoch parts) (total (λ part. part.added) ps) (total (λ part. part.evicted) ps)) own

@@ -1,5 +1,5 @@
 -- Each step keeps what holds of the words.
-use Rattle.std.proofs.Common.{◌≡◌, ◌≢◌, ◌⊎◌, ℕ, zero, suc, ◌+◌, ◌-◌, ◌*◌, ◌%◌, ◌^◌, ◌<◌, ◌≤◌, List, [], ◌∷◌, ◌++◌, length, set, get_or, refl, sym, ap, ◌∙◌, subst, ⊎_elim, arith, mul-le-mul_right}
+use Rattle.std.proofs.Common.{◌≡◌, ◌≢◌, ℕ, zero, suc, ◌+◌, ◌-◌, ◌*◌, ◌%◌, ◌^◌, ◌<◌, ◌≤◌, List, [], ◌∷◌, ◌++◌, length, set, refl, sym, ap, ◌∙◌, subst, ⊎_elim, arith, mul-le-mul_right}
 use Rattle.std.specs.Prelude.{slice_index, sum_by, replicate}
 use mathlib.Core.Option.{some, none, some-injective, some-ne-none}
 use mathlib.Core.Logic.{dite}
@@ -8,43 +8,43 @@ use lib.ListN.{get_elem?}
 use Rattle.std.proofs.Math.Nat.{mod-eq_of_lt}
 use Rattle.std.proofs.lemmas.List.{length-set, get_or-set_same, get_or-set_other}
 use Rattle.std.proofs.lemmas.List.Sums.{sum_by-cons}
-use Rattle.atomic_table.specs.Table.{State, Me, step, stepped, keeps, opening, Allows, Splits, Joins, Seen, Final}
+use Rattle.atomic_table.specs.Table.{State, Me, step, keeps, opening, Allows, Splits, Joins, Seen, Final}
 use Rattle.atomic_table.proofs.Lists.{at_set, at_snoc}
 use Rattle.epoch_book.specs.declared.rule.Account.{Account}
-use Rattle.epoch_book.specs.Words.{account, column, IsKept, opened, dealt_from, dealt, Added, gathered, spent}
+use Rattle.epoch_book.specs.Words.{account_of, column, IsKept, opened, dealt_from, dealt, Added, gathered, spent}
 use Rattle.epoch_book.proofs.ListLemmas.{sum_set, sum_more, column-one, column-append, index-behind, index-elsewhere, index-past}
 
--- no seat has added more than its passes may
+-- no ticket has added more than its passes may
 abbrev Bounded : List Account → Type 0
-Bounded views = (k : ℕ) (seat : Account) → get_elem? views k ≡ some seat → (word : ℕ) → column word seat.rows ≤ seat.passes * 2 ^ 57
+Bounded views = (k : ℕ) (account : Account) → get_elem? views k ≡ some account → (word : ℕ) → column word account.rows ≤ account.passes * 2 ^ 57
 
 abbrev passes_in : Account → ℕ
-passes_in seat = seat.passes
+passes_in account = account.passes
 
 abbrev column_in : ℕ → Account → ℕ
-column_in word seat = column word seat.rows
+column_in word account = column word account.rows
 
-bounded-set : (views : List Account) (i : ℕ) (seat : Account) → Bounded views → ((word : ℕ) → column word seat.rows ≤ seat.passes * 2 ^ 57) → Bounded (set views i seat)
-bounded-set views i seat all own k other at word =
+bounded-set : (views : List Account) (i : ℕ) (account : Account) → Bounded views → ((word : ℕ) → column word account.rows ≤ account.passes * 2 ^ 57) → Bounded (set views i account)
+bounded-set views i account all own k other at word =
     ⊎_elim
-    (λ (here : (k ≡ i) × (seat ≡ other)). subst (λ (a : Account). column word a.rows ≤ a.passes * 2 ^ 57) here.1 (own word))
+    (λ (here : (k ≡ i) × (account ≡ other)). subst (λ (a : Account). column word a.rows ≤ a.passes * 2 ^ 57) here.1 (own word))
     (λ (there : (k ≢ i) × (get_elem? views k ≡ some other)). all k other there.1 word)
-    (at_set views i k seat other at)
+    (at_set views i k account other at)
 
-bounded-more : (views : List Account) (seat : Account) → Bounded views → ((word : ℕ) → column word seat.rows ≤ seat.passes * 2 ^ 57) → Bounded (views ++ seat ∷ [])
-bounded-more views seat all own k other at word =
+bounded-more : (views : List Account) (account : Account) → Bounded views → ((word : ℕ) → column word account.rows ≤ account.passes * 2 ^ 57) → Bounded (views ++ account ∷ [])
+bounded-more views account all own k other at word =
     ⊎_elim
     (λ (there : get_elem? views k ≡ some other). all k other there word)
-    (λ (here : seat ≡ other). subst (λ (a : Account). column word a.rows ≤ a.passes * 2 ^ 57) here (own word))
-    (at_snoc views seat other k at)
+    (λ (here : account ≡ other). subst (λ (a : Account). column word a.rows ≤ a.passes * 2 ^ 57) here (own word))
+    (at_snoc views account other k at)
 
 -- so many passes come to no more than this in a word
 sum-bounded : (views : List Account) (word : ℕ) → Bounded views → sum_by (column_in word) views ≤ sum_by passes_in views * 2 ^ 57
 sum-bounded [] word all = omega arith
-sum-bounded (seat ∷ views) word all =
-    let own = all 0 seat refl word in
+sum-bounded (account ∷ views) word all =
+    let own = all 0 account refl word in
     let rest = sum-bounded views word (λ k other at. all (suc k) other at) in
-    omega (arith, sum_by-cons (column_in word) seat views, sum_by-cons passes_in seat views, own, rest)
+    omega (arith, sum_by-cons (column_in word) account views, sum_by-cons passes_in account views, own, rest)
 
 -- ---- the opening
 
@@ -61,13 +61,13 @@ opens verifiers few = record {
   few = few;
   words = refl;
   passes = sum_by-cons passes_in (opened verifiers) [] ∙ omega arith;
-  bounded = λ k seat at word. first k seat at word;
+  bounded = λ k account at word. first k account at word;
   sums = λ word. zeros word ∙ omega (arith, sum_by-cons (column_in word) (opened verifiers) []);
 }
   where
     first : Bounded (opened verifiers ∷ [])
-    first zero seat at word = subst (λ (a : Account). column word a.rows ≤ a.passes * 2 ^ 57) (some-injective (opened verifiers) seat at) (omega arith)
-    first (suc k) seat at word = absurd (some-ne-none seat (sym at))
+    first zero account at word = subst (λ (a : Account). column word a.rows ≤ a.passes * 2 ^ 57) (some-injective (opened verifiers) account at) (omega arith)
+    first (suc k) account at word = absurd (some-ne-none account (sym at))
 
 -- ---- a pass is dealt
 
@@ -85,12 +85,12 @@ deals n id v some_left empty s kept at = record {
 
 -- ---- a number is added
 
--- the seat of a pass, before its next number is added and after
+-- the account of a pass, before its next number is added and after
 abbrev row_before : List ℕ → Account
-row_before row = account 1 (row ∷ [])
+row_before row = account_of 1 (row ∷ [])
 
 abbrev row_after : List ℕ → ℕ → Account
-row_after row number = account 1 ((row ++ number ∷ []) ∷ [])
+row_after row number = account_of 1 ((row ++ number ∷ []) ∷ [])
 
 -- no word wraps
 fits-word : (n word number : ℕ) (s : State (Unit {0}) Account) → IsKept n s → number ≤ 2 ^ 57 → (slice_index s.words word + number) % 2 ^ 64 ≡ slice_index s.words word + number
@@ -117,18 +117,18 @@ after-sums n id word number row s kept at here within small i =
     let was = kept.sums i in
     dite (ℕ_discrete i word)
     (λ same.
-        let room : word < length s.words = omega (arith, kept.words) in
-        let new = get_or-set_same s.words word ((slice_index s.words word + number) % 2 ^ 64) 0 room in
-        let new' : slice_index (set s.words word ((slice_index s.words word + number) % 2 ^ 64)) i ≡ (slice_index s.words word + number) % 2 ^ 64 = ap (λ (k : ℕ). slice_index (set s.words word ((slice_index s.words word + number) % 2 ^ 64)) k) same ∙ new in
-        let whole = fits-word n word number s kept small in
-        let old : slice_index s.words word ≡ slice_index s.words i = ap (λ (k : ℕ). slice_index s.words k) (sym same) in
-        let shown = index-behind row number i (same ∙ sym here) in
-        let none_yet = index-past row i (same ∙ sym here) in
-        omega arith)
+    let room : word < length s.words = omega (arith, kept.words) in
+    let new = get_or-set_same s.words word ((slice_index s.words word + number) % 2 ^ 64) 0 room in
+    let new' : slice_index (set s.words word ((slice_index s.words word + number) % 2 ^ 64)) i ≡ (slice_index s.words word + number) % 2 ^ 64 = ap (λ (k : ℕ). slice_index (set s.words word ((slice_index s.words word + number) % 2 ^ 64)) k) same ∙ new in
+    let whole = fits-word n word number s kept small in
+    let old : slice_index s.words word ≡ slice_index s.words i = ap (λ (k : ℕ). slice_index s.words k) (sym same) in
+    let shown = index-behind row number i (same ∙ sym here) in
+    let none_yet = index-past row i (same ∙ sym here) in
+    omega arith)
     (λ apart.
-        let kept_word = get_or-set_other s.words word i ((slice_index s.words word + number) % 2 ^ 64) 0 apart in
-        let shown = index-elsewhere row number i (λ same. apart (same ∙ here)) in
-        omega arith)
+    let kept_word = get_or-set_other s.words word i ((slice_index s.words word + number) % 2 ^ 64) 0 apart in
+    let shown = index-elsewhere row number i (λ same. apart (same ∙ here)) in
+    omega arith)
 
 adds_to : (n slots id word number : ℕ) (row : List ℕ) → length row ≡ word → word < 18 → number ≤ 2 ^ 57
     → Allows {S = Unit {0}} (IsKept n) slots id (row_before row, []) word (λ found. (found + number) % 2 ^ 64) (Added (step slots word number 0 none) (row_before row, []))
@@ -146,26 +146,26 @@ adds_to n slots id word number row here within small s kept homes at fits = (
   refl,
 )
 
--- the same for a seat that is known to have this row
+-- the same for a account that is known to have this row
 pub adds : (n slots id word number : ℕ) (me : Me (Unit {0}) Account) (row : List ℕ) → me ≡ (row_before row, []) → length row ≡ word → word < 18 → number ≤ 2 ^ 57
     → Allows {S = Unit {0}} (IsKept n) slots id me word (λ found. (found + number) % 2 ^ 64) (Added (step slots word number 0 none) me)
 adds n slots id word number me row is here within small =
     subst (λ (m : Me (Unit {0}) Account). Allows {S = Unit {0}} (IsKept n) slots id m word (λ found. (found + number) % 2 ^ 64) (Added (step slots word number 0 none) m)) (sym is) (adds_to n slots id word number row here within small)
 
--- ---- a seat answers for the passes of another too
+-- ---- a ticket stands for the passes of another too
 
 gathered-bounded : (v w : Account) → ((word : ℕ) → column word v.rows ≤ v.passes * 2 ^ 57) → ((word : ℕ) → column word w.rows ≤ w.passes * 2 ^ 57) → (word : ℕ) → column word (w.rows ++ v.rows) ≤ (v.passes + w.passes) * 2 ^ 57
 gathered-bounded v w own its word = omega (arith, column-append word w.rows v.rows, own word, its word)
 
--- the seat that is taken in was as it is, before the other changed
-other_seat : (views : List Account) (id other : ℕ) (v w : Account) → ¬ (other ≡ id) → get_elem? (set views id v) other ≡ some w → get_elem? views other ≡ some w
-other_seat views id other v w apart at =
+-- the account that is taken in was as it is, before the other changed
+other_ticket : (views : List Account) (id other : ℕ) (v w : Account) → ¬ (other ≡ id) → get_elem? (set views id v) other ≡ some w → get_elem? views other ≡ some w
+other_ticket views id other v w apart at =
     ⊎_elim (λ (here : (other ≡ id) × (v ≡ w)). absurd (apart here.0)) (λ (there : (other ≢ id) × (get_elem? views other ≡ some w)). there.1) (at_set views id other v w at)
 
 pub gathers : (n id : ℕ) (v : Account) (other : ℕ) (w : Account) → Joins {S = Unit {0}} (IsKept n) id v other w (gathered v w) spent
 gathers n id v other w s kept at apart there =
     let first = set s.views id (gathered v w) in
-    let w_at = other_seat s.views id other (gathered v w) w apart there in
+    let w_at = other_ticket s.views id other (gathered v w) w apart there in
     let w_bounded = kept.bounded other w w_at in
     let v_bounded = kept.bounded id v at in record {
       few = kept.few;
@@ -177,14 +177,14 @@ gathers n id v other w s kept at apart there =
 
 -- ---- all passes have come together
 
--- where one seat answers for all passes, the words are what its rows have added
-pub closes : (n id : ℕ) (rows : List (List ℕ)) (s : State (Unit {0}) Account) → Seen (IsKept n) id (account n rows) s → (word : ℕ) → slice_index s.words word ≡ column word rows
+-- where one account answers for all passes, the words are what its rows have added
+pub closes : (n id : ℕ) (rows : List (List ℕ)) (s : State (Unit {0}) Account) → Seen (IsKept n) id (account_of n rows) s → (word : ℕ) → slice_index s.words word ≡ column word rows
 closes n id rows s seen word =
     let kept = seen.0 in
     let others = set s.views id spent in
     let left = bounded-set s.views id spent kept.bounded (λ word. omega arith) in
-    let passes = sum_set passes_in s.views id (account n rows) spent seen.1 in
-    let columns = sum_set (column_in word) s.views id (account n rows) spent seen.1 in
+    let passes = sum_set passes_in s.views id (account_of n rows) spent seen.1 in
+    let columns = sum_set (column_in word) s.views id (account_of n rows) spent seen.1 in
     let bound = sum-bounded others word left in
     let nobody : sum_by passes_in others ≡ 0 = omega (arith, passes, kept.passes) in
     let nothing : sum_by passes_in others * 2 ^ 57 ≡ 0 = ap (λ (k : ℕ). k * 2 ^ 57) nobody in
@@ -195,10 +195,10 @@ number-at [] word number at = absurd (some-ne-none number (sym at))
 number-at (w ∷ words) zero number at = some-injective w number at
 number-at (w ∷ words) (suc word) number at = number-at words word number at
 
--- the same of the words that a closed table has, where the seat is known to answer for all
-pub words-close : (n id count : ℕ) (me : Me (Unit {0}) Account) (rows : List (List ℕ)) (words : List ℕ) (slots : List (Unit {0})) → me ≡ (account count rows, []) → count ≡ n
+-- the same of the words that a closed table has, where the account is known to answer for all
+pub words-close : (n id count : ℕ) (me : Me (Unit {0}) Account) (rows : List (List ℕ)) (words : List ℕ) (slots : List (Unit {0})) → me ≡ (account_of count rows, []) → count ≡ n
     → Final (Seen (IsKept n) id me.0) words slots → (word : ℕ) (number : ℕ) → get_elem? words word ≡ some number → number ≡ column word rows
 words-close n id count me rows words slots is all final word number at =
-    let seat : me.0 ≡ account n rows = ap (λ (m : Me (Unit {0}) Account). m.0) is ∙ ap (λ (k : ℕ). account k rows) all in
-    let seen = subst (λ (a : Account). Seen (IsKept n) id a final.0) seat final.1 in
+    let account : me.0 ≡ account_of n rows = ap (λ (m : Me (Unit {0}) Account). m.0) is ∙ ap (λ (k : ℕ). account_of k rows) all in
+    let seen = subst (λ (a : Account). Seen (IsKept n) id a final.0) account final.1 in
     sym (number-at words word number at) ∙ ap (λ (ws : List ℕ). slice_index ws word) (sym final.2) ∙ closes n id rows final.0 seen word

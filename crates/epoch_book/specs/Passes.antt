@@ -17,7 +17,7 @@ verifiers_of book = book.table.shared.key
 
 -- the pass is one of this book's
 abbrev pub IsPassOf : EpochBook → Pass → Type 0
-IsPassOf book pass = pass.seat.table_id ≡ id_of book
+IsPassOf book pass = pass.ticket.table_id ≡ id_of book
 
 -- the number of its verifier
 abbrev pub number_of : Pass → ℕ

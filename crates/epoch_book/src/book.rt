@@ -2,7 +2,7 @@
 ghost use Rattle.std.specs.Prelude.{◌≡◌, ◌≤◌};
 
 use crate::numbers::{WORDS, numbers_of};
-use crate::pass::{Pass, Seat};
+use crate::pass::{Pass, Ticket};
 use crate::rule::{Account, Adds, Deals, SumsOfRows};
 use atomic_table::Table;
 use multiset_sum::Part;
@@ -18,7 +18,7 @@ pub struct EpochBook {
 
 impl EpochBook {
     ghost use Rattle.std.specs.Prelude.{◌≡◌, ℕ, ◌<◌, ◌≤◌, ◌^◌, [], ◌∷◌, All, IfOk, slice_index};
-    ghost use Rattle.epoch_book.specs.Words.{account};
+    ghost use Rattle.epoch_book.specs.Words.{account_of};
     ghost use Rattle.epoch_book.specs.Passes.{id_of, verifiers_of, IsPassOf, AreAllPassesOf, number_of, part_of};
 
     /// A book for so many verifiers, and the pass of each, in their order. It takes all its memory here.
@@ -34,9 +34,9 @@ impl EpochBook {
         Ok((book, passes))
     }
 
-    // A pass for each verifier, from the seat that stands for all.
-    fn deal(&self, alloc: Global, dealer: Seat, verifiers: u16) -> Result<Vec<Pass>, Memory>
-        requires dealer { (dealer.table_id ≡ id_of self.now) × (dealer.me ≡ (account verifiers [], [])) }
+    // Deals a pass to each verifier, from the ticket that stands for all.
+    fn deal(&self, alloc: Global, dealer: Ticket, verifiers: u16) -> Result<Vec<Pass>, Memory>
+        requires dealer { (dealer.table_id ≡ id_of self.now) × (dealer.me ≡ (account_of verifiers [], [])) }
         requires all { verifiers_of self.now ≡ verifiers }
         ensures passes { IfOk result (λ passes. AreAllPassesOf self.now passes.items) }
         ensures empty { IfOk result (λ passes. All (λ pass. part_of pass ≡ None) passes.items) }
@@ -44,8 +44,8 @@ impl EpochBook {
         let mut dealer = dealer;
         let mut passes = Vec::with_capacity(alloc, usize::from(verifiers))?;
         for number in 0..verifiers {
-            let seat = self.table.shared.split_seat::<Deals>(&mut dealer);
-            passes.push(Pass::new(number, seat))?;
+            let ticket = self.table.shared.split_seat::<Deals>(&mut dealer);
+            passes.push(Pass::new(number, ticket))?;
         }
         Ok(passes)
     }
@@ -60,21 +60,21 @@ impl EpochBook {
         ensures number { number_of pass.new ≡ number_of pass.old }
         ensures part { part_of pass.new ≡ Some part }
     {
-        self.add(&mut pass.seat, &numbers_of(&part));
+        self.add(&mut pass.ticket, &numbers_of(&part));
         pass.part = Some(part);
     }
 
-    // Adds a number to each word, from the seat of a pass that has added none.
-    fn add(&self, seat: &mut Seat, numbers: &[u64; WORDS])
-        requires seat { (seat.old.table_id ≡ id_of self.now) × (seat.old.me ≡ (account 1 ([] ∷ []), [])) }
+    // Adds a number to each word, with the ticket of a pass that has added none.
+    fn add(&self, ticket: &mut Ticket, numbers: &[u64; WORDS])
+        requires ticket { (ticket.old.table_id ≡ id_of self.now) × (ticket.old.me ≡ (account_of 1 ([] ∷ []), [])) }
         requires small { (word : ℕ) → slice_index numbers.now word ≤ 2 ^ 57 }
-        ensures seat { seat.new.table_id ≡ seat.old.table_id }
-        ensures added { seat.new.me ≡ (account 1 (numbers.now ∷ []), []) }
+        ensures ticket { ticket.new.table_id ≡ ticket.old.table_id }
+        ensures added { ticket.new.me ≡ (account_of 1 (numbers.now ∷ []), []) }
     {
         for word in 0..WORDS {
             self.table
                 .shared
-                .fetch_add::<Adds>(seat, word, numbers[word]);
+                .fetch_add::<Adds>(ticket, word, numbers[word]);
         }
     }
 }

@@ -6,13 +6,13 @@ ghost use mathlib.Core.Option.{some};
 ghost use lib.ListN.{get_elem?};
 ghost use Rattle.epoch_gather.specs.Parts.{total};
 ghost use Rattle.epoch_gather.specs.Verdict.{verdict_of};
-ghost use Rattle.epoch_book.specs.Words.{account, column};
+ghost use Rattle.epoch_book.specs.Words.{account_of, column};
 ghost use Rattle.epoch_book.specs.Passes.{id_of, verifiers_of, IsPassOf, AreAllPassesOf, parts_of, rows_of};
 ghost use Rattle.epoch_book.specs.Settled.{first_without, settled};
 
 use crate::book::EpochBook;
 use crate::numbers::WORDS;
-use crate::pass::{Pass, Seat};
+use crate::pass::{Pass, Ticket};
 use crate::rule::Gathers;
 use atomic_table::Closed;
 use epoch_gather::Verdict;
@@ -50,30 +50,30 @@ impl EpochBook {
         ensures count { length result ≡ 18 }
         ensures totals { (word : ℕ) → word < 18 → slice_index result word ≡ column word (rows_of passes.items) }
     {
-        let seat = self.gather(passes);
-        let closed = self.table.close_with(seat);
+        let ticket = self.gather(passes);
+        let closed = self.table.close_with(ticket);
         let totals = words_of(&closed);
         closed.free();
         totals
     }
 
-    // One seat that answers for all these passes.
-    fn gather(&self, mut passes: Vec<Pass>) -> Seat
+    // One ticket that stands for all these passes.
+    fn gather(&self, mut passes: Vec<Pass>) -> Ticket
         requires some { 0 < vec_len passes }
         requires book { All (λ pass. IsPassOf self.now pass) passes.items }
         ensures book { result.table_id ≡ id_of self.now }
-        ensures all { result.me ≡ (account (length passes.items) (rows_of passes.items), []) }
+        ensures all { result.me ≡ (account_of (length passes.items) (rows_of passes.items), []) }
     {
         let Some(last) = passes.pop() else {
             unreachable!()
         };
-        let mut seat = last.into_seat();
+        let mut ticket = last.into_ticket();
         while let Some(pass) = passes.pop() {
             self.table
                 .shared
-                .join_seat::<Gathers>(&mut seat, pass.into_seat());
+                .join_seat::<Gathers>(&mut ticket, pass.into_ticket());
         }
-        seat
+        ticket
     }
 }
 

@@ -16,5 +16,7 @@ pub fn numbers_of(part: &Part) -> [u64; WORDS]
     let [a, b, c, d, e, f, g, h] = part.added.lanes();
     let [i, j, k, l, m, n, o, p] = part.evicted.lanes();
     let (added, evicted) = (part.added.count(), part.evicted.count());
-    [a, b, c, d, e, f, g, h, added, i, j, k, l, m, n, o, p, evicted]
+    [
+        a, b, c, d, e, f, g, h, added, i, j, k, l, m, n, o, p, evicted,
+    ]
 }

@@ -1,60 +1,62 @@
 //! The right of one verifier to hand its part in.
 ghost use Rattle.std.specs.Prelude.{◌≡◌, ◌<◌, ◌^◌, [], ◌∷◌};
 ghost use Rattle.std.specs.Option.{ForSome};
-ghost use Rattle.epoch_book.specs.Words.{account};
+ghost use Rattle.epoch_book.specs.Words.{account_of};
 ghost use Rattle.epoch_book.specs.Numbers.{row_of};
 
 use crate::rule::Account;
 use multiset_sum::Part;
 
-/// A seat of the table of a book.
-pub type Seat = atomic_table::Seat<(), Account>;
+/// The right to make steps on the table of a book, with an account of those made. It has no bytes.
+pub type Ticket = atomic_table::Seat<(), Account>;
 
 /// The pass of one verifier: its number, and its part, once that is handed in.
 #[derive(Drop)]
 pub struct Pass {
     pub(crate) number: u16,
     pub(crate) part: Option<Part>,
-    pub(crate) seat: Seat,
-    ghost added: { seat.me ≡ (account 1 (row_of part ∷ []), []) },
+    pub(crate) ticket: Ticket,
+    ghost added: { ticket.me ≡ (account_of 1 (row_of part ∷ []), []) },
     ghost fits: { ForSome part (λ p. (p.verifier ≡ number) × (p.added.count < 2 ^ 25) × (p.evicted.count < 2 ^ 25)) },
 }
 
 impl Pass {
+    ghost use Rattle.epoch_book.specs.Passes.{number_of, part_of};
+
     /// The pass of a verifier that has handed nothing in.
-    pub(crate) fn new(number: u16, seat: Seat) -> Pass
-        requires dealt { seat.me ≡ (account 1 ([] ∷ []), []) }
-        ensures pass { (result.number ≡ number) × (result.part ≡ None) × (result.seat.table_id ≡ seat.table_id) }
+    pub(crate) fn new(number: u16, ticket: Ticket) -> Pass
+        requires dealt { ticket.me ≡ (account_of 1 ([] ∷ []), []) }
+        ensures pass { (result.number ≡ number) × (result.part ≡ None) × (result.ticket.table_id ≡ ticket.table_id) }
     {
         Pass {
             number,
             part: None,
-            seat,
+            ticket,
         }
     }
 
-    /// Its seat, with what was added.
-    pub(crate) fn into_seat(self) -> Seat
-        ensures seat { (result.table_id ≡ self.seat.table_id) × (result.me ≡ (account 1 (row_of self.part ∷ []), [])) }
+    /// Its ticket, with what was added.
+    pub(crate) fn into_ticket(self) -> Ticket
+        ensures ticket { (result.table_id ≡ self.ticket.table_id) × (result.me ≡ (account_of 1 (row_of self.part ∷ []), [])) }
     {
         let Pass {
             number: _,
             part: _,
-            seat,
+            ticket,
         } = self;
-        seat
+        ticket
     }
 
     /// The verifier's number.
     pub fn number(&self) -> u16
-        ensures value { result ≡ self.now.number }
+        ensures value { result ≡ number_of self.now }
     {
         self.number
     }
 
     /// The part that was handed in, if it was.
     pub fn part(&self) -> Option<Part>
-        ensures value { result ≡ self.now.part }
+        ensures value { result ≡ part_of self.now }
     {
         self.part
     }

@@ -2,14 +2,13 @@
 use atomic_table::{Join, Play, Split, TableRule};
 use std::collections::LinkedList;
 
-/// What a seat of the table answers for: how many passes it stands for, and the numbers that each of them has added so
-/// far, from word 0 on.
+/// What a ticket stands for: how many passes, and of each the row of numbers that it has added so far, from word 0 on.
 pub struct Account {
     pub passes: u64,
     pub rows: LinkedList<LinkedList<u64>>,
 }
 
-/// Each word is the sum of what was added to it.
+/// Each word is the sum of what all passes have added to it.
 pub struct SumsOfRows;
 
 impl TableRule<(), Account, u16> for SumsOfRows {
@@ -20,7 +19,7 @@ impl TableRule<(), Account, u16> for SumsOfRows {
     ghost first = { opened };
 }
 
-/// A pass is dealt: a new seat stands for it, and has added nothing.
+/// A pass is dealt: a new ticket stands for it, and has added nothing.
 pub struct Deals;
 
 impl Split<Account> for Deals {
@@ -40,7 +39,7 @@ impl Play<(), Account> for Adds {
     ghost then = { Added };
 }
 
-/// A seat answers for the passes of another too.
+/// A ticket stands for the passes of another too.
 pub struct Gathers;
 
 impl Join<Account> for Gathers {

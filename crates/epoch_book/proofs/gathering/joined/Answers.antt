@@ -1,4 +1,4 @@
-use Rattle.std.proofs.Common.{◌≡◌, ◌^◌, ◌<◌, ◌∙◌, Some, ap, sym, arith}
+use Rattle.std.proofs.Common.{◌≡◌, ◌∙◌, Some, ap, sym, arith}
 use Rattle.multiset_sum.specs.declared.part.Part.{Part}
 use Rattle.multiset_sum.specs.Tally.{Tally}
 use Rattle.multiset_sum.specs.Sum.{joined}
@@ -22,11 +22,11 @@ loop-pass-preserved c =
     let within = c.loop-pass-test.true in
     let item = c.pass-item.is in
     elim c.match-pass.branch [
-      in-Some w ↦ record {
+      | in-Some w ↦ record {
         added = w.added-is ∙ w.join-added.ensures.sum ∙ ap (λ s. joined s w.in-Some.part.added) c.loop-pass.invariant.added ∙ sym (total_more (λ part. part.added) _ _ _ _ within item w.in-Some.is);
         evicted = w.evicted-is ∙ w.join-evicted.ensures.sum ∙ ap (λ s. joined s w.in-Some.part.evicted) c.loop-pass.invariant.evicted ∙ sym (total_more (λ part. part.evicted) _ _ _ _ within item w.in-Some.is);
       }
-    | in_default w ↦ record {
+      | in_default w ↦ record {
         added = w.added-is ∙ c.loop-pass.invariant.added ∙ sym (total_same (λ part. part.added) _ _ _ within item w.in_default.is);
         evicted = w.evicted-is ∙ c.loop-pass.invariant.evicted ∙ sym (total_same (λ part. part.evicted) _ _ _ within item w.in_default.is);
       }

@@ -4,11 +4,11 @@ use Rattle.epoch_book.proofs.book.EpochBook.gather.Given as goal
 
 abbrev pub invariant-loop-pass : goal.invariant-loop-pass
 invariant-loop-pass l = record {
-  book : l.seat.table_id ≡ id_of l.self;
+  book : l.ticket.table_id ≡ id_of l.self;
   others : All (λ pass. IsPassOf l.self pass) l.passes.items;
-  count : l.seat.me.0.passes + length l.passes.items ≡ length l.fn.passes.items;
-  rows : rows_of l.passes.items ++ l.seat.me.0.rows ≡ rows_of l.fn.passes.items;
-  slots : l.seat.me.1 ≡ [];
+  count : l.ticket.me.0.passes + length l.passes.items ≡ length l.fn.passes.items;
+  rows : rows_of l.passes.items ++ l.ticket.me.0.rows ≡ rows_of l.fn.passes.items;
+  slots : l.ticket.me.1 ≡ [];
 }
 
 abbrev pub decreases-loop-pass : goal.decreases-loop-pass

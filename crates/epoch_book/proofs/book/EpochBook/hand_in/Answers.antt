@@ -1,4 +1,4 @@
-use Rattle.std.proofs.Common.{◌≤◌, ◌^◌, ℕ, slice_index, subst, sym}
+use Rattle.std.proofs.Common.{◌≤◌, ◌^◌, slice_index, subst, sym}
 use Rattle.epoch_book.proofs.NumberLemmas.{numbers-bounded}
 use Rattle.epoch_book.proofs.book.EpochBook.hand_in.Goals as goal
 
