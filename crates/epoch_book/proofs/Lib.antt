@@ -1,0 +1,5 @@
+mod ListLemmas
+mod StepLemmas
+mod NumberLemmas
+mod PassLemmas
+mod SettledLemmas

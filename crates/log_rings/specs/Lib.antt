@@ -1,0 +1,2 @@
+-- What the clauses on a lane cite.
+pub mod Lanes
