@@ -118,14 +118,6 @@ def clock_end(worker):
     return f"clock end worker {worker.number} at {epoch}.{counter}\n"
 
 
-def run(digests, settings, phases, receipts):
-    """The report of the bundle that the host writes for a script."""
-    vault, ended = slow_host.run(digests, settings, phases)
-    found = findings(digests, vault)
-    last, status = (found.last, found.status) if ended is None else (clock_end(ended), 10)
-    return answer(report(found, digests if receipts else None), last, status, vault)
-
-
 def summary(found, shape):
     """What was certified of a load."""
     written, done = f"gen seed {shape.seed} ops {shape.ops}\nepochs {found.count}\n", operations(found)
@@ -137,12 +129,17 @@ def summary(found, shape):
     return written
 
 
-def gen(digests, settings, shape):
-    script = "".join(f"{line}\n" for line in slow_load.lines(*shape))
-    vault, ended = slow_host.run(digests, settings, read_script(script.encode(), settings.verifiers))
+def told(command, options, vault, ended):
+    """What `run` or `gen` answers where a host has written this bundle, and the clock of a worker ended, if one did."""
+    digests = ShaDigests(options["--key"])
     found = findings(digests, vault)
-    last, status = (clock_end(ended), 10) if ended is not None else ("", 0)
-    return answer(summary(found, shape), last, status, vault)
+    if command == "gen":
+        written, last, status = summary(found, load_of(options)), "", 0
+    else:
+        written, last, status = report(found, digests if options["--receipts"] else None), found.last, found.status
+    if ended is not None:
+        last, status = clock_end(ended), 10
+    return answer(written, last, status, vault)
 
 
 def accept(digests, data):
@@ -229,6 +226,21 @@ def options_of(words):
     return options
 
 
+def settings_of(options):
+    return slow_host.Settings(*(options[name] for name in ("--verifiers", "--shards", "--hot", "--first", "--counter")))
+
+
+def load_of(options):
+    return slow_load.Shape(*(options[name] for name in ("--seed", "--ops", "--verifiers", "--keys", "--every")))
+
+
+def phases_of(command, options, data):
+    """What a host is asked: the phases of the script, or those of a load."""
+    if command == "gen":
+        data = "".join(f"{line}\n" for line in slow_load.lines(*load_of(options))).encode()
+    return read_script(data, options["--verifiers"])
+
+
 def obeyed(command, options, data):
     digests = ShaDigests(options["--key"])
     if command == "check":
@@ -237,12 +249,8 @@ def obeyed(command, options, data):
         return audit(findings(digests, data))
     if command == "accept":
         return accept(digests, data)
-    numbers = [options[name] for name in ("--verifiers", "--shards", "--hot", "--first", "--counter")]
-    settings = slow_host.Settings(*numbers)
-    if command == "run":
-        return run(digests, settings, read_script(data, settings.verifiers), options["--receipts"])
-    seed, ops, keys, every = (options[name] for name in ("--seed", "--ops", "--keys", "--every"))
-    return gen(digests, settings, slow_load.Shape(seed, ops, settings.verifiers, keys, every))
+    phases = phases_of(command, options, data)
+    return told(command, options, *slow_host.run(digests, settings_of(options), phases))
 
 
 def fastver(words, data):
