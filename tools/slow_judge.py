@@ -99,7 +99,7 @@ def served_by(program, words, script):
 
 
 def judge_random(program, count, times, seed):
-    """How many of the vaults that a program writes for random scripts are wrong. It says which, and how many differ."""
+    """How many faults the vaults have that a program writes for random scripts. It says which, and how many vaults differ."""
     chance, wrong, vaults = random.Random(seed), 0, 0
     for number in range(count):
         hot = number % 2 == 1 and "--hot" not in random_scripts.LATER
@@ -115,7 +115,7 @@ def judge_random(program, count, times, seed):
                 print(f"script {number}, {' '.join(words)}: {fault}")
         vaults += len(seen)
     print(f"{count} random scripts, each {times} times: {vaults} vaults, {wrong} faults")
-    return wrong
+    return wrong if vaults else 1
 
 
 def main():
