@@ -222,11 +222,17 @@ def write_case(folder, name, words, given, stores=False):
             file.write(text)
 
 
+def receipts(number):
+    """The word that asks for receipts, for some numbers, where the program has them."""
+    return ["--receipts"] if number % 8 == 7 and "--receipts" not in LATER else []
+
+
 def write_script(folder, chance, number):
     """Writes a case of a script. The first ones have each wrong line, and any other may have one."""
     workers = 1 if number % 2 == 0 else chance.choice([2, 3, 5, 64])
     hot = number % 4 > 1 and "--hot" not in LATER
     words, script = random_scripts.random_case(chance, min(workers, MOST_WORKERS), hot, shared=False)
+    words += receipts(number)
     if number < len(random_scripts.WRONG_LINES):
         script = word_cases.SCRIPT + random_scripts.WRONG_LINES[number] + b"\n" + word_cases.SCRIPT
     write_case(folder, f"run-{number:04}", words, script, stores=number % 5 > 0)
@@ -238,7 +244,7 @@ def main():
         os.makedirs(os.path.join(folder, kind), exist_ok=True)
     for number in range(count):
         key, bundle = random_case(chance, number)
-        write_case(folder, f"check-{number:04}", ["check", "--key", key], bundle)
+        write_case(folder, f"check-{number:04}", ["check", "--key", key] + receipts(number), bundle)
         if number % 3 == 1:
             write_case(folder, f"audit-{number:04}", ["audit", "--key", key], bundle)
         if "run" not in LATER:
