@@ -1,5 +1,5 @@
 use Rattle.protection_moves.proofs.RenewingLaws.{past_by_first}
-use Rattle.protection_moves.proofs.renewing.+renewed_by_each.Goals as goal
+use Rattle.protection_moves.proofs.counting.+renewed_by_each.Goals as goal
 
 pub returns-in-None-renewed-clause-past : goal.returns-in-None-renewed-clause-past
 returns-in-None-renewed-clause-past t c =
