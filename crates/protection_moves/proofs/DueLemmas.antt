@@ -19,8 +19,7 @@ use Rattle.host_shard.specs.Mirrors.{IsKeyOf}
 use Rattle.host_shard.specs.Records.{Listed, IsBefore, AreInOrder, record_at, touches_in}
 use Rattle.protection_moves.specs.Stage.{Stage, hot_paths}
 use Rattle.protection_moves.specs.Errand.{IsTouchedOften, AreDue}
-use Rattle.protection_moves.specs.Due.{is_hot, due_key, listed_key, due_among}
-use Rattle.protection_moves.specs.Run.{AreRising, AreFirstDue}
+use Rattle.protection_moves.specs.Due.{is_hot, due_key, listed_key, due_among, AreRising, AreFirstDue}
 
 -- ---- lists and tests
 

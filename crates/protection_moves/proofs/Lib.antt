@@ -7,5 +7,5 @@ mod PlaceLemmas
 mod SavingLemmas
 mod DueLemmas
 mod TripLemmas
-mod RunLemmas
+mod DoneLemmas
 mod MoveLemmas

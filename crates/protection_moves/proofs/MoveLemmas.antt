@@ -20,7 +20,8 @@ use Rattle.protection_moves.specs.Renewing.{renewing_each, renewed_places, renew
 use Rattle.protection_moves.specs.Errand.{Errand, demotes, promotes, AreDue, errands_of, clock_by_each, clock_needed}
 use Rattle.protection_moves.specs.Move.{IsMove, IsPastEnd, begun, handed_out, moved, move_commands}
 use Rattle.protection_moves.specs.Trip.{AreTrips, done_by_each, commands_by_each}
-use Rattle.protection_moves.specs.Run.{IsRun, AreRising, AreFirstDue, stage_with, taking_in}
+use Rattle.protection_moves.specs.Done.{AreDone, stage_with, taking_in}
+use Rattle.protection_moves.specs.Due.{AreRising, AreFirstDue}
 use Rattle.protection_moves.proofs.CountingLaws.{clock_by_each-up, clock_by_each-open}
 use Rattle.protection_moves.proofs.RenewingLaws.{renewing_each-open}
 
@@ -81,8 +82,7 @@ due_unique format stage threshold xs ys one two =
 -- ---- one stage
 
 module _ (stage : Stage) (threshold : Option ℕ) (back : List HotRecord) (keys : List ℕ) (returning : back ≡ untouched_in stage.places)
-  (first : AreFirstDue short_keys stage threshold (vacancies stage.places + length back) keys) where
-
+    (first : AreFirstDue short_keys stage threshold (vacancies stage.places + length back) keys) where
   abbrev pub errands : List Errand
   errands = map (λ (f : HotRecord). demotes f) back ++ map (λ (k : ℕ). promotes k) keys
 
@@ -124,9 +124,9 @@ module _ (stage : Stage) (threshold : Option ℕ) (back : List HotRecord) (keys 
     pub is_move : (digest : Digest) (worker : ℕ) (mid later : Reading) (start logged : List Command) (left : Shard) (places : List Content) (new : Stage)
         → mid ≡ start_clock → later ≡ giving (clock_by_each mid errands)
         → start ≡ renewing_commands short_keys stage.clock touched ++ taking_in (pending_shard stage.shard) ∷ []
-        → IsRun short_keys digest worker (stage_with stage.shard (λ k. 0) (renewed_places worker stage.clock stage.places touched) mid) errands start
-            (EvictB stage.shard.frontier (giving (clock_by_each mid errands)).at) logged
-            (stage_with left (λ k. 0) places (clock_by_each mid errands))
+        → AreDone short_keys digest worker (stage_with stage.shard (λ k. 0) (renewed_places worker stage.clock stage.places touched) mid) errands start
+        (EvictB stage.shard.frontier (giving (clock_by_each mid errands)).at) logged
+        (stage_with left (λ k. 0) places (clock_by_each mid errands))
         → new ≡ record { shard = record left { touches = λ k. 0; stamp = later.at; evictor = worker }; places = places; clock = later }
         → IsMove short_keys digest worker threshold stage logged new
     is_move digest worker mid later start logged left places new begins ends starts run becomes = record {

@@ -4,7 +4,7 @@ use Rattle.std.proofs.lemmas.Bool.{lt-ltb, le-ltb}
 use Rattle.stamp_order.specs.InOrder.{put_in_order}
 use Rattle.host_shard.specs.declared.content.HotRecord.{HotRecord}
 use Rattle.host_shard.specs.Content.{Content}
-use Rattle.protection_moves.specs.Run.{replaced_at}
+use Rattle.protection_moves.specs.Places.{replaced_at}
 use Rattle.protection_moves.specs.Stage.{is_hot_at, replaced}
 
 -- one record comes before another

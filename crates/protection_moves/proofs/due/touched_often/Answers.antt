@@ -5,8 +5,7 @@ use Rattle.host_shard.specs.Content.{key_path}
 use Rattle.host_shard.specs.Mirrors.{IsKeyOf}
 use Rattle.host_shard.specs.Records.{Listed}
 use Rattle.host_shard.specs.Shown.{shown, shown_content}
-use Rattle.protection_moves.specs.Due.{due_among, listed_key}
-use Rattle.protection_moves.specs.Run.{AreRising, AreFirstDue}
+use Rattle.protection_moves.specs.Due.{due_among, listed_key, AreRising, AreFirstDue}
 use Rattle.protection_moves.specs.Shown.{shown_stage}
 use Rattle.protection_moves.proofs.DueLemmas.{are_due, due_rising, due_own, all_front, rising_front, front_full, front_all, front_more}
 use Rattle.protection_moves.proofs.due.touched_often.Goals as goal
