@@ -3,9 +3,8 @@ use Rattle.std.proofs.Common.{◌≡◌, ◌⊎◌, ℕ, suc, ◌<◌, ◌≤◌
 use Rattle.std.proofs.lemmas.Bool.{false≢true}
 use Rattle.std.proofs.Math.Path.{fun_ext}
 use Rattle.std.specs.List.{AllByRecursion}
-use Rattle.tree_keys.specs.Bits.{bits_of}
-use Rattle.tree_keys.specs.BitsLaws.{length-bits_of, number_back}
-use Rattle.tree_keys.specs.Path.{side, same_path, is_prefix, common, IsBelow}
+use Rattle.tree_keys.specs.BitsLaws.{length-bits_of}
+use Rattle.tree_keys.specs.Path.{side, same_path, is_prefix, IsBelow}
 use Rattle.tree_keys.proofs.BitsLaws.{bits_of-injective}
 use Rattle.tree_keys.proofs.PathLaws.{same_path-self, same_path-true, same_path-apart}
 use Rattle.tree_keys.proofs.SideLaws.{is_prefix-self, prefix_cases}
@@ -15,14 +14,14 @@ use Rattle.lamport_clocks.specs.Reading.{Reading}
 use Rattle.record_text.specs.declared.value.Pointer.{Pointer}
 use Rattle.record_text.specs.declared.value.Value.{Value}
 use Rattle.record_text.specs.declared.value.Value.TheVariants as values
-use Rattle.record_text.specs.Format.{Format, path_bits, short_keys}
+use Rattle.record_text.specs.Format.{Format, short_keys}
 use Rattle.log_codec.specs.declared.command.Command.{Command}
 use Rattle.log_codec.specs.declared.command.Command.TheVariants.{EvictB}
 use Rattle.merkle_records.specs.Merkle.{Digest}
 use Rattle.merkle_records.proofs.KindLaws.{length-side}
 use Rattle.host_shard.specs.declared.content.HotRecord.{HotRecord}
 use Rattle.host_shard.specs.declared.link.Link.{Link}
-use Rattle.host_shard.specs.Chain.{IsNextLink, IsChain, next_link, known_link, fork_link, pointer_toward, last_value, closed_value, closed_records}
+use Rattle.host_shard.specs.Chain.{IsChain, next_link, known_link, fork_link, last_value, closed_value, closed_records}
 use Rattle.host_shard.specs.Content.{Content, key_path, vacant}
 use Rattle.host_shard.specs.Mirrors.{IsKeyOf}
 use Rattle.host_shard.specs.Shard.{Shard, tree_of, settled}

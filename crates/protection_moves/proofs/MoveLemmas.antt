@@ -1,7 +1,7 @@
 -- The move of a shard, put together: what is due, the counters, and the run of its errands.
-use Rattle.std.proofs.Common.{◌≡◌, ◌⊎◌, ℕ, zero, suc, ◌+◌, ◌<◌, ◌≤◌, Bool, true, false, not, List, [], ◌∷◌, ◌++◌, map, take, length, Option, Some, None, IsTrue, refl, sym, ◌∙◌, ap, subst, inl, inr, append_assoc, arith}
+use Rattle.std.proofs.Common.{◌≡◌, ◌⊎◌, ℕ, zero, suc, ◌+◌, ◌<◌, Bool, List, [], ◌∷◌, ◌++◌, map, take, length, Option, IsTrue, refl, sym, ◌∙◌, ap, subst, inl, inr, append_assoc, arith}
 use Rattle.std.proofs.Math.Path.{fun_ext}
-use Rattle.std.specs.Prelude.{◌↔◌, slice_index_or, AllPairs}
+use Rattle.std.specs.Prelude.{AllPairs}
 use Rattle.std.specs.List.{AllByRecursion, IsAmong}
 use Rattle.lamport_clocks.specs.declared.stamp.Stamp.{Stamp}
 use Rattle.lamport_clocks.specs.Clock.{is_open}
@@ -14,14 +14,13 @@ use Rattle.host_shard.specs.declared.content.HotRecord.{HotRecord}
 use Rattle.host_shard.specs.Content.{Content}
 use Rattle.host_shard.specs.Shard.{Shard, pending_shard}
 use Rattle.host_plan.specs.Moments.{taking, giving}
-use Rattle.host_plan.specs.Visit.{between}
 use Rattle.protection_moves.specs.Stage.{Stage, vacancies, touched_in, untouched_in}
 use Rattle.protection_moves.specs.Renewing.{renewing_each, renewed_places, renewing_commands}
 use Rattle.protection_moves.specs.Errand.{Errand, demotes, promotes, AreDue, errands_of, clock_by_each, clock_needed}
-use Rattle.protection_moves.specs.Move.{IsMove, IsPastEnd, begun, handed_out, moved, move_commands}
+use Rattle.protection_moves.specs.Move.{IsMove, IsPastEnd, begun, handed_out, moved}
 use Rattle.protection_moves.specs.Trip.{AreTrips, done_by_each, commands_by_each}
 use Rattle.protection_moves.specs.Done.{AreDone, stage_with, taking_in}
-use Rattle.protection_moves.specs.Due.{AreRising, AreFirstDue}
+use Rattle.protection_moves.specs.Due.{AreFirstDue}
 use Rattle.protection_moves.proofs.CountingLaws.{clock_by_each-up, clock_by_each-open}
 use Rattle.protection_moves.proofs.RenewingLaws.{renewing_each-open}
 

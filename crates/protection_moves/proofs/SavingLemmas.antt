@@ -1,5 +1,5 @@
 -- What is kept of a shard, and a shard that is as before again.
-use Rattle.std.proofs.Common.{◌≡◌, ℕ, Bool, true, false, List, [], ◌∷◌, map, Option, Some, None, IsSome, unwrap_or, if◌then◌else◌, refl, sym, ◌∙◌, ap, subst}
+use Rattle.std.proofs.Common.{◌≡◌, ℕ, Bool, true, false, List, [], ◌∷◌, Option, Some, None, IsSome, unwrap_or, if◌then◌else◌, refl, sym, ◌∙◌, ap, subst}
 use Rattle.std.proofs.lemmas.Bool.{false≢true, true≢false}
 use Rattle.std.proofs.Math.Path.{fun_ext}
 use Rattle.std.specs.List.{AllByRecursion}
@@ -14,7 +14,6 @@ use Rattle.host_shard.specs.declared.link.Link.{Link}
 use Rattle.host_shard.specs.Records.{Kept, with_kept, values_in, touches_in}
 use Rattle.host_shard.specs.Tree.{Tree, with_record}
 use Rattle.host_shard.specs.Chain.{closed_value, closed_records}
-use Rattle.host_shard.specs.Shard.{Shard, settled}
 use Rattle.protection_moves.specs.declared.saving.SavedRecord.{SavedRecord}
 use Rattle.protection_moves.specs.Saving.{saved_along, with_value, IsElsewhere, CanRestore}
 

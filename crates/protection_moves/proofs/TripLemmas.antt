@@ -1,12 +1,12 @@
 -- A trip along a chain: its commands are commands, and what it leaves of the shard is a shard.
-use Rattle.std.proofs.Common.{◌≡◌, ◌≢◌, ℕ, suc, ◌<◌, ◌≤◌, ◌^◌, Bool, true, false, List, [], ◌∷◌, ◌++◌, map, length, ◌-◌, Option, Some, None, IsSome, if◌then◌else◌, refl, sym, ◌∙◌, ap, subst, arith}
+use Rattle.std.proofs.Common.{◌≡◌, ℕ, suc, ◌<◌, ◌≤◌, ◌^◌, Bool, true, false, List, [], ◌∷◌, ◌++◌, length, ◌-◌, Option, Some, None, IsSome, if◌then◌else◌, refl, sym, ◌∙◌, ap, subst, arith}
 use Rattle.std.proofs.lemmas.Bool.{false≢true}
 use Rattle.std.proofs.lemmas.Option.{none-some, same_Some}
 use Rattle.std.proofs.Math.Path.{fun_ext}
 use Rattle.std.specs.Prelude.{slice_get}
 use Rattle.std.specs.List.{AllByRecursion}
 use Rattle.tree_keys.specs.Path.{side, same_path, IsBelow}
-use Rattle.tree_keys.proofs.PathLaws.{same_path-self, same_path-true, same_path-apart}
+use Rattle.tree_keys.proofs.PathLaws.{same_path-true}
 use Rattle.tree_keys.proofs.SideLaws.{above_apart}
 use Rattle.lamport_clocks.specs.declared.stamp.Stamp.{Stamp}
 use Rattle.record_text.specs.declared.element.Element.{Element}
@@ -14,7 +14,7 @@ use Rattle.record_text.specs.declared.value.Pointer.{Pointer}
 use Rattle.record_text.specs.declared.value.Value.{Value}
 use Rattle.record_text.specs.declared.value.Value.TheVariants as values
 use Rattle.record_text.specs.Format.{Format, path_bits, short_keys}
-use Rattle.record_text.specs.Value.{IsOf, IsSide}
+use Rattle.record_text.specs.Value.{IsOf}
 use Rattle.record_text.specs.Element.{IsStamp}
 use Rattle.log_codec.specs.declared.command.Command.{Command}
 use Rattle.log_codec.specs.Command.{IsCommand}
@@ -22,8 +22,8 @@ use Rattle.merkle_records.specs.Merkle.{Digest, GivesDigests, pointer_to, deferr
 use Rattle.merkle_records.proofs.KindLaws.{is_prefix-side, IsOf-with_side}
 use Rattle.host_shard.specs.declared.link.Link.{Link}
 use Rattle.host_shard.specs.declared.content.HotRecord.{HotRecord}
-use Rattle.host_shard.specs.Tree.{Tree, with_record}
-use Rattle.host_shard.specs.Chain.{IsChain, aimed, aimed_on, last_value, closed_pointer, closed_value, closed_records}
+use Rattle.host_shard.specs.Tree.{Tree}
+use Rattle.host_shard.specs.Chain.{IsChain, aimed, aimed_on, last_value, closed_value, closed_records}
 use Rattle.host_shard.specs.Shard.{Shard, tree_of, settled}
 use Rattle.host_shard.specs.Content.{key_path, pending_hot}
 use Rattle.host_shard.specs.Mirrors.{IsShard, IsKeyOf}
@@ -34,7 +34,7 @@ use Rattle.protection_moves.specs.declared.saving.SavedRecord.{SavedRecord}
 use Rattle.protection_moves.specs.Trip.{visit_but_last, come_back, become_hot, without_record, with_back, shard_without}
 use Rattle.protection_moves.specs.Lending.{IsReturning}
 use Rattle.protection_moves.specs.Turn.{last_path, deferring, IsLent, shard_but}
-use Rattle.protection_moves.specs.Saving.{saved_along, IsElsewhere, CanRestore, IsSavedOf}
+use Rattle.protection_moves.specs.Saving.{saved_along, CanRestore, IsSavedOf}
 use Rattle.protection_moves.proofs.SavingLemmas.{closed_there, closed_elsewhere, saved_was, elsewhere_links}
 
 -- ---- commands

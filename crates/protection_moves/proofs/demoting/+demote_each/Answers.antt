@@ -1,18 +1,13 @@
-use Rattle.std.proofs.Common.{rules, ◌≡◌, ℕ, suc, ◌<◌, ◌≤◌, List, Bool, None, [], ◌∷◌, ◌++◌, map, length, IsTrue, refl, sym, subst, ap, ◌∙◌, arith}
+use Rattle.std.proofs.Common.{rules, ◌≡◌, ℕ, List, ◌∷◌, map, sym, subst, ap, ◌∙◌, arith}
 use Rattle.std.specs.List.{AllByRecursion}
-use Rattle.lamport_clocks.specs.Clock.{is_open}
-use Rattle.lamport_clocks.specs.Reading.{Reading}
 use Rattle.record_text.specs.Format.{short_keys}
-use Rattle.record_text.specs.Value.{IsOf}
-use Rattle.record_text.specs.declared.value.Value.TheVariants as values
 use Rattle.host_shard.specs.declared.content.HotRecord.{HotRecord}
 use Rattle.host_shard.specs.Content.{key_path}
 use Rattle.host_shard.specs.Mirrors.{IsKeyOf, IsShard}
 use Rattle.host_shard.specs.Records.{record_at, values_of}
 use Rattle.host_shard.specs.Shard.{Shard}
 use Rattle.host_shard.specs.Shown.{shown}
-use Rattle.host_plan.specs.Moments.{taking}
-use Rattle.protection_moves.specs.Errand.{Errand, promotes}
+use Rattle.protection_moves.specs.Errand.{promotes}
 use Rattle.protection_moves.specs.Saving.{IsSavedOf}
 use Rattle.protection_moves.specs.Trip.{with_back}
 use Rattle.protection_moves.proofs.CountingLaws.{past_by_first_errand}

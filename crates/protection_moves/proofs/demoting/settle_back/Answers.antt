@@ -1,21 +1,12 @@
-use Rattle.std.proofs.Common.{◌≡◌, ℕ, List, Bool, Option, sym, subst, ap, ◌∙◌, ◌++◌}
-use Rattle.record_text.specs.declared.element.Element.{Element}
+use Rattle.std.proofs.Common.{List, Bool, sym, subst}
 use Rattle.record_text.specs.declared.value.Value.TheVariants as values
 use Rattle.record_text.specs.Format.{short_keys}
-use Rattle.record_text.specs.Value.{IsOf}
-use Rattle.log_codec.specs.declared.command.Command.{Command}
-use Rattle.host_shard.specs.declared.content.HotRecord.{HotRecord}
 use Rattle.host_shard.specs.declared.link.Link.{Link}
 use Rattle.host_shard.specs.Chain.{IsChain}
-use Rattle.host_shard.specs.Content.{key_path, pending_hot}
-use Rattle.host_shard.specs.Mirrors.{IsShard}
-use Rattle.host_shard.specs.Records.{record_at, values_of}
-use Rattle.host_shard.specs.Shard.{Shard, tree_of, settled}
+use Rattle.host_shard.specs.Content.{key_path}
+use Rattle.host_shard.specs.Records.{record_at}
+use Rattle.host_shard.specs.Shard.{Shard, tree_of}
 use Rattle.host_shard.specs.Shown.{shown}
-use Rattle.host_shard.proofs.ShardLaws.{settled_is}
-use Rattle.protection_moves.specs.Lending.{IsReturning}
-use Rattle.protection_moves.specs.Saving.{saved_along}
-use Rattle.protection_moves.specs.Trip.{visit_but_last, come_back, with_back}
 use Rattle.protection_moves.proofs.SavingLemmas.{no_touches}
 use Rattle.protection_moves.proofs.TripLemmas.{back_typed, returned_is, returning_of, saved_of}
 use Rattle.protection_moves.proofs.demoting.settle_back.Goals as goal

@@ -1,4 +1,4 @@
-use Rattle.std.proofs.Common.{rules, ◌≡◌, ℕ, ◌+◌, ◌<◌, ◌≤◌, List, Bool, [], ◌∷◌, ◌++◌, map, length, IsTrue, refl, sym, ◌∙◌, ap, subst, arith}
+use Rattle.std.proofs.Common.{rules, ◌≡◌, ℕ, ◌+◌, ◌<◌, List, [], ◌∷◌, ◌++◌, map, length, IsTrue, refl, sym, ◌∙◌, ap, subst, arith}
 use Rattle.std.specs.List.{AllByRecursion}
 use Rattle.lamport_clocks.specs.declared.stamp.Stamp.{Stamp}
 use Rattle.lamport_clocks.specs.Clock.{is_open}
@@ -17,7 +17,7 @@ use Rattle.host_plan.specs.Moments.{giving}
 use Rattle.protection_moves.specs.Errand.{demotes, promotes, clock_by_each}
 use Rattle.protection_moves.specs.Stage.{Stage, touched_in, untouched_in, vacancies}
 use Rattle.protection_moves.specs.Renewing.{renewed_places, renewing_commands}
-use Rattle.protection_moves.specs.Done.{AreDone, stage_with, taking_in}
+use Rattle.protection_moves.specs.Done.{taking_in}
 use Rattle.protection_moves.specs.Due.{AreFirstDue}
 use Rattle.protection_moves.specs.Places.{placed_each, vacated}
 use Rattle.protection_moves.specs.Move.{IsMove}

@@ -1,19 +1,16 @@
-use Rattle.std.proofs.Common.{rules, ◌≡◌, ℕ, ◌<◌, ◌≤◌, List, Bool, [], ◌∷◌, map, suc, length, refl, sym, subst, ap, ◌∙◌, arith}
+use Rattle.std.proofs.Common.{rules, ◌≡◌, ℕ, List, Bool, ◌∷◌, map, suc, length, sym, subst, ap, ◌∙◌, arith}
 use Rattle.std.specs.List.{AllByRecursion}
 use Rattle.record_text.specs.Format.{short_keys}
-use Rattle.host_shard.specs.declared.content.HotRecord.{HotRecord}
 use Rattle.host_shard.specs.Content.{key_path}
 use Rattle.host_shard.specs.Mirrors.{IsKeyOf, IsShard}
 use Rattle.host_shard.specs.Records.{record_at, values_of, touches_of}
 use Rattle.host_shard.specs.Shard.{Shard}
 use Rattle.host_shard.specs.Shown.{shown}
 use Rattle.host_shard.specs.Tree.{Tree}
-use Rattle.protection_moves.specs.declared.saving.Saved.{Saved}
 use Rattle.protection_moves.specs.Errand.{promotes}
 use Rattle.protection_moves.specs.Due.{AreRising}
 use Rattle.protection_moves.specs.Saving.{IsSavedOf}
 use Rattle.protection_moves.specs.Trip.{without_record}
-use Rattle.protection_moves.specs.Turn.{shard_but}
 use Rattle.protection_moves.proofs.CountingLaws.{clock_by_each-up}
 use Rattle.protection_moves.proofs.SavingLemmas.{dropped_values}
 use Rattle.protection_moves.proofs.TripLemmas.{but_is}
