@@ -1,10 +1,11 @@
 #!/usr/bin/env python3
-"""The commands of requests, by the plain slow host: the rows that crates/host_tests compares.
+"""The commands of requests and of closes, by the plain slow host: the rows that crates/host_tests compares.
 
 Digests are sums of bytes, as `ToyDigests` has them, of which only the digits that count are written. It prints the rows of one
-worker's log for requests, one a line: `get KEY`, `put KEY HEX`, `del KEY`.
+worker's log for requests, one a line: `get KEY`, `put KEY HEX`, `del KEY`, and `epoch`, where the worker goes to the next epoch
+and moves each shard. With a threshold, keys that were touched so often in an epoch become hot at its end.
 
-    tools/slow_plans.py SHARDS WORKER COUNTER < requests
+    tools/slow_plans.py SHARDS WORKER COUNTER [THRESHOLD] < requests
 """
 import sys
 
@@ -20,15 +21,33 @@ def digits(digest):
     return digest.lstrip(b"\0").hex() or "00"
 
 
+def serve(host, worker, line, shards):
+    """A request, at the shard of its key."""
+    _, *request = request_in(b"0 " + line, 1)
+    shard = int(request[1][: shards.bit_length() - 1], 2)
+    visit = Visit(host.digests, host.shards[shard], Deed(worker, END))
+    visit.serve(*request)
+    worker.keep(visit.deed)
+
+
+def close(host, worker, threshold):
+    """The next epoch, to which each shard is moved."""
+    worker.logged.append(("nextEpoch",))
+    worker.clock = worker.clock[0] + 1, 0
+    for shard in host.shards:
+        visit = Visit(host.digests, shard, Deed(worker, END))
+        visit.move(threshold)
+        worker.keep(visit.deed)
+
+
 def main():
-    shards, number, counter = map(int, sys.argv[1:])
+    shards, number, counter, *threshold = map(int, sys.argv[1:])
     host, worker = Host(ToyDigests(), Settings(1, shards, None, 0, END)), Worker(number, (0, counter))
     for line in sys.stdin.buffer.read().splitlines():
-        _, *request = request_in(b"0 " + line, 1)
-        shard = int(request[1][: shards.bit_length() - 1], 2)
-        visit = Visit(host.digests, host.shards[shard], Deed(worker, END))
-        visit.serve(*request)
-        worker.keep(visit.deed)
+        if line == b"epoch":
+            close(host, worker, threshold[0] if threshold else None)
+        else:
+            serve(host, worker, line, shards)
     for command in worker.logged:
         print(row(command, digits))
 

@@ -1,7 +1,7 @@
 """Commands as rows of text: `addB /0 5:2c..,- 0.4 v0`, `evictM 5 /0`, `get 5 6162`.
 
 A path is `root`, the number of a key, `/` and up to 8 bits, or the number that its bits begin and how many they are. A value is
-its digits, `.` or `none`; a node its two pointers, `-` or a path and a digest, with a star where the pointer is deferred.
+its digits, `.` or `none`; a node its two pointers, `-` or a path and a digest, with `?` between them where the pointer is deferred.
 """
 
 
@@ -16,7 +16,7 @@ def spelled(path):
 def shown(value, digits):
     """A value, where a digest's digits are those that a function gives."""
     if isinstance(value, tuple):
-        return ",".join("-" if p is None else f"{spelled(p.path)}:{digits(p.digest)}{'*' * p.deferred}" for p in value)
+        return ",".join("-" if p is None else f"{spelled(p.path)}{'?' if p.deferred else ':'}{digits(p.digest)}" for p in value)
     return "none" if value is None else value.hex() or "."
 
 
@@ -27,7 +27,7 @@ def dotted(stamp):
 def row(command, digits=bytes.hex):
     kind, *fields = command
     if kind == "nextEpoch":
-        return kind
+        return "next"
     texts = [spelled(fields[0])]
     if kind in ("addM", "addB", "get", "put"):
         texts.append(shown(fields[1], digits))

@@ -5,4 +5,10 @@ pub mod Errand
 pub mod Trip
 pub mod Move
 pub mod Shown
+pub mod Places
+pub mod Due
+pub mod Done
+pub mod Saving
+pub mod Turn
+pub mod Lending
 pub use Rattle.host_plan.specs
