@@ -1,0 +1,2 @@
+-- What the laws of errands cite, in reading order.
+pub mod Kept
