@@ -2,3 +2,4 @@
 mod WayLemmas
 mod EndLemmas
 mod AlongLemmas
+mod ClosedLemmas
