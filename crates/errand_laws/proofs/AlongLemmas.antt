@@ -1,5 +1,5 @@
 -- An errand along the way to its record: the paths above come into the cache and leave it by their digests.
-use Rattle.std.proofs.Common.{◌≡◌, ◌≢◌, ℕ, suc, ◌+◌, ◌<◌, ◌≤◌, Bool, true, false, List, [], ◌∷◌, ◌++◌, length, Option, Some, None, Ok, append-nil, if◌then◌else◌, refl, sym, ◌∙◌, ap, subst, arith}
+use Rattle.std.proofs.Common.{◌≡◌, ◌≢◌, ℕ, suc, ◌+◌, ◌<◌, ◌≤◌, Bool, true, false, not, List, [], ◌∷◌, ◌++◌, length, Option, Some, None, Ok, append-nil, if◌then◌else◌, refl, sym, ◌∙◌, ap, subst, arith}
 use Rattle.std.specs.List.{AllByRecursion, flat_map}
 use Rattle.std.proofs.lemmas.Bool.{false≢true}
 use Rattle.std.proofs.lemmas.List.Concat.{flat_map-append}
@@ -109,13 +109,13 @@ module _ (rules : Rules) (tree before base : Tree) (key : List Bool) (lent : Boo
   AreKept = (k : List Bool) → same_path k key ≡ false → base k ≡ before k
 
   -- the pointer of a step is not deferred, and keeps the digest of its record
-  abbrev pub IsSound : (at : List Bool) (value : Value) (link : Link) → IsStep format tree key at value link → Type 0
+  abbrev pub IsSound : (at : List Bool) (value : Value) (link : Link) → IsStep format tree key (not lent) at value link → Type 0
   IsSound at value link step = (step.pointer.deferred ≡ false) × (step.pointer.digest ≡ digest (value_text format link.taken))
 
   -- ---- one link more
 
   module _ (at : List Bool) (hold : Hold) (value : Value) (link next : Link) (links : List Link) (clock after : Reading) (inner : List Command)
-      (adds evicts : List Element) (step : IsStep format tree key at value link) (sound : IsSound at value link step) (on_side : same_path link.path key ≡ false)
+      (adds evicts : List Element) (step : IsStep format tree key (not lent) at value link) (sound : IsSound at value link step) (on_side : same_path link.path key ≡ false)
       (onward : IsOnward clock after) (based : IsBased at)
       (rest : Along link.path M link.taken (next ∷ links) clock after inner adds evicts) where
     abbrev became : Value
@@ -242,18 +242,18 @@ module _ (rules : Rules) (tree before base : Tree) (key : List Bool) (lent : Boo
   -- ---- the whole way
 
   -- where the way goes on behind a link, that isn't the key
-  above_key : (link next : Link) (links : List Link) → IsWay format tree key link.path link.taken (next ∷ links) → same_path link.path key ≡ false
+  above_key : (link next : Link) (links : List Link) → IsWay format tree key (not lent) link.path link.taken (next ∷ links) → same_path link.path key ≡ false
   above_key link next links way =
       same_path-apart link.path key
       (λ same. none-some way.0.on (sym (ap (λ (k : List Bool). side k key) same ∙ side-self key) ∙ way.0.on_side))
 
   module _ (clock after : Reading) (at_end : List Bool → Link → List Command) (adds evicts : List Element)
       (onward : IsOnward clock after)
-      (sound : (at : List Bool) (value : Value) (link : Link) → same_path link.path key ≡ false → (step : IsStep format tree key at value link) → IsSound at value link step)
-      (ends : (at : List Bool) (hold : Hold) (value : Value) (link : Link) → IsBased at → IsStep format tree key at value link → link.path ≡ key
+      (sound : (at : List Bool) (value : Value) (link : Link) → same_path link.path key ≡ false → (step : IsStep format tree key (not lent) at value link) → IsSound at value link step)
+      (ends : (at : List Bool) (hold : Hold) (value : Value) (link : Link) → IsBased at → IsStep format tree key (not lent) at value link → link.path ≡ key
       → Along at hold value (link ∷ []) clock after (at_end at link) adds evicts) where
     -- An errand along the way to its key, where it is known at its end.
-    pub along : (at : List Bool) (hold : Hold) (value : Value) (link : Link) (links : List Link) → IsBased at → IsWay format tree key at value (link ∷ links)
+    pub along : (at : List Bool) (hold : Hold) (value : Value) (link : Link) (links : List Link) → IsBased at → IsWay format tree key (not lent) at value (link ∷ links)
         → Along at hold value (link ∷ links) clock after (visit_but_last at (link ∷ links) at_end) adds evicts
     along at hold value link [] based way = ends at hold value link based way.0 way.1
     along at hold value link (next ∷ links) based way =
@@ -267,18 +267,17 @@ module _ (rules : Rules) (tree before base : Tree) (key : List Bool) (lent : Boo
 -- a record that comes back
 pub back_ends : (rules : Rules) (tree before base : Tree) (key : List Bool) (element : Element) (clock : Reading) (at : List Bool) (hold : Hold) (value : Value) (link : Link)
     → ((k : List Bool) → same_path k key ≡ false → base k ≡ before k)
-    → (step : IsStep rules.scheme.format tree key at value link) → link.path ≡ key → element.path ≡ key → tree key ≡ Some element.value
-    → step.pointer.deferred ≡ true
+    → (step : IsStep rules.scheme.format tree key true at value link) → link.path ≡ key → element.path ≡ key → tree key ≡ Some element.value
     → element.verifier < rules.verifiers → is_open clock element.stamp.epoch ≡ true → (taking clock element.stamp).at.counter ≤ clock.end
     → IsOnward clock (taking clock element.stamp)
     → Along rules tree before base key false element.value at hold value (link ∷ []) clock (taking clock element.stamp) (come_back element at link) (element ∷ []) []
-back_ends rules tree before base key element clock at hold value link kept step is_key is_path there deferred known is_taken within onward =
+back_ends rules tree before base key element clock at hold value link kept step is_key is_path there known is_taken within onward =
     subst (λ (l : Link). Along rules tree before base key false element.value at hold value (l ∷ []) clock later (come_back element at l) (element ∷ []) []) (sym link_is)
     (record {
       told = told;
       works = subst (λ (v : Value). Works rules 1 at hold value clock commands told v later) (sym closed_is)
           (subst (λ (v : Value). Works rules 1 at hold v clock commands told (values.Node left) later) (sym step.is_node)
-          (comes_back rules at hold step.node step.on step.pointer element clock below step.points (step.to ∙ to_element) deferred known is_taken within));
+          (comes_back rules at hold step.node step.on step.pointer element clock below step.points (step.to ∙ to_element) (step.late_if_last is_key) known is_taken within));
       added = refl;
       evicted = refl;
       no_access = refl;
@@ -354,12 +353,12 @@ back_ends rules tree before base key element clock at hold value link kept step 
 -- a record that becomes hot
 pub hot_ends : (rules : Rules) (tree before base : Tree) (key : List Bool) (last : Value) (clock : Reading) (at : List Bool) (hold : Hold) (value : Value) (link : Link)
     → ((k : List Bool) → same_path k key ≡ false → base k ≡ before k) → before key ≡ tree key
-    → (step : IsStep rules.scheme.format tree key at value link) → link.path ≡ key → link.taken ≡ last
-    → step.pointer.deferred ≡ false → step.pointer.digest ≡ rules.scheme.digest (value_text rules.scheme.format link.taken)
+    → (step : IsStep rules.scheme.format tree key false at value link) → link.path ≡ key → link.taken ≡ last
+    → step.pointer.digest ≡ rules.scheme.digest (value_text rules.scheme.format link.taken)
     → (giving clock).at.counter ≤ clock.end
     → Along rules tree before base key true last at hold value (link ∷ []) clock (giving clock) (become_hot (giving clock).at at link) []
     (record { path = key; value = last; stamp = (giving clock).at; verifier = rules.number } ∷ [])
-hot_ends rules tree before base key last clock at hold value link kept known step is_key is_last fresh keeps within =
+hot_ends rules tree before base key last clock at hold value link kept known step is_key is_last keeps within =
     subst (λ (l : Link). Along rules tree before base key true last at hold value (l ∷ []) clock later (become_hot later.at at l) []
     (record { path = key; value = last; stamp = later.at; verifier = rules.number } ∷ [])) (sym link_is)
     (record {
@@ -387,6 +386,9 @@ hot_ends rules tree before base key last clock at hold value link kept known ste
       kept = λ path. at_path path (same_path key path) refl;
     })
   where
+    fresh : step.pointer.deferred ≡ false
+    fresh = step.late_if_last is_key
+
     later : Reading
     later = giving clock
 

@@ -93,9 +93,9 @@ length-kind format path (values.Blob blob) kind = omega (arith, kind.0)
 length-kind format path (values.Node node) kind = omega (arith, kind.0)
 
 -- what has a way to the key begins it
-way_begins : (format : Format) (tree : Tree) (key at : List Bool) (value : Value) (links : List Link) → IsWay format tree key at value links → is_prefix at key ≡ true
-way_begins format tree key at value [] way = subst (λ (k : List Bool). is_prefix k key ≡ true) (sym way) (is_prefix-self key)
-way_begins format tree key at value (link ∷ links) way = prefix_of_side at key way.0.on way.0.on_side
+way_begins : (format : Format) (tree : Tree) (key : List Bool) (late : Bool) (at : List Bool) (value : Value) (links : List Link) → IsWay format tree key late at value links → is_prefix at key ≡ true
+way_begins format tree key late at value [] way = subst (λ (k : List Bool). is_prefix k key ≡ true) (sym way) (is_prefix-self key)
+way_begins format tree key late at value (link ∷ links) way = prefix_of_side at key way.0.on way.0.on_side
 
 -- ---- an errand
 
@@ -106,7 +106,7 @@ module _ (format : Format) (digest : Digest) (tree base : Tree) (frontier : List
     pub whole : length key ≡ path_bits format
     pub apart : frontier ≢ key
     pub is_top : (k : List Bool) → tree k ≡ with_record base frontier top k
-    pub way : IsWay format tree key frontier top links
+    pub way : IsWay format tree key (not lent) frontier top links
     pub end : tree key ≡ Some last
     pub reached : (k : List Bool) → IsSome (tree k) → IsReached tree frontier k
 
@@ -146,7 +146,7 @@ module _ (format : Format) (digest : Digest) (tree base : Tree) (frontier : List
     Stands at value (link ∷ more) =
         (full at ≡ Some (closed_value format digest lent at value (link ∷ more) last)) × Stands link.path link.taken more
 
-    stands : (at : List Bool) (value : Value) (more : List Link) → IsWay format tree key at value more
+    stands : (at : List Bool) (value : Value) (more : List Link) → IsWay format tree key (not lent) at value more
         → full at ≡ Some (closed_value format digest lent at value more last)
         → ((k : List Bool) (on : Bool) → side at k ≡ Some on → full k ≡ closed_records format digest lent base more last k)
         → Stands at value more
@@ -166,7 +166,7 @@ module _ (format : Format) (digest : Digest) (tree base : Tree) (frontier : List
     record On (k : List Bool) : Type 0 where
       pub value : Value
       pub more : List Link
-      pub way : IsWay format tree key k value more
+      pub way : IsWay format tree key (not lent) k value more
       pub was : tree k ≡ Some value
       pub stands : Stands k value more
 
@@ -191,7 +191,7 @@ module _ (format : Format) (digest : Digest) (tree base : Tree) (frontier : List
     stands_here k value (link ∷ more) is = is.0
 
     -- each path is on the way, or has its record as before
-    find : (k at : List Bool) (value : Value) (more : List Link) → IsWay format tree key at value more → Stands at value more
+    find : (k at : List Bool) (value : Value) (more : List Link) → IsWay format tree key (not lent) at value more → Stands at value more
         → On k ⊎ (closed_records format digest lent base more last k ≡ base k)
     find k at value [] way is = inr refl
     find k at value (link ∷ more) way is = go (same_path k link.path) refl (find k link.path link.taken more way.1 is.1)
@@ -225,11 +225,11 @@ module _ (format : Format) (digest : Digest) (tree base : Tree) (frontier : List
     unchanged k apart = go (classify k)
       where
         go : On k ⊎ (full k ≡ tree k) → full k ≡ tree k
-        go (inl at) = absurd (false≢true (sym apart ∙ way_begins format tree key k at.value at.more at.way))
+        go (inl at) = absurd (false≢true (sym apart ∙ way_begins format tree key (not lent) k at.value at.more at.way))
         go (inr same) = same
 
     -- a pointer of a step's path on the key's side is the step's
-    is_step : (k : List Bool) (value : Value) (link : Link) (on : Bool) (pointer : Pointer) → (step : IsStep format tree key k value link)
+    is_step : (k : List Bool) (value : Value) (link : Link) (on : Bool) (pointer : Pointer) → (step : IsStep format tree key (not lent) k value link)
         → pointer_of value on ≡ Some pointer → on ≡ step.on → pointer ≡ step.pointer
     is_step k value link on pointer step leads same =
         same_Some pointer step.pointer
@@ -253,7 +253,7 @@ module _ (format : Format) (digest : Digest) (tree base : Tree) (frontier : List
             leads : pointer_of at.value on ≡ Some pointer
             leads = ap (λ (v : Value). pointer_of v on) (same_Some at.value is.value (sym at.was ∙ is.there)) ∙ is.leads
 
-            go : (more : List Link) → IsWay format tree key path at.value more → Stands path at.value more → On pointer.path
+            go : (more : List Link) → IsWay format tree key (not lent) path at.value more → Stands path at.value more → On pointer.path
             go [] way stands' = absurd (none-some on (sym (ap (λ (j : List Bool). side j key) way ∙ side-self key) ∙ toward))
             go (link ∷ more) way stands' =
                 subst On
@@ -261,7 +261,7 @@ module _ (format : Format) (digest : Digest) (tree base : Tree) (frontier : List
                 (record { value = link.taken; more = more; way = way.1; was = way.0.there; stands = stands'.1 })
 
     -- a path's value at the end: its own but for the pointer to the next link
-    closed_is : (k : List Bool) (value : Value) (link : Link) (more : List Link) → (step : IsStep format tree key k value link)
+    closed_is : (k : List Bool) (value : Value) (link : Link) (more : List Link) → (step : IsStep format tree key (not lent) k value link)
         → closed_value format digest lent k value (link ∷ more) last
         ≡ values.Node (with_side step.node step.on (Some (closed_pointer format digest lent link more (closed_value format digest lent link.path link.taken more last))))
     closed_is k value link more step =
@@ -295,7 +295,7 @@ module _ (format : Format) (digest : Digest) (tree base : Tree) (frontier : List
         apart : behind path ≡ full path
         apart = behind_other path (no_key path on pointer is)
 
-        along : (at : On path) → (more : List Link) → IsWay format tree key path at.value more → Stands path at.value more → Again path on pointer
+        along : (at : On path) → (more : List Link) → IsWay format tree key (not lent) path at.value more → Stands path at.value more → Again path on pointer
         along at [] way stands' =
             absurd (false≢true (sym (no_key path on pointer is) ∙ (ap (same_path path) (sym way) ∙ same_path-self path)))
         along at (link ∷ more) way stands' = turn (one_or_other on way.0.on)
@@ -356,7 +356,7 @@ module _ (format : Format) (digest : Digest) (tree base : Tree) (frontier : List
 
     -- it closes a link, or was there and doesn't lead to the key
     data Origin (pointer : Pointer) : Type 0 where
-      closes_link : (link : Link) (more : List Link) → IsWay format tree key link.path link.taken more → Stands link.path link.taken more
+      closes_link : (link : Link) (more : List Link) → IsWay format tree key (not lent) link.path link.taken more → Stands link.path link.taken more
           → pointer ≡ closed_pointer format digest lent link more (closed_value format digest lent link.path link.taken more last) → Origin pointer
       was_there : (path : List Bool) (on : Bool) → IsPointerIn tree path on pointer → is_prefix pointer.path key ≡ false → Origin pointer
 
@@ -366,7 +366,7 @@ module _ (format : Format) (digest : Digest) (tree base : Tree) (frontier : List
         there : full k ≡ Some is.value
         there = full_of k is.value is.there
 
-        along : (at : On k) → (more : List Link) → IsWay format tree key k at.value more → Stands k at.value more → Origin pointer
+        along : (at : On k) → (more : List Link) → IsWay format tree key (not lent) k at.value more → Stands k at.value more → Origin pointer
         along at [] way stands' =
             absurd (whole_none format k last on pointer
             (subst (λ (j : List Bool). IsOf format j last) (sym way) (ground.kinds key last ground.end))
@@ -419,7 +419,7 @@ module _ (format : Format) (digest : Digest) (tree base : Tree) (frontier : List
     pub kinds_behind : GivesDigests digest → (k : List Bool) (value : Value) → behind k ≡ Some value → IsOf format k value
     kinds_behind digests k value is = go (classify k)
       where
-        closed_kind : (at : List Bool) (before : Value) (more : List Link) → IsWay format tree key at before more → IsOf format at before
+        closed_kind : (at : List Bool) (before : Value) (more : List Link) → IsWay format tree key (not lent) at before more → IsOf format at before
             → IsOf format at (closed_value format digest lent at before more last)
         closed_kind at before [] way kind = subst (λ (j : List Bool). IsOf format j last) (sym way) (ground.kinds key last ground.end)
         closed_kind at before (link ∷ more) way kind =
@@ -450,7 +450,7 @@ module _ (format : Format) (digest : Digest) (tree base : Tree) (frontier : List
         → (k : List Bool) (on : Bool) (pointer : Pointer) → IsPointerIn behind k on pointer → pointer.deferred ≡ false → IsKept format digest behind pointer
     kept_behind kept k on pointer is fresh = go (origin k on pointer is)
       where
-        closed : (link : Link) (more : List Link) → IsWay format tree key link.path link.taken more → Stands link.path link.taken more
+        closed : (link : Link) (more : List Link) → IsWay format tree key (not lent) link.path link.taken more → Stands link.path link.taken more
             → Closing format digest lent link more (closed_value format digest lent link.path link.taken more last)
             → pointer ≡ closed_pointer format digest lent link more (closed_value format digest lent link.path link.taken more last)
             → IsKept format digest behind pointer
@@ -468,12 +468,12 @@ module _ (format : Format) (digest : Digest) (tree base : Tree) (frontier : List
             subst (IsKept format digest behind) (sym (same ∙ closes))
             (record {
               value = closed_value format digest lent link.path link.taken more last;
-              there = behind_other link.path (above next rest (subst (IsWay format tree key link.path link.taken) is_more way))
+              there = behind_other link.path (above next rest (subst (IsWay format tree key (not lent) link.path link.taken) is_more way))
                   ∙ stands_here link.path link.taken more stands';
               digest_of = refl;
             })
           where
-            above : (next : Link) (rest : List Link) → IsWay format tree key link.path link.taken (next ∷ rest) → same_path link.path key ≡ false
+            above : (next : Link) (rest : List Link) → IsWay format tree key (not lent) link.path link.taken (next ∷ rest) → same_path link.path key ≡ false
             above next rest way =
                 same_path-apart link.path key
                 (λ same. none-some way.0.on (sym (ap (λ (j : List Bool). side j key) same ∙ side-self key) ∙ way.0.on_side))
@@ -498,13 +498,13 @@ module _ (format : Format) (digest : Digest) (tree base : Tree) (frontier : List
         → (k : List Bool) (on : Bool) (pointer : Pointer) → IsPointerIn behind k on pointer → pointer.deferred ≡ true → IsAmong hot pointer.path
     waits_behind hot own waits k on pointer is deferred = go (origin k on pointer is)
       where
-        closed : (link : Link) (more : List Link) → IsWay format tree key link.path link.taken more
+        closed : (link : Link) (more : List Link) → IsWay format tree key (not lent) link.path link.taken more
             → Closing format digest lent link more (closed_value format digest lent link.path link.taken more last)
             → pointer ≡ closed_pointer format digest lent link more (closed_value format digest lent link.path link.taken more last)
             → IsAmong hot pointer.path
         closed link more way (comes_to_rest no_loan closes) same = absurd (false≢true (sym (ap (λ (p : Pointer). p.deferred) (same ∙ closes)) ∙ deferred))
         closed link more way (is_lent loan none closes) same =
-            subst (IsAmong hot) (sym (ap (λ (p : Pointer). p.path) (same ∙ closes) ∙ subst (IsWay format tree key link.path link.taken) none way)) (own loan)
+            subst (IsAmong hot) (sym (ap (λ (p : Pointer). p.path) (same ∙ closes) ∙ subst (IsWay format tree key (not lent) link.path link.taken) none way)) (own loan)
         closed link more way (goes_on next rest is_more closes) same =
             absurd (false≢true (sym (ap (λ (p : Pointer). p.deferred) (same ∙ closes)) ∙ deferred))
 
@@ -552,16 +552,16 @@ module _ (format : Format) (digest : Digest) (tree base : Tree) (frontier : List
         to_key : now.pointer.path ≡ key
         to_key = now.to ∙ from.5
 
-        closed : (link : Link) (more : List Link) → IsWay format tree key link.path link.taken more
+        closed : (link : Link) (more : List Link) → IsWay format tree key (not lent) link.path link.taken more
             → Closing format digest lent link more (closed_value format digest lent link.path link.taken more last)
             → now.pointer ≡ closed_pointer format digest lent link more (closed_value format digest lent link.path link.taken more last)
             → now.pointer.deferred ≡ true
         closed link more way (comes_to_rest no_loan closes) same = absurd (false≢true (sym no_loan ∙ loan))
         closed link more way (is_lent also none closes) same = ap (λ (p : Pointer). p.deferred) (same ∙ closes)
         closed link more way (goes_on next rest is_more closes) same =
-            absurd (above next rest (subst (IsWay format tree key link.path link.taken) is_more way))
+            absurd (above next rest (subst (IsWay format tree key (not lent) link.path link.taken) is_more way))
           where
-            above : (next : Link) (rest : List Link) → IsWay format tree key link.path link.taken (next ∷ rest) → ⊥
+            above : (next : Link) (rest : List Link) → IsWay format tree key (not lent) link.path link.taken (next ∷ rest) → ⊥
             above next rest way =
                 none-some way.0.on (sym (ap (λ (j : List Bool). side j key) (sym (ap (λ (p : Pointer). p.path) (same ∙ closes)) ∙ to_key) ∙ side-self key) ∙ way.0.on_side)
 

@@ -4,7 +4,7 @@ use Rattle.std.specs.Option.{unwrap_or}
 use Rattle.std.proofs.lemmas.Bool.{false≢true}
 use Rattle.std.proofs.lemmas.Option.{none-some, same_Some}
 use Rattle.tree_keys.specs.Path.{side, is_prefix}
-use Rattle.tree_keys.proofs.SideLaws.{side-self, is_prefix-self, is_prefix-trans, prefix_of_side, side_of_prefix, side-prefix}
+use Rattle.tree_keys.proofs.SideLaws.{side-self, is_prefix-self, is_prefix-trans, prefix_of_side, side_of_prefix, side-prefix, above_no_prefix}
 use Rattle.record_text.specs.declared.value.Pointer.{Pointer}
 use Rattle.record_text.specs.declared.value.Node.{Node}
 use Rattle.record_text.specs.declared.value.Value.{Value}
@@ -73,8 +73,9 @@ reached_below format tree at path kinds (by_pointer from on pointer reached is) 
 
 -- ---- the way
 
--- A step down: the pointer on the key's side leads to the record that the link takes as it is.
-pub record IsStep (format : Format) (tree : Tree) (key at : List Bool) (value : Value) (link : Link) : Type 0 where
+-- A step down: the pointer on the key's side leads to the record that the link takes as it is. The pointer to the key
+-- itself is deferred, or is not.
+pub record IsStep (format : Format) (tree : Tree) (key : List Bool) (late : Bool) (at : List Bool) (value : Value) (link : Link) : Type 0 where
   pub node : Node
   pub is_node : value ≡ values.Node node
   pub on : Bool
@@ -83,6 +84,7 @@ pub record IsStep (format : Format) (tree : Tree) (key at : List Bool) (value : 
   pub points : node_side node on ≡ Some pointer
   pub is_in : IsPointerIn tree at on pointer
   pub to : pointer.path ≡ link.path
+  pub late_if_last : link.path ≡ key → pointer.deferred ≡ late
   pub as_it_is : link.value ≡ link.taken
   pub there : tree link.path ≡ Some link.taken
   pub begins : is_prefix link.path key ≡ true
@@ -90,102 +92,122 @@ pub record IsStep (format : Format) (tree : Tree) (key at : List Bool) (value : 
   pub kind : IsOf format link.path link.taken
 
 -- Step by step to the key.
-abbrev pub IsWay : Format → Tree → List Bool → List Bool → Value → List Link → Type 0
-IsWay format tree key at value [] = at ≡ key
-IsWay format tree key at value (link ∷ links) =
-    IsStep format tree key at value link × IsWay format tree key link.path link.taken links
+abbrev pub IsWay : Format → Tree → List Bool → Bool → List Bool → Value → List Link → Type 0
+IsWay format tree key late at value [] = at ≡ key
+IsWay format tree key late at value (link ∷ links) =
+    IsStep format tree key late at value link × IsWay format tree key late link.path link.taken links
 
--- the record of a path that is reached, where there is one at the end
-reached_there : (tree : Tree) (at path : List Bool) → IsReached tree at path → IsSome (tree path) → (value : Value) × (tree at ≡ Some value)
-reached_there tree at path reached end = go (first_pointer tree at path reached)
-  where
-    some : (o : Option Value) → IsSome o → (value : Value) × (o ≡ Some value)
-    some None is = absurd (false≢true is)
-    some (Some value) is = (value, refl)
+-- a pointer to the key, which is deferred or not
+pub record IsLast (tree : Tree) (key : List Bool) (late : Bool) (from : List Bool) (on : Bool) (pointer : Pointer) : Type 0 where
+  pub is : IsPointerIn tree from on pointer
+  pub to : pointer.path ≡ key
+  pub deferred : pointer.deferred ≡ late
 
-    go : (at ≡ path) ⊎ ((on : Bool) × (pointer : Pointer) × (IsPointerIn tree at on pointer) × (IsReached tree pointer.path path))
-        → (value : Value) × (tree at ≡ Some value)
-    go (inl same) = some (tree at) (subst (λ (k : List Bool). IsSome (tree k)) (sym same) end)
-    go (inr first) = (first.2.value, first.2.there)
+module _ (format : Format) (tree : Tree) (key : List Bool) (late : Bool) (kinds : AreOf format tree) (end : Value) (there : tree key ≡ Some end)
+    (from : List Bool) (last_on : Bool) (last : Pointer) (is_last : IsLast tree key late from last_on last) where
+  last_below : side from key ≡ Some last_on
+  last_below = ap (side from) (sym is_last.to) ∙ side_in format tree from last_on last kinds is_last.is
 
-module _ (format : Format) (tree : Tree) (key : List Bool) (kinds : AreOf format tree) (end : IsSome (tree key)) where
-  -- one step
-  step_of : (at : List Bool) (value : Value) (link : Link) → tree at ≡ Some value → IsReached tree at key → IsNextLink format tree key at value link
-      → IsStep format tree key at value link × IsReached tree link.path key
-  step_of at value link there reached next = go (first_pointer tree at key reached)
+  -- what is above the last pointer has a record
+  above_there : (at : List Bool) → IsReached tree at from → (value : Value) × (tree at ≡ Some value)
+  above_there at reached = go (first_pointer tree at from reached)
     where
-      go : (at ≡ key) ⊎ ((on : Bool) × (pointer : Pointer) × (IsPointerIn tree at on pointer) × (IsReached tree pointer.path key))
-          → IsStep format tree key at value link × IsReached tree link.path key
-      go (inl same) = absurd (none-some next.on (sym (ap (λ (k : List Bool). side k key) same ∙ side-self key) ∙ next.on_side))
+      go : (at ≡ from) ⊎ ((on : Bool) × (pointer : Pointer) × (IsPointerIn tree at on pointer) × (IsReached tree pointer.path from))
+          → (value : Value) × (tree at ≡ Some value)
+      go (inl same) = (is_last.is.value, ap tree same ∙ is_last.is.there)
+      go (inr first) = (first.2.value, first.2.there)
+
+  -- a step along a pointer
+  step_by : (at : List Bool) (value : Value) (link : Link) (on : Bool) (pointer : Pointer) → tree at ≡ Some value → IsPointerIn tree at on pointer
+      → is_prefix pointer.path key ≡ true → (here : Value) → tree pointer.path ≡ Some here → (pointer.path ≡ key → pointer.deferred ≡ late)
+      → IsNextLink format tree key at value link
+      → IsStep format tree key late at value link × (link.path ≡ pointer.path)
+  step_by at value link on pointer known is begins here found late_if next =
+      subst (λ (l : Link). IsStep format tree key late at value l × (l.path ≡ pointer.path)) (sym link_is)
+      (record {
+        node = node.0;
+        is_node = node.1.0;
+        on = on;
+        on_side = toward;
+        pointer = pointer;
+        points = node.1.1;
+        is_in = is;
+        to = refl;
+        late_if_last = late_if;
+        as_it_is = refl;
+        there = found;
+        begins = begins;
+        below = below;
+        kind = kinds pointer.path here found;
+      }, refl)
+    where
+      leads : pointer_of value on ≡ Some pointer
+      leads = ap (λ (v : Value). pointer_of v on) (same_Some value is.value (sym known ∙ is.there)) ∙ is.leads
+
+      node : (n : Node) × ((value ≡ values.Node n) × (node_side n on ≡ Some pointer))
+      node = node_with value on pointer leads
+
+      below : side at pointer.path ≡ Some on
+      below = side_in format tree at on pointer kinds is
+
+      toward : side at key ≡ Some on
+      toward = side-prefix at pointer.path key on below begins
+
+      link_is : link ≡ record { path = pointer.path; value = here; taken = here }
+      link_is =
+          next.next
+          ∙ (ap (λ (o : Option Pointer). next_link format tree key o)
+          (ap (λ (s : Bool). pointer_of value s) (same_Some next.on on (sym next.on_side ∙ toward)) ∙ leads)
+          ∙ (ap (λ (b : Bool). if b then known_link format tree pointer.path else fork_link format key pointer) begins
+          ∙ ap (λ (o : Option Value). record { path = pointer.path; value = unwrap_or o (initial_value format pointer.path); taken = unwrap_or o (initial_value format pointer.path) }) found))
+
+  -- one step, to the key or to what is above the last pointer
+  step_of : (at : List Bool) (value : Value) (link : Link) → tree at ≡ Some value → IsReached tree at from → IsNextLink format tree key at value link
+      → IsStep format tree key late at value link × ((link.path ≡ key) ⊎ IsReached tree link.path from)
+  step_of at value link known reached next = go (first_pointer tree at from reached)
+    where
+      go : (at ≡ from) ⊎ ((on : Bool) × (pointer : Pointer) × (IsPointerIn tree at on pointer) × (IsReached tree pointer.path from))
+          → IsStep format tree key late at value link × ((link.path ≡ key) ⊎ IsReached tree link.path from)
+      go (inl same) =
+          let one = step_by at value link last_on last known (subst (λ (k : List Bool). IsPointerIn tree k last_on last) (sym same) is_last.is)
+          (subst (λ (k : List Bool). is_prefix k key ≡ true) (sym is_last.to) (is_prefix-self key)) end (ap tree is_last.to ∙ there) (λ is. is_last.deferred) next in
+          (one.0, inl (one.1 ∙ is_last.to))
       go (inr first) =
-          subst (λ (l : Link). IsStep format tree key at value l × IsReached tree l.path key) (sym link_is)
-          (record {
-            node = node.0;
-            is_node = node.1.0;
-            on = on;
-            on_side = toward;
-            pointer = pointer;
-            points = node.1.1;
-            is_in = first.2;
-            to = refl;
-            as_it_is = refl;
-            there = here.1;
-            begins = begins;
-            below = below;
-            kind = kinds pointer.path here.0 here.1;
-          }, first.3)
-        where
-          on : Bool
-          on = first.0
+          let above = reached_below format tree first.1.path from kinds first.3 in
+          let here = above_there first.1.path first.3 in
+          let one = step_by at value link first.0 first.1 known first.2
+          (is_prefix-trans first.1.path from key above (prefix_of_side from key last_on last_below)) here.0 here.1
+          (λ is. absurd (above_no_prefix from key last_on last_below (subst (λ (k : List Bool). is_prefix k from ≡ true) is above))) next in
+          (one.0, inr (subst (λ (k : List Bool). IsReached tree k from) (sym one.1) first.3))
 
-          pointer : Pointer
-          pointer = first.1
-
-          leads : pointer_of value on ≡ Some pointer
-          leads = ap (λ (v : Value). pointer_of v on) (same_Some value first.2.value (sym there ∙ first.2.there)) ∙ first.2.leads
-
-          node : (n : Node) × ((value ≡ values.Node n) × (node_side n on ≡ Some pointer))
-          node = node_with value on pointer leads
-
-          below : side at pointer.path ≡ Some on
-          below = side_in format tree at on pointer kinds first.2
-
-          begins : is_prefix pointer.path key ≡ true
-          begins = reached_below format tree pointer.path key kinds first.3
-
-          toward : side at key ≡ Some on
-          toward = side-prefix at pointer.path key on below begins
-
-          here : (v : Value) × (tree pointer.path ≡ Some v)
-          here = reached_there tree pointer.path key first.3 end
-
-          link_is : link ≡ record { path = pointer.path; value = here.0; taken = here.0 }
-          link_is =
-              next.next
-              ∙ (ap (λ (o : Option Pointer). next_link format tree key o)
-              (ap (λ (s : Bool). pointer_of value s) (same_Some next.on on (sym next.on_side ∙ toward)) ∙ leads)
-              ∙ (ap (λ (b : Bool). if b then known_link format tree pointer.path else fork_link format key pointer) begins
-              ∙ ap (λ (o : Option Value). record { path = pointer.path; value = unwrap_or o (initial_value format pointer.path); taken = unwrap_or o (initial_value format pointer.path) }) here.1))
-
-  -- A chain to a record that is reached is the way to it.
-  pub way_of : (at : List Bool) (value : Value) (links : List Link) → tree at ≡ Some value → IsReached tree at key → IsChain format tree key at value links
-      → IsWay format tree key at value links
-  way_of at value [] there reached chain = chain
-  way_of at value (link ∷ links) there reached chain =
-      let one = step_of at value link there reached chain.0 in
-      (one.0, way_of link.path link.taken links one.0.there one.1 chain.1)
+  -- A chain to a record to which this pointer leads is the way to it.
+  pub way_of : (at : List Bool) (value : Value) (links : List Link) → tree at ≡ Some value → IsReached tree at from → IsChain format tree key at value links
+      → IsWay format tree key late at value links
+  way_of at value [] known reached chain = chain
+  way_of at value (link ∷ links) known reached chain =
+      let one = step_of at value link known reached chain.0 in
+      (one.0, further links one.0.there one.1 chain.1 (λ is. way_of link.path link.taken links one.0.there is chain.1))
+    where
+      further : (more : List Link) → tree link.path ≡ Some link.taken → (link.path ≡ key) ⊎ IsReached tree link.path from
+          → IsChain format tree key link.path link.taken more
+          → (IsReached tree link.path from → IsWay format tree key late link.path link.taken more)
+          → IsWay format tree key late link.path link.taken more
+      further more is (inr reached) rest way = way reached
+      further [] is (inl same) rest way = same
+      further (next ∷ more) is (inl same) rest way =
+          absurd (none-some rest.0.on (sym (ap (λ (k : List Bool). side k key) same ∙ side-self key) ∙ rest.0.on_side))
 
 -- the value at its end is the key's record
-pub way_end : (format : Format) (tree : Tree) (key at : List Bool) (value : Value) (links : List Link) → tree at ≡ Some value → IsWay format tree key at value links
-    → tree key ≡ Some (last_value value links)
-way_end format tree key at value [] there way = subst (λ (k : List Bool). tree k ≡ Some value) way there
-way_end format tree key at value (link ∷ links) there way = way_end format tree key link.path link.taken links way.0.there way.1
+pub way_end : (format : Format) (tree : Tree) (key : List Bool) (late : Bool) (at : List Bool) (value : Value) (links : List Link) → tree at ≡ Some value
+    → IsWay format tree key late at value links → tree key ≡ Some (last_value value links)
+way_end format tree key late at value [] there way = subst (λ (k : List Bool). tree k ≡ Some value) way there
+way_end format tree key late at value (link ∷ links) there way = way_end format tree key late link.path link.taken links way.0.there way.1
 
 -- it has no more links than the key has bits behind its head
-pub way_length : (format : Format) (tree : Tree) (key at : List Bool) (value : Value) (links : List Link) → IsWay format tree key at value links
-    → length links + length at ≤ length key
-way_length format tree key at value [] way = omega (arith, ap (λ (k : List Bool). length k) way)
-way_length format tree key at value (link ∷ links) way =
+pub way_length : (format : Format) (tree : Tree) (key : List Bool) (late : Bool) (at : List Bool) (value : Value) (links : List Link)
+    → IsWay format tree key late at value links → length links + length at ≤ length key
+way_length format tree key late at value [] way = omega (arith, ap (λ (k : List Bool). length k) way)
+way_length format tree key late at value (link ∷ links) way =
     let longer = length-side at link.path way.0.on way.0.below in
-    let rest = way_length format tree key link.path link.taken links way.1 in
+    let rest = way_length format tree key late link.path link.taken links way.1 in
     omega arith
