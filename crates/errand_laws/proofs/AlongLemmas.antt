@@ -39,6 +39,7 @@ use Rattle.host_laws.proofs.ToldLaws.{added_told-append, evicted_told-append, ac
 use Rattle.host_laws.proofs.WorksLaws.{Works, told_visit, descend, told_lent, lends}
 use Rattle.protection_moves.specs.Trip.{without_record, visit_but_last, come_back, become_hot}
 use Rattle.errand_laws.specs.Kept.{AreCarried}
+use Rattle.errand_laws.specs.Errands.{IsBetween}
 use Rattle.errand_laws.proofs.WayLemmas.{IsStep, IsWay}
 use Rattle.errand_laws.proofs.EndLemmas.{told_back, comes_back, adds_known}
 
@@ -56,10 +57,6 @@ left_other true tree key path apart = ap (λ (b : Bool). if b then None else tre
 left_same : (lent : Bool) (one other : Tree) (key path : List Bool) → one path ≡ other path → left_by lent one key path ≡ left_by lent other key path
 left_same false one other key path same = same
 left_same true one other key path same = ap (λ (o : Option Value). if same_path path key then None else o) same
-
--- the stamp is one between these two of a clock, in its epoch
-abbrev pub IsBetween : Reading → Reading → Stamp → Type 0
-IsBetween clock after at = (at.epoch ≡ clock.at.epoch) × (clock.at.counter ≤ at.counter) × (at.counter ≤ after.at.counter)
 
 -- a clock that doesn't go back, and stays in its epoch
 abbrev pub IsOnward : Reading → Reading → Type 0

@@ -1,4 +1,7 @@
 -- How the laws of errands are proved, in reading order.
+pub mod CountLaws
+pub mod PlaceLaws
+pub mod VacantLaws
 mod WayLemmas
 mod EndLemmas
 mod AlongLemmas

@@ -1,6 +1,4 @@
 -- How the laws of moves are proved, in reading order.
-mod CountLemmas
-mod PlaceLemmas
 mod RenewLemmas
 mod StageLemmas
 mod SteadyLaws

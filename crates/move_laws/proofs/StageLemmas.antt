@@ -14,8 +14,8 @@ use Rattle.protection_moves.specs.Trip.{Trip}
 use Rattle.protection_moves.proofs.TouchedLaws.{all-filter, all-order}
 use Rattle.protection_moves.proofs.ErrandLaws.{no_errands}
 use Rattle.move_laws.specs.Moved.{IsSteady}
-use Rattle.move_laws.proofs.CountLemmas.{weight, weight-order, weight-split}
-use Rattle.move_laws.proofs.PlaceLemmas.{IsOne, AreApart, all-are, all-map, apart-filter, apart-order}
+use Rattle.errand_laws.proofs.CountLaws.{weight, weight-order, weight-split}
+use Rattle.errand_laws.proofs.PlaceLaws.{IsOne, AreApart, all-are, all-map, apart-filter, apart-order}
 
 -- ---- hot keys are apart
 

@@ -44,10 +44,10 @@ use Rattle.protection_moves.specs.Move.{IsMove, moved, move_commands}
 use Rattle.protection_moves.proofs.RenewingLaws.{renewing-up, renewing_each-open, renewing_each-end, renewing_each-epoch}
 use Rattle.protection_moves.proofs.TouchedLaws.{touched_all}
 use Rattle.protection_moves.proofs.ErrandLaws.{no_errands}
-use Rattle.move_laws.specs.Kept.{AreCarried}
+use Rattle.errand_laws.specs.Kept.{AreCarried}
 use Rattle.move_laws.specs.Moved.{StageMirrors, CanMove, IsOfClock, IsTakable, MoveRuns, IsSteady, at_stage}
-use Rattle.move_laws.proofs.CountLemmas.{weight, count-front, count-append}
-use Rattle.move_laws.proofs.PlaceLemmas.{IsOne, AreApart, all-are, all-map}
+use Rattle.errand_laws.proofs.CountLaws.{weight, count-front, count-append}
+use Rattle.errand_laws.proofs.PlaceLaws.{IsOne, AreApart, all-are, all-map}
 use Rattle.move_laws.proofs.RenewLemmas.{not_root, told_renewing, renewing-runs, renewed_each, added-renewing, evicted-renewing, no_access-renewing, unsealed-renewing, carried-renewing, carries-renewing, renewed-weight, renewed-keys, renewed-all, renewed-fresh, IsFresh}
 use Rattle.move_laws.proofs.StageLemmas.{all-images, images-all, apart_from-pairs, all_split, weight_split, apart_touched, no_trips}
 

@@ -23,7 +23,7 @@ use Rattle.host_laws.specs.Served.{IsBare, IsWithin}
 use Rattle.host_mirrors.specs.Mirroring.{IsMirrored}
 use Rattle.protection_moves.specs.Stage.{Stage, hot_records, hot_paths, untouched_in}
 use Rattle.protection_moves.specs.Move.{IsPastEnd}
-use Rattle.move_laws.specs.Kept.{AreCarried}
+use Rattle.errand_laws.specs.Kept.{AreCarried}
 
 -- the elements with which a shard and its hot places wait
 abbrev pub waiting_in : Format → Stage → List Element

@@ -10,14 +10,10 @@ use Rattle.host_shard.specs.declared.content.HotRecord.{HotRecord}
 use Rattle.host_shard.specs.Content.{Content, cold, hot, vacant}
 use Rattle.protection_moves.proofs.TouchedLaws.{all-filter, all-put, all-order}
 use Rattle.protection_moves.specs.Stage.{hot_records, replaced}
-use Rattle.move_laws.proofs.CountLemmas.{weight, weight-front}
+use Rattle.errand_laws.specs.Stages.{IsOne}
+use Rattle.errand_laws.proofs.CountLaws.{weight, weight-front}
 
 -- ---- records and their keys
-
--- the record is one of these
-abbrev pub IsOne : List HotRecord → HotRecord → Type 0
-IsOne [] found = ⊥
-IsOne (first ∷ records) found = (found ≡ first) ⊎ IsOne records found
 
 -- no record of these has the key
 abbrev pub HasNone : ℕ → List HotRecord → Type 0
