@@ -17,7 +17,7 @@ use Rattle.record_text.specs.declared.value.Value.{Value}
 use Rattle.record_text.specs.declared.value.Value.TheVariants as values
 use Rattle.record_text.specs.Format.{Format}
 use Rattle.record_text.specs.Texts.{value_text}
-use Rattle.record_text.specs.Value.{IsOf, with_side}
+use Rattle.record_text.specs.Value.{with_side}
 use Rattle.log_codec.specs.declared.command.Command.{Command}
 use Rattle.log_codec.specs.declared.command.Command.TheVariants.{AddM, EvictM}
 use Rattle.merkle_records.specs.Merkle.{Digest, pointing, pointer_to, deferred_pointer}
@@ -28,7 +28,6 @@ use Rattle.verifier_commands.specs.Change.{Change, did_add_m, did_evict_m}
 use Rattle.verifier_commands.specs.Changes.{add_under}
 use Rattle.verifier_commands.specs.Transition.{Rules, evicted_as}
 use Rattle.soundness.specs.Certified.{sealed_by}
-use Rattle.soundness.specs.Typed.{IsTyped}
 use Rattle.host_shard.specs.declared.link.Link.{Link}
 use Rattle.host_shard.specs.Tree.{Tree}
 use Rattle.host_shard.specs.Chain.{aimed, aimed_on, closed_pointer, closed_value, closed_records}
@@ -92,7 +91,6 @@ module _ (rules : Rules) (tree before base : Tree) (key : List Bool) (lent : Boo
     pub evicted : evicted_told told ≡ evicts
     pub no_access : accesses_told told ≡ []
     pub unsealed : flat_map (λ (one : Stamp × Change). sealed_by one.1) told ≡ []
-    pub typed : AllByRecursion (IsTyped format) commands
     pub within : AllByRecursion (λ (one : Stamp × Change). IsBetween clock after one.0) told
     pub outside : (path : List Bool) → side at path ≡ None → carried path told ≡ []
     pub kept : (path : List Bool) → AreCarried path (before path) (left_by lent (closed_records format digest lent base links last) key path) (carried path told)
@@ -224,10 +222,6 @@ module _ (rules : Rules) (tree before base : Tree) (key : List Bool) (lent : Boo
       evicted = evicted_told-append rest.told _ ∙ (append-nil _ ∙ rest.evicted);
       no_access = accesses_told-append rest.told _ ∙ (append-nil _ ∙ rest.no_access);
       unsealed = flat_map-append (λ (one : Stamp × Change). sealed_by one.1) rest.told _ ∙ (append-nil _ ∙ rest.unsealed);
-      typed = (
-        subst (IsOf format link.path) (sym step.as_it_is) step.kind,
-        all-append (IsTyped format) inner _ rest.typed (tt, tt),
-      );
       within = (
         (refl, omega arith, onward.1),
         all-append (λ (one : Stamp × Change). IsBetween clock after one.0) rest.told _ rest.within ((onward.0, onward.1, omega arith), tt),
@@ -279,7 +273,6 @@ back_ends rules tree before base key element clock at hold value link kept step 
       evicted = refl;
       no_access = refl;
       unsealed = refl;
-      typed = (kind, (tt, tt));
       within = ((onward.0, onward.1, omega arith), ((onward.0, onward.1, omega arith), tt));
       outside = λ path apart. carried_other path
           (same_path-apart element.path path (λ same. none-some step.on (sym apart ∙ (ap (side at) (sym same) ∙ below))));
@@ -303,9 +296,6 @@ back_ends rules tree before base key element clock at hold value link kept step 
 
     below : side at element.path ≡ Some step.on
     below = ap (side at) (sym to_element) ∙ step.below
-
-    kind : IsOf rules.scheme.format element.path element.value
-    kind = subst (λ (l : Link). IsOf rules.scheme.format l.path l.taken) link_is step.kind
 
     left : Node
     left = pointing rules.scheme.format rules.scheme.digest step.node step.on element.path element.value
@@ -377,7 +367,6 @@ hot_ends rules tree before base key last clock at hold value link kept known ste
       evicted = refl;
       no_access = refl;
       unsealed = refl;
-      typed = (kind, (tt, tt));
       within = ((refl, omega arith, omega arith), ((refl, omega arith, omega arith), tt));
       outside = λ path apart. carried_other path (same_path-apart key path (λ same. none-some step.on (sym apart ∙ (ap (side at) (sym same) ∙ below))));
       kept = λ path. at_path path (same_path key path) refl;
@@ -400,9 +389,6 @@ hot_ends rules tree before base key last clock at hold value link kept known ste
 
     to_key : step.pointer.path ≡ key
     to_key = step.to ∙ is_key
-
-    kind : IsOf rules.scheme.format key last
-    kind = subst (λ (l : Link). IsOf rules.scheme.format l.path l.taken) link_is step.kind
 
     keeps_last : step.pointer.digest ≡ rules.scheme.digest (value_text rules.scheme.format last)
     keeps_last = keeps ∙ ap (λ (v : Value). rules.scheme.digest (value_text rules.scheme.format v)) is_last

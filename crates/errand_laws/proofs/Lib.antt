@@ -6,3 +6,7 @@ mod WayLemmas
 mod EndLemmas
 mod AlongLemmas
 mod ClosedLemmas
+mod AboveLemmas
+mod BackLemmas
+mod HotLemmas
+pub mod ErrandLaws
