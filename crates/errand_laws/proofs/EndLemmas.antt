@@ -44,17 +44,17 @@ use Rattle.host_laws.proofs.WorksLaws.{IsClear, standing, Works, clear-below}
 
 -- ---- tests that are passed
 
-passed : {X : Type 0} (b : Bool) (refusal : Refusal) (next : Result X Refusal) → b ≡ false → test b refusal next ≡ next
+pub passed : {X : Type 0} (b : Bool) (refusal : Refusal) (next : Result X Refusal) → b ≡ false → test b refusal next ≡ next
 passed b refusal next is = ap (λ (x : Bool). test x refusal next) is
 
-found : {A X : Type 0} (option : Option A) (refusal : Refusal) (next : A → Result X Refusal) (value : A) → option ≡ Some value
+pub found : {A X : Type 0} (option : Option A) (refusal : Refusal) (next : A → Result X Refusal) (value : A) → option ≡ Some value
     → need option refusal next ≡ next value
 found option refusal next value is = ap (λ (o : Option _). need o refusal next) is
 
 -- ---- a node and a child of it, last in a cache
 
 -- they are found
-child_found : (path : List Bool) (front : List Entry) (child : Entry) → child.path ≡ path → entry_of path front ≡ None
+pub child_found : (path : List Bool) (front : List Entry) (child : Entry) → child.path ≡ path → entry_of path front ≡ None
     → entry_of path (front ++ child ∷ []) ≡ Some child
 child_found path front child is clear =
     entry_of-append path front (child ∷ [])

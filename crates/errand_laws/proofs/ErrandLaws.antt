@@ -50,7 +50,7 @@ use Rattle.errand_laws.proofs.VacantLaws.{IsMember, among-member, member-among, 
 use Rattle.errand_laws.proofs.WayLemmas.{AreOf, IsStep, IsWay, IsLast, whole_none, last_pointer, way_of, way_end, way_length}
 use Rattle.errand_laws.proofs.AlongLemmas.{Along, IsOnward, along, back_ends, hot_ends, left_by}
 use Rattle.errand_laws.proofs.ClosedLemmas.{Ground, behind, kinds_behind, reached_behind, kept_behind, waits_behind, hot_waits_behind, key_waits}
-use Rattle.errand_laws.proofs.AboveLemmas.{apart_from}
+use Rattle.errand_laws.proofs.AboveLaws.{apart_from}
 use Rattle.errand_laws.proofs.BackLemmas.{end, blob, back_way, back_sound, back_mirrors}
 use Rattle.errand_laws.proofs.HotLemmas.{recorded, hot_way, hot_end, hot_sound, last_data, hot_mirrors}
 

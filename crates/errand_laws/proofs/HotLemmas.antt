@@ -50,7 +50,7 @@ use Rattle.errand_laws.proofs.VacantLaws.{IsMember, among-member, member-among, 
 use Rattle.errand_laws.proofs.WayLemmas.{AreOf, IsStep, IsWay, IsLast, whole_none, last_pointer, way_of, way_end, way_length}
 use Rattle.errand_laws.proofs.AlongLemmas.{Along, IsOnward, along, back_ends, hot_ends, left_by}
 use Rattle.errand_laws.proofs.ClosedLemmas.{Ground, behind, kinds_behind, reached_behind, kept_behind, waits_behind, hot_waits_behind, key_waits}
-use Rattle.errand_laws.proofs.AboveLemmas.{closed_some, above_is_kept, apart_from}
+use Rattle.errand_laws.proofs.AboveLaws.{closed_some, above_is_kept, apart_from}
 
 there_is : (o : Option Value) → IsSome o → (value : Value) × (o ≡ Some value)
 there_is None is = absurd (false≢true is)

@@ -4,9 +4,10 @@ pub mod PlaceLaws
 pub mod VacantLaws
 mod WayLemmas
 mod EndLemmas
+pub mod AroundLaws
 mod AlongLemmas
 mod ClosedLemmas
-mod AboveLemmas
+pub mod AboveLaws
 mod BackLemmas
 mod HotLemmas
 pub mod ErrandLaws
