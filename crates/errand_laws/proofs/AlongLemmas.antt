@@ -1,5 +1,5 @@
 -- An errand along the way to its record: the paths above come into the cache and leave it by their digests.
-use Rattle.std.proofs.Common.{◌≡◌, ◌≢◌, ℕ, suc, ◌+◌, ◌<◌, ◌≤◌, Bool, true, false, not, List, [], ◌∷◌, ◌++◌, length, Option, Some, None, Ok, append-nil, if◌then◌else◌, refl, sym, ◌∙◌, ap, subst, arith}
+use Rattle.std.proofs.Common.{◌≡◌, ℕ, suc, ◌<◌, ◌≤◌, Bool, true, false, not, List, [], ◌∷◌, ◌++◌, length, Option, Some, None, Ok, append-nil, if◌then◌else◌, refl, sym, ◌∙◌, ap, subst, arith}
 use Rattle.std.specs.List.{AllByRecursion, flat_map}
 use Rattle.std.proofs.lemmas.Bool.{false≢true}
 use Rattle.std.proofs.lemmas.List.Concat.{flat_map-append}
@@ -26,7 +26,7 @@ use Rattle.verifier_cache.specs.declared.entry.Hold.TheVariants.{M, B}
 use Rattle.verifier_cache.specs.Entry.{set_kid, new_entry}
 use Rattle.verifier_commands.specs.Change.{Change, did_add_m, did_evict_m}
 use Rattle.verifier_commands.specs.Changes.{add_under}
-use Rattle.verifier_commands.specs.Transition.{Rules, evicted_as}
+use Rattle.verifier_commands.specs.Transition.{Rules}
 use Rattle.soundness.specs.Certified.{sealed_by}
 use Rattle.host_shard.specs.declared.link.Link.{Link}
 use Rattle.host_shard.specs.Tree.{Tree}
@@ -35,7 +35,7 @@ use Rattle.host_plan.specs.Moments.{taking, giving}
 use Rattle.host_laws.specs.Running.{Told, added_told, evicted_told, accesses_told}
 use Rattle.host_laws.specs.Carried.{carried}
 use Rattle.host_laws.proofs.ToldLaws.{added_told-append, evicted_told-append, accesses_told-append, carried-append, all-append}
-use Rattle.host_laws.proofs.WorksLaws.{Works, told_visit, descend, told_lent, lends}
+use Rattle.host_laws.proofs.WorksLaws.{Works, descend, told_lent, lends}
 use Rattle.protection_moves.specs.Trip.{without_record, visit_but_last, come_back, become_hot}
 use Rattle.errand_laws.specs.Kept.{AreCarried}
 use Rattle.errand_laws.specs.Errands.{IsBetween}

@@ -1,20 +1,19 @@
 -- An element is taken in by a verifier at rest, and its path is handed out again, whatever was done in between.
-use Rattle.std.proofs.Common.{◌≡◌, ℕ, suc, ◌+◌, ◌<◌, ◌≤◌, Bool, true, false, List, [], ◌∷◌, ◌++◌, length, nat_le, Option, Some, None, is_some, Result, Ok, if◌then◌else◌, refl, sym, ◌∙◌, ap, arith}
+use Rattle.std.proofs.Common.{◌≡◌, ℕ, suc, ◌<◌, ◌≤◌, Bool, true, false, List, [], ◌∷◌, ◌++◌, length, nat_le, Option, Some, None, is_some, Result, Ok, if◌then◌else◌, refl, sym, ◌∙◌, ap, arith}
 use Rattle.std.proofs.lemmas.Bool.Decides.{nat_tests}
 use Rattle.std.proofs.lemmas.Option.{none-some}
 use Rattle.tree_keys.specs.Path.{same_path}
 use Rattle.tree_keys.proofs.PathLaws.{same_path-self}
 use Rattle.tree_keys.proofs.SideLaws.{is_prefix-self}
 use Rattle.lamport_clocks.specs.Reading.{Reading}
-use Rattle.lamport_clocks.specs.Clock.{is_open, received, sent}
+use Rattle.lamport_clocks.specs.Clock.{is_open}
 use Rattle.record_text.specs.declared.element.Element.{Element}
 use Rattle.record_text.specs.declared.value.Value.{Value}
 use Rattle.log_codec.specs.declared.command.Command.TheVariants.{AddB, EvictB}
 use Rattle.verifier_cache.specs.declared.entry.Entry.{Entry}
 use Rattle.verifier_cache.specs.declared.entry.Hold.TheVariants.{B}
 use Rattle.verifier_cache.specs.Entry.{new_entry}
-use Rattle.verifier_cache.specs.Cache.{Held, entry_of, without}
-use Rattle.verifier_commands.specs.declared.state.State.{State}
+use Rattle.verifier_cache.specs.Cache.{entry_of, without}
 use Rattle.verifier_commands.specs.State.{at_clock}
 use Rattle.verifier_commands.specs.Change.{did_add_b, did_evict_b}
 use Rattle.verifier_commands.specs.Transition.{Rules, is_root, timed, evicted_as}
@@ -69,8 +68,10 @@ hands_out rules entries room clock path value apart clear within =
     run-one rules _ (EvictB path (giving clock).at) _ _
     (passed _ _ _ apart
     ∙ (found (entry_of path (entries ++ entry ∷ [])) _ _ entry (child_found path entries entry refl here)
-    ∙ (ap (λ (r : Result Reading _). timed r (λ c. Ok (did_evict_b entry (evicted_as rules.number entry (giving clock).at),
-    at_clock (standing entries room clock entry) (without path (entries ++ entry ∷ [])) c))) (sent-given clock within)
+    ∙ (ap (λ (r : Result Reading _). timed r (λ c. Ok (
+      did_evict_b entry (evicted_as rules.number entry (giving clock).at),
+      at_clock (standing entries room clock entry) (without path (entries ++ entry ∷ [])) c,
+    ))) (sent-given clock within)
     ∙ ap (λ (rest : List Entry). Ok (did_evict_b entry (evicted_as rules.number entry (giving clock).at), at_clock (standing entries room clock entry) rest (giving clock)))
     (gone path entries entry refl here))))
   where

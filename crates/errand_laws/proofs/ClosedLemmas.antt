@@ -20,7 +20,6 @@ use Rattle.host_shard.specs.Tree.{Tree, pointer_of, with_record, IsPointerIn, Is
 use Rattle.host_shard.specs.Chain.{aimed, aimed_on, closed_pointer, closed_value, closed_records}
 use Rattle.host_shard.specs.Mirrors.{IsKept, IsWaiting}
 use Rattle.host_laws.proofs.ForkLaws.{sides_apart, prefix_whole}
-use Rattle.protection_moves.specs.Trip.{without_record}
 use Rattle.errand_laws.proofs.WayLemmas.{AreOf, IsStep, IsWay, whole_none, side_in, pointer_side, last_pointer}
 use Rattle.errand_laws.proofs.AlongLemmas.{left_by}
 

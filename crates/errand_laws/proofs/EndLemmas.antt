@@ -1,5 +1,5 @@
 -- A record that comes in under its node: by its element, where the node's pointer is deferred, or by its digest.
-use Rattle.std.proofs.Common.{◌≡◌, ℕ, suc, ◌+◌, ◌<◌, ◌≤◌, Bool, true, false, not, ◌||◌, List, [], ◌∷◌, ◌++◌, length, nat_le, Option, Some, None, is_some, Result, Ok, if◌then◌else◌, refl, sym, ◌∙◌, ap, arith}
+use Rattle.std.proofs.Common.{◌≡◌, ℕ, ◌+◌, ◌<◌, ◌≤◌, Bool, true, false, not, ◌||◌, List, [], ◌∷◌, ◌++◌, length, nat_le, Option, Some, None, is_some, Result, Ok, if◌then◌else◌, refl, sym, ◌∙◌, ap, arith}
 use Rattle.std.specs.Option.{option_or}
 use Rattle.std.proofs.lemmas.Bool.Decides.{nat_tests}
 use Rattle.std.proofs.lemmas.List.{length-append}
@@ -9,7 +9,7 @@ use Rattle.tree_keys.specs.Path.{side, same_path}
 use Rattle.tree_keys.proofs.PathLaws.{same_path-self, same_path-apart}
 use Rattle.tree_keys.proofs.SideLaws.{is_prefix-self, above_apart}
 use Rattle.lamport_clocks.specs.Reading.{Reading}
-use Rattle.lamport_clocks.specs.Clock.{is_open, received}
+use Rattle.lamport_clocks.specs.Clock.{is_open}
 use Rattle.record_text.specs.declared.element.Element.{Element}
 use Rattle.record_text.specs.declared.value.Pointer.{Pointer}
 use Rattle.record_text.specs.declared.value.Node.{Node}
@@ -33,7 +33,6 @@ use Rattle.verifier_cache.specs.Cache.{entry_of, without, replaced}
 use Rattle.verifier_cache.proofs.EntriesLaws.{entry_of-append}
 use Rattle.verifier_commands.specs.State.{with_entries}
 use Rattle.verifier_commands.specs.Change.{did_add_b, did_evict_m}
-use Rattle.verifier_commands.specs.declared.changes.Parent.{Parent}
 use Rattle.verifier_commands.specs.Changes.{add_under, add_by, above_on, evict_under, family_of, is_deferred, has_digest, leads_to, left_by}
 use Rattle.verifier_commands.specs.Transition.{Rules, is_root, transition, timed}
 use Rattle.host_plan.specs.Moments.{taking}

@@ -1,55 +1,34 @@
 -- A key of a stage that mirrors becomes hot: the way to its record, and that the stage mirrors again.
-use Rattle.std.proofs.Common.{◌≡◌, ◌≢◌, ◌⊎◌, ℕ, suc, ◌+◌, ◌<◌, ◌≤◌, Bool, true, false, List, [], ◌∷◌, ◌++◌, map, length, Option, Some, None, is_some, IsSome, Ok, if◌then◌else◌, refl, sym, ◌∙◌, ap, subst, inl, inr, arith}
-use Rattle.std.specs.List.{IsAmong, AllByRecursion, AllPairs}
+use Rattle.std.proofs.Common.{◌≡◌, ◌≢◌, ◌⊎◌, ℕ, ◌<◌, Bool, true, false, List, length, Option, Some, None, is_some, IsSome, if◌then◌else◌, refl, sym, ◌∙◌, ap, subst, inl, inr, arith}
+use Rattle.std.specs.List.{IsAmong, AllPairs}
 use Rattle.std.proofs.lemmas.Bool.{false≢true}
-use Rattle.std.proofs.lemmas.Option.{none-some, same_Some}
-use Rattle.std.proofs.Math.Nat.{le-max_left}
-use Rattle.std.specs.Prelude.{◌==◌}
-use Rattle.tree_keys.specs.Path.{side, is_prefix, same_path, IsBelow}
-use Rattle.tree_keys.specs.BitsLaws.{length-bits_of}
+use Rattle.std.proofs.lemmas.Option.{same_Some}
+use Rattle.tree_keys.specs.Path.{is_prefix, same_path}
 use Rattle.tree_keys.proofs.PathLaws.{same_path-self, same_path-true, same_path-apart}
-use Rattle.tree_keys.proofs.SideLaws.{is_prefix-self}
-use Rattle.verifier_commands.proofs.BelowLaws.{below_apart}
-use Rattle.lamport_clocks.specs.declared.stamp.Stamp.{Stamp}
-use Rattle.lamport_clocks.specs.Reading.{Reading}
-use Rattle.record_text.specs.declared.element.Element.{Element}
 use Rattle.record_text.specs.declared.value.Pointer.{Pointer}
 use Rattle.record_text.specs.declared.value.Value.{Value}
 use Rattle.record_text.specs.declared.value.Value.TheVariants as values
 use Rattle.record_text.specs.Format.{Format, path_bits}
 use Rattle.record_text.specs.Texts.{value_text}
 use Rattle.record_text.specs.Value.{IsBlob, IsOf}
-use Rattle.log_codec.specs.declared.command.Command.{Command}
 use Rattle.merkle_records.specs.Merkle.{Digest, GivesDigests}
-use Rattle.verifier_cache.specs.declared.entry.Entry.{Entry}
-use Rattle.verifier_cache.specs.declared.entry.Hold.{Hold}
-use Rattle.verifier_cache.specs.declared.entry.Hold.TheVariants.{B}
-use Rattle.verifier_commands.specs.Transition.{Rules, is_root}
-use Rattle.soundness.specs.Typed.{IsTyped}
 use Rattle.host_shard.specs.declared.link.Link.{Link}
 use Rattle.host_shard.specs.declared.content.HotRecord.{HotRecord}
-use Rattle.host_shard.specs.Tree.{Tree, with_record, pointer_of, IsPointerIn, IsReached, at_start, by_pointer}
-use Rattle.host_shard.specs.Chain.{IsChain, last_value, closed_value, closed_records}
+use Rattle.host_shard.specs.Tree.{Tree, IsPointerIn, IsReached}
+use Rattle.host_shard.specs.Chain.{last_value, closed_records}
 use Rattle.host_shard.specs.Shard.{Shard, tree_of}
-use Rattle.host_shard.specs.Content.{key_path, pending_hot, vacant}
-use Rattle.host_shard.specs.Mirrors.{IsKept, IsWaiting, Mirrors}
-use Rattle.host_plan.specs.Moments.{taking, giving}
-use Rattle.host_laws.specs.Served.{IsBare}
-use Rattle.host_laws.proofs.BetweenLaws.{clear-bare, length-bare}
-use Rattle.host_laws.proofs.ForkLaws.{prefix_whole}
-use Rattle.host_laws.proofs.ToldLaws.{all-append}
+use Rattle.host_shard.specs.Content.{key_path}
+use Rattle.host_shard.specs.Mirrors.{IsKept, IsWaiting}
 use Rattle.host_laws.proofs.FrontierLaws.{frontier_there}
-use Rattle.host_mirrors.specs.Mirroring.{IsMirrored}
-use Rattle.protection_moves.specs.Stage.{Stage, hot_records, hot_paths, replaced, placed}
-use Rattle.protection_moves.specs.Errand.{Errand, demotes, promotes, clock_by}
-use Rattle.protection_moves.specs.Trip.{data_of, with_back, AreLinks, visit_but_last, come_back, become_hot, commands_by, promoted_record, shard_without, done_by}
-use Rattle.errand_laws.specs.Stages.{StageMirrors, IsTakable, IsOne}
-use Rattle.errand_laws.specs.Errands.{IsPromotable, IsFit, CanDo, ErrandRuns}
-use Rattle.errand_laws.proofs.PlaceLaws.{all-are, all-map, all-replaced, one_of-all, one-replaced}
-use Rattle.errand_laws.proofs.VacantLaws.{IsMember, among-member, member-among, one-member, member-one, pairs-different, different-pairs, one-vacant, different-vacant, one-placed, one-placed_other, all-placed, placed-one, different-placed, images-all, all-images, AreDifferent}
-use Rattle.errand_laws.proofs.WayLemmas.{AreOf, IsStep, IsWay, IsLast, whole_none, last_pointer, way_of, way_end, way_length}
-use Rattle.errand_laws.proofs.AlongLemmas.{Along, IsOnward, along, back_ends, hot_ends, left_by}
-use Rattle.errand_laws.proofs.ClosedLemmas.{Ground, behind, kinds_behind, reached_behind, kept_behind, waits_behind, hot_waits_behind, key_waits}
+use Rattle.protection_moves.specs.Stage.{Stage, hot_records, hot_paths, placed}
+use Rattle.protection_moves.specs.Errand.{promotes}
+use Rattle.protection_moves.specs.Trip.{data_of, AreLinks, promoted_record, shard_without, done_by}
+use Rattle.errand_laws.specs.Stages.{StageMirrors, IsOne}
+use Rattle.errand_laws.specs.Errands.{IsPromotable}
+use Rattle.errand_laws.proofs.PlaceLaws.{all-are, all-map}
+use Rattle.errand_laws.proofs.VacantLaws.{among-member, member-among, one-member, member-one, pairs-different, different-pairs, one-placed, one-placed_other, all-placed, placed-one, different-placed}
+use Rattle.errand_laws.proofs.WayLemmas.{IsStep, IsWay, last_pointer, way_of, way_end}
+use Rattle.errand_laws.proofs.ClosedLemmas.{Ground, kinds_behind, reached_behind, kept_behind, waits_behind, hot_waits_behind, key_waits}
 use Rattle.errand_laws.proofs.AboveLaws.{closed_some, above_is_kept, apart_from}
 
 there_is : (o : Option Value) → IsSome o → (value : Value) × (o ≡ Some value)
@@ -116,8 +95,11 @@ module _ (format : Format) (digest : Digest) (stage : Stage) (mirrors : StageMir
     -- each pointer on the way is kept
     pub hot_sound : (at : List Bool) (v : Value) (link : Link) → (step : IsStep format old (key_path format key) false at v link)
         → (step.pointer.deferred ≡ false) × (step.pointer.digest ≡ digest (value_text format link.taken))
-    hot_sound at v link step = (fresh, kept.digest_of
-        ∙ ap (λ (w : Value). digest (value_text format w)) (same_Some kept.value link.taken (sym kept.there ∙ (ap old step.to ∙ step.there))))
+    hot_sound at v link step = (
+      fresh,
+      kept.digest_of
+          ∙ ap (λ (w : Value). digest (value_text format w)) (same_Some kept.value link.taken (sym kept.there ∙ (ap old step.to ∙ step.there))),
+    )
       where
         fresh : step.pointer.deferred ≡ false
         fresh = go (same_path link.path path_to) refl
@@ -232,4 +214,3 @@ module _ (format : Format) (digest : Digest) (stage : Stage) (mirrors : StageMir
             go : (b : Bool) → same_path path path_to ≡ b → IsSome (if b then None else closed_records format digest true shard.records links last path)
             go true same = absurd (omega (arith, some, ap shard.touches (same_path-true path path_to same), can.untouched))
             go false other = closed_some format digest true shard.records links last path (mirrors.shard.mirrors.touched path some)
-

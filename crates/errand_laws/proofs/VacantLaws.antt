@@ -1,8 +1,8 @@
 -- A hot place that becomes vacant, and a record that takes the lowest vacant one.
-use Rattle.std.proofs.Common.{◌≡◌, ◌≢◌, ◌⊎◌, ℕ, zero, suc, ◌+◌, ◌<◌, ◌≤◌, Bool, true, false, List, [], ◌∷◌, map, length, get_or, if◌then◌else◌, refl, sym, ◌∙◌, ap, subst, inl, inr, arith}
+use Rattle.std.proofs.Common.{◌≡◌, ◌≢◌, ◌⊎◌, ℕ, zero, suc, ◌+◌, ◌<◌, ◌≤◌, Bool, true, false, List, [], ◌∷◌, map, length, get_or, if◌then◌else◌, refl, sym, ap, inl, inr, arith}
 use Rattle.std.specs.Prelude.{◌==◌}
 use Rattle.std.specs.List.{AllByRecursion, All, AllPairs, IsAmong}
-use Rattle.std.proofs.lemmas.Bool.{ne_eqb, eqb-true, eqb-false}
+use Rattle.std.proofs.lemmas.Bool.{eqb-false}
 use Rattle.std.proofs.lemmas.List.Elements.{All-head, All-tail}
 use Rattle.record_text.specs.declared.element.Element.{Element}
 use Rattle.record_text.specs.Format.{Format}
@@ -11,7 +11,7 @@ use Rattle.host_shard.specs.Content.{Content, cold, hot, vacant}
 use Rattle.protection_moves.specs.Stage.{hot_records, vacancies, replaced, placed}
 use Rattle.errand_laws.specs.Stages.{IsOne}
 use Rattle.errand_laws.proofs.CountLaws.{weight, weight-front}
-use Rattle.errand_laws.proofs.PlaceLaws.{all-are, all-map, all-replaced, one_of-all, one-replaced}
+use Rattle.errand_laws.proofs.PlaceLaws.{all-are, all-map, all-replaced, one_of-all}
 
 -- ---- members
 

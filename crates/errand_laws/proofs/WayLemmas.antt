@@ -1,7 +1,6 @@
 -- The way to a record that is there: a chain that follows the pointers to it.
-use Rattle.std.proofs.Common.{◌≡◌, ◌≢◌, ◌⊎◌, ◌+◌, ◌≤◌, Bool, true, false, List, [], ◌∷◌, length, Option, Some, None, is_some, IsSome, if◌then◌else◌, refl, sym, ◌∙◌, ap, subst, inl, inr, arith}
+use Rattle.std.proofs.Common.{◌≡◌, ◌≢◌, ◌⊎◌, ◌+◌, ◌≤◌, Bool, true, List, [], ◌∷◌, length, Option, Some, if◌then◌else◌, refl, sym, ◌∙◌, ap, subst, inl, inr, arith}
 use Rattle.std.specs.Option.{unwrap_or}
-use Rattle.std.proofs.lemmas.Bool.{false≢true}
 use Rattle.std.proofs.lemmas.Option.{none-some, same_Some}
 use Rattle.tree_keys.specs.Path.{side, is_prefix}
 use Rattle.tree_keys.proofs.SideLaws.{side-self, is_prefix-self, is_prefix-trans, prefix_of_side, side_of_prefix, side-prefix, above_no_prefix}
@@ -123,23 +122,25 @@ module _ (format : Format) (tree : Tree) (key : List Bool) (late : Bool) (kinds 
       → IsNextLink format tree key at value link
       → IsStep format tree key late at value link × (link.path ≡ pointer.path)
   step_by at value link on pointer known is begins here found late_if next =
-      subst (λ (l : Link). IsStep format tree key late at value l × (l.path ≡ pointer.path)) (sym link_is)
-      (record {
-        node = node.0;
-        is_node = node.1.0;
-        on = on;
-        on_side = toward;
-        pointer = pointer;
-        points = node.1.1;
-        is_in = is;
-        to = refl;
-        late_if_last = late_if;
-        as_it_is = refl;
-        there = found;
-        begins = begins;
-        below = below;
-        kind = kinds pointer.path here found;
-      }, refl)
+      subst (λ (l : Link). IsStep format tree key late at value l × (l.path ≡ pointer.path)) (sym link_is) (
+        record {
+          node = node.0;
+          is_node = node.1.0;
+          on = on;
+          on_side = toward;
+          pointer = pointer;
+          points = node.1.1;
+          is_in = is;
+          to = refl;
+          late_if_last = late_if;
+          as_it_is = refl;
+          there = found;
+          begins = begins;
+          below = below;
+          kind = kinds pointer.path here found;
+        },
+        refl,
+      )
     where
       leads : pointer_of value on ≡ Some pointer
       leads = ap (λ (v : Value). pointer_of v on) (same_Some value is.value (sym known ∙ is.there)) ∙ is.leads

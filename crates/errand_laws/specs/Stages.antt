@@ -1,5 +1,5 @@
--- What a stage waits with, and when it mirrors what the verifiers hold of it.
-use Rattle.std.specs.Prelude.{◌≡◌, ℕ, ◌<◌, ◌⊎◌, List, [], ◌∷◌, map, IsTrue}
+-- When a stage mirrors what the verifiers hold of it.
+use Rattle.std.specs.Prelude.{◌≡◌, ◌<◌, ◌⊎◌, List, [], ◌∷◌, IsTrue}
 use Rattle.std.specs.List.{AllByRecursion}
 use Rattle.lamport_clocks.specs.Reading.{Reading}
 use Rattle.lamport_clocks.specs.Clock.{is_open}
@@ -9,14 +9,8 @@ use Rattle.record_text.specs.Value.{IsBlob}
 use Rattle.merkle_records.specs.Merkle.{Digest}
 use Rattle.verifier_commands.specs.Transition.{Rules}
 use Rattle.host_shard.specs.declared.content.HotRecord.{HotRecord}
-use Rattle.host_shard.specs.Shard.{pending_shard}
-use Rattle.host_shard.specs.Content.{pending_hot}
 use Rattle.host_mirrors.specs.Mirroring.{IsMirrored}
 use Rattle.protection_moves.specs.Stage.{Stage, hot_records, hot_paths}
-
--- the elements with which a shard and its hot places wait
-abbrev pub waiting_in : Format → Stage → List Element
-waiting_in format stage = pending_shard stage.shard ∷ map (pending_hot format) (hot_records stage.places)
 
 -- The stage mirrors: the shard does where the records in hot places are hot, and each of these has a value of its kind.
 pub record StageMirrors (format : Format) (digest : Digest) (stage : Stage) : Type 0 where

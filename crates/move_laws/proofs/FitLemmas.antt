@@ -1,9 +1,9 @@
 -- The errands of a move can be done, each when its turn comes.
-use Rattle.std.proofs.Common.{◌≡◌, ◌≢◌, ◌⊎◌, ℕ, zero, suc, ◌+◌, ◌<◌, ◌≤◌, ◌^◌, Bool, true, false, not, List, [], ◌∷◌, ◌++◌, map, take, length, cond, nat_lt, Option, Some, None, is_some, IsSome, get_or, if◌then◌else◌, refl, sym, ◌∙◌, ap, subst, inl, inr, arith}
+use Rattle.std.proofs.Common.{◌≡◌, ◌≢◌, ◌⊎◌, ℕ, zero, suc, ◌+◌, ◌<◌, ◌≤◌, ◌^◌, Bool, true, false, not, List, [], ◌∷◌, ◌++◌, map, take, length, cond, Option, Some, None, IsSome, get_or, if◌then◌else◌, refl, sym, ◌∙◌, ap, subst, inl, inr, arith}
 use Rattle.std.specs.Prelude.{filter, IfSome}
 use Rattle.std.specs.List.{AllByRecursion, AllPairs, IsAmong}
 use Rattle.std.proofs.lemmas.Bool.{false≢true}
-use Rattle.tree_keys.specs.Bits.{bits_of, number_of}
+use Rattle.tree_keys.specs.Bits.{number_of}
 use Rattle.tree_keys.specs.BitsLaws.{number_back}
 use Rattle.tree_keys.specs.Path.{same_path}
 use Rattle.tree_keys.proofs.PathLaws.{same_path-apart}
@@ -19,8 +19,8 @@ use Rattle.host_shard.specs.Content.{Content, key_path, hot, vacant}
 use Rattle.host_shard.specs.Mirrors.{IsKeyOf}
 use Rattle.host_plan.specs.Moments.{renewing}
 use Rattle.protection_moves.specs.Stage.{Stage, hot_records, hot_paths, vacancies, replaced, placed, is_touched, touched_in, untouched_in}
-use Rattle.protection_moves.specs.Renewing.{renewed_record, renewing_each, renewed_places}
-use Rattle.protection_moves.specs.Errand.{Errand, demotes, promotes, IsDue, IsTouchedOften, AreDue, errands_of}
+use Rattle.protection_moves.specs.Renewing.{renewed_record, renewed_places}
+use Rattle.protection_moves.specs.Errand.{Errand, demotes, promotes, IsDue, AreDue}
 use Rattle.protection_moves.specs.Trip.{Trip, with_back, promoted_record, done_by, done_by_each}
 use Rattle.protection_moves.specs.Move.{begun}
 use Rattle.protection_moves.proofs.RenewingLaws.{renewing_each-epoch}
@@ -28,7 +28,7 @@ use Rattle.protection_moves.proofs.TouchedLaws.{all-filter, all-order}
 use Rattle.errand_laws.specs.Stages.{StageMirrors, IsOne}
 use Rattle.errand_laws.specs.Errands.{IsFit}
 use Rattle.errand_laws.proofs.PlaceLaws.{HasNone, AreApart, all-are, all-map, all-replaced, one_of-all}
-use Rattle.errand_laws.proofs.VacantLaws.{IsMember, AreDifferent, among-member, member-among, one-member, member-one, all-images, images-all, one-vacant, vacancies-vacant, vacancies-hot, all-placed, placed-one, vacancies-placed}
+use Rattle.errand_laws.proofs.VacantLaws.{AreDifferent, among-member, member-among, one-member, member-one, all-images, images-all, one-vacant, vacancies-vacant, vacancies-hot, all-placed, placed-one, vacancies-placed}
 use Rattle.errand_laws.proofs.AboveLaws.{closed_some}
 use Rattle.move_laws.proofs.RenewLemmas.{IsFresh, still_there, renewed-keys, renewed-fresh}
 use Rattle.move_laws.proofs.StageLemmas.{all_split, all_untouched, apart_untouched}
@@ -185,13 +185,16 @@ module _ (format : Format) (digest : Digest) (worker epoch : ℕ) where
       let rest = hot_go keys trips (done_by format digest worker stage trip.errand trip.links) (other_errands _ _ _ _ is)
       (subst (λ (e : Errand). AreReady format worker epoch (done_by format digest worker stage e trip.links) [] keys) (sym one) (ready-hot stage key trip.links keys are)) in
       record {
-        fit = (subst (IsFit format stage) (sym one) (record {
-          own = are.ready.0.own;
-          cold = are.ready.0.cold;
-          there = are.ready.0.there;
-          untouched = are.ready.0.untouched;
-          room = omega (arith, are.room);
-        }), rest.fit);
+        fit = (
+          subst (IsFit format stage) (sym one) (record {
+            own = are.ready.0.own;
+            cold = are.ready.0.cold;
+            there = are.ready.0.there;
+            untouched = are.ready.0.untouched;
+            room = omega (arith, are.room);
+          }),
+          rest.fit,
+        );
         fresh = rest.fresh;
       }
 

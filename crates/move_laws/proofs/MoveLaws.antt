@@ -1,18 +1,16 @@
 -- The move of a stage: the touched hot records are renewed, then the errands are done while the frontier stands in the cache.
-use Rattle.std.proofs.Common.{◌≡◌, ◌⊎◌, ℕ, suc, ◌+◌, ◌<◌, ◌≤◌, Bool, true, false, List, [], ◌∷◌, ◌++◌, map, take, length, Option, Some, Ok, refl, sym, ◌∙◌, ap, subst, inl, inr, arith, append-nil}
+use Rattle.std.proofs.Common.{◌≡◌, ◌⊎◌, ℕ, ◌+◌, ◌<◌, ◌≤◌, Bool, true, false, List, [], ◌∷◌, ◌++◌, map, take, length, Option, Some, Ok, refl, sym, ◌∙◌, ap, subst, inl, inr, arith, append-nil}
 use Rattle.std.specs.Prelude.{IfSome}
 use Rattle.std.specs.List.{AllByRecursion, flat_map}
 use Rattle.std.proofs.lemmas.Bool.{false≢true, cases_lt}
 use Rattle.std.proofs.lemmas.List.Concat.{flat_map-append}
 use Rattle.tree_keys.specs.BitsLaws.{length-bits_of}
-use Rattle.tree_keys.specs.Path.{IsBelow}
 use Rattle.lamport_clocks.specs.declared.stamp.Stamp.{Stamp}
 use Rattle.lamport_clocks.specs.Reading.{Reading}
 use Rattle.lamport_clocks.specs.Stamp.{IsLater}
 use Rattle.lamport_clocks.specs.Clock.{is_open}
 use Rattle.lamport_clocks.proofs.ClockLaws.{received-above, sent-later}
 use Rattle.record_text.specs.declared.element.Element.{Element}
-use Rattle.record_text.specs.declared.value.Value.{Value}
 use Rattle.record_text.specs.Format.{Format, path_bits}
 use Rattle.record_text.specs.Value.{IsBlob}
 use Rattle.log_codec.specs.declared.command.Command.{Command}
@@ -33,7 +31,7 @@ use Rattle.host_shard.specs.Mirrors.{Mirrors}
 use Rattle.host_plan.specs.Moments.{taking, giving, renewing}
 use Rattle.host_laws.specs.Running.{Told, Access, run, added_told, evicted_told, accesses_told}
 use Rattle.host_laws.specs.Carried.{carried, carries}
-use Rattle.host_laws.specs.Served.{IsFrom, IsWithin}
+use Rattle.host_laws.specs.Served.{IsWithin}
 use Rattle.host_laws.proofs.MomentLaws.{received-taken, sent-given}
 use Rattle.host_laws.proofs.BetweenLaws.{clear-bare, length-bare}
 use Rattle.host_laws.proofs.FrontierLaws.{frontier_there}
@@ -48,16 +46,16 @@ use Rattle.protection_moves.specs.Move.{IsMove, begun, handed_out, moved, move_c
 use Rattle.protection_moves.proofs.RenewingLaws.{renewing-up, renewing_each-open, renewing_each-end, renewing_each-epoch}
 use Rattle.protection_moves.proofs.TouchedLaws.{touched_all}
 use Rattle.errand_laws.specs.Kept.{AreCarried}
-use Rattle.errand_laws.specs.Stages.{waiting_in, StageMirrors, IsTakable, IsOne}
+use Rattle.errand_laws.specs.Stages.{StageMirrors, IsTakable, IsOne}
 use Rattle.errand_laws.specs.Errands.{IsBetween, adds_by, holding}
 use Rattle.errand_laws.proofs.CountLaws.{weight, count-front, count-append}
 use Rattle.errand_laws.proofs.PlaceLaws.{AreApart, all-are, all-map}
 use Rattle.errand_laws.proofs.VacantLaws.{all-images, images-all}
 use Rattle.errand_laws.proofs.AroundLaws.{told_in, told_out, takes_in, hands_out}
-use Rattle.move_laws.specs.Moved.{CanMove, IsOfClock, MoveRuns, at_stage}
-use Rattle.move_laws.proofs.RenewLemmas.{not_root, told_renewing, renewing-runs, renewed_each, added-renewing, evicted-renewing, no_access-renewing, unsealed-renewing, carried-renewing, carries-renewing, renewed-weight, renewed-keys, renewed-all, IsFresh}
+use Rattle.move_laws.specs.Moved.{waiting_in, CanMove, IsOfClock, MoveRuns, at_stage}
+use Rattle.move_laws.proofs.RenewLemmas.{not_root, told_renewing, renewing-runs, renewed_each, added-renewing, evicted-renewing, no_access-renewing, unsealed-renewing, carried-renewing, carries-renewing, renewed-weight, renewed-keys, renewed-all}
 use Rattle.move_laws.proofs.StageLemmas.{weight_split, all_untouched, apart_touched}
-use Rattle.move_laws.proofs.TripLemmas.{AreFit, adds_by_each, evicts_by_each, apart_by_number, trips_mirror, trips_typed, trips-weight, TripsRun, trips_run, each-up, each-epoch, each-end, each-frontier}
+use Rattle.move_laws.proofs.TripLemmas.{adds_by_each, evicts_by_each, apart_by_number, trips_mirror, trips_typed, trips-weight, TripsRun, trips_run, each-up, each-epoch, each-end, each-frontier}
 use Rattle.move_laws.proofs.FitLemmas.{GoWell, all_go, begun-ready}
 use Rattle.move_laws.proofs.CounterLaws.{move_clock}
 
@@ -163,9 +161,10 @@ module _ (format : Format) (digest : Digest) (worker : ℕ) (threshold : Option 
     pub all_typed : AllByRecursion (IsTyped format) (move_commands format digest worker old trips)
     all_typed =
         all-append (IsTyped format) (renewing_commands format old.clock (touched_in old.places)) _
-        (renewing-typed old.clock (touched_in old.places) (touched_all (λ found. IsBlob format found.value) old.places given.mirrors.blobs))
-        (given.mirrors.shard.fits.kinds old.shard.frontier old.shard.value (frontier_there old.shard),
-        all-append (IsTyped format) _ _ (trips_typed format digest worker (begun worker old) trips given.digests begins go_well.fit given.ways) (tt, tt))
+        (renewing-typed old.clock (touched_in old.places) (touched_all (λ found. IsBlob format found.value) old.places given.mirrors.blobs)) (
+          given.mirrors.shard.fits.kinds old.shard.frontier old.shard.value (frontier_there old.shard),
+          all-append (IsTyped format) _ _ (trips_typed format digest worker (begun worker old) trips given.digests begins go_well.fit given.ways) (tt, tt),
+        )
       where
         renewing-typed : (clock : Reading) (records : List HotRecord) → AllByRecursion (λ found. IsBlob format found.value) records
             → AllByRecursion (IsTyped format) (renewing_commands format clock records)
@@ -363,8 +362,10 @@ module _ (rules : Rules) (cache : Held) (threshold : Option ℕ) (old : Stage) (
         (hands_out rules cache.entries cache.room last.clock old.shard.frontier last.shard.value apart clear (omega (arith, within, last_end))))));
     added = added_all;
     evicted = evicted_all;
-    renewed = ((refl, each-epoch format digest rules.number start trips ∙ renewing_each-epoch old.clock touched),
-    images-all (pending_hot format) (IsOfClock rules old.clock) (hot_records new.places) (go_well format digest rules.number threshold old due trips given).fresh);
+    renewed = (
+      (refl, each-epoch format digest rules.number start trips ∙ renewing_each-epoch old.clock touched),
+      images-all (pending_hot format) (IsOfClock rules old.clock) (hot_records new.places) (go_well format digest rules.number threshold old due trips given).fresh,
+    );
     no_access = accesses_told-append (told_renewing rules old.clock touched) _
         ∙ (ap (λ (xs : List Access). xs ++ accesses_told (done.told ++ told_out rules.number last.clock old.shard.frontier last.shard.value)) (no_access-renewing rules old.clock touched)
         ∙ (accesses_told-append done.told _ ∙ (append-nil (accesses_told done.told) ∙ done.no_access)));

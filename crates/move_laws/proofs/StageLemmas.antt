@@ -1,18 +1,14 @@
 -- Each hot record of a stage was touched in the epoch that closes, or was not.
-use Rattle.std.proofs.Common.{◌≡◌, ◌≢◌, ◌⊎◌, ℕ, zero, suc, ◌+◌, Bool, true, false, not, List, [], ◌∷◌, ◌++◌, map, cond, nat_lt, Option, refl, sym, ◌∙◌, ap, inl, inr, arith}
+use Rattle.std.proofs.Common.{◌≡◌, ◌⊎◌, ◌+◌, Bool, true, false, not, List, [], ◌∷◌, ◌++◌, cond, nat_lt, inl, inr, arith}
 use Rattle.std.specs.Prelude.{filter}
-use Rattle.std.specs.List.{AllByRecursion, All, AllPairs}
-use Rattle.std.proofs.lemmas.List.Elements.{All-head, All-tail}
+use Rattle.std.specs.List.{AllByRecursion}
 use Rattle.record_text.specs.declared.element.Element.{Element}
 use Rattle.record_text.specs.Format.{Format}
 use Rattle.stamp_order.specs.InOrder.{put_in_order, in_order}
 use Rattle.host_shard.specs.declared.content.HotRecord.{HotRecord}
 use Rattle.host_shard.specs.Content.{Content}
-use Rattle.protection_moves.specs.Stage.{Stage, hot_records, is_touched, touched_in, untouched_in}
-use Rattle.protection_moves.specs.Errand.{AreDue, errands_of}
-use Rattle.protection_moves.specs.Trip.{Trip}
+use Rattle.protection_moves.specs.Stage.{hot_records, is_touched, touched_in, untouched_in}
 use Rattle.protection_moves.proofs.TouchedLaws.{all-filter, all-order}
-use Rattle.protection_moves.proofs.ErrandLaws.{no_errands}
 use Rattle.errand_laws.specs.Stages.{IsOne}
 use Rattle.errand_laws.proofs.CountLaws.{weight, weight-order, weight-split}
 use Rattle.errand_laws.proofs.PlaceLaws.{AreApart, all-are, all-map, apart-filter, apart-order}

@@ -1,7 +1,7 @@
 -- Errands that are done one after another: what holds of each holds of all of them.
-use Rattle.std.proofs.Common.{◌≡◌, ◌≢◌, ◌⊎◌, ℕ, zero, suc, ◌+◌, ◌<◌, ◌≤◌, Bool, true, List, [], ◌∷◌, ◌++◌, map, length, Option, Some, Ok, refl, sym, ◌∙◌, ap, subst, inl, inr, arith, append-nil, append_assoc, if◌then◌else◌}
+use Rattle.std.proofs.Common.{◌≡◌, ◌≢◌, ℕ, ◌+◌, ◌<◌, ◌≤◌, Bool, List, [], ◌∷◌, ◌++◌, map, Option, Some, Ok, refl, sym, ◌∙◌, ap, subst, arith, if◌then◌else◌}
 use Rattle.std.specs.Prelude.{◌==◌}
-use Rattle.std.specs.List.{AllByRecursion, AllPairs, flat_map}
+use Rattle.std.specs.List.{AllByRecursion, flat_map}
 use Rattle.std.proofs.Math.Nat.{le-max_left}
 use Rattle.std.proofs.lemmas.List.Concat.{flat_map-append}
 use Rattle.tree_keys.specs.Path.{IsBelow}
@@ -10,19 +10,16 @@ use Rattle.lamport_clocks.specs.Reading.{Reading}
 use Rattle.record_text.specs.declared.element.Element.{Element}
 use Rattle.record_text.specs.declared.value.Value.{Value}
 use Rattle.record_text.specs.Format.{Format, path_bits}
-use Rattle.log_codec.specs.declared.command.Command.{Command}
 use Rattle.merkle_records.specs.Merkle.{Digest, GivesDigests}
 use Rattle.verifier_cache.specs.declared.entry.Entry.{Entry}
 use Rattle.verifier_commands.specs.Change.{Change, did_add_m, did_evict_m, did_add_b, did_evict_b, did_evict_bm, did_get, did_put, did_next_epoch}
-use Rattle.verifier_commands.specs.Changes.{above}
 use Rattle.verifier_commands.specs.Transition.{Rules}
 use Rattle.soundness.specs.Certified.{sealed_by}
-use Rattle.soundness.specs.Clash.{is_known}
 use Rattle.soundness.specs.Permutation.{count_of}
 use Rattle.soundness.specs.Typed.{IsTyped}
 use Rattle.host_shard.specs.declared.link.Link.{Link}
 use Rattle.host_shard.specs.declared.content.HotRecord.{HotRecord}
-use Rattle.host_shard.specs.Content.{key_path, pending_hot, vacant}
+use Rattle.host_shard.specs.Content.{key_path, vacant}
 use Rattle.host_laws.specs.Served.{IsBare}
 use Rattle.host_laws.specs.Running.{Told, Access, run, added_told, evicted_told, accesses_told}
 use Rattle.host_laws.specs.Carried.{carried}
@@ -33,8 +30,8 @@ use Rattle.protection_moves.specs.Errand.{Errand, demotes, promotes, clock_by}
 use Rattle.protection_moves.specs.Trip.{Trip, AreTrips, promoted_record, done_by, done_by_each, commands_by, commands_by_each}
 use Rattle.errand_laws.specs.Kept.{AreCarried}
 use Rattle.errand_laws.specs.Stages.{StageMirrors, IsTakable}
-use Rattle.errand_laws.specs.Errands.{IsFit, CanDo, ErrandRuns, IsBetween, adds_by, evicts_by, holding}
-use Rattle.errand_laws.proofs.CountLaws.{weight, weight-front, count-append}
+use Rattle.errand_laws.specs.Errands.{IsFit, ErrandRuns, IsBetween, adds_by, evicts_by, holding}
+use Rattle.errand_laws.proofs.CountLaws.{weight, count-append}
 use Rattle.errand_laws.proofs.PlaceLaws.{AreApart, all-map, replaced-weight}
 use Rattle.errand_laws.proofs.VacantLaws.{AreDifferent, pairs-different, all-images, placed-weight}
 use Rattle.errand_laws.proofs.ErrandLaws.{errand_runs, errand_mirrors, errand_typed}

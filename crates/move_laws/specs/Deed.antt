@@ -16,8 +16,7 @@ use Rattle.host_core.specs.Accepted.{state_from, IsAccepted}
 use Rattle.host_core.specs.Deeds.{AreSame}
 use Rattle.host_core.specs.Clear.{IsKept, IsNotAfter, touching}
 use Rattle.protection_moves.specs.Stage.{Stage}
-use Rattle.errand_laws.specs.Stages.{waiting_in}
-use Rattle.move_laws.specs.Moved.{at_stage}
+use Rattle.move_laws.specs.Moved.{waiting_in, at_stage}
 
 module _ (rules : Rules) (cache : Held) (old new : Stage) (commands : List Command) where
   -- what the verifier of this number does from its log's index on

@@ -1,5 +1,5 @@
 -- What the commands of a move do to the verifier of its worker.
-use Rattle.std.specs.Prelude.{◌≡◌, ℕ, ◌<◌, Bool, true, List, [], ◌∷◌, map, Option, Some, None, IsTrue, Ok}
+use Rattle.std.specs.Prelude.{◌≡◌, ℕ, ◌<◌, Bool, true, List, [], ◌∷◌, map, Option, Some, Ok}
 use Rattle.std.specs.List.{AllByRecursion, flat_map}
 use Rattle.tree_keys.specs.Path.{IsBelow}
 use Rattle.lamport_clocks.specs.Stamp.{IsLater}
@@ -13,13 +13,18 @@ use Rattle.verifier_commands.specs.Transition.{Rules}
 use Rattle.soundness.specs.Certified.{sealed_by}
 use Rattle.host_core.specs.Deeds.{AreSame}
 use Rattle.host_shard.specs.Shard.{pending_shard}
+use Rattle.host_shard.specs.Content.{pending_hot}
 use Rattle.host_laws.specs.Running.{Told, run, added_told, evicted_told, accesses_told}
 use Rattle.host_laws.specs.Carried.{carried, carries}
 use Rattle.host_laws.specs.Served.{IsBare, IsWithin}
-use Rattle.protection_moves.specs.Stage.{Stage}
+use Rattle.protection_moves.specs.Stage.{Stage, hot_records}
 use Rattle.protection_moves.specs.Move.{IsPastEnd}
 use Rattle.errand_laws.specs.Kept.{AreCarried}
-use Rattle.errand_laws.specs.Stages.{waiting_in, IsTakable}
+use Rattle.errand_laws.specs.Stages.{IsTakable}
+
+-- the elements with which a shard and its hot places wait
+abbrev pub waiting_in : Format → Stage → List Element
+waiting_in format stage = pending_shard stage.shard ∷ map (pending_hot format) (hot_records stage.places)
 
 -- a verifier with this cache, where its clock is the stage's
 abbrev pub at_stage : Held → Stage → State
