@@ -1,9 +1,9 @@
 -- How the laws of moves are proved, in reading order.
-mod CountLemmas
-mod PlaceLemmas
+mod CounterLaws
 mod RenewLemmas
 mod StageLemmas
-mod SteadyLaws
-mod CounterLaws
+mod TripLemmas
+mod FitLemmas
+mod MoveLaws
 mod EventLemmas
 mod DeedLemmas

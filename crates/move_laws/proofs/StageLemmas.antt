@@ -1,47 +1,17 @@
--- What is known of a stage before a move: its hot keys are apart, and each hot record was touched or was not.
-use Rattle.std.proofs.Common.{◌≡◌, ◌≢◌, ◌⊎◌, ℕ, zero, suc, ◌+◌, Bool, true, false, not, List, [], ◌∷◌, ◌++◌, map, cond, nat_lt, Option, refl, sym, ◌∙◌, ap, inl, inr, arith}
+-- Each hot record of a stage was touched in the epoch that closes, or was not.
+use Rattle.std.proofs.Common.{◌≡◌, ◌⊎◌, ◌+◌, Bool, true, false, not, List, [], ◌∷◌, ◌++◌, cond, nat_lt, inl, inr, arith}
 use Rattle.std.specs.Prelude.{filter}
-use Rattle.std.specs.List.{AllByRecursion, All, AllPairs}
-use Rattle.std.proofs.lemmas.List.Elements.{All-head, All-tail}
+use Rattle.std.specs.List.{AllByRecursion}
 use Rattle.record_text.specs.declared.element.Element.{Element}
 use Rattle.record_text.specs.Format.{Format}
 use Rattle.stamp_order.specs.InOrder.{put_in_order, in_order}
 use Rattle.host_shard.specs.declared.content.HotRecord.{HotRecord}
 use Rattle.host_shard.specs.Content.{Content}
-use Rattle.protection_moves.specs.Stage.{Stage, hot_records, is_touched, touched_in, untouched_in}
-use Rattle.protection_moves.specs.Errand.{AreDue, errands_of}
-use Rattle.protection_moves.specs.Trip.{Trip}
+use Rattle.protection_moves.specs.Stage.{hot_records, is_touched, touched_in, untouched_in}
 use Rattle.protection_moves.proofs.TouchedLaws.{all-filter, all-order}
-use Rattle.protection_moves.proofs.ErrandLaws.{no_errands}
-use Rattle.move_laws.specs.Moved.{IsSteady}
-use Rattle.move_laws.proofs.CountLemmas.{weight, weight-order, weight-split}
-use Rattle.move_laws.proofs.PlaceLemmas.{IsOne, AreApart, all-are, all-map, apart-filter, apart-order}
-
--- ---- hot keys are apart
-
-all_by_recursion : {A : Type 0} (P : A → Type 0) (xs : List A) → All P xs → AllByRecursion P xs
-all_by_recursion P [] all = tt
-all_by_recursion P (x ∷ xs) all = (All-head P x xs all, all_by_recursion P xs (All-tail P x xs all))
-
--- what holds of a list's images holds of its members
-pub all-images : {A B : Type 0} (of : A → B) (P : B → Type 0) (xs : List A) → AllByRecursion P (map of xs) → AllByRecursion (λ x. P (of x)) xs
-all-images of P [] all = tt
-all-images of P (x ∷ xs) all = (all.0, all-images of P xs all.1)
-
-pub images-all : {A B : Type 0} (of : A → B) (P : B → Type 0) (xs : List A) → AllByRecursion (λ x. P (of x)) xs → AllByRecursion P (map of xs)
-images-all of P [] all = tt
-images-all of P (x ∷ xs) all = (all.0, images-all of P xs all.1)
-
-pub apart_from-pairs : (of : ℕ → List Bool) (records : List HotRecord) → AllPairs (λ a b. a ≢ b) (map (λ (found : HotRecord). of found.key) records)
-    → AreApart records
-apart_from-pairs of [] pairs = tt
-apart_from-pairs of (found ∷ records) pairs = (
-  all-map (λ other. of found.key ≢ of other.key) (λ other. other.key ≡ found.key → ⊥) (λ other apart same. apart (ap of (sym same))) records
-      (all-images (λ (other : HotRecord). of other.key) (λ path. of found.key ≢ path) records
-      (all_by_recursion (λ path. of found.key ≢ path) (map (λ (other : HotRecord). of other.key) records)
-      (λ i d within. pairs zero (suc i) d (omega arith) (omega (arith, within))))),
-  apart_from-pairs of records (λ i j d before within. pairs (suc i) (suc j) d (omega (arith, before)) (omega (arith, within))),
-)
+use Rattle.errand_laws.specs.Stages.{IsOne}
+use Rattle.errand_laws.proofs.CountLaws.{weight, weight-order, weight-split}
+use Rattle.errand_laws.proofs.PlaceLaws.{AreApart, all-are, all-map, apart-filter, apart-order}
 
 -- ---- those that were touched, and those that were not
 
@@ -121,14 +91,3 @@ apart_touched places apart = apart-order _ _ (apart-filter is_touched (hot_recor
 
 pub apart_untouched : (places : List Content) → AreApart (hot_records places) → AreApart (untouched_in places)
 apart_untouched places apart = apart-order _ _ (apart-filter _ (hot_records places) apart)
-
--- ---- a steady stage
-
-no_images : {A B : Type 0} (of : A → B) (xs : List A) → map of xs ≡ [] → xs ≡ []
-no_images of [] is = refl
-no_images of (x ∷ xs) is = cc
-
-pub no_trips : (format : Format) (threshold : Option ℕ) (stage : Stage) (due : List ℕ) (trips : List Trip) → IsSteady threshold stage → AreDue format stage threshold due
-    → map (λ (trip : Trip). trip.errand) trips ≡ errands_of stage due → trips ≡ []
-no_trips format threshold stage due trips steady are is =
-    no_images (λ (trip : Trip). trip.errand) trips (is ∙ no_errands format threshold stage due steady.all_touched steady.no_threshold are)

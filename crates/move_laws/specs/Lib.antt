@@ -1,4 +1,3 @@
 -- What the laws of moves cite, in reading order.
-pub mod Kept
 pub mod Moved
 pub mod Deed

@@ -1,15 +1,12 @@
--- What the commands of a move do to the verifier of its worker, and when a stage mirrors what the verifiers hold of it.
-use Rattle.std.specs.Prelude.{◌≡◌, ℕ, ◌<◌, Bool, true, List, [], ◌∷◌, map, Option, Some, None, IsTrue, Ok}
+-- What the commands of a move do to the verifier of its worker.
+use Rattle.std.specs.Prelude.{◌≡◌, ℕ, ◌<◌, Bool, true, List, [], ◌∷◌, map, Option, Some, Ok}
 use Rattle.std.specs.List.{AllByRecursion, flat_map}
 use Rattle.tree_keys.specs.Path.{IsBelow}
 use Rattle.lamport_clocks.specs.Stamp.{IsLater}
 use Rattle.lamport_clocks.specs.Reading.{Reading}
-use Rattle.lamport_clocks.specs.Clock.{is_open}
 use Rattle.record_text.specs.declared.element.Element.{Element}
 use Rattle.record_text.specs.Format.{Format, path_bits}
-use Rattle.record_text.specs.Value.{IsBlob}
 use Rattle.log_codec.specs.declared.command.Command.{Command}
-use Rattle.merkle_records.specs.Merkle.{Digest}
 use Rattle.verifier_cache.specs.Cache.{Held}
 use Rattle.verifier_commands.specs.declared.state.State.{State}
 use Rattle.verifier_commands.specs.Transition.{Rules}
@@ -20,23 +17,14 @@ use Rattle.host_shard.specs.Content.{pending_hot}
 use Rattle.host_laws.specs.Running.{Told, run, added_told, evicted_told, accesses_told}
 use Rattle.host_laws.specs.Carried.{carried, carries}
 use Rattle.host_laws.specs.Served.{IsBare, IsWithin}
-use Rattle.host_mirrors.specs.Mirroring.{IsMirrored}
-use Rattle.protection_moves.specs.Stage.{Stage, hot_records, hot_paths, untouched_in}
+use Rattle.protection_moves.specs.Stage.{Stage, hot_records}
 use Rattle.protection_moves.specs.Move.{IsPastEnd}
-use Rattle.move_laws.specs.Kept.{AreCarried}
+use Rattle.errand_laws.specs.Kept.{AreCarried}
+use Rattle.errand_laws.specs.Stages.{IsTakable}
 
 -- the elements with which a shard and its hot places wait
 abbrev pub waiting_in : Format → Stage → List Element
 waiting_in format stage = pending_shard stage.shard ∷ map (pending_hot format) (hot_records stage.places)
-
--- The stage mirrors: the shard does where the records in hot places are hot, and each of these has a value of its kind.
-pub record StageMirrors (format : Format) (digest : Digest) (stage : Stage) : Type 0 where
-  pub shard : IsMirrored format digest stage.shard (hot_paths format stage.places)
-  pub blobs : AllByRecursion (λ found. IsBlob format found.value) (hot_records stage.places)
-
--- an element that a verifier takes in: it is of one of the verifiers, and of an open epoch
-abbrev pub IsTakable : Rules → Reading → Element → Type 0
-IsTakable rules clock element = (element.verifier < rules.verifiers) × IsTrue (is_open clock element.stamp.epoch)
 
 -- a verifier with this cache, where its clock is the stage's
 abbrev pub at_stage : Held → Stage → State
@@ -71,8 +59,3 @@ pub record MoveRuns (rules : Rules) (cache : Held) (old new : Stage) (commands :
   pub within : (path : List Bool) → AllByRecursion
       (λ one. carries path one.1 ≡ true → IsWithin (Some (pending_shard old.shard)) (Some (pending_shard new.shard)) one.0) told
   pub rises : IsLater new.shard.stamp old.shard.stamp
-
--- No hot record comes back and no key becomes hot: each hot record was touched, and no threshold is given.
-pub record IsSteady (threshold : Option ℕ) (stage : Stage) : Type 0 where
-  pub all_touched : untouched_in stage.places ≡ []
-  pub no_threshold : threshold ≡ None

@@ -1,6 +1,6 @@
 //! What follows from the definitions of a move and of the transition. These functions do nothing: their contracts are the
 //! laws.
-ghost use Rattle.std.specs.Prelude.{◌≡◌, ℕ, List, Option};
+ghost use Rattle.std.specs.Prelude.{◌≡◌, ℕ, ◌<◌, List, Option, IfSome};
 ghost use Rattle.std.specs.List.{AllByRecursion};
 ghost use Rattle.record_text.specs.Format.{Format};
 ghost use Rattle.log_codec.specs.declared.command.Command.{Command};
@@ -12,28 +12,29 @@ ghost use Rattle.protection_moves.specs.Stage.{Stage};
 ghost use Rattle.protection_moves.specs.Errand.{clock_needed};
 ghost use Rattle.protection_moves.specs.Move.{IsMove};
 ghost use Rattle.move_laws.specs.Deed.{IsClearMove, IsMoveDeed};
-ghost use Rattle.move_laws.specs.Moved.{CanMove, IsSteady, MoveRuns, StageMirrors};
+ghost use Rattle.errand_laws.specs.Stages.{StageMirrors};
+ghost use Rattle.move_laws.specs.Moved.{CanMove, MoveRuns};
 
 /// A verifier at rest accepts the commands of a move: it takes in what waited, hands out what then waits, and rests again.
-/// Nothing is asked of the digests.
+/// It is asked that digests have 32 bytes, and that a threshold, if one is given, is at least one touch.
 pub fn a_move_runs()
     ensures runs { (rules : Rules) (cache : Held) (threshold : Option ℕ) (old new : Stage) (commands : List Command)
-        → IsSteady threshold old → CanMove rules cache threshold old → StageMirrors rules.scheme.format rules.scheme.digest old
+        → GivesDigests rules.scheme.digest → IfSome threshold (λ least. 0 < least) → CanMove rules cache threshold old → StageMirrors rules.scheme.format rules.scheme.digest old
         → IsMove rules.scheme.format rules.scheme.digest rules.number threshold old commands new
         → MoveRuns rules cache old new commands }
 {}
 
-/// A stage mirrors again behind a move. It is asked that digests have 32 bytes.
+/// A stage mirrors again behind a move. The same is asked.
 pub fn a_move_mirrors()
     ensures mirrors { (format : Format) (digest : Digest) (worker : ℕ) (threshold : Option ℕ) (old new : Stage) (commands : List Command)
-        → GivesDigests digest → IsSteady threshold old → StageMirrors format digest old
+        → GivesDigests digest → IfSome threshold (λ least. 0 < least) → StageMirrors format digest old
         → IsMove format digest worker threshold old commands new → StageMirrors format digest new }
 {}
 
 /// The values that a move's commands bring in are of their paths' kinds.
 pub fn a_move_is_typed()
     ensures typed { (format : Format) (digest : Digest) (worker : ℕ) (threshold : Option ℕ) (old new : Stage) (commands : List Command)
-        → IsSteady threshold old → StageMirrors format digest old
+        → GivesDigests digest → IfSome threshold (λ least. 0 < least) → StageMirrors format digest old
         → IsMove format digest worker threshold old commands new → AllByRecursion (IsTyped format) commands }
 {}
 

@@ -1,4 +1,4 @@
-use Rattle.move_laws.proofs.SteadyLaws.{move_typed}
+use Rattle.move_laws.proofs.MoveLaws.{move_typed}
 use Rattle.move_laws.proofs.laws.a_move_is_typed.Goals as goal
 
 pub returns : goal.returns

@@ -1,5 +1,5 @@
 -- The records in hot places, where the content of one place changes.
-use Rattle.std.proofs.Common.{◌≡◌, ◌⊎◌, ℕ, ◌+◌, Bool, true, false, List, [], ◌∷◌, ◌++◌, map, cond, eq-eqb, if◌then◌else◌, refl, sym, ◌∙◌, ap, subst, inl, inr, arith}
+use Rattle.std.proofs.Common.{◌≡◌, ℕ, ◌+◌, Bool, true, false, List, [], ◌∷◌, ◌++◌, map, cond, eq-eqb, if◌then◌else◌, refl, sym, ◌∙◌, ap, subst, inl, inr, arith}
 use Rattle.std.specs.Prelude.{◌==◌, filter}
 use Rattle.std.specs.List.{AllByRecursion}
 use Rattle.std.proofs.lemmas.Bool.{ne_eqb, eqb-true, eqb-false}
@@ -10,14 +10,10 @@ use Rattle.host_shard.specs.declared.content.HotRecord.{HotRecord}
 use Rattle.host_shard.specs.Content.{Content, cold, hot, vacant}
 use Rattle.protection_moves.proofs.TouchedLaws.{all-filter, all-put, all-order}
 use Rattle.protection_moves.specs.Stage.{hot_records, replaced}
-use Rattle.move_laws.proofs.CountLemmas.{weight, weight-front}
+use Rattle.errand_laws.specs.Stages.{IsOne}
+use Rattle.errand_laws.proofs.CountLaws.{weight, weight-front}
 
 -- ---- records and their keys
-
--- the record is one of these
-abbrev pub IsOne : List HotRecord → HotRecord → Type 0
-IsOne [] found = ⊥
-IsOne (first ∷ records) found = (found ≡ first) ⊎ IsOne records found
 
 -- no record of these has the key
 abbrev pub HasNone : ℕ → List HotRecord → Type 0

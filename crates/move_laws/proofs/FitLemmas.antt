@@ -1,0 +1,366 @@
+-- The errands of a move can be done, each when its turn comes.
+use Rattle.std.proofs.Common.{◌≡◌, ◌≢◌, ◌⊎◌, ℕ, zero, suc, ◌+◌, ◌<◌, ◌≤◌, ◌^◌, Bool, true, false, not, List, [], ◌∷◌, ◌++◌, map, take, length, cond, Option, Some, None, IsSome, get_or, if◌then◌else◌, refl, sym, ◌∙◌, ap, subst, inl, inr, arith}
+use Rattle.std.specs.Prelude.{filter, IfSome}
+use Rattle.std.specs.List.{AllByRecursion, AllPairs, IsAmong}
+use Rattle.std.proofs.lemmas.Bool.{false≢true}
+use Rattle.tree_keys.specs.Bits.{number_of}
+use Rattle.tree_keys.specs.BitsLaws.{number_back}
+use Rattle.tree_keys.specs.Path.{same_path}
+use Rattle.tree_keys.proofs.PathLaws.{same_path-apart}
+use Rattle.lamport_clocks.specs.Reading.{Reading}
+use Rattle.record_text.specs.declared.value.Value.{Value}
+use Rattle.record_text.specs.declared.value.Value.TheVariants as values
+use Rattle.record_text.specs.Format.{Format, path_bits}
+use Rattle.merkle_records.specs.Merkle.{Digest}
+use Rattle.host_shard.specs.declared.link.Link.{Link}
+use Rattle.host_shard.specs.declared.content.HotRecord.{HotRecord}
+use Rattle.host_shard.specs.Chain.{last_value, closed_records}
+use Rattle.host_shard.specs.Content.{Content, key_path, hot, vacant}
+use Rattle.host_shard.specs.Mirrors.{IsKeyOf}
+use Rattle.host_plan.specs.Moments.{renewing}
+use Rattle.protection_moves.specs.Stage.{Stage, hot_records, hot_paths, vacancies, replaced, placed, is_touched, touched_in, untouched_in}
+use Rattle.protection_moves.specs.Renewing.{renewed_record, renewed_places}
+use Rattle.protection_moves.specs.Errand.{Errand, demotes, promotes, IsDue, AreDue}
+use Rattle.protection_moves.specs.Trip.{Trip, with_back, promoted_record, done_by, done_by_each}
+use Rattle.protection_moves.specs.Move.{begun}
+use Rattle.protection_moves.proofs.RenewingLaws.{renewing_each-epoch}
+use Rattle.protection_moves.proofs.TouchedLaws.{all-filter, all-order}
+use Rattle.errand_laws.specs.Stages.{StageMirrors, IsOne}
+use Rattle.errand_laws.specs.Errands.{IsFit}
+use Rattle.errand_laws.proofs.PlaceLaws.{HasNone, AreApart, all-are, all-map, all-replaced, one_of-all}
+use Rattle.errand_laws.proofs.VacantLaws.{AreDifferent, among-member, member-among, one-member, member-one, all-images, images-all, one-vacant, vacancies-vacant, vacancies-hot, all-placed, placed-one, vacancies-placed}
+use Rattle.errand_laws.proofs.AboveLaws.{closed_some}
+use Rattle.move_laws.proofs.RenewLemmas.{IsFresh, still_there, renewed-keys, renewed-fresh}
+use Rattle.move_laws.proofs.StageLemmas.{all_split, all_untouched, apart_untouched}
+use Rattle.move_laws.proofs.TripLemmas.{AreFit}
+
+-- ---- what is known when an errand's turn comes
+
+-- a key of the shard that isn't hot and has a record, whose touches are forgotten
+pub record IsReady (format : Format) (stage : Stage) (key : ℕ) : Type 0 where
+  pub own : IsKeyOf format stage.shard (key_path format key)
+  pub cold : IsAmong (hot_paths format stage.places) (key_path format key) → ⊥
+  pub there : IsSome (stage.shard.records (key_path format key))
+  pub untouched : stage.shard.touches (key_path format key) ≡ 0
+
+-- These records are to come back, and these keys are to become hot.
+pub record AreReady (format : Format) (worker epoch : ℕ) (stage : Stage) (back : List HotRecord) (keys : List ℕ) : Type 0 where
+  pub there : AllByRecursion (IsOne (hot_records stage.places)) back
+  pub apart : AreApart back
+  pub ready : AllByRecursion (IsReady format stage) keys
+  pub different : AreDifferent (map (key_path format) keys)
+  pub room : length keys ≤ vacancies stage.places + length back
+  pub of_epoch : stage.clock.at.epoch ≡ epoch
+  pub fresh : AllByRecursion (λ found. IsFresh worker epoch found ⊎ IsOne back found) (hot_records stage.places)
+
+module _ (format : Format) (digest : Digest) (worker epoch : ℕ) where
+  -- once a record came back
+  ready-back : (stage : Stage) (found : HotRecord) (links : List Link) (back : List HotRecord) (keys : List ℕ)
+      → AreReady format worker epoch stage (found ∷ back) keys
+      → AreReady format worker epoch (done_by format digest worker stage (demotes found) links) back keys
+  ready-back stage found links back keys are = record {
+    there = still_there found.key vacant stage.places back are.there.1 are.apart.0;
+    apart = are.apart.1;
+    ready = all-ready keys are.ready;
+    different = are.different;
+    room = omega (arith, are.room, vacancies-vacant stage.places found are.there.0);
+    of_epoch = are.of_epoch;
+    fresh = all-replaced (λ r. IsFresh worker epoch r ⊎ IsOne (found ∷ back) r) (λ r. IsFresh worker epoch r ⊎ IsOne back r) found.key vacant stage.places
+        other tt are.fresh;
+  }
+    where
+      other : (r : HotRecord) → IsFresh worker epoch r ⊎ IsOne (found ∷ back) r → (r.key ≡ found.key → ⊥) → IsFresh worker epoch r ⊎ IsOne back r
+      other r (inl fresh) apart = inl fresh
+      other r (inr (inl same)) apart = absurd (apart (ap (λ (h : HotRecord). h.key) same))
+      other r (inr (inr is)) apart = inr is
+
+      was_hot : (path : List Bool) → IsAmong (hot_paths format (replaced found.key vacant stage.places)) path → IsAmong (hot_paths format stage.places) path
+      was_hot path is =
+          let new = member-one (λ r. key_path format r.key) (hot_records (replaced found.key vacant stage.places)) path (among-member _ path is) in
+          subst (IsAmong (hot_paths format stage.places)) (sym new.2)
+          (member-among _ _ (one-member (λ r. key_path format r.key) (hot_records stage.places) new.0 (one-vacant found.key stage.places new.0 new.1).0))
+
+      base_some : (path : List Bool) → IsSome (stage.shard.records path) → IsSome ((with_back format stage.shard found).records path)
+      base_some path there = go (same_path path (key_path format found.key))
+        where
+          go : (b : Bool) → IsSome (if b then Some (values.Blob found.value) else stage.shard.records path)
+          go true = refl
+          go false = there
+
+      one : (key : ℕ) → IsReady format stage key → IsReady format (done_by format digest worker stage (demotes found) links) key
+      one key is = record {
+        own = record { whole = is.own.whole; below = is.own.below };
+        cold = λ among. is.cold (was_hot (key_path format key) among);
+        there = closed_some format digest false (with_back format stage.shard found).records links (values.Blob found.value) (key_path format key)
+            (base_some (key_path format key) is.there);
+        untouched = is.untouched;
+      }
+
+      all-ready : (more : List ℕ) → AllByRecursion (IsReady format stage) more
+          → AllByRecursion (IsReady format (done_by format digest worker stage (demotes found) links)) more
+      all-ready [] all = tt
+      all-ready (key ∷ more) all = (one key all.0, all-ready more all.1)
+
+  -- once a key became hot
+  ready-hot : (stage : Stage) (key : ℕ) (links : List Link) (keys : List ℕ) → AreReady format worker epoch stage [] (key ∷ keys)
+      → AreReady format worker epoch (done_by format digest worker stage (promotes key) links) [] keys
+  ready-hot stage key links keys are = record {
+    there = tt;
+    apart = tt;
+    ready = all-ready keys are.ready.1 (all-images (key_path format) (λ path. key_path format key ≢ path) keys are.different.0);
+    different = are.different.1;
+    room = omega (arith, are.room, vacancies-placed new stage.places (omega (arith, are.room)));
+    of_epoch = are.of_epoch;
+    fresh = all-placed (λ r. IsFresh worker epoch r ⊎ IsOne [] r) new stage.places (inl (refl, are.of_epoch)) are.fresh;
+  }
+    where
+      new : HotRecord
+      new = promoted_record worker stage key links
+
+      was_hot : (path : List Bool) → path ≢ key_path format key → IsAmong (hot_paths format (placed new stage.places)) path → IsAmong (hot_paths format stage.places) path
+      was_hot path other is = go now.0 now.1 now.2
+        where
+          now : (r : HotRecord) × (IsOne (hot_records (placed new stage.places)) r) × (path ≡ key_path format r.key)
+          now = member-one (λ r. key_path format r.key) (hot_records (placed new stage.places)) path (among-member _ path is)
+
+          go : (r : HotRecord) → IsOne (hot_records (placed new stage.places)) r → path ≡ key_path format r.key → IsAmong (hot_paths format stage.places) path
+          go r one same = further (placed-one new stage.places r one)
+            where
+              further : (r ≡ new) ⊎ IsOne (hot_records stage.places) r → IsAmong (hot_paths format stage.places) path
+              further (inl it) = absurd (other (same ∙ ap (λ (h : HotRecord). key_path format h.key) it))
+              further (inr was) =
+                  subst (IsAmong (hot_paths format stage.places)) (sym same)
+                  (member-among _ _ (one-member (λ h. key_path format h.key) (hot_records stage.places) r was))
+
+      one : (more : ℕ) → IsReady format stage more → key_path format key ≢ key_path format more
+          → IsReady format (done_by format digest worker stage (promotes key) links) more
+      one more is apart = record {
+        own = record { whole = is.own.whole; below = is.own.below };
+        cold = λ among. is.cold (was_hot (key_path format more) (λ same. apart (sym same)) among);
+        there = subst (λ (b : Bool). IsSome (if b then None else closed (key_path format more)))
+            (sym (same_path-apart (key_path format more) (key_path format key) (λ same. apart (sym same))))
+            (closed_some format digest true stage.shard.records links (last_value stage.shard.value links) (key_path format more) is.there);
+        untouched = is.untouched;
+      }
+        where
+          closed : List Bool → Option Value
+          closed = closed_records format digest true stage.shard.records links (last_value stage.shard.value links)
+
+      all-ready : (more : List ℕ) → AllByRecursion (IsReady format stage) more → AllByRecursion (λ other. key_path format key ≢ key_path format other) more
+          → AllByRecursion (IsReady format (done_by format digest worker stage (promotes key) links)) more
+      all-ready [] all apart = tt
+      all-ready (other ∷ more) all apart = (one other all.0 apart.0, all-ready more all.1 apart.1)
+
+  -- Trips with these errands can be done, and leave hot records of this worker and this epoch alone.
+  pub record GoWell (stage : Stage) (trips : List Trip) : Type 0 where
+    pub fit : AreFit format digest worker stage trips
+    pub fresh : AllByRecursion (IsFresh worker epoch) (hot_records (done_by_each format digest worker stage trips).places)
+
+  only_fresh : (records : List HotRecord) → AllByRecursion (λ found. IsFresh worker epoch found ⊎ IsOne [] found) records → AllByRecursion (IsFresh worker epoch) records
+  only_fresh records all = all-map (λ found. IsFresh worker epoch found ⊎ IsOne [] found) (IsFresh worker epoch) go records all
+    where
+      go : (found : HotRecord) → IsFresh worker epoch found ⊎ IsOne [] found → IsFresh worker epoch found
+      go found (inl is) = is
+      go found (inr nothing) = absurd nothing
+
+  errands_in : List Trip → List Errand
+  errands_in trips = map (λ (trip : Trip). trip.errand) trips
+
+  no_trip : {errand : Errand} {errands : List Errand} → ◌≡◌ {A = List Errand} [] (errand ∷ errands) → ⊥
+  no_trip is = cc
+
+  first_errand : (a b : Errand) (xs ys : List Errand) → a ∷ xs ≡ b ∷ ys → a ≡ b
+  first_errand a b xs ys is = cc
+
+  other_errands : (a b : Errand) (xs ys : List Errand) → a ∷ xs ≡ b ∷ ys → xs ≡ ys
+  other_errands a b xs ys is = cc
+
+  hot_go : (keys : List ℕ) (trips : List Trip) (stage : Stage) → map (λ (trip : Trip). trip.errand) trips ≡ map promotes keys
+      → AreReady format worker epoch stage [] keys → GoWell stage trips
+  hot_go [] [] stage is are = record { fit = tt; fresh = only_fresh (hot_records stage.places) are.fresh }
+  hot_go [] (trip ∷ trips) stage is are = absurd (no_trip (sym is))
+  hot_go (key ∷ keys) [] stage is are = absurd (no_trip is)
+  hot_go (key ∷ keys) (trip ∷ trips) stage is are =
+      let one : trip.errand ≡ promotes key = first_errand _ _ _ _ is in
+      let rest = hot_go keys trips (done_by format digest worker stage trip.errand trip.links) (other_errands _ _ _ _ is)
+      (subst (λ (e : Errand). AreReady format worker epoch (done_by format digest worker stage e trip.links) [] keys) (sym one) (ready-hot stage key trip.links keys are)) in
+      record {
+        fit = (
+          subst (IsFit format stage) (sym one) (record {
+            own = are.ready.0.own;
+            cold = are.ready.0.cold;
+            there = are.ready.0.there;
+            untouched = are.ready.0.untouched;
+            room = omega (arith, are.room);
+          }),
+          rest.fit,
+        );
+        fresh = rest.fresh;
+      }
+
+  pub all_go : (back : List HotRecord) (keys : List ℕ) (trips : List Trip) (stage : Stage)
+      → map (λ (trip : Trip). trip.errand) trips ≡ map demotes back ++ map promotes keys → AreReady format worker epoch stage back keys → GoWell stage trips
+  all_go [] keys trips stage is are = hot_go keys trips stage is are
+  all_go (found ∷ back) keys [] stage is are = absurd (no_trip is)
+  all_go (found ∷ back) keys (trip ∷ trips) stage is are =
+      let one : trip.errand ≡ demotes found = first_errand _ _ _ _ is in
+      let rest = all_go back keys trips (done_by format digest worker stage trip.errand trip.links) (other_errands _ _ _ _ is)
+      (subst (λ (e : Errand). AreReady format worker epoch (done_by format digest worker stage e trip.links) back keys) (sym one) (ready-back stage found trip.links back keys are)) in
+      record { fit = (subst (IsFit format stage) (sym one) are.there.0, rest.fit); fresh = rest.fresh }
+
+-- ---- at the beginning
+
+-- no hot record that was touched has the key of one that was not
+one_by_key : (records : List HotRecord) (r other : HotRecord) → AreApart records → IsOne records r → IsOne records other → other.key ≡ r.key → other ≡ r
+one_by_key [] r other apart is also same = absurd is
+one_by_key (first ∷ records) r other apart (inl one) (inl two) same = two ∙ sym one
+one_by_key (first ∷ records) r other apart (inl one) (inr two) same =
+    absurd (one_of-all (λ h. h.key ≡ first.key → ⊥) records other apart.0 two (same ∙ ap (λ (h : HotRecord). h.key) one))
+one_by_key (first ∷ records) r other apart (inr one) (inl two) same =
+    absurd (one_of-all (λ h. h.key ≡ first.key → ⊥) records r apart.0 one (sym same ∙ ap (λ (h : HotRecord). h.key) two))
+one_by_key (first ∷ records) r other apart (inr one) (inr two) same = one_by_key records r other apart.1 one two same
+
+all-pass : (test : HotRecord → Bool) (records : List HotRecord) → AllByRecursion (λ r. test r ≡ true) (filter test records)
+all-pass test [] = tt
+all-pass test (r ∷ records) = go (test r) refl (all-pass test records)
+  where
+    go : (b : Bool) → test r ≡ b → AllByRecursion (λ other. test other ≡ true) (filter test records)
+        → AllByRecursion (λ other. test other ≡ true) (cond b (r ∷ filter test records) (filter test records))
+    go true is rest = (is, rest)
+    go false is rest = rest
+
+all-both : (P Q R : HotRecord → Type 0) → ((r : HotRecord) → P r → Q r → R r) → (records : List HotRecord) → AllByRecursion P records → AllByRecursion Q records
+    → AllByRecursion R records
+all-both P Q R step [] one other = tt
+all-both P Q R step (r ∷ records) one other = (step r one.0 other.0, all-both P Q R step records one.1 other.1)
+
+touched_apart : (places : List Content) → AreApart (hot_records places)
+    → AllByRecursion (λ r. HasNone r.key (untouched_in places)) (touched_in places)
+touched_apart places apart =
+    all-both (IsOne (hot_records places)) (λ r. is_touched r ≡ true) (λ r. HasNone r.key (untouched_in places)) one (touched_in places)
+    (all-order (IsOne (hot_records places)) _ _ (all-filter (IsOne (hot_records places)) is_touched (hot_records places) (all-are (hot_records places))))
+    (all-order (λ r. is_touched r ≡ true) _ _ (all-pass is_touched (hot_records places)))
+  where
+    no_both : (b : Bool) → not b ≡ true → b ≡ true → ⊥
+    no_both true is also = false≢true is
+    no_both false is also = false≢true also
+
+    one : (r : HotRecord) → IsOne (hot_records places) r → is_touched r ≡ true → HasNone r.key (untouched_in places)
+    one r is touched =
+        all-both (IsOne (hot_records places)) (λ other. not (is_touched other) ≡ true) (λ other. other.key ≡ r.key → ⊥)
+        (λ other also not_touched same. no_both (is_touched other) not_touched
+        (ap is_touched (one_by_key (hot_records places) r other apart is also same) ∙ touched))
+        (untouched_in places)
+        (all_untouched (IsOne (hot_records places)) places (all-are (hot_records places)))
+        (all-order (λ other. not (is_touched other) ≡ true) _ _ (all-pass (λ other. not (is_touched other)) (hot_records places)))
+
+-- what isn't renewed is where it was
+renewed-there : (worker : ℕ) (clock : Reading) (places : List Content) (records back : List HotRecord)
+    → AllByRecursion (IsOne (hot_records places)) back → AllByRecursion (λ r. HasNone r.key back) records
+    → AllByRecursion (IsOne (hot_records (renewed_places worker clock places records))) back
+renewed-there worker clock places [] back there apart = there
+renewed-there worker clock places (found ∷ more) back there apart =
+    renewed-there worker (renewing clock found.stamp) _ more back
+    (still_there found.key (hot (renewed_record worker clock found)) places back there apart.0) apart.1
+
+renewed-vacancies : (worker : ℕ) (clock : Reading) (places : List Content) (records : List HotRecord)
+    → vacancies (renewed_places worker clock places records) ≡ vacancies places
+renewed-vacancies worker clock places [] = refl
+renewed-vacancies worker clock places (found ∷ more) =
+    renewed-vacancies worker (renewing clock found.stamp) _ more ∙ vacancies-hot found.key (renewed_record worker clock found) places
+
+-- ---- the keys that are due
+
+all-among : (P : ℕ → Type 0) (keys : List ℕ) → ((key : ℕ) → IsAmong keys key → P key) → AllByRecursion P keys
+all-among P [] each = tt
+all-among P (key ∷ keys) each = (
+  each key (0, (omega arith, refl)),
+  all-among P keys (λ other is. each other (suc is.0, (omega (arith, is.1.0), is.1.1))),
+)
+
+all-take : {A : Type 0} (P : A → Type 0) (n : ℕ) (xs : List A) → AllByRecursion P xs → AllByRecursion P (take n xs)
+all-take P zero xs all = tt
+all-take P (suc n) [] all = tt
+all-take P (suc n) (x ∷ xs) all = (all.0, all-take P n xs all.1)
+
+length-front : (n : ℕ) (xs : List ℕ) → length (take n xs) ≤ n
+length-front zero xs = omega arith
+length-front (suc n) [] = omega arith
+length-front (suc n) (x ∷ xs) = omega (arith, length-front n xs)
+
+-- keys that rise have paths that are apart
+module _ (format : Format) where
+  path_back : (a b : ℕ) → a < 2 ^ path_bits format → b < 2 ^ path_bits format → key_path format a ≡ key_path format b → a ≡ b
+  path_back a b small also same = sym (number_back (path_bits format) a small) ∙ (ap number_of same ∙ number_back (path_bits format) b also)
+
+  different_keys : (keys : List ℕ) → AllPairs (λ a b. a < b) keys → AllByRecursion (λ key. key < 2 ^ path_bits format) keys
+      → AreDifferent (map (key_path format) keys)
+  different_keys [] rising small = tt
+  different_keys (key ∷ keys) rising small = (
+    images-all (key_path format) (λ path. key_path format key ≢ path) keys (go keys small.1 (λ i d within. rising zero (suc i) d (omega arith) (omega (arith, within)))),
+    different_keys keys (λ i j d before within. rising (suc i) (suc j) d (omega (arith, before)) (omega (arith, within))) small.1,
+  )
+    where
+      go : (more : List ℕ) → AllByRecursion (λ other. other < 2 ^ path_bits format) more → ((i d : ℕ) → i < length more → key < get_or more i d)
+          → AllByRecursion (λ other. key_path format key ≢ key_path format other) more
+      go [] all above = tt
+      go (other ∷ more) all above = (
+        (λ same. let less : key < other = above zero 0 (omega arith) in omega (arith, less, path_back key other small.0 all.0 same)),
+        go more all.1 (λ i d within. above (suc i) d (omega (arith, within))),
+      )
+
+  different-front : (n : ℕ) (keys : List ℕ) → AreDifferent (map (key_path format) keys) → AreDifferent (map (key_path format) (take n keys))
+  different-front zero keys different = tt
+  different-front (suc n) [] different = tt
+  different-front (suc n) (key ∷ keys) different = (
+    images-all (key_path format) (λ path. key_path format key ≢ path) (take n keys)
+        (all-take (λ other. key_path format key ≢ key_path format other) n keys (all-images (key_path format) (λ path. key_path format key ≢ path) keys different.0)),
+    different-front n keys different.1,
+  )
+
+-- the errands of a move are ready at its beginning
+pub begun-ready : (format : Format) (digest : Digest) (worker : ℕ) (threshold : Option ℕ) (stage : Stage) (due : List ℕ)
+    → IfSome threshold (λ least. 0 < least) → StageMirrors format digest stage → AreApart (hot_records stage.places) → AreDue format stage threshold due
+    → AreReady format worker stage.clock.at.epoch (begun worker stage) (untouched_in stage.places)
+    (take (vacancies stage.places + length (untouched_in stage.places)) due)
+begun-ready format digest worker threshold stage due some mirrors apart are = record {
+  there = renewed-there worker stage.clock stage.places touched back (all_untouched (IsOne (hot_records stage.places)) stage.places (all-are (hot_records stage.places)))
+      (touched_apart stage.places apart);
+  apart = apart_untouched stage.places apart;
+  ready = all-take (IsReady format (begun worker stage)) most due (all-among (IsReady format (begun worker stage)) due (λ key is. ready key ((are.due key).0 is)));
+  different = different-front format most due (different_keys format due are.rising
+      (all-among (λ key. key < 2 ^ path_bits format) due (λ key is. small threshold key ((are.due key).0 is))));
+  room = omega (arith, length-front most due, renewed-vacancies worker stage.clock stage.places touched);
+  of_epoch = renewing_each-epoch stage.clock touched;
+  fresh = renewed-fresh worker stage.clock stage.places touched back
+      (all-map (IsOne (touched ++ back)) (λ found. IsFresh worker stage.clock.at.epoch found ⊎ IsOne (touched ++ back) found) (λ found is. inr is)
+      (hot_records stage.places) (all_split stage.places));
+}
+  where
+    touched : List HotRecord
+    touched = touched_in stage.places
+
+    back : List HotRecord
+    back = untouched_in stage.places
+
+    most : ℕ
+    most = vacancies stage.places + length (untouched_in stage.places)
+
+    same_hot : hot_paths format (begun worker stage).places ≡ hot_paths format stage.places
+    same_hot = renewed-keys (key_path format) worker stage.clock stage.places (touched_in stage.places)
+
+    small : (least : Option ℕ) (key : ℕ) → IsDue format stage least key → key < 2 ^ path_bits format
+    small None key is = absurd is
+    small (Some least) key is = is.in_range
+
+    ready : (key : ℕ) → IsDue format stage threshold key → IsReady format (begun worker stage) key
+    ready key is = go threshold some is
+      where
+        go : (least : Option ℕ) → IfSome least (λ n. 0 < n) → IsDue format stage least key → IsReady format (begun worker stage) key
+        go None positive due' = absurd due'
+        go (Some least) positive due' = record {
+          own = record { whole = due'.own.whole; below = due'.own.below };
+          cold = λ among. due'.cold (subst (λ (paths : List (List Bool)). IsAmong paths (key_path format key)) same_hot among);
+          there = mirrors.shard.mirrors.touched (key_path format key) (omega (arith, positive, due'.often));
+          untouched = refl;
+        }
