@@ -1,11 +1,11 @@
 -- Lemmas on the shipped host.
 pub mod LinkLaws
-pub mod FrontLaws
+mod FrontLaws
 mod ServeLemmas
 mod SeatLemmas
 mod OrderlyLemmas
 mod BehindLemmas
-pub mod FrontierLaws
+mod FrontierLaws
 mod WorldLemmas
 mod MovedLemmas
 mod StandingLemmas
