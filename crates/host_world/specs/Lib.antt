@@ -11,5 +11,6 @@ pub mod Ending
 pub mod Behind
 pub mod Orderly
 pub mod Worked
+pub mod WorkedKeys
 pub use Rattle.host_core.specs
 pub use Rattle.protection_moves.specs as protection_moves_specs

@@ -86,10 +86,14 @@ bytes of = values.Blob (Some of)
 abbrev pub frontier_of : DigestFunctions → Value → Value
 frontier_of functions value = values.Node (record { side0 = Some (pointer_to short_keys functions.digest five value); side1 = None })
 
--- What one request logs, where the frontier waits with this value, counter and verifier and the key has this value.
+-- What one request logs at a shard, where the frontier waits with this value, counter and verifier and the key has this value.
+abbrev pub request_at : List Bool → List Bool → Value → ℕ → ℕ → Value → Command → ℕ → List Command
+request_at at key frontier counter verifier found command last =
+    AddB at frontier (stamp 0 counter) verifier ∷ AddM key found at ∷ command ∷ EvictM key at ∷ EvictB at (stamp 0 last) ∷ []
+
+-- the same at the left shard, of the key 5
 abbrev pub request_log : Value → ℕ → ℕ → Value → Command → ℕ → List Command
-request_log frontier counter verifier found command last =
-    AddB left frontier (stamp 0 counter) verifier ∷ AddM five found left ∷ command ∷ EvictM five left ∷ EvictB left (stamp 0 last) ∷ []
+request_log frontier counter verifier found command last = request_at left five frontier counter verifier found command last
 
 -- what moving the left shard logs, and the right one, first or second
 abbrev pub left_log : Value → ℕ → ℕ → List Command

@@ -11,6 +11,7 @@ ghost use Rattle.host_world.specs.Behind.{IsBehindSetup};
 ghost use Rattle.host_world.specs.Orderly.{IsOrderly};
 ghost use Rattle.host_core.specs.WorldEvent.{takes, serves, advances, moves};
 ghost use Rattle.host_world.specs.Worked.{serving, put_five, get_five, place_five, end_behind, ended_at, in_last_epoch, two_shards, most, logs_behind, last_close, empty_log, five_events, five_log, stopped_log, between_events, between_logs, before_events, before_logs, behind_events, behind_logs};
+ghost use Rattle.host_world.specs.WorkedKeys.{apart_events, apart_logs, deleted_events, deleted_log, parted_events, parted_log, four_shards, four_events, four_log};
 ghost use Rattle.host_core.specs.Host.{Done};
 ghost use Rattle.host_plan.specs.Plan.{Owns};
 ghost use Rattle.host_shard.specs.Content.{Content};
@@ -56,7 +57,8 @@ pub fn worlds_are_orderly()
 {}
 
 /// A host of two shards logs what was worked out by hand: for an empty script; for a put and a get of a key, also where the
-/// counters end between them; and for two workers at one key, in each order of their requests.
+/// counters end between them; for two workers at one key, in each order of their requests, and at two shards; for a key that
+/// is deleted; and for keys that part at their last bit. And so does a host of four shards for a put.
 pub fn logs_are_as_worked_out()
     ensures empty { (functions : DigestFunctions) → logs_behind functions (two_shards 1 most) ([] ∷ []) last_close ≡ empty_log ∷ [] }
     ensures five { (functions : DigestFunctions) (script : List (List Task))
@@ -69,6 +71,14 @@ pub fn logs_are_as_worked_out()
         → logs_behind functions (two_shards 2 most) script before_events ≡ before_logs functions }
     ensures behind { (functions : DigestFunctions) (script : List (List Task))
         → logs_behind functions (two_shards 2 most) script behind_events ≡ behind_logs functions }
+    ensures apart { (functions : DigestFunctions) (script : List (List Task))
+        → logs_behind functions (two_shards 2 most) script apart_events ≡ apart_logs functions }
+    ensures deleted { (functions : DigestFunctions) (script : List (List Task))
+        → logs_behind functions (two_shards 1 most) script deleted_events ≡ deleted_log functions ∷ [] }
+    ensures parted { (functions : DigestFunctions) (script : List (List Task))
+        → logs_behind functions (two_shards 1 most) script parted_events ≡ parted_log functions ∷ [] }
+    ensures four { (functions : DigestFunctions) (script : List (List Task))
+        → logs_behind functions four_shards script four_events ≡ four_log functions ∷ [] }
 {}
 
 /// A clock ends where it was worked out by hand: at a request, at the second shard of a close, and where no epoch is to come.

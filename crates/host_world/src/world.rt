@@ -14,7 +14,7 @@ pub struct World<'a, D> {
     pub(crate) alloc: Global,
     pub(crate) d: &'a D,
     pub(crate) settings: Settings,
-    pub(crate) requests: Requests,
+    pub(crate) requests: &'a Requests,
     pub(crate) shards: Vec<Seats>,
     pub(crate) workers: Vec<Worker>,
     pub(crate) phase: usize,

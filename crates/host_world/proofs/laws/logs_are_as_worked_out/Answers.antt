@@ -11,4 +11,8 @@ returns c = record {
   between = λ functions script. refl;
   before = λ functions script. refl;
   behind = λ functions script. refl;
+  apart = λ functions script. refl;
+  deleted = λ functions script. refl;
+  parted = λ functions script. refl;
+  four = λ functions script. refl;
 }
