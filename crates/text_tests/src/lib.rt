@@ -2,9 +2,8 @@
 //!
 //! A crate with tests is proved twice, so tests have a crate of their own for each layer. There is one file
 //! for each crate that is tested: `records` for `record_text`, `commands` for `log_codec`, `bundles` and
-//! `bundle_readers` for `bundle_frames`, `reports` for `report_text`, `tagged_texts` for `receipts`, `words` for
-//! `program_words`, and `bundles_as_rows` for `bundle_rows`. A table is one text, a row a line, which is read as the
-//! test runs, and bytes stand in it as hexadecimal digits: begin at `rows`.
+//! `bundle_readers` for `bundle_frames`, `reports` for `report_text`, `words` for `program_words`, and `bundles_as_rows` for `bundle_rows`. A table is one text, a row a
+//! line, which is read as the test runs, and bytes stand in it as hexadecimal digits: begin at `rows`.
 #![tactic(auto)]
 
 #[cfg(test)]
@@ -21,7 +20,5 @@ mod records;
 mod reports;
 #[cfg(test)]
 mod rows;
-#[cfg(test)]
-mod tagged_texts;
 #[cfg(test)]
 mod words;

@@ -1,4 +1,4 @@
-use Rattle.std.proofs.Common.{◌∙◌, ℕ, [], ap, sym, length, append-nil}
+use Rattle.std.proofs.Common.{◌≡◌, ◌∙◌, ℕ, [], ap, sym, length, append-nil, arith}
 use Rattle.record_text.specs.declared.value.Value.{Value}
 use Rattle.record_text.specs.declared.value.Value.TheVariants as values
 use Rattle.record_text.specs.Texts.{blob_text}
@@ -13,4 +13,5 @@ pub returns-then-len-bytes-clause-only : goal.returns-then-len-bytes-clause-only
 returns-then-len-bytes-clause-only c blob is spelled =
     let read = c.read_value.ensures.only (values.Blob blob) [] (c.of_key.ensures.whole, is) (spelled ∙ sym (append-nil (blob_text blob))) in
     let found = Ok-is _ _ (sym c.in-Ok.is ∙ read) in
-    absurd (c.if-len-bytes.true (ap (λ (p : Value × ℕ). p.1) found ∙ sym (ap length spelled)))
+    let whole : c.in-Ok.len ≡ length c.args.bytes.now = ap (λ (p : Value × ℕ). p.1) found ∙ sym (ap length spelled) in
+    absurd (omega arith)

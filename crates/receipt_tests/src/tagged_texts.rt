@@ -1,10 +1,22 @@
 //! Receipts and certificates whose tags Python's `hmac` computed, and others that are nearly such.
-use crate::rows::{bytes_of, field, same, same_bytes};
 use receipts::{Acceptance, accept, certificate, issue, read_certificate, read_receipt};
 use record_hash::ShaDigests;
 use record_text::Operation;
 use std::alloc::Global;
 use std::test::Fail;
+
+// The field of a row at this place, counted from 0.
+fn field(row: &str, place: usize) -> Result<&str, Fail> {
+    match row.split('|').nth(place) {
+        Some(text) => Ok(text.trim()),
+        None => Err("a row with too few fields")?,
+    }
+}
+
+// The bytes that a field of a row spells.
+fn bytes_of(alloc: Global, row: &str, place: usize) -> Result<Vec<u8>, Fail> {
+    Ok(hex::decode(alloc, field(row, place)?)?)
+}
 
 // A key; a receipt and a certificate, each with its tag; and what they come to.
 const ANSWERS: &str = "
@@ -45,13 +57,13 @@ fn told(alloc: Global, acceptance: &Acceptance) -> Result<String, Fail> {
 #[test]
 fn receipts_are_accepted_by_tag_and_epoch(rt: HostRuntime) -> Result<(), Fail> {
     for row in ANSWERS.trim().lines() {
-        let digests = ShaDigests::new(&bytes_of(rt.alloc(), field(row, 0)?)?);
-        let receipt = bytes_of(rt.alloc(), field(row, 1)?)?;
+        let digests = ShaDigests::new(&bytes_of(rt.alloc(), row, 0)?);
+        let receipt = bytes_of(rt.alloc(), row, 1)?;
         let receipt = read_receipt(&receipt).ok_or("no receipt")?;
-        let certificate = bytes_of(rt.alloc(), field(row, 2)?)?;
+        let certificate = bytes_of(rt.alloc(), row, 2)?;
         let certificate = read_certificate(&certificate).ok_or("no certificate")?;
         let found = told(rt.alloc(), &accept(&digests, &receipt, &certificate))?;
-        same(&rt, row, &found.as_str(), &field(row, 3)?);
+        assert_eq!(rt; found.as_str(), field(row, 3)?, "{row}");
     }
     Ok(())
 }
@@ -60,19 +72,15 @@ fn receipts_are_accepted_by_tag_and_epoch(rt: HostRuntime) -> Result<(), Fail> {
 fn what_is_tagged_is_issued_so(rt: HostRuntime) -> Result<(), Fail> {
     for row in ANSWERS.trim().lines() {
         if field(row, 3)? != "not tagged" {
-            let digests = ShaDigests::new(&bytes_of(rt.alloc(), field(row, 0)?)?);
-            let bytes = bytes_of(rt.alloc(), field(row, 1)?)?;
+            let digests = ShaDigests::new(&bytes_of(rt.alloc(), row, 0)?);
+            let bytes = bytes_of(rt.alloc(), row, 1)?;
             let read = read_receipt(&bytes).ok_or("no receipt")?;
-            same_bytes(
-                &rt,
-                row,
-                issue(&digests, &read.operation).as_slice(),
-                &bytes,
-            );
-            let bytes = bytes_of(rt.alloc(), field(row, 2)?)?;
+            let issued = issue(&digests, &read.operation);
+            assert_eq!(rt; issued.as_slice(), bytes.as_slice(), "{row}");
+            let bytes = bytes_of(rt.alloc(), row, 2)?;
             let read = read_certificate(&bytes).ok_or("no certificate")?;
             let issued = certificate(&digests, read.first, read.last);
-            same_bytes(&rt, row, issued.as_slice(), &bytes);
+            assert_eq!(rt; issued.as_slice(), bytes.as_slice(), "{row}");
         }
     }
     Ok(())
@@ -104,9 +112,9 @@ fn is_accepted(digests: &ShaDigests, receipt: &[u8], certificate: &[u8]) -> bool
 fn no_bit_may_change(rt: HostRuntime) -> Result<(), Fail> {
     let alloc = rt.alloc();
     let row = ANSWERS.trim().lines().next().ok_or("no row")?;
-    let digests = ShaDigests::new(&bytes_of(alloc, field(row, 0)?)?);
-    let receipt = bytes_of(alloc, field(row, 1)?)?;
-    let certificate = bytes_of(alloc, field(row, 2)?)?;
+    let digests = ShaDigests::new(&bytes_of(alloc, row, 0)?);
+    let receipt = bytes_of(alloc, row, 1)?;
+    let certificate = bytes_of(alloc, row, 2)?;
     assert!(rt; is_accepted(&digests, &receipt, &certificate));
     for bit in 0..8 * 64 {
         assert!(rt;
@@ -128,8 +136,8 @@ fn no_bit_may_change(rt: HostRuntime) -> Result<(), Fail> {
 #[test]
 fn only_whole_texts_are_read(rt: HostRuntime) -> Result<(), Fail> {
     let row = ANSWERS.trim().lines().next().ok_or("no row")?;
-    let mut receipt = bytes_of(rt.alloc(), field(row, 1)?)?;
-    let mut certificate = bytes_of(rt.alloc(), field(row, 2)?)?;
+    let mut receipt = bytes_of(rt.alloc(), row, 1)?;
+    let mut certificate = bytes_of(rt.alloc(), row, 2)?;
     assert!(rt; read_receipt(&certificate).is_none());
     assert!(rt; read_certificate(&receipt).is_none());
     receipt.push(0)?;
