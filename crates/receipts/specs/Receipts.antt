@@ -1,0 +1,36 @@
+-- The texts of receipts and certificates. All numbers are big-endian.
+use Rattle.std.specs.Prelude.{ℕ, ◌<◌, ◌^◌, Bool, true, false, List, ◌∷◌, ◌++◌}
+use Rattle.std.specs.Int.{w16, w32, w64, to_be_bytes}
+use Rattle.record_hash.specs.Functions.{DigestFunctions}
+use Rattle.record_text.specs.declared.operation.Operation.{Operation}
+use Rattle.record_text.specs.Format.{short_keys}
+use Rattle.record_text.specs.Value.{IsBlob}
+use Rattle.record_text.specs.Element.{IsStamp}
+use Rattle.record_text.specs.Texts.{stamp_text, blob_text}
+
+-- 6 for a get and 7 for a put, as their commands begin
+abbrev pub kind_tag : Bool → ℕ
+kind_tag false = 6
+kind_tag true = 7
+
+-- 1; the stamp, the verifier and the index of the command; its kind, the key, and what was got or put
+unfoldable pub receipt_text : Operation → List ℕ
+receipt_text operation =
+    1 ∷ stamp_text operation.stamp ++ to_be_bytes w16 operation.verifier ++ to_be_bytes w64 operation.index
+    ++ kind_tag operation.put ∷ to_be_bytes w64 operation.key ++ blob_text operation.value
+
+-- 2; the first epoch, and the last that is certified
+unfoldable pub certificate_text : ℕ → ℕ → List ℕ
+certificate_text first last = 2 ∷ to_be_bytes w32 first ++ to_be_bytes w32 last
+
+-- a text and its tag
+abbrev pub tagged : DigestFunctions → List ℕ → List ℕ
+tagged functions text = text ++ functions.tag text
+
+-- the numbers have their widths, and the data value is not too long
+pub record IsOperation (operation : Operation) : Type 0 where
+  pub stamp : IsStamp operation.stamp
+  pub verifier : operation.verifier < 2 ^ 16
+  pub index : operation.index < 2 ^ 64
+  pub key : operation.key < 2 ^ 64
+  pub value : IsBlob short_keys operation.value

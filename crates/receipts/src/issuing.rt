@@ -1,0 +1,112 @@
+//! Receipts and certificates are issued: each is its text and the tag of the text.
+ghost use Rattle.std.specs.Prelude.{◌≡◌, ◌+◌, ◌≤◌, ◌++◌, length};
+ghost use Rattle.arrayvec.specs.ArrayVec.{array_vec_len};
+ghost use Rattle.record_text.specs.Texts.{blob_text};
+ghost use Rattle.receipts.specs.Receipts.{kind_tag, receipt_text, certificate_text, tagged};
+
+use crate::tagged_texts::TAG_LEN;
+use arrayvec::ArrayVec;
+use record_hash::Digests;
+use record_text::{Blob, Operation, push_stamp, push_u16};
+
+/// The first byte of a receipt.
+pub(crate) const RECEIPT: u8 = 1;
+
+/// The first byte of a certificate.
+pub(crate) const CERTIFICATE: u8 = 2;
+
+/// The kinds of operations, as the tags of their commands.
+pub(crate) const GET: u8 = 6;
+
+pub(crate) const PUT: u8 = 7;
+
+/// The most bytes of a receipt with its tag.
+pub const LONGEST_RECEIPT: usize = 126;
+
+/// How many bytes a certificate with its tag has.
+pub const CERTIFICATE_LEN: usize = 41;
+
+/// The receipt of an operation: its text and the text's tag.
+pub fn issue<D: Digests>(digests: &D, operation: &Operation) -> ArrayVec<u8, LONGEST_RECEIPT>
+    ensures text { result.items ≡ tagged (D.functions digests.now) (receipt_text operation.now) }
+{
+    let mut receipt = receipt_text(operation);
+    let tag = digests.tag(receipt.as_slice());
+    push_all(&mut receipt, &tag);
+    receipt
+}
+
+/// The certificate of the epochs from the first on: its text and the text's tag.
+pub fn certificate<D: Digests>(digests: &D, first: u32, last: u32) -> ArrayVec<u8, CERTIFICATE_LEN>
+    ensures text { result.items ≡ tagged (D.functions digests.now) (certificate_text first last) }
+{
+    let mut certificate = certificate_text(first, last);
+    let tag = digests.tag(certificate.as_slice());
+    push_all(&mut certificate, &tag);
+    certificate
+}
+
+// The text of a receipt, with room for a tag.
+#[tactic(auto, unfolding(crate::specs::Receipts::receipt_text))]
+pub(crate) fn receipt_text(operation: &Operation) -> ArrayVec<u8, LONGEST_RECEIPT>
+    ensures text { result.items ≡ receipt_text operation.now }
+    ensures room { array_vec_len result + TAG_LEN ≤ LONGEST_RECEIPT }
+{
+    let mut text = ArrayVec::new();
+    text.push(RECEIPT);
+    push_stamp(&mut text, operation.stamp);
+    push_u16(&mut text, operation.verifier);
+    push_all(&mut text, &operation.index.to_be_bytes());
+    text.push(kind_tag(operation.put));
+    push_all(&mut text, &operation.key.to_be_bytes());
+    push_blob(&mut text, &operation.value);
+    text
+}
+
+// The text of a certificate, with room for a tag.
+#[tactic(auto, unfolding(crate::specs::Receipts::certificate_text))]
+pub(crate) fn certificate_text(first: u32, last: u32) -> ArrayVec<u8, CERTIFICATE_LEN>
+    ensures text { result.items ≡ certificate_text first last }
+    ensures room { array_vec_len result + TAG_LEN ≤ CERTIFICATE_LEN }
+{
+    let mut text = ArrayVec::new();
+    text.push(CERTIFICATE);
+    push_all(&mut text, &first.to_be_bytes());
+    push_all(&mut text, &last.to_be_bytes());
+    text
+}
+
+// The tag of the command of a get or a put.
+fn kind_tag(put: bool) -> u8
+    ensures value { result ≡ kind_tag put }
+{
+    if put { PUT } else { GET }
+}
+
+// Appends the text of a data value, of at most 66 bytes.
+fn push_blob<const CAP: usize>(items: &mut ArrayVec<u8, CAP>, blob: &Blob)
+    requires room { array_vec_len items.old + 66 ≤ CAP }
+    ensures text { items.new.items ≡ items.old.items ++ blob_text blob.now }
+    ensures len { array_vec_len items.new ≤ array_vec_len items.old + 66 }
+{
+    match blob.bytes() {
+        None => items.push(0),
+        Some(bytes) => {
+            items.push(1);
+            items.push(bytes.len() as u8);
+            push_all(items, bytes);
+        }
+    }
+}
+
+// Appends bytes that there is room for.
+fn push_all<const CAP: usize>(items: &mut ArrayVec<u8, CAP>, bytes: &[u8])
+    requires room { array_vec_len items.old + length bytes.now ≤ CAP }
+    ensures text { items.new.items ≡ items.old.items ++ bytes.now }
+    ensures len { array_vec_len items.new ≡ array_vec_len items.old + length bytes.now }
+{
+    match items.try_extend_from_slice(bytes) {
+        Ok(()) => {}
+        Err(_) => unreachable!(),
+    }
+}
