@@ -2,7 +2,7 @@
 pub mod RenewingLaws
 pub mod TouchedLaws
 pub mod ErrandLaws
-pub mod CountingLaws
+mod CountingLemmas
 mod PlaceLemmas
 mod SavingLemmas
 mod DueLemmas
