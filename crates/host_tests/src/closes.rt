@@ -729,7 +729,7 @@ fn touch(shard: &mut Shard, key: u64, touches: u32) -> Result<(), Fail>
     if shard.records.get(&Path::of_key(key)).is_none() {
         return Err("no record")?;
     }
-    for _touch in 0..touches {
+    for _ in 0..touches {
         shard.touch(key);
     }
     Ok(())

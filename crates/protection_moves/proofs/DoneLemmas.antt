@@ -56,10 +56,6 @@ module _ (format : Format) (digest : Digest) (worker : ℕ) where
     leaves = rest.leaves;
   }
 
-  -- none
-  pub errands_none : (old : Stage) (before after : List Command) (last : Command) → after ≡ before ++ last ∷ [] → AreDone format digest worker old [] before last after old
-  errands_none old before after last logged = record { trips = []; errands = refl; ways = tt; logged = logged; leaves = refl }
-
   -- A hot record comes back, and then there are others.
   pub errands_back : (shard mid_shard : Shard) (found : HotRecord) (clock next : Reading) (errands : List Errand) (before mid after : List Command) (last : Command) (new : Stage)
       (touches : List Bool → ℕ) (places : List Content)

@@ -43,13 +43,13 @@ some_of {X} x y is = ap (or x) is
     or d None = d
     or d (Some z) = z
 
-among_head : (x : ℕ) (xs : List ℕ) → IsAmong (x ∷ xs) x
+pub among_head : (x : ℕ) (xs : List ℕ) → IsAmong (x ∷ xs) x
 among_head x xs = (0, (omega arith, refl))
 
-among_tail : (x v : ℕ) (xs : List ℕ) → IsAmong xs v → IsAmong (x ∷ xs) v
+pub among_tail : (x v : ℕ) (xs : List ℕ) → IsAmong xs v → IsAmong (x ∷ xs) v
 among_tail x v xs is = (suc is.0, (omega (arith, is.1.0), is.1.1))
 
-among_cases : (x v : ℕ) (xs : List ℕ) → IsAmong (x ∷ xs) v → (v ≡ x) ⊎ IsAmong xs v
+pub among_cases : (x v : ℕ) (xs : List ℕ) → IsAmong (x ∷ xs) v → (v ≡ x) ⊎ IsAmong xs v
 among_cases x v xs (zero, is) = inl is.1
 among_cases x v xs (suc i, is) = inr (i, (omega (arith, is.0), is.1))
 

@@ -1,5 +1,5 @@
 -- The move of a shard, put together: what is due, the counters, and the run of its errands.
-use Rattle.std.proofs.Common.{◌≡◌, ◌⊎◌, ℕ, zero, suc, ◌+◌, ◌<◌, Bool, List, [], ◌∷◌, ◌++◌, map, take, length, Option, IsTrue, refl, sym, ◌∙◌, ap, subst, inl, inr, append_assoc, arith}
+use Rattle.std.proofs.Common.{◌≡◌, ◌⊎◌, ℕ, suc, ◌+◌, ◌<◌, Bool, List, [], ◌∷◌, ◌++◌, map, take, length, Option, IsTrue, refl, sym, ◌∙◌, ap, subst, inl, inr, append_assoc, arith}
 use Rattle.std.proofs.Math.Path.{fun_ext}
 use Rattle.std.specs.Prelude.{AllPairs}
 use Rattle.std.specs.List.{AllByRecursion, IsAmong}
@@ -21,20 +21,11 @@ use Rattle.protection_moves.specs.Move.{IsMove, IsPastEnd, begun, handed_out, mo
 use Rattle.protection_moves.specs.Trip.{AreTrips, done_by_each, commands_by_each}
 use Rattle.protection_moves.specs.Done.{AreDone, stage_with, taking_in}
 use Rattle.protection_moves.specs.Due.{AreFirstDue}
-use Rattle.protection_moves.proofs.CountingLaws.{clock_by_each-up, clock_by_each-open}
+use Rattle.protection_moves.proofs.DueLemmas.{among_head, among_tail, among_cases}
+use Rattle.protection_moves.proofs.CountingLemmas.{clock_by_each-up, clock_by_each-open}
 use Rattle.protection_moves.proofs.RenewingLaws.{renewing_each-open}
 
 -- ---- the keys that are due are one list
-
-among_head : (x : ℕ) (xs : List ℕ) → IsAmong (x ∷ xs) x
-among_head x xs = (0, (omega arith, refl))
-
-among_tail : (x v : ℕ) (xs : List ℕ) → IsAmong xs v → IsAmong (x ∷ xs) v
-among_tail x v xs is = (suc is.0, (omega (arith, is.1.0), is.1.1))
-
-among_cases : (x v : ℕ) (xs : List ℕ) → IsAmong (x ∷ xs) v → (v ≡ x) ⊎ IsAmong xs v
-among_cases x v xs (zero, is) = inl is.1
-among_cases x v xs (suc i, is) = inr (i, (omega (arith, is.0), is.1))
 
 -- in a rising list the first is the least
 head_least : (x v : ℕ) (xs : List ℕ) → AllPairs (λ a b. a < b) (x ∷ xs) → IsAmong xs v → x < v

@@ -93,10 +93,6 @@ no_touches kept path none = own (kept path) none
 
 -- ---- several paths
 
--- where nothing is saved, all is as before
-pub nothing_saved : (was now : Tree) (touches : List Bool → ℕ) → CanRestore was touches [] now → now ≡ was
-nothing_saved was now touches can = fun_ext (λ path. can.others path tt)
-
 -- the first of what was saved can be restored
 pub first_there : (was now : Tree) (touches : List Bool → ℕ) (first : SavedRecord) (rest : List SavedRecord) → CanRestore was touches (first ∷ rest) now
     → IsSome first.value → IsSome (now first.path)

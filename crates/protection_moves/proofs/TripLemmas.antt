@@ -1,13 +1,12 @@
 -- A trip along a chain: its commands are commands, and what it leaves of the shard is a shard.
-use Rattle.std.proofs.Common.{◌≡◌, ℕ, suc, ◌<◌, ◌≤◌, ◌^◌, Bool, true, false, List, [], ◌∷◌, ◌++◌, length, ◌-◌, Option, Some, None, IsSome, if◌then◌else◌, refl, sym, ◌∙◌, ap, subst, arith}
+use Rattle.std.proofs.Common.{◌≡◌, ℕ, suc, ◌<◌, ◌≤◌, ◌^◌, Bool, true, false, List, [], ◌∷◌, ◌++◌, length, ◌-◌, Option, Some, None, if◌then◌else◌, refl, sym, ◌∙◌, ap, subst, arith}
 use Rattle.std.proofs.lemmas.Bool.{false≢true}
 use Rattle.std.proofs.lemmas.Option.{none-some, same_Some}
 use Rattle.std.proofs.Math.Path.{fun_ext}
 use Rattle.std.specs.Prelude.{slice_get}
 use Rattle.std.specs.List.{AllByRecursion}
-use Rattle.tree_keys.specs.Path.{side, same_path, IsBelow}
+use Rattle.tree_keys.specs.Path.{side, same_path}
 use Rattle.tree_keys.proofs.PathLaws.{same_path-true}
-use Rattle.tree_keys.proofs.SideLaws.{above_apart}
 use Rattle.lamport_clocks.specs.declared.stamp.Stamp.{Stamp}
 use Rattle.record_text.specs.declared.element.Element.{Element}
 use Rattle.record_text.specs.declared.value.Pointer.{Pointer}
@@ -98,15 +97,6 @@ hot_typed format shard key links stamp before after fits whole chain stamped is 
     (λ from link. become_hot_typed format stamp from link stamped)))
 
 -- ---- a chain whose last record is lent
-
--- a chain to a path below its start has a link
-pub chain_some : (format : Format) (tree : Tree) (key at : List Bool) (value : Value) (links : List Link) → IsBelow at key → IsChain format tree key at value links → 0 < length links
-chain_some format tree key at value [] below ends = absurd (go (side at key) refl below)
-  where
-    go : (s : Option Bool) → side at key ≡ s → IsSome s → ⊥
-    go None is some = false≢true some
-    go (Some on) is some = above_apart at key on is ends
-chain_some format tree key at value (link ∷ links) below chain = omega arith
 
 -- the chain's last path is the key
 last_key : (format : Format) (tree : Tree) (key at : List Bool) (value : Value) (above : List Link) (link : Link)

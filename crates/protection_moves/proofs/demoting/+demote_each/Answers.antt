@@ -10,7 +10,7 @@ use Rattle.host_shard.specs.Shown.{shown}
 use Rattle.protection_moves.specs.Errand.{promotes}
 use Rattle.protection_moves.specs.Saving.{IsSavedOf}
 use Rattle.protection_moves.specs.Trip.{with_back}
-use Rattle.protection_moves.proofs.CountingLaws.{past_by_first_errand}
+use Rattle.protection_moves.proofs.CountingLemmas.{past_by_first_errand}
 use Rattle.protection_moves.proofs.SavingLemmas.{no_touches}
 use Rattle.protection_moves.proofs.TripLemmas.{back_is}
 use Rattle.protection_moves.proofs.DoneLemmas.{rest_own, rest_own_back, rest_open, rest_within_back, errands_returned}

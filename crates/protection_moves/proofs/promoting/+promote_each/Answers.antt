@@ -11,7 +11,7 @@ use Rattle.protection_moves.specs.Errand.{promotes}
 use Rattle.protection_moves.specs.Due.{AreRising}
 use Rattle.protection_moves.specs.Saving.{IsSavedOf}
 use Rattle.protection_moves.specs.Trip.{without_record}
-use Rattle.protection_moves.proofs.CountingLaws.{clock_by_each-up}
+use Rattle.protection_moves.proofs.CountingLemmas.{clock_by_each-up}
 use Rattle.protection_moves.proofs.SavingLemmas.{dropped_values}
 use Rattle.protection_moves.proofs.TripLemmas.{but_is}
 use Rattle.protection_moves.proofs.DoneLemmas.{all_fit, rest_own, rest_within, errands_promoted}
