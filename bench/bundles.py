@@ -20,7 +20,7 @@ import random
 import sys
 
 sys.path.insert(0, os.path.join(os.path.dirname(os.path.abspath(__file__)), "..", "tools"))
-import slow_fastver as slow
+import slow_verifier as slow
 
 MIB = 2**20
 FRAME, EPOCH = 65536, 8 * MIB
@@ -37,8 +37,7 @@ class Bundle:
         self.file, self.size, self.commands = file, 0, 0
         self.epoch, self.counters = FIRST, [0] * verifiers
         self.waiting = [bytearray() for _ in range(verifiers)]
-        header = ((verifiers, 2), (cache, 4), (FIRST, 4), (END, 4))
-        file.write(b"FVB1" + b"".join(number.to_bytes(size, "big") for number, size in header))
+        file.write(slow.header_text((verifiers, cache, FIRST, END)))
 
     def log(self, verifier, *texts):
         waiting = self.waiting[verifier]

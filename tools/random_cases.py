@@ -1,75 +1,27 @@
 #!/usr/bin/env python3
-"""Writes random bundles with the report, status and words that the slow program finds for each.
+"""Writes random bundles and scripts with the output, status and vault that the slow program finds for each.
 
 usage: random_cases.py FOLDER COUNT SEED
 
 A host is played that walks over few keys: most of its commands are right, some are anything, and some
 bundles are cut or have a byte changed. Every second bundle has 2 to 4 verifiers, between which records move
 under stamps. The first two bundles are longer than what a program reads at a time. Every third bundle is also
-audited. A few cases more are of words, most of them refused, one of them no text. It says how many cases it wrote,
-and fails where that is none.
+audited. For each bundle there is a script, once `run` is there: of one worker, of several where the program takes that
+many, each with shards of its own, and of hot records where there are any. A few cases more are of words, most of them
+refused, one of them no text. It says how many cases it wrote, and fails where that is none.
 """
 import os
 import random
 import sys
 
-import slow_fastver as slow
+import random_scripts
+import slow_fastver
+import slow_verifier as slow
+import word_cases
+from random_scripts import LATER, MOST_WORKERS
 
 KEYS = [format(key, "064b") for key in (0, 1, 5, 2**63, 2**63 + 1, 2**64 - 1)]
 NODES = ["", "0", "1", "0" * 61, "0" * 63, "1" + "0" * 62, "10", "11"]
-KEY = "00" * 16
-LONGEST = "aB3f" * 32
-# one epoch, in which nothing is done
-SMALL = bytes.fromhex("46564231 0001 00000004 00000000 0000ffff 0000 00000002 0808")
-# what may follow a command: the first three are accepted
-ENDS = [
-    ["--key", KEY],
-    ["--key=" + KEY],
-    ["--key", LONGEST],
-    [],
-    ["--key"],
-    ["--key", ""],
-    ["--key", KEY[:30]],
-    ["--key", KEY[:31]],
-    ["--key", KEY + "0"],
-    ["--key", LONGEST + "00"],
-    ["--key", KEY[:-1] + "g"],
-    ["--key", KEY, "--key", KEY],
-    ["--key", KEY, "more"],
-    ["--keys", KEY],
-    ["--key", KEY, "--receipts"],
-    ["--", "--key", KEY],
-]
-OTHER_WORDS = [
-    [],
-    [""],
-    ["help"],
-    ["--help"],
-    ["-h"],
-    ["--version"],
-    ["check", "--help"],
-    ["--key", KEY, "check"],
-    ["Check", "--key", KEY],
-    ["check", "--key", KEY + "\u00e9\u00e9"],
-    ["check", "--key", os.fsdecode(b"\xff" * 32)],
-]
-ALL_WORDS = [[command] + end for command in ("check", "audit") for end in ENDS] + OTHER_WORDS
-TAGS = {"addM": 1, "evictM": 2, "addB": 3, "evictB": 4, "evictBM": 5, "get": 6, "put": 7, "nextEpoch": 8}
-
-
-def command_text(command):
-    name, *fields = command
-    text = bytes([TAGS[name]])
-    for place, part in enumerate(fields):
-        if name in ("addM", "addB", "get", "put") and place == 1:
-            text += slow.value_text(fields[0], part)
-        elif isinstance(part, str):
-            text += slow.path_text(part)
-        elif isinstance(part, tuple):
-            text += part[0].to_bytes(4, "big") + part[1].to_bytes(4, "big")
-        else:
-            text += part.to_bytes(2, "big")
-    return text
 
 
 def nodes_above(verifier, path):
@@ -93,7 +45,7 @@ class Host:
             verifier.step(command)
         except slow.Fault:
             return False
-        self.logs[verifier.number] += command_text(command)
+        self.logs[verifier.number] += slow.command_text(command)
         if command[0] in ("evictM", "evictB", "evictBM"):
             self.left[command[1]] = entry.value
         if command[0] in ("evictB", "evictBM"):
@@ -193,7 +145,7 @@ class Host:
         else:
             command = self.any_command(verifier)
         if not self.give(verifier, command) and self.chance.random() < 0.002 / len(self.verifiers):
-            self.logs[verifier.number] += command_text(command)
+            self.logs[verifier.number] += slow.command_text(command)
 
     def play(self, commands):
         for _ in range(commands):
@@ -207,7 +159,7 @@ class Host:
 
 def framed(chance, header, logs):
     """The bundle of some logs, each cut anywhere, their frames between each other's."""
-    bundle = b"FVB1" + b"".join(number.to_bytes(size, "big") for number, size in zip(header, (2, 4, 4, 4)))
+    bundle = slow.header_text(header)
     logs = list(logs)
     while rest := [verifier for verifier, log in enumerate(logs) if log]:
         verifier, size = chance.choice(rest), chance.choice([1, 7, 40, 300, 65536])
@@ -242,19 +194,48 @@ def random_case(chance, number):
     return key.hex(), bundle if number < 2 else marred(chance, bundle)
 
 
-def write_case(folder, name, words, bundle):
-    """Writes a case with what the slow program makes of it."""
-    report, status, said = slow.fastver(words, bundle)
+def is_there(words):
+    """Whether the built program has what words ask for, if the slow one does."""
+    try:
+        options = slow_fastver.options_of(words)
+    except slow_fastver.Usage:
+        return True
+    asked = [words[0]] + [name for name, value in options.items() if value not in (None, False)]
+    return not any(word in LATER for word in asked) and options.get("--verifiers", 1) <= MOST_WORKERS
+
+
+def write_case(folder, name, words, given, stores=False):
+    """Writes a case with what the slow program makes of it. One that stores has its vault compared too."""
+    asked = words + ["--logs", "vault"] if stores else words
+    (report, status, said, vault), path = slow_fastver.fastver(asked if is_there(asked) else [], given)
     texts = {
-        name: bundle,
+        name: given,
         name + ".args": b"".join(os.fsencode(word) + b"\n" for word in words),
         name + ".stdout": report.encode(),
         os.path.join("status", name): f"{status}\n".encode(),
         os.path.join("stderr", name): said.encode(),
     }
+    if stores:
+        texts[name + ".vault"] = b"none" if path is None else vault
     for path, text in texts.items():
         with open(os.path.join(folder, path), "wb") as file:
             file.write(text)
+
+
+def receipts(number):
+    """The word that asks for receipts, for some numbers, where the program has them."""
+    return ["--receipts"] if number % 8 == 7 and "--receipts" not in LATER else []
+
+
+def write_script(folder, chance, number):
+    """Writes a case of a script. The first ones have each wrong line, and any other may have one."""
+    workers = 1 if number % 2 == 0 else chance.choice([2, 3, 5, 64])
+    hot = number % 4 > 1 and "--hot" not in LATER
+    words, script = random_scripts.random_case(chance, min(workers, MOST_WORKERS), hot, shared=False)
+    words += receipts(number)
+    if number < len(random_scripts.WRONG_LINES):
+        script = word_cases.SCRIPT + random_scripts.WRONG_LINES[number] + b"\n" + word_cases.SCRIPT
+    write_case(folder, f"run-{number:04}", words, script, stores=number % 5 > 0)
 
 
 def main():
@@ -263,12 +244,15 @@ def main():
         os.makedirs(os.path.join(folder, kind), exist_ok=True)
     for number in range(count):
         key, bundle = random_case(chance, number)
-        write_case(folder, f"check-{number:04}", ["check", "--key", key], bundle)
+        write_case(folder, f"check-{number:04}", ["check", "--key", key] + receipts(number), bundle)
         if number % 3 == 1:
             write_case(folder, f"audit-{number:04}", ["audit", "--key", key], bundle)
-    for number, words in enumerate(ALL_WORDS):
-        write_case(folder, f"words-{number:02}", words, SMALL)
-    print(f"{folder}: {count} random bundles, each third one audited too, and {len(ALL_WORDS)} cases of words")
+        if "run" not in LATER:
+            write_script(folder, chance, number)
+    for number, (words, given) in enumerate(word_cases.CASES):
+        write_case(folder, f"words-{number:03}", words, given)
+    scripts, words = 0 if "run" in LATER else count, len(word_cases.CASES)
+    print(f"{folder}: {count} random bundles, each third one audited too, {scripts} scripts, and {words} cases of words")
     return 0 if count > 0 else 1
 
 

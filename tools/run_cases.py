@@ -1,13 +1,16 @@
 #!/usr/bin/env python3
-"""Runs a built program on each case of folders, and compares its output, status and standard error.
+"""Runs a built program on each case of folders, and compares its output, status, standard error and vault.
 
 usage: run_cases.py PROGRAM FOLDER..
 
-It says how many cases it ran, and fails where one comes out otherwise or a folder has none.
+Where NAME.vault is there, the words `--logs FILE` are put behind the others, and the file must then hold just those bytes;
+where they are the one word `none`, no file may be made. It says how many cases it ran, and fails where one comes out
+otherwise or a folder has none.
 """
 import os
 import subprocess
 import sys
+import tempfile
 
 
 def read(*parts):
@@ -15,12 +18,20 @@ def read(*parts):
         return file.read()
 
 
+def read_if_made(*parts):
+    return read(*parts) if os.path.exists(os.path.join(*parts)) else None
+
+
 def differs(program, folder, name):
-    words = read(folder, name + ".args").split(b"\n")[:-1]
-    with open(os.path.join(folder, name), "rb") as bundle:
-        run = subprocess.run([program] + words, stdin=bundle, capture_output=True, timeout=120)
+    words, vault = read(folder, name + ".args").split(b"\n")[:-1], read_if_made(folder, name + ".vault")
+    with open(os.path.join(folder, name), "rb") as given, tempfile.TemporaryDirectory() as logs:
+        path = os.path.join(logs, "vault")
+        more = [] if vault is None else ["--logs", path]
+        run = subprocess.run([program, *words, *more], stdin=given, capture_output=True, timeout=120)
+        logged = read_if_made(path)
     wanted = read(folder, name + ".stdout"), int(read(folder, "status", name)), read(folder, "stderr", name)
-    return (run.stdout, run.returncode, run.stderr) != wanted
+    same_vault = logged == (None if vault == b"none" else vault)
+    return not same_vault or (run.stdout, run.returncode, run.stderr) != wanted
 
 
 def main():

@@ -1,446 +1,86 @@
 #!/usr/bin/env python3
-"""The definitions of docs/DEFINITIONS.md as a plain slow program: what `fastver` must print and answer.
+"""The definitions of docs/DEFINITIONS.md as a plain slow program: what `fastver` must print, answer and write.
 
-usage: slow_fastver.py check|audit --key HEX < BUNDLE
+usage: slow_fastver.py check|audit|run|gen|accept OPTION.. < INPUT
        slow_fastver.py --toy check|audit < BUNDLE
        slow_fastver.py --cases FOLDER..
 
 The second form has digests that are sums of bytes, so that two texts with one digest are easily found. The third one
-compares it with a folder of cases: NAME is a bundle, NAME.args its words, one a line, NAME.stdout what must be
-printed, status/NAME the exit status, stderr/NAME what must be said beside.
+compares it with a folder of cases: NAME is an input, NAME.args its words, one a line, NAME.stdout what must be
+printed, status/NAME the exit status, stderr/NAME what must be said beside. Where NAME.vault is there, it is what must be
+written for the words `--logs PATH` behind the others, or the one word `none`, where nothing is.
+
+What a verifier does with a bundle stands in slow_verifier.py, what a host logs in slow_host.py.
 """
-import hashlib
-import hmac
 import os
 import re
 import sys
-from dataclasses import dataclass, field, replace
+from typing import NamedTuple
 
-MALFORMED, TRUNCATED = "Malformed", "Truncated"
+import slow_host
+import slow_load
+import slow_receipts
+from slow_script import BadScript, read_script
+from slow_verifier import ShaDigests, ToyDigests, findings
 
 
-class Fault(Exception):
-    """The first fault of a text, or the first refusal of a command."""
+class Answer(NamedTuple):
+    """What is written, the exit status, what is said beside, and the vault's bytes, if anything is to be in it."""
 
-
-def test(met, refusal):
-    if met:
-        raise Fault(refusal)
-
-
-# ---- texts: every field in order; one that is cut is Truncated, one out of range Malformed
-
-
-class Bytes:
-    def __init__(self, data):
-        self.data, self.at = data, 0
-
-    def run(self, count):
-        test(self.at + count > len(self.data), TRUNCATED)
-        self.at += count
-        return self.data[self.at - count : self.at]
-
-    def number(self, count):
-        return int.from_bytes(self.run(count), "big")
-
-    def path(self):
-        length, *word = self.run(9)
-        bits = "".join(f"{byte:08b}" for byte in word)
-        test(length > 64 or "1" in bits[length:], MALFORMED)
-        return bits[:length]
-
-    def value(self, path):
-        return self.blob() if len(path) == 64 else (self.pointer(path + "0"), self.pointer(path + "1"))
-
-    def blob(self):
-        present = self.number(1)
-        test(present > 1, MALFORMED)
-        if not present:
-            return None
-        length = self.number(1)
-        test(length > 64, MALFORMED)
-        return self.run(length)
-
-    def pointer(self, prefix):
-        tag = self.number(1)
-        test(tag > 2, MALFORMED)
-        if tag == 0:
-            return None
-        path = self.path()
-        test(not path.startswith(prefix), MALFORMED)
-        return Pointer(path, self.run(32), tag == 2)
-
-    def stamp(self):
-        return (self.number(4), self.number(4))
-
-    def command(self):
-        tag = self.number(1)
-        if tag == 1:
-            path = self.path()
-            return ("addM", path, self.value(path), self.path())
-        if tag == 2:
-            return ("evictM", self.path(), self.path())
-        if tag == 3:
-            path = self.path()
-            return ("addB", path, self.value(path), self.stamp(), self.number(2))
-        if tag == 4:
-            return ("evictB", self.path(), self.stamp())
-        if tag == 5:
-            return ("evictBM", self.path(), self.path(), self.stamp())
-        if tag in (6, 7):
-            path = self.path()
-            return ("get" if tag == 6 else "put", path, self.value(path))
-        test(tag != 8, MALFORMED)
-        return ("nextEpoch",)
-
-
-@dataclass(frozen=True)
-class Pointer:
-    path: str
-    digest: bytes
-    deferred: bool
-
-
-def path_text(path):
-    return bytes([len(path)]) + int(path.ljust(64, "0"), 2).to_bytes(8, "big")
-
-
-def pointer_text(pointer):
-    if pointer is None:
-        return b"\0"
-    return bytes([2 if pointer.deferred else 1]) + path_text(pointer.path) + pointer.digest
-
-
-def value_text(path, value):
-    if len(path) < 64:
-        return pointer_text(value[0]) + pointer_text(value[1])
-    return b"\0" if value is None else bytes([1, len(value)]) + value
-
-
-def element_text(path, value, stamp, verifier):
-    numbers = stamp[0].to_bytes(4, "big") + stamp[1].to_bytes(4, "big") + verifier.to_bytes(2, "big")
-    return path_text(path) + value_text(path, value) + numbers
-
-
-# ---- digests
-
-
-class ShaDigests:
-    def __init__(self, key):
-        self.key = key
-
-    def text_digest(self, text):
-        return hashlib.sha256(text).digest()
-
-    def element_lanes(self, text):
-        tag = hmac.new(self.key, b"\1" + text, "sha256").digest()
-        return [int.from_bytes(tag[at : at + 4], "big") for at in range(0, 32, 4)]
-
-
-class ToyDigests:
-    """The sum of the bytes of a text, as its digest and as its first lane."""
-
-    def text_digest(self, text):
-        return (sum(text) % 2**32).to_bytes(32, "big")
-
-    def element_lanes(self, text):
-        return [sum(text) % 2**32] + [0] * 7
-
-
-# ---- one verifier
-
-
-def side(above, below):
-    """On which side of a path another lies, properly below it."""
-    return int(below[len(above)]) if below.startswith(above) and below != above else None
-
-
-def initial(path):
-    return None if len(path) == 64 else (None, None)
-
-
-def with_side(node, on, pointer):
-    return (pointer, node[1]) if on == 0 else (node[0], pointer)
-
-
-@dataclass
-class Entry:
-    value: object
-    hold: str
-    kids: list = field(default_factory=lambda: [False, False])
-
-
-@dataclass
-class Tally:
-    lanes: list = field(default_factory=lambda: [0] * 8)
-    count: int = 0
-
-
-@dataclass(frozen=True)
-class Event:
-    """What an accepted command did: a `get` or `put` of a path, with the value; an element's text that was `added` or
-    `evicted`, of an epoch; or, of a path, the text of the value that `left` by evictM, or that came `back` by addM
-    where the parent's pointer led to the path."""
-
-    moment: tuple  # epoch and counter after it, verifier, and its index in the log
-    deed: str
-    of: object
-    what: object
-
-
-class Verifier:
-    def __init__(self, digests, number, header):
-        self.digests, self.number = digests, number
-        self.verifiers, self.room, self.first, self.end = header
-        self.epoch, self.counter = self.first, 0
-        self.cache = {"": Entry((None, None), "Root")} if number == 0 else {}
-        self.added, self.evicted = {}, {}
-        self.accepted = 0
-        self.events = []
-        self.parts = []  # of each epoch that was sealed, from the first on: what was added, and what evicted
-
-    def step(self, command):
-        getattr(self, command[0])(*command[1:])
-        self.accepted += 1
-
-    def tell(self, deed, of, what):
-        self.events.append(Event((self.epoch, self.counter, self.number, self.accepted), deed, of, what))
-
-    def digest(self, path, value):
-        return self.digests.text_digest(value_text(path, value))
-
-    def holder(self, path, parent):
-        """The parent of a child that it is to lead to, the child's side, and the parent's pointer of that side."""
-        child, holder = self.cache[path], self.cache[parent]
-        on = side(parent, path)
-        test(on is None, "NotBelow")
-        pointer = holder.value[on]
-        test(pointer is None or pointer.path != path, "NotChild")
-        test(any(child.kids), "HasChild")
-        return child, holder, on, pointer
-
-    def comes_in(self, path):
-        test(path == "", "IsRoot")
-        test(path in self.cache, "AlreadyCached")
-        test(len(self.cache) >= self.room, "CacheFull")
-
-    def stays_with(self, path, parent):
-        test(path == "", "IsRoot")
-        test(path not in self.cache, "NotCached")
-        test(parent not in self.cache, "ParentNotCached")
-
-    def addM(self, path, value, parent):
-        self.comes_in(path)
-        test(parent not in self.cache, "ParentNotCached")
-        holder, on = self.cache[parent], side(parent, path)
-        test(on is None, "NotBelow")
-        pointer = holder.value[on]
-        entry = Entry(value, "M")
-        if pointer is not None and pointer.path == path:
-            test(pointer.deferred, "Deferred")
-            test(pointer.digest != self.digest(path, value), "WrongDigest")
-            test(holder.kids[on], "HasChild")
-            self.tell("back", path, value_text(path, value))
-        else:
-            below = None if pointer is None else side(path, pointer.path)
-            test(pointer is not None and below is None, "Foreign")
-            test(value != initial(path), "NotInitial")
-            holder.value = with_side(holder.value, on, Pointer(path, self.digest(path, value), False))
-            if below is not None:
-                entry.value = with_side(entry.value, below, pointer)
-                entry.kids[below] = holder.kids[on]
-        holder.kids[on] = True
-        self.cache[path] = entry
-
-    def evictM(self, path, parent):
-        self.stays_with(path, parent)
-        child, holder, on, pointer = self.holder(path, parent)
-        by_digest = holder.kids[on] and not pointer.deferred
-        by_stamp = not holder.kids[on] and pointer.deferred
-        test(not (by_digest if child.hold == "M" else by_stamp), "WrongHold")
-        holder.value = with_side(holder.value, on, Pointer(path, self.digest(path, child.value), False))
-        holder.kids[on] = False
-        del self.cache[path]
-        self.tell("left", path, value_text(path, child.value))
-
-    def addB(self, path, value, stamp, verifier):
-        self.comes_in(path)
-        test(verifier >= self.verifiers, "NoSuchVerifier")
-        epoch, counter = stamp
-        before = self.epoch > self.first and epoch == self.epoch - 1
-        test(epoch != self.epoch and not before, "BadEpoch")
-        after = 1 + max(self.counter, counter if epoch == self.epoch else 0)
-        test(after > self.end, "ClockEnd")
-        self.counter = after
-        self.join(self.added, "added", epoch, element_text(path, value, stamp, verifier))
-        self.cache[path] = Entry(value, "B")
-
-    def sends(self, stamp):
-        test(stamp[0] != self.epoch, "BadEpoch")
-        test(stamp[1] <= self.counter, "StampNotLater")
-        test(stamp[1] > self.end, "ClockEnd")
-
-    def leaves(self, path, stamp):
-        self.counter = stamp[1]
-        text = element_text(path, self.cache.pop(path).value, stamp, self.number)
-        self.join(self.evicted, "evicted", self.epoch, text)
-
-    def evictB(self, path, stamp):
-        test(path == "", "IsRoot")
-        test(path not in self.cache, "NotCached")
-        test(any(self.cache[path].kids), "HasChild")
-        test(self.cache[path].hold != "B", "WrongHold")
-        self.sends(stamp)
-        self.leaves(path, stamp)
-
-    def evictBM(self, path, parent, stamp):
-        self.stays_with(path, parent)
-        child, holder, on, pointer = self.holder(path, parent)
-        test(child.hold != "M" or not holder.kids[on], "WrongHold")
-        self.sends(stamp)
-        holder.value = with_side(holder.value, on, replace(pointer, deferred=True))
-        holder.kids[on] = False
-        self.leaves(path, stamp)
-
-    def data(self, path):
-        test(path not in self.cache, "NotCached")
-        test(len(path) != 64, "NotData")
-        return self.cache[path]
-
-    def get(self, path, value):
-        test(self.data(path).value != value, "WrongValue")
-        self.tell("get", path, value)
-
-    def put(self, path, value):
-        self.data(path).value = value
-        self.tell("put", path, value)
-
-    def nextEpoch(self):
-        test(self.epoch == 2**32 - 1, "ClockEnd")
-        if self.epoch > self.first:
-            sealed = self.epoch - 1
-            self.parts.append((self.added.get(sealed, Tally()), self.evicted.get(sealed, Tally())))
-        self.epoch, self.counter = self.epoch + 1, 0
-
-    def join(self, sums, deed, epoch, text):
-        tally = sums.setdefault(epoch, Tally())
-        tally.lanes = [sum(lane) for lane in zip(tally.lanes, self.digests.element_lanes(text))]
-        tally.count += 1
-        self.tell(deed, epoch, text)
-
-
-# ---- a bundle and its report
-
-
-def read_bundle(data):
-    """The header, the log of each verifier, and the offset of what is bad, if anything is."""
-    if len(data) < 18 or data[:4] != b"FVB1":
-        return None, [], 0
-    header = tuple(int.from_bytes(data[a:b], "big") for a, b in ((4, 6), (6, 10), (10, 14), (14, 18)))
-    verifiers, cache, _, end = header
-    if not (1 <= verifiers <= 64 and 4 <= cache <= 65536 and 1 <= end <= 16777215):
-        return None, [], 0
-    logs, at = [b""] * verifiers, 18
-    while at < len(data):
-        head = data[at : at + 6]
-        verifier, length = int.from_bytes(head[:2], "big"), int.from_bytes(head[2:], "big")
-        body = data[at + 6 : at + 6 + length]
-        if len(head) < 6 or verifier >= verifiers or not 1 <= length <= 65536 or len(body) < length:
-            return header, logs, at
-        logs[verifier] += body
-        at += 6 + length
-    return header, logs, None
-
-
-def read_log(verifier, log):
-    """Has a verifier read its log, up to the first refusal, and tells that refusal, if there is one."""
-    text = Bytes(log)
-    while text.at < len(log):
-        try:
-            verifier.step(text.command())
-        except Fault as fault:
-            return f"refused v{verifier.number} command {verifier.accepted} {fault}\n"
-    return None
-
-
-def together(tallies):
-    """The sum of what all verifiers have added, or have evicted."""
-    lanes = [sum(lane) for lane in zip(*(tally.lanes for tally in tallies))]
-    return Tally(lanes, sum(tally.count for tally in tallies))
-
-
-def certified(verifiers):
-    """How many epochs are certified, and the two sums of the next one, if all have sealed it."""
-    sealed_by_all = min(len(verifier.parts) for verifier in verifiers)
-    for place in range(sealed_by_all):
-        added, evicted = (together([verifier.parts[place][of] for verifier in verifiers]) for of in (0, 1))
-        if added != evicted:
-            return place, (added, evicted)
-    return sealed_by_all, None
-
-
-@dataclass
-class Findings:
-    """Of a bundle: its first epoch, how many are certified, all events in order, the report's last line, the status."""
-
-    first: int
-    count: int
-    order: list
-    last: str
+    written: str
     status: int
-
-    def epochs(self):
-        return range(self.first, self.first + self.count)
-
-
-def findings(digests, data):
-    header, logs, bad = read_bundle(data)
-    if header is None:
-        return Findings(0, 0, [], "bad bundle at byte 0\n", 7)
-    verifiers = [Verifier(digests, number, header) for number in range(len(logs))]
-    refusals = [read_log(verifier, log) for verifier, log in zip(verifiers, logs)]
-    order = sorted((event for verifier in verifiers for event in verifier.events), key=lambda event: event.moment)
-    count, sums = certified(verifiers)
-    return Findings(header[2], count, order, *ending(header[2], count, sums, refusals, bad))
+    said: str
+    vault: bytes | None = None
 
 
-def ending(first, count, sums, refusals, bad):
-    """The report's last line and the exit status."""
-    if sums is not None:
-        added, evicted = sums
-        return f"epoch {first + count} unbalanced added {added.count} evicted {evicted.count}\n", 9
-    for refusal in refusals:
-        if refusal is not None:
-            return refusal, 8
-    if bad is not None:
-        return f"bad bundle at byte {bad}\n", 7
-    return f"done {count}\n", 0
+def answer(written, last, status, vault=None):
+    """The answer whose text ends with a line, which is said beside where the status isn't 0."""
+    return Answer(written + last, status, "fastver: " + last if status else "", vault)
 
 
-def check(found):
-    """The report, the exit status, and what is said beside."""
-    report = ""
-    for epoch in found.epochs():
-        lines = [line(event) for event in found.order if event.moment[0] == epoch and event.deed in ("get", "put")]
-        report += f"epoch {epoch} certified {len(lines)}\n" + "".join(lines)
-    return report + found.last, found.status, "fastver: " + found.last if found.status else ""
+# ---- a report
 
 
-def line(event):
-    (epoch, counter, verifier, _), value = event.moment, event.what
+def operations(found):
+    """The gets and puts of the certified epochs in order, each its moment, `get` or `put`, a path and a value."""
+    asked = [event for event in found.order if event.deed in ("get", "put")]
+    return [(event.moment, event.deed, event.of, event.what) for event in asked if event.moment[0] in found.epochs()]
+
+
+def line(operation):
+    (epoch, counter, verifier, _), kind, path, value = operation
     text = "none" if value is None else value.hex() or "."
-    return f"{epoch}.{counter} v{verifier} {event.deed} {int(event.of, 2)} {text}\n"
+    return f"{epoch}.{counter} v{verifier} {kind} {int(path, 2)} {text}\n"
+
+
+def report(found, digests=None):
+    """The lines of each certified epoch, with receipts under the key of the digests that are given."""
+    written, all_operations = "", operations(found)
+    for epoch in found.epochs():
+        of_epoch = [operation for operation in all_operations if operation[0][0] == epoch]
+        written += f"epoch {epoch} certified {len(of_epoch)}\n"
+        for operation in of_epoch:
+            written += line(operation)
+            if digests is not None:
+                written += f"receipt {slow_receipts.tagged(digests, slow_receipts.receipt_text(operation))}\n"
+        if digests is not None:
+            written += f"certificate {slow_receipts.tagged(digests, slow_receipts.certificate_text(found.first, epoch))}\n"
+    return written
+
+
+def check(found, digests=None):
+    return answer(report(found, digests), found.last, found.status)
 
 
 # ---- an audit
 
 
 def audit(found):
-    """The exhibit with the report's last line, the exit status, and what is said beside."""
+    """The exhibit, and the report's last line."""
     shown = uneven(found) or clash(found)
     if shown is not None:
-        return shown + found.last, 13, "fastver: exhibit\n"
-    return f"clean {found.count}\n" + found.last, *check(found)[1:]
+        return Answer(shown + found.last, 13, "fastver: exhibit\n")
+    return answer(f"clean {found.count}\n", found.last, found.status)
 
 
 def elements(found, deed, epoch):
@@ -470,44 +110,195 @@ def clash(found):
     return None
 
 
-# ---- the program
+# ---- the host's commands
 
 
-def digits_of(words):
-    """The digits of the option --key, which stands alone behind the command; none where the words are others."""
-    if len(words) == 3 and words[1] == "--key":
-        return words[2]
-    return words[1][6:] if len(words) == 2 and words[1].startswith("--key=") else ""
+def clock_end(worker):
+    epoch, counter = worker.clock
+    return f"clock end worker {worker.number} at {epoch}.{counter}\n"
 
 
-COMMANDS = {"check": check, "audit": audit}
+def summary(found, shape):
+    """What was certified of a load."""
+    written, done = f"gen seed {shape.seed} ops {shape.ops}\nepochs {found.count}\n", operations(found)
+    for worker in range(shape.verifiers):
+        own = [(kind, value is None) for moment, kind, _, value in done if moment[2] == worker]
+        gets, none = sum(kind == "get" for kind, _ in own), own.count(("get", True))
+        puts, dels = own.count(("put", False)), own.count(("put", True))
+        written += f"worker {worker} gets {gets} none {none} puts {puts} dels {dels}\n"
+    return written
+
+
+def told(command, options, vault, ended):
+    """What `run` or `gen` answers where a host has written this bundle, and the clock of a worker ended, if one did."""
+    digests = ShaDigests(options["--key"])
+    found = findings(digests, vault)
+    if command == "gen":
+        written, last, status = summary(found, load_of(options)), "", 0
+    else:
+        written, last, status = report(found, digests if options["--receipts"] else None), found.last, found.status
+    if ended is not None:
+        last, status = clock_end(ended), 10
+    return answer(written, last, status, vault)
+
+
+def accept(digests, data):
+    accepted = slow_receipts.accept(digests, data)
+    if accepted in ("not tagged", "not certified"):
+        return answer("", accepted + "\n", 11 if accepted == "not tagged" else 12)
+    return Answer("accepted " + line(accepted), 0, "")
+
+
+# ---- the program's words
+
+RANGES = {
+    "--verifiers": (1, 64),
+    "--shards": (2, 1024),
+    "--hot": (1, 1000000),
+    "--first": (0, 2**32 - 1),
+    "--counter": (1, 16777215),
+    "--seed": (0, 2**64 - 1),
+    "--ops": (0, 1000000),
+    "--keys": (1, 65536),
+    "--every": (1, 1000000),
+}
+NEEDED = object()
+KEY, RECEIPTS = {"--key": NEEDED}, {"--receipts": False}
+HOST = KEY | {"--verifiers": NEEDED, "--shards": NEEDED, "--hot": None, "--first": 0, "--counter": 16777215, "--logs": None}
+# the options of each command, with what stands for those that are left out; one that is False takes no value
+OPTIONS = {
+    "check": KEY | RECEIPTS,
+    "audit": KEY,
+    "run": HOST | RECEIPTS,
+    "gen": HOST | {"--seed": NEEDED, "--ops": NEEDED, "--keys": 1024, "--every": 10000},
+    "accept": KEY,
+}
+
+
+class Usage(Exception):
+    """The words are refused."""
+
+
+def need(met):
+    if not met:
+        raise Usage
+
+
+def found_in(words, names):
+    """What follows each option in the words, or is attached to it. Each stands there once at most."""
+    found, words = {}, list(words)
+    while words:
+        word = words.pop(0)
+        if word == "--":
+            need(not words)
+            break
+        name, attached, value = word.partition("=")
+        need(name in names and name not in found)
+        if names[name] is False:
+            need(not attached)
+            value = True
+        elif not attached:
+            need(words and (words[0] == "-" or not words[0].startswith("-")))
+            value = words.pop(0)
+        found[name] = value
+    return found
+
+
+def value_of(name, text):
+    """What the text of an option says."""
+    if name == "--key":
+        need(re.fullmatch("([0-9a-fA-F]{2}){16,64}", text))
+        return bytes.fromhex(text)
+    if name not in RANGES:
+        return text  # a path, or that a flag is there
+    need(re.fullmatch("0|[1-9][0-9]{0,19}", text))
+    number, (least, most) = int(text), RANGES[name]
+    need(least <= number <= most and (name != "--shards" or number & (number - 1) == 0))
+    return number
+
+
+def options_of(words):
+    """The options of a command, by name."""
+    need(words and words[0] in OPTIONS)
+    names = OPTIONS[words[0]]
+    options = names | {name: value_of(name, text) for name, text in found_in(words[1:], names).items()}
+    need(NEEDED not in options.values())
+    return options
+
+
+def settings_of(options):
+    return slow_host.Settings(*(options[name] for name in ("--verifiers", "--shards", "--hot", "--first", "--counter")))
+
+
+def load_of(options):
+    return slow_load.Shape(*(options[name] for name in ("--seed", "--ops", "--verifiers", "--keys", "--every")))
+
+
+def phases_of(command, options, data):
+    """What a host is asked: the phases of the script, or those of a load."""
+    if command == "gen":
+        data = "".join(f"{line}\n" for line in slow_load.lines(*load_of(options))).encode()
+    return read_script(data, options["--verifiers"])
+
+
+def obeyed(command, options, data):
+    digests = ShaDigests(options["--key"])
+    if command == "check":
+        return check(findings(digests, data), digests if options["--receipts"] else None)
+    if command == "audit":
+        return audit(findings(digests, data))
+    if command == "accept":
+        return accept(digests, data)
+    phases = phases_of(command, options, data)
+    return told(command, options, *slow_host.run(digests, settings_of(options), phases))
 
 
 def fastver(words, data):
-    digits = digits_of(words)
-    if not re.fullmatch("([0-9a-fA-F]{2}){16,64}", digits) or words[0] not in COMMANDS:
-        return "", 1, "fastver: usage\n"
-    return COMMANDS[words[0]](findings(ShaDigests(bytes.fromhex(digits)), data))
+    """The answer to these words with this input, and where its vault goes, if anywhere."""
+    try:
+        options = options_of(words)
+        return obeyed(words[0], options, data), options.get("--logs")
+    except Usage:
+        return Answer("", 1, "fastver: usage\n"), None
+    except BadScript as bad:
+        number, cause = bad.args
+        return Answer("", 6, f"fastver: bad script line {number} {cause}\n"), None
 
 
-def kept(folder, kind, name):
-    with open(os.path.join(folder, kind, name)) as file:
+def stored(got, path):
+    """The answer once its vault is written."""
+    try:
+        with open(path, "wb") as file:
+            file.write(got.vault)
+    except OSError:
+        return Answer("", 5, "fastver: vault fault\n")
+    return got
+
+
+# ---- cases
+
+
+def kept(*parts):
+    with open(os.path.join(*parts), "rb") as file:
         return file.read()
+
+
+def differs(folder, name):
+    """Whether a case comes out otherwise."""
+    words, vault = os.fsdecode(kept(folder, name + ".args")).split("\n")[:-1], None
+    if os.path.exists(os.path.join(folder, name + ".vault")):
+        words, vault = words + ["--logs", "vault"], kept(folder, name + ".vault")
+    (written, status, said, logged), path = fastver(words, kept(folder, name))
+    if vault is not None and vault != (b"none" if path is None else logged):
+        return True
+    wanted = kept(folder, name + ".stdout"), int(kept(folder, "status", name)), kept(folder, "stderr", name)
+    return (written.encode(), status, said.encode()) != wanted
 
 
 def compare(folder):
     """How many cases of a folder there are, and which of them come out otherwise."""
-    cases, differ = 0, []
-    for name in sorted(os.listdir(folder)):
-        base = os.path.join(folder, name)
-        if name.endswith((".args", ".stdout")) or not os.path.isfile(base):
-            continue
-        cases += 1
-        with open(base, "rb") as bundle, open(base + ".args", "rb") as words, open(base + ".stdout") as report:
-            got = fastver(os.fsdecode(words.read()).split("\n")[:-1], bundle.read())
-            if got != (report.read(), int(kept(folder, "status", name)), kept(folder, "stderr", name)):
-                differ.append(base)
-    return cases, differ
+    names = sorted(file.removesuffix(".args") for file in os.listdir(folder) if file.endswith(".args"))
+    return len(names), [os.path.join(folder, name) for name in names if differs(folder, name)]
 
 
 def main():
@@ -521,12 +312,13 @@ def main():
             print(f"  {base}")
         return 1 if differ else 0
     if sys.argv[1:2] == ["--toy"]:
-        report, status, said = COMMANDS[sys.argv[2]](findings(ToyDigests(), sys.stdin.buffer.read()))
+        got = {"check": check, "audit": audit}[sys.argv[2]](findings(ToyDigests(), sys.stdin.buffer.read()))
     else:
-        report, status, said = fastver(sys.argv[1:], sys.stdin.buffer.read())
-    sys.stdout.write(report)
-    sys.stderr.write(said)
-    return status
+        got, path = fastver(sys.argv[1:], sys.stdin.buffer.read())
+        got = got if path is None else stored(got, path)
+    sys.stdout.write(got.written)
+    sys.stderr.write(got.said)
+    return got.status
 
 
 if __name__ == "__main__":

@@ -3,8 +3,17 @@
 Plain and slow, and written from the definition alone: what host_tests wants of the generator was printed by it.
 """
 import sys
+from typing import NamedTuple
 
 MASK = (1 << 64) - 1
+
+
+class Shape(NamedTuple):
+    seed: int
+    ops: int
+    verifiers: int
+    keys: int
+    every: int
 
 
 def draws(state):

@@ -1,0 +1,96 @@
+"""Random scripts, each with the words of `run` that it is served by.
+
+There are few keys, so that requests meet; counters that end early and epochs that end late, so that clocks end; and
+scripts with a line that is none.
+"""
+# What the slow program does and the built one doesn't yet, so that it must refuse words that ask for it: commands and
+# options, and more workers than so many.
+LATER = ["run", "gen", "accept", "--receipts", "--hot"]
+MOST_WORKERS = 1
+
+BITS = 64
+TAILS = [0, 1, 5, 2**53]  # of keys, behind their shard's frontier
+VALUES = [".", "00", "61", "6162", "ff" * 64]
+WRONG_LINES = [
+    b"",
+    b" ",
+    b"epoch ",
+    b"Epoch",
+    b"0 get",
+    b"0 get 5 61",
+    b"0 del 5 61",
+    b"0 put 5",
+    b"0 put 5 61 62",
+    b"0 Get 5",
+    b" 0 get 5",
+    b"0  get 5",
+    b"0 get 5 ",
+    b"0 get 5\r",
+    b"0\tget\t5",
+    b"0 get 5" + b" " * 250,
+    b"0 get " + b"5" * 250,
+    b"0 get " + b"5" * 251,
+    b"64 get 5",
+    b"00 get 5",
+    b"+0 get 5",
+    b"0x0 put 05 6",
+    b"0 get 05",
+    b"0 get -5",
+    b"0 get 0x5",
+    b"0 get 18446744073709551616",
+    b"0 put 05 6",
+    b"0 put 5 6",
+    b"0 put 5 ..",
+    b"0 put 5 6A",
+    b"0 put 5 " + b"00" * 65,
+    b"0 put 5 \xff\xff",
+    b"\xff get 5",
+    b"0 get 5\0",
+]
+
+
+def random_words(chance, workers, hot):
+    """The words of `run`, and the numbers of its shards."""
+    shards, key = chance.choice([2, 2, 4, 8, 16]), chance.randbytes(chance.choice([16, 32, 64])).hex()
+    options = [("--key", key), ("--verifiers", str(workers)), ("--shards", str(shards))]
+    if chance.random() < 0.4:
+        ends = [shards - 1, shards, shards + chance.randrange(12), 2 * shards + chance.randrange(40)]
+        options.append(("--counter", str(chance.choice(ends))))
+    if chance.random() < 0.4:
+        options.append(("--first", str(chance.choice([7, 2**32 - 1, 2**32 - 2, 2**32 - 3]))))
+    if hot:
+        options.append(("--hot", str(chance.choice([1, 2, 3]))))
+    chance.shuffle(options)
+    words = [[name, value] if chance.random() < 0.8 else [f"{name}={value}"] for name, value in options]
+    return ["run"] + [word for pair in words for word in pair], shards
+
+
+def request_line(chance, worker, shards, own):
+    """A request of a worker, for a key of one of its shards."""
+    key = (chance.choice(own) << BITS) // shards + chance.choice(TAILS + [(2**BITS - 1) // shards])
+    kind = chance.choice(["get", "get", "put", "put", "del"])
+    value = " " + chance.choice(VALUES) if kind == "put" else ""
+    return f"{worker} {kind} {key}{value}".encode()
+
+
+def random_script(chance, workers, shards, shared):
+    """A script of a few phases. In each a shard is one worker's alone, unless the shards are shared."""
+    lines = []
+    for _ in range(chance.choice([1, 1, 2, 3, 5])):
+        owner = [chance.randrange(workers) for _ in range(shards)]
+        for _ in range(chance.choice([0, 3, 12, 12 * workers])):
+            worker = chance.randrange(workers)
+            own = [shard for shard in range(shards) if shared or owner[shard] == worker]
+            lines += [request_line(chance, worker, shards, own)] if own else []
+        lines.append(b"epoch")
+    return lines[:-1]
+
+
+def random_case(chance, workers, hot, shared):
+    """The words of `run`, and a script."""
+    words, shards = random_words(chance, workers, hot)
+    lines = random_script(chance, workers, shards, shared)
+    if chance.random() < 0.15:
+        lines.insert(chance.randrange(len(lines) + 1), chance.choice(WRONG_LINES))
+    ending = b"" if lines and chance.random() < 0.2 else b"\n"
+    return words, b"\n".join(lines) + ending if lines else b""

@@ -1,0 +1,326 @@
+"""The shipped host as a plain slow program: what its workers log for a script, by docs/FORMATS.md.
+
+Requests are served one after another, in the order of a list. Workers that are at work side by side may have come to
+their shards in just that order, so each order is allowed; by which one it was the logs differ where workers share a shard.
+"""
+import copy
+import os.path
+from collections import Counter
+from contextlib import contextmanager
+from dataclasses import dataclass, field, replace
+
+from slow_verifier import Pointer, command_text, header_text, initial, side, value_text, with_side
+
+CACHE, SEATS, FRAME, LAST_EPOCH = 128, 4, 65536, 2**32 - 1
+
+
+class ClockEnd(Exception):
+    """A counter past the counter end is needed."""
+
+
+@dataclass(frozen=True)
+class Settings:
+    verifiers: int
+    shards: int
+    hot: int | None  # the touches at which a key becomes hot
+    first: int
+    end: int
+
+
+@dataclass(frozen=True)
+class Sent:
+    """The stamp under which a record waits to be taken in, and the worker that sent it."""
+
+    stamp: tuple
+    evictor: int
+
+
+@dataclass(frozen=True)
+class Hot:
+    """A hot record."""
+
+    key: str
+    value: object
+    sent: Sent
+    touches: int = 0
+
+
+@dataclass
+class Shard:
+    """The records at and below a frontier, how often each key was touched, and the hot records in their seats."""
+
+    frontier: str
+    sent: Sent
+    records: dict
+    touches: Counter = field(default_factory=Counter)
+    seats: list = field(default_factory=lambda: [None] * SEATS)
+
+    def copy(self):
+        return replace(self, records=dict(self.records), touches=Counter(self.touches), seats=list(self.seats))
+
+    def seat_of(self, key):
+        return next((seat for seat, hot in enumerate(self.seats) if hot is not None and hot.key == key), None)
+
+    def chain(self, key):
+        """The paths from below the frontier to a key: those on the way, a fork where it parts from a pointer, the key."""
+        at, paths = self.frontier, []
+        while at != key:
+            pointer = self.records[at][side(at, key)]
+            if pointer is None:
+                return paths + [key]
+            if not key.startswith(pointer.path):
+                return paths + [os.path.commonprefix([pointer.path, key]), key]
+            at = pointer.path
+            paths.append(at)
+        return paths
+
+
+class Deed:
+    """What a worker logs for the setup, for one request, or for one shard at a close."""
+
+    def __init__(self, worker, end):
+        self.worker, (self.epoch, self.counter), self.end = worker.number, worker.clock, end
+        self.commands = []
+
+    def log(self, *command):
+        self.commands.append(command)
+
+    def count_to(self, counter):
+        if counter > self.end:
+            raise ClockEnd
+        self.counter = counter
+
+    def add(self, path, value, sent):
+        """Takes in a record that waits."""
+        epoch, counter = sent.stamp
+        self.count_to(1 + max(self.counter, counter if epoch == self.epoch else 0))
+        self.log("addB", path, value, sent.stamp, sent.evictor)
+
+    def next_sent(self):
+        """How a record waits that is sent now."""
+        self.count_to(self.counter + 1)
+        return Sent((self.epoch, self.counter), self.worker)
+
+    def send(self, path):
+        sent = self.next_sent()
+        self.log("evictB", path, sent.stamp)
+        return sent
+
+    def defer(self, path, parent):
+        sent = self.next_sent()
+        self.log("evictBM", path, parent, sent.stamp)
+        return sent
+
+
+class Visit:
+    """A worker at a shard, whose records it changes as it logs."""
+
+    def __init__(self, digests, shard, deed):
+        self.digests, self.shard, self.deed = digests, shard, deed
+
+    def pointer(self, parent, path):
+        return self.shard.records[parent][side(parent, path)]
+
+    def point(self, parent, path, pointer):
+        self.shard.records[parent] = with_side(self.shard.records[parent], side(parent, path), pointer)
+
+    def bring_in(self, path, parent):
+        """Takes in a record under its parent; a new one may part the parent's pointer, which it takes over."""
+        records, below = self.shard.records, self.pointer(parent, path)
+        value = records.get(path, initial(path))
+        self.deed.log("addM", path, value, parent)
+        if path not in records and below is not None:
+            value = with_side(value, side(path, below.path), below)
+        records[path] = value
+
+    def send_back(self, path, parent):
+        digest = self.digests.text_digest(value_text(path, self.shard.records[path]))
+        self.point(parent, path, Pointer(path, digest, False))
+        self.deed.log("evictM", path, parent)
+
+    @contextmanager
+    def at_parent(self, key):
+        """With the chain above a key taken in: its last node."""
+        nodes = [self.shard.frontier] + self.shard.chain(key)[:-1]
+        for parent, path in zip(nodes, nodes[1:]):
+            self.bring_in(path, parent)
+        yield nodes[-1]
+        for parent, path in reversed(list(zip(nodes, nodes[1:]))):
+            self.send_back(path, parent)
+
+    def take_shard(self):
+        frontier = self.shard.frontier
+        self.deed.add(frontier, self.shard.records[frontier], self.shard.sent)
+
+    def give_shard(self):
+        self.shard.sent = self.deed.send(self.shard.frontier)
+
+    def ask(self, kind, key, value, found):
+        """Logs a get or a put, and answers the value behind it."""
+        value = found if kind == "get" else value
+        self.deed.log(kind, key, value)
+        return value
+
+    def serve(self, kind, key, value):
+        """Serves one request."""
+        seat = self.shard.seat_of(key)
+        if seat is not None:
+            self.serve_hot(seat, kind, value)
+            return
+        self.take_shard()
+        with self.at_parent(key) as parent:
+            self.bring_in(key, parent)
+            self.shard.records[key] = self.ask(kind, key, value, self.shard.records[key])
+            self.send_back(key, parent)
+        self.give_shard()
+        self.shard.touches[key] += 1
+
+    def serve_hot(self, seat, kind, value):
+        hot = self.shard.seats[seat]
+        self.deed.add(hot.key, hot.value, hot.sent)
+        value = self.ask(kind, hot.key, value, hot.value)
+        self.shard.seats[seat] = Hot(hot.key, value, self.deed.send(hot.key), hot.touches + 1)
+
+    def renew(self, seat):
+        """Has a hot record wait under a stamp of the new epoch."""
+        hot = self.shard.seats[seat]
+        self.deed.add(hot.key, hot.value, hot.sent)
+        self.shard.seats[seat] = replace(hot, sent=self.deed.send(hot.key), touches=0)
+
+    def demote(self, seat):
+        """Puts a hot record back below its shard's frontier."""
+        hot = self.shard.seats[seat]
+        with self.at_parent(hot.key) as parent:
+            self.deed.add(hot.key, hot.value, hot.sent)
+            self.shard.records[hot.key] = hot.value
+            self.send_back(hot.key, parent)
+        self.shard.seats[seat] = None
+
+    def promote(self, key):
+        """Makes a key hot, in the lowest vacant seat."""
+        with self.at_parent(key) as parent:
+            self.bring_in(key, parent)
+            sent = self.deed.defer(key, parent)
+            self.point(parent, key, replace(self.pointer(parent, key), deferred=True))
+        self.shard.seats[self.shard.seats.index(None)] = Hot(key, self.shard.records.pop(key), sent)
+
+    def move(self, threshold):
+        """Moves the shard to the epoch that has begun: what was touched in the one before stays hot or becomes so."""
+        shard = self.shard
+        hot = sorted((hot.key, seat) for seat, hot in enumerate(shard.seats) if hot is not None)
+        touched = [seat for _, seat in hot if shard.seats[seat].touches > 0]
+        untouched = [seat for _, seat in hot if shard.seats[seat].touches == 0]
+        for seat in touched:
+            self.renew(seat)
+        self.take_shard()
+        for seat in untouched:
+            self.demote(seat)
+        for key in sorted(shard.touches):
+            if threshold is not None and shard.touches[key] >= threshold and None in shard.seats:
+                self.promote(key)
+        self.give_shard()
+        shard.touches.clear()
+
+
+@dataclass
+class Worker:
+    number: int
+    clock: tuple
+    logged: list = field(default_factory=list)  # commands of the round under way
+
+    def keep(self, deed):
+        self.logged += deed.commands
+        self.clock = deed.epoch, deed.counter
+
+
+class Host:
+    """The host behind the setup, with what it has written so far, and the first round's lowest worker whose clock ended."""
+
+    def __init__(self, digests, settings):
+        self.digests, self.settings = digests, settings
+        self.workers = [Worker(number, (settings.first, 0)) for number in range(settings.verifiers)]
+        self.vault = header_text((settings.verifiers, CACHE, settings.first, settings.end))
+        self.shards, self.ended = [], None
+        if settings.end < settings.shards:
+            self.ended = self.workers[0]
+        else:
+            self.set_up()
+
+    def set_up(self):
+        """Worker 0 makes each shard's frontier under the root and sends it to whoever asks for it first."""
+        deed, bits = Deed(self.workers[0], self.settings.end), self.settings.shards.bit_length() - 1
+
+        def visit(path, parent):
+            deed.log("addM", path, initial(path), parent)
+            if len(path) == bits:
+                self.shards.append(Shard(path, deed.defer(path, parent), {path: initial(path)}))
+                return
+            visit(path + "0", path)
+            visit(path + "1", path)
+            deed.log("evictM", path, parent)
+
+        visit("0", "")
+        visit("1", "")
+        self.workers[0].keep(deed)
+
+    def does(self, worker, number, act):
+        """Whether a worker did its deed at a shard. Where its clock would end in it, all is as before."""
+        visit = Visit(self.digests, self.shards[number].copy(), Deed(worker, self.settings.end))
+        try:
+            act(visit)
+        except ClockEnd:
+            return False
+        self.shards[number] = visit.shard
+        worker.keep(visit.deed)
+        return True
+
+    def phase(self, requests):
+        """Serves the requests of a phase, in this order. A worker whose clock would end serves none of its others."""
+        bits, stopped = self.settings.shards.bit_length() - 1, set()
+        for number, *request in requests:
+            shard = int(request[1][:bits], 2)
+            if number not in stopped and not self.does(self.workers[number], shard, lambda visit: visit.serve(*request)):
+                stopped.add(number)
+        self.end_round(stopped)
+
+    def close(self, last):
+        """Closes an epoch, and in a last close the one that it opens too."""
+        stopped = set() if self.advance() else {0}
+        for worker in [] if stopped else self.workers:
+            for shard in range(worker.number, self.settings.shards, self.settings.verifiers):
+                if not self.does(worker, shard, lambda visit: visit.move(self.settings.hot)):
+                    stopped.add(worker.number)
+                    break
+        if last and not stopped and not self.advance():
+            stopped.add(0)
+        self.end_round(stopped)
+
+    def advance(self):
+        """Whether all workers went to the next epoch, since there is one."""
+        epoch = self.workers[0].clock[0]
+        for worker in self.workers if epoch < LAST_EPOCH else []:
+            worker.logged.append(("nextEpoch",))
+            worker.clock = epoch + 1, 0
+        return epoch < LAST_EPOCH
+
+    def end_round(self, stopped):
+        """Writes what was logged in a round, and keeps whose clock ended in the first round in which one did."""
+        for worker in self.workers:
+            text = b"".join(map(command_text, worker.logged))
+            for at in range(0, len(text), FRAME):
+                body = text[at : at + FRAME]
+                self.vault += worker.number.to_bytes(2, "big") + len(body).to_bytes(4, "big") + body
+            worker.logged = []
+        if stopped and self.ended is None:
+            self.ended = copy.copy(self.workers[min(stopped)])
+
+
+def run(digests, settings, phases):
+    """The bundle that the host writes for the phases of a script, and the worker whose clock ended, if one did."""
+    host = Host(digests, settings)
+    for number, requests in enumerate(phases):
+        if host.ended is not None:
+            break
+        host.phase(requests)
+        host.close(last=number + 1 == len(phases) or host.ended is not None)
+    return host.vault, host.ended
