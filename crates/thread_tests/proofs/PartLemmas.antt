@@ -1,5 +1,5 @@
 -- Parts of rising verifiers are distinct.
-use Rattle.std.proofs.Common.{◌≡◌, ℕ, suc, ◌<◌, ◌==◌, ◌&&◌, false, eqb, ne_eqb, List, [], ◌∷◌, ◌++◌, All, ap, arith}
+use Rattle.std.proofs.Common.{◌≡◌, suc, ◌<◌, ◌==◌, ◌&&◌, false, ne_eqb, List, [], ◌∷◌, ◌++◌, All, ap, arith}
 use Rattle.std.specs.List.{AllByRecursion, IsDistinct}
 use Rattle.multiset_sum.specs.declared.part.Part.{Part}
 use Rattle.epoch_gather.specs.Parts.{is_same_part}
