@@ -9,7 +9,8 @@ use Rattle.record_text.specs.declared.request.Request.{Request}
 use Rattle.record_text.specs.Format.{short_keys}
 use Rattle.merkle_records.specs.Merkle.{GivesDigests}
 use Rattle.host_core.specs.World.{Place, World, worker_at, shard_at}
-use Rattle.host_core.specs.WorldEvent.{MayServe, MayMove}
+use Rattle.log_codec.specs.declared.command.Command.{Command}
+use Rattle.host_core.specs.WorldEvent.{serves, moves, MayServe, MayMove}
 use Rattle.host_shard.specs.Content.{Content, cold, vacant}
 use Rattle.host_shard.specs.Mirrors.{IsShard}
 use Rattle.host_shard.specs.Shard.{Shard}
@@ -20,7 +21,8 @@ use Rattle.host_world.specs.declared.settings.Settings.{Settings}
 use Rattle.host_world.specs.Settings.{bits_within, frontier_bits}
 use Rattle.host_world.specs.ShippedHost.{new_seats, is_place_of}
 use Rattle.host_world.specs.Orderly.{IsOrderly, moved_by}
-use Rattle.host_world.specs.Behind.{IsBehindSetup, CanTakeSeats}
+use Rattle.host_world.specs.Behind.{IsBehindSetup, with_logs, CanTakeSeats}
+use Rattle.host_world.proofs.FrontLaws.{clock_with, enabled_with}
 use Rattle.host_world.proofs.SeatLemmas.{place_is, place_owns}
 use Rattle.host_world.proofs.OrderlyLemmas.{host, set_up_orderly, run_orderly}
 
@@ -100,3 +102,23 @@ module _ (functions : DigestFunctions) (settings : Settings) (script : List (Lis
       opened clock epoch past next =
           or_right (epoch == clock.at.epoch) (nat_lt clock.first clock.at.epoch && epoch + 1 == clock.at.epoch)
           (and_from (nat_lt clock.first clock.at.epoch) (epoch + 1 == clock.at.epoch) (lt-ltb clock.first clock.at.epoch past) (eq-eqb (epoch + 1) clock.at.epoch next))
+
+-- The same where logs were handed out.
+module _ (functions : DigestFunctions) (settings : Settings) (script : List (List Task)) (digests : GivesDigests functions.digest) (logs : List (List Command))
+    (world : World Content) (behind : IsBehindSetup functions settings script (with_logs logs world)) where
+  pub serves_with : (i : ℕ) (place : Place) (request : Request) → MayServe (host functions settings script) world i place request
+      → Owns short_keys (get_or (shard_at world place.shard).contents place.seat vacant) request.key
+      × IsOpenAt (worker_at (host functions settings script) world i).clock (get_or (shard_at world place.shard).contents place.seat vacant)
+  serves_with i place request may =
+      let content = get_or (shard_at world place.shard).contents place.seat vacant in
+      subst (λ (clock : Reading). Owns short_keys content request.key × IsOpenAt clock content)
+      (clock_with (host functions settings script) logs world i)
+      (serves_there functions settings script digests (with_logs logs world) behind i place request
+      (enabled_with (host functions settings script) logs world (serves i place request) may))
+
+  pub moves_with : (i s : ℕ) → MayMove (host functions settings script) world i s
+      → CanTakeSeats (worker_at (host functions settings script) world i).clock (shard_at world s).contents
+  moves_with i s may =
+      subst (λ (clock : Reading). CanTakeSeats clock (shard_at world s).contents) (clock_with (host functions settings script) logs world i)
+      (moves_there functions settings script digests (with_logs logs world) behind i s
+      (enabled_with (host functions settings script) logs world (moves i s) may))

@@ -1,9 +1,11 @@
 -- Lemmas on the shipped host.
 pub mod LinkLaws
+pub mod FrontLaws
 mod ServeLemmas
 mod SeatLemmas
 mod OrderlyLemmas
 mod BehindLemmas
+pub mod FrontierLaws
 mod WorldLemmas
 mod MovedLemmas
 mod StandingLemmas

@@ -1,6 +1,6 @@
 -- A plan is what the shipped host serves.
 use Rattle.std.proofs.Common.{◌≡◌, ℕ, suc, Bool, true, false, List, [], ◌∷◌, ◌++◌, nat_lt, Some, None, if◌then◌else◌, refl, sym, ◌∙◌, ap}
-use Rattle.std.specs.List.{flat_map}
+use Rattle.std.specs.List.{flat_map, AllByRecursion}
 use Rattle.std.proofs.lemmas.Bool.{lt-ltb, ltb-true}
 use Rattle.std.proofs.lemmas.Grind.{flat_map-append}
 use Rattle.std.proofs.lemmas.List.{append-nil}
@@ -16,6 +16,7 @@ use Rattle.host_shard.specs.declared.link.Link.{Link}
 use Rattle.host_shard.specs.Content.{Content, cold, hot, vacant, key_path}
 use Rattle.host_plan.specs.declared.plans.Plan.{Plan}
 use Rattle.host_plan.specs.Plan.{Owns, AreLinks, IsPastEnd, IsPlan, clock_after, commands_of, content_after}
+use Rattle.host_laws.proofs.ToldLaws.{all-append}
 use Rattle.host_world.specs.Links.{links_of}
 use Rattle.host_world.specs.ShippedHost.{serve_at}
 use Rattle.host_world.proofs.LinkLaws.{shard_chain_is}
@@ -96,3 +97,8 @@ pub just_logged : (old : Worker) (log new : List (List Command)) (deed : List Co
 just_logged old log new deed clock was is =
     ap (λ (all : List Command). record { log = all; clock = clock; served = old.served; holds = old.holds; stopped = old.stopped; stuck = old.stuck })
     (ap (flat_map (λ commands. commands)) is ∙ one_deed_more log deed ∙ ap (λ (all : List Command). all ++ deed) (sym was))
+
+-- what holds of each command of each deed holds of all
+pub all_joined : (P : Command → Type 0) (log : List (List Command)) → AllByRecursion (AllByRecursion P) log → AllByRecursion P (flat_map (λ commands. commands) log)
+all_joined P [] all = tt
+all_joined P (commands ∷ log) all = all-append P commands (flat_map (λ commands. commands) log) all.0 (all_joined P log all.1)

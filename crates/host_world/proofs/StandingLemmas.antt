@@ -1,19 +1,22 @@
 -- A world stands behind its host's setup still, once it made a step.
-use Rattle.std.proofs.Common.{◌≡◌, ℕ, zero, suc, ◌<◌, List, [], ◌∷◌, ◌++◌, length, take, get_or, Result, Ok, Err, OnOk, OnErr, is_err, false, refl, sym, ◌∙◌, ap, subst, arith}
+use Rattle.std.proofs.Common.{◌≡◌, ℕ, zero, suc, ◌<◌, List, [], ◌∷◌, ◌++◌, length, take, get_or, set, Result, Ok, Err, OnOk, OnErr, is_err, false, refl, sym, ◌∙◌, ap, subst, arith}
 use Rattle.std.proofs.lemmas.Bool.{false≢true}
+use Rattle.std.proofs.lemmas.List.{length-set}
 use Rattle.record_hash.specs.Functions.{DigestFunctions}
 use Rattle.record_text.specs.declared.request.Request.{Request}
+use Rattle.log_codec.specs.declared.command.Command.{Command}
 use Rattle.host_core.specs.Host.{Host}
-use Rattle.host_core.specs.World.{World, set_up}
-use Rattle.host_core.specs.WorldEvent.{WorldEvent, step, IsEnabled, AreEnabled, run_events}
+use Rattle.host_core.specs.World.{Worker, World, fresh, worker_at, set_up}
+use Rattle.host_core.specs.WorldEvent.{WorldEvent, step, with_worker, IsEnabled, AreEnabled, run_events}
 use Rattle.host_core.proofs.EventLaws.{enabled-append, run-append}
 use Rattle.host_shard.specs.Content.{Content}
 use Rattle.script_text.specs.declared.task.Task.{Task}
 use Rattle.host_world.specs.declared.settings.Settings.{Settings}
 use Rattle.host_world.specs.declared.world.World as code
 use Rattle.host_world.specs.ShippedHost.{shipped_host}
-use Rattle.host_world.specs.Shown.{shown_world, digests_of}
-use Rattle.host_world.specs.Behind.{IsBehindSetup, host_of, StandsBehind, AreOfOneHost}
+use Rattle.host_world.specs.Shown.{shown_world, digests_of, requests_of}
+use Rattle.host_world.specs.Behind.{IsBehindSetup, host_of, with_logs, log_at, StandsWith, AreOfOneHost}
+use Rattle.host_world.proofs.FrontLaws.{unlogged, before_each-handed, enabled_with, step_with, length-step}
 
 -- one event more
 pub one_more : (functions : DigestFunctions) (settings : Settings) (script : List (List Task)) (old new : World Content) (event : WorldEvent Request)
@@ -59,32 +62,70 @@ one_host a b c first then' = record {
 pub host_same : {D : Type 0} (functions : D → DigestFunctions) (old new : code.World D) → AreOfOneHost old new
     → host_of (functions (digests_of new)) new ≡ host_of (functions (digests_of old)) old
 host_same functions old new same =
-    ap (λ d. shipped_host (functions d) new.settings new.requests) same.digests
-    ∙ ap (λ (settings : Settings). shipped_host (functions (digests_of old)) settings new.requests) same.settings
+    ap (λ d. shipped_host (functions d) new.settings (requests_of new)) same.digests
+    ∙ ap (λ (settings : Settings). shipped_host (functions (digests_of old)) settings (requests_of new)) same.settings
     ∙ ap (λ (script : List (List Task)). shipped_host (functions (digests_of old)) old.settings script) same.requests
 
 module _ {D : Type 0} (functions : D → DigestFunctions) (old new : code.World D) (same : AreOfOneHost old new) where
   -- The same host's world.
-  other_world : (world : World Content) → IsBehindSetup (functions (digests_of old)) old.settings old.requests world
-      → IsBehindSetup (functions (digests_of new)) new.settings new.requests world
+  other_world : (world : World Content) → IsBehindSetup (functions (digests_of old)) old.settings (requests_of old) world
+      → IsBehindSetup (functions (digests_of new)) new.settings (requests_of new) world
   other_world world behind =
-      subst (λ (d : D). IsBehindSetup (functions d) new.settings new.requests world) (sym same.digests)
-      (subst (λ (settings : Settings). IsBehindSetup (functions (digests_of old)) settings new.requests world) (sym same.settings)
+      subst (λ (d : D). IsBehindSetup (functions d) new.settings (requests_of new) world) (sym same.digests)
+      (subst (λ (settings : Settings). IsBehindSetup (functions (digests_of old)) settings (requests_of new) world) (sym same.settings)
       (subst (λ (script : List (List Task)). IsBehindSetup (functions (digests_of old)) old.settings script world) (sym same.requests) behind))
 
-  module _ (event : WorldEvent Request) (behind : StandsBehind (functions (digests_of old)) old)
-      (enabled : IsEnabled (host_of (functions (digests_of old)) old) (shown_world old) event) where
+  -- where it shows the same
+  pub stands_still : shown_world new ≡ shown_world old → (logs : List (List Command)) → StandsWith (functions (digests_of old)) old logs
+      → StandsWith (functions (digests_of new)) new logs
+  stands_still is logs stands = record {
+    each = stands.each ∙ ap (λ (w : World Content). length w.workers) (sym is);
+    behind = other_world (with_logs logs (shown_world new))
+        (subst (λ (w : World Content). IsBehindSetup (functions (digests_of old)) old.settings (requests_of old) (with_logs logs w)) (sym is) stands.behind);
+  }
+
+  -- once a worker handed out its log
+  pub stands_handed : (i : ℕ) → shown_world new ≡ with_worker (shown_world old) i (unlogged (worker_at (host_of (functions (digests_of old)) old) (shown_world old) i))
+      → (logs : List (List Command)) → StandsWith (functions (digests_of old)) old logs
+      → StandsWith (functions (digests_of new)) new (set logs i (get_or logs i [] ++ log_at old i))
+  stands_handed i is logs stands =
+      let host = host_of (functions (digests_of old)) old in
+      let handed = set logs i (get_or logs i [] ++ log_at old i) in
+      record {
+        each = length-set logs i (get_or logs i [] ++ log_at old i) ∙ stands.each
+            ∙ sym (length-set old.workers.items i (unlogged (worker_at host (shown_world old) i))) ∙ ap (λ (w : World Content). length w.workers) (sym is);
+        behind = other_world (with_logs handed (shown_world new))
+            (subst (λ (w : World Content). IsBehindSetup (functions (digests_of old)) old.settings (requests_of old) w)
+            (sym (ap (λ (w : World Content). with_logs handed w) is
+            ∙ ap (λ (ws : List Worker). record (shown_world old) { workers = ws }) (before_each-handed logs old.workers.items i (fresh old.settings.header) stands.each)))
+            stands.behind);
+      }
+
+  module _ (event : WorldEvent Request) (enabled : IsEnabled (host_of (functions (digests_of old)) old) (shown_world old) event) where
     -- once it made the step
-    pub stands_stepped : shown_world new ≡ step (host_of (functions (digests_of old)) old) (shown_world old) event → StandsBehind (functions (digests_of new)) new
-    stands_stepped is =
-        other_world (shown_world new) (one_more (functions (digests_of old)) old.settings old.requests (shown_world old) (shown_world new) event behind enabled is)
+    pub stands_stepped : shown_world new ≡ step (host_of (functions (digests_of old)) old) (shown_world old) event
+        → (logs : List (List Command)) → StandsWith (functions (digests_of old)) old logs → StandsWith (functions (digests_of new)) new logs
+    stands_stepped is logs stands =
+        let host = host_of (functions (digests_of old)) old in
+        record {
+          each = stands.each ∙ sym (length-step host (shown_world old) event) ∙ ap (λ (w : World Content). length w.workers) (sym is);
+          behind = other_world (with_logs logs (shown_world new))
+              (one_more (functions (digests_of old)) old.settings (requests_of old) (with_logs logs (shown_world old)) (with_logs logs (shown_world new)) event
+              stands.behind (enabled_with host logs (shown_world old) event enabled)
+              (ap (λ (w : World Content). with_logs logs w) is ∙ sym (step_with host logs (shown_world old) event)));
+        }
 
     -- once it answered
     pub stands_answered : {T E : Type 0} (r : Result T E) → OnOk r (shown_world new ≡ step (host_of (functions (digests_of old)) old) (shown_world old) event)
-        → OnErr r (shown_world new ≡ shown_world old) → StandsBehind (functions (digests_of new)) new
+        → OnErr r (shown_world new ≡ shown_world old)
+        → (logs : List (List Command)) → StandsWith (functions (digests_of old)) old logs → StandsWith (functions (digests_of new)) new logs
     stands_answered (Ok value) is same' = stands_stepped is
-    stands_answered (Err fault) is same' =
-        other_world (shown_world new) (subst (IsBehindSetup (functions (digests_of old)) old.settings old.requests) (sym same') behind)
+    stands_answered (Err fault) is same' = stands_still same'
+
+-- what follows where a call answers well
+pub ok_then : {T E P Q : Type 0} (r : Result T E) → OnOk r P → (P → Q) → OnOk r Q
+ok_then (Ok value) p f = f p
+ok_then (Err fault) p f = tt
 
 -- what holds where a call answers well, where it does
 pub ok_holds : {T E P : Type 0} (r : Result T E) → is_err r ≡ false → OnOk r P → P

@@ -1,10 +1,11 @@
 -- A world behind the setup, and what a worker can move there.
-use Rattle.std.specs.Prelude.{◌≡◌, List, IsTrue}
+use Rattle.std.specs.Prelude.{◌≡◌, ℕ, List, [], ◌∷◌, ◌++◌, length, get_or, IsTrue}
 use Rattle.lamport_clocks.specs.Clock.{is_open}
 use Rattle.lamport_clocks.specs.Reading.{Reading}
 use Rattle.record_hash.specs.Functions.{DigestFunctions}
 use Rattle.record_text.specs.declared.request.Request.{Request}
 use Rattle.record_text.specs.Format.{short_keys}
+use Rattle.log_codec.specs.declared.command.Command.{Command}
 use Rattle.host_core.specs.Host.{Host}
 use Rattle.host_core.specs.World as machine
 use Rattle.host_core.specs.WorldEvent.{WorldEvent, AreEnabled, run_events}
@@ -16,7 +17,7 @@ use Rattle.host_world.specs.declared.settings.Settings.{Settings}
 use Rattle.host_world.specs.declared.world.World.{World}
 use Rattle.host_world.specs.Settings.{IsSettings}
 use Rattle.host_world.specs.ShippedHost.{shipped_host, new_seats}
-use Rattle.host_world.specs.Shown.{shown_world, digests_of}
+use Rattle.host_world.specs.Shown.{shown_world, digests_of, requests_of}
 
 -- The world of a shipped host behind its setup and some events, each of which was enabled.
 pub record IsBehindSetup (functions : DigestFunctions) (settings : Settings) (script : List (List Task)) (world : machine.World Content) : Type 0 where
@@ -27,16 +28,35 @@ pub record IsBehindSetup (functions : DigestFunctions) (settings : Settings) (sc
 
 -- the host of a world of the code
 abbrev pub host_of : {D : Type 0} → DigestFunctions → World D → Host Content Request
-host_of functions world = shipped_host functions world.settings world.requests
+host_of functions world = shipped_host functions world.settings (requests_of world)
 
--- The world of the code stands behind its host's setup.
+-- a worker with these commands in front of its log
+abbrev pub logged_before : List Command → machine.Worker → machine.Worker
+logged_before log worker = record worker { log = log ++ worker.log }
+
+-- workers with logs in front of their own, each as long as there is one
+abbrev pub before_each : List (List Command) → List machine.Worker → List machine.Worker
+before_each [] workers = workers
+before_each (log ∷ logs) [] = []
+before_each (log ∷ logs) (worker ∷ workers) = logged_before log worker ∷ before_each logs workers
+
+-- the world with logs in front of its workers' own
+abbrev pub with_logs : {C : Type 0} → List (List Command) → machine.World C → machine.World C
+with_logs logs world = record world { workers = before_each logs world.workers }
+
+-- The world of the code stands behind its host's setup, where its workers have handed out these logs.
+pub record StandsWith {D : Type 0} (functions : DigestFunctions) (world : World D) (logs : List (List Command)) : Type 0 where
+  pub each : length logs ≡ length world.workers.items
+  pub behind : IsBehindSetup functions world.settings (requests_of world) (with_logs logs (shown_world world))
+
+-- The world of the code stands behind its host's setup, whatever its workers have handed out of their logs.
 abbrev pub StandsBehind : {D : Type 0} → DigestFunctions → World D → Type 0
-StandsBehind functions world = IsBehindSetup functions world.settings world.requests (shown_world world)
+StandsBehind functions world = (logs : List (List Command)) × StandsWith functions world logs
 
 -- Both are worlds of one host.
 pub record AreOfOneHost {D : Type 0} (old new : World D) : Type 0 where
   pub settings : new.settings ≡ old.settings
-  pub requests : new.requests ≡ old.requests
+  pub requests : requests_of new ≡ requests_of old
   pub digests : digests_of new ≡ digests_of old
 
 -- A worker whose clock stands so can take a shard's seats in: nothing is hot there, and the clock takes the shard's stamp.
@@ -45,3 +65,7 @@ pub record CanTakeSeats (clock : Reading) (seats : List Content) : Type 0 where
   pub is : seats ≡ new_seats (cold shard)
   pub fits : IsShard short_keys shard
   pub open_epoch : IsTrue (is_open clock shard.stamp.epoch)
+
+-- what a worker of the world has logged and not handed out
+abbrev pub log_at : {D : Type 0} → World D → ℕ → List Command
+log_at world i = (get_or world.workers.items i (machine.fresh world.settings.header)).log

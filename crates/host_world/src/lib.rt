@@ -5,6 +5,7 @@ mod acting;
 mod beginning;
 mod event;
 mod fault;
+mod handing_out;
 mod laws;
 mod seats;
 mod settings;

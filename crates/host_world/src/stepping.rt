@@ -1,9 +1,10 @@
 //! How a world goes on: one event, and events in order.
-ghost use Rattle.std.specs.Prelude.{◌≡◌, IfOk, OnOk, OnErr, IfErr, length, map, take, ◌≤◌};
+ghost use Rattle.std.specs.Prelude.{◌≡◌, List, IfOk, OnOk, OnErr, IfErr, length, map, take, ◌≤◌};
+ghost use Rattle.log_codec.specs.declared.command.Command.{Command};
 ghost use Rattle.host_core.specs.WorldEvent.{step, run_events, IsEnabled, AreEnabled};
 ghost use Rattle.host_world.specs.Shown.{shown_world, shown_event, digests_of};
 ghost use Rattle.host_world.specs.Ending.{end_of};
-ghost use Rattle.host_world.specs.Behind.{host_of, StandsBehind, AreOfOneHost};
+ghost use Rattle.host_world.specs.Behind.{host_of, StandsBehind, StandsWith, AreOfOneHost};
 
 use crate::event::Event;
 use crate::fault::{ClockEnd, EventStop};
@@ -25,6 +26,10 @@ impl<'a, D: Digests> World<'a, D> {
         ensures host { AreOfOneHost self.old self.new }
         ensures as_before { OnErr result (shown_world self.new ≡ shown_world self.old) }
         ensures behind { StandsBehind (D.functions (digests_of self.new)) self.new }
+
+        // Whatever logs were handed out before.
+        ensures goes_on { (logs : List (List Command)) → StandsWith (D.functions (digests_of self.old)) self.old logs
+            → StandsWith (D.functions (digests_of self.new)) self.new logs }
     {
         match event {
             Event::Take(worker, place) => {

@@ -1,8 +1,10 @@
 //! One worker of a world.
-ghost use Rattle.std.specs.Prelude.{◌≡◌, ◌≢◌, ◌↔◌, ◌-◌, ◌<◌, ◌≤◌, List, [], ◌∷◌, map, replicate, false, true, Some, None, Ok, IfOk, OnOk, OnErr, is_some};
-ghost use Rattle.std.specs.List.{flat_map};
+ghost use Rattle.std.specs.Prelude.{◌≡◌, ◌≢◌, ◌↔◌, ◌-◌, ◌<◌, ◌≤◌, List, [], ◌∷◌, ◌++◌, map, replicate, false, true, Some, None, Ok, IfOk, OnOk, OnErr, is_some};
+ghost use Rattle.std.specs.List.{flat_map, AllByRecursion};
 ghost use Rattle.record_text.specs.Format.{short_keys};
 ghost use Rattle.lamport_clocks.specs.Clock.{last_epoch};
+ghost use Rattle.log_codec.specs.Command.{IsCommand};
+ghost use Rattle.log_codec.specs.Log.{log_text};
 ghost use Rattle.log_codec.specs.declared.command.Command.TheVariants.{NextEpoch};
 ghost use Rattle.host_core.specs.World.{idle, fresh};
 ghost use Rattle.host_core.specs.WorldEvent.{logging, next_clock};
@@ -15,6 +17,7 @@ ghost use Rattle.host_world.specs.Doing.{HasDone, HasServed};
 ghost use Rattle.host_world.specs.Moving.{stage_of, move_seats};
 ghost use Rattle.host_world.specs.ShippedHost.{serve_at};
 
+use host_log::LogBuffer;
 use host_plan::{Commands, PlanFault, plan};
 use host_shard::Content;
 use lamport_clocks::{Clock, Header, Stamp};
@@ -45,7 +48,9 @@ pub struct Worker {
 }
 
 impl Model for Worker {
-    ghost use Rattle.std.specs.List.{flat_map};
+    ghost use Rattle.std.specs.List.{flat_map, AllByRecursion};
+    ghost use Rattle.record_text.specs.Format.{short_keys};
+    ghost use Rattle.log_codec.specs.Command.{IsCommand};
     ghost use Rattle.std.specs.Option.{option_map};
     ghost use Rattle.host_core.specs.World.{Worker};
     ghost use Rattle.host_world.specs.Places.{shown_held};
@@ -60,6 +65,8 @@ impl Model for Worker {
       stopped = w.stopped;
       stuck = w.stuck;
     } };
+
+    ghost invariant = { λ w. AllByRecursion (AllByRecursion (IsCommand short_keys)) w.log.items };
 }
 
 impl Worker {
@@ -86,6 +93,7 @@ impl Worker {
     ) -> Result<Self, Memory>
         requires some { 0 < shards }
         requires counters { shards ≤ header.now.end }
+        requires typed { AllByRecursion (IsCommand short_keys) commands }
         ensures value { IfOk result (λ worker. worker
             ≡ idle commands (first_clock header.now.first header.now.end shards)) }
     {
@@ -109,11 +117,47 @@ impl Worker {
         self.log.as_slice()
     }
 
+    // The texts of what it logged go behind what a buffer has, and it forgets them. For want of memory it forgets nothing, and
+    // the buffer has a front of them more.
+    pub(crate) fn hand_out(&mut self, buffer: &mut LogBuffer) -> Result<(), Memory>
+        ensures handed { OnOk result (buffer.new ≡ buffer.old ++ log_text short_keys self.old.log) }
+        ensures forgot { OnOk result (self.new ≡ record self.old { log = [] }) }
+        ensures typed { AllByRecursion (IsCommand short_keys) self.old.log }
+        ensures as_before { OnErr result (self.new ≡ self.old) }
+    {
+        for commands in &self.log {
+            push_all(buffer, commands.as_slice())?;
+        }
+        self.log.clear();
+        Ok(())
+    }
+
     /// Its clock.
     pub fn clock(&self) -> Clock
         ensures value { result ≡ self.now.clock }
     {
         self.clock
+    }
+
+    /// How many requests it has served.
+    pub fn served(&self) -> u64
+        ensures value { result ≡ self.now.served }
+    {
+        self.served
+    }
+
+    /// Whether its clock ended in this phase.
+    pub fn is_stopped(&self) -> bool
+        ensures value { result ≡ self.now.stopped }
+    {
+        self.stopped
+    }
+
+    /// Whether its clock ended in this close.
+    pub fn is_stuck(&self) -> bool
+        ensures value { result ≡ self.now.stuck }
+    {
+        self.stuck
     }
 
     // It holds the place of this number.
@@ -241,6 +285,16 @@ impl Worker {
     }
 }
 
+// The texts of commands, behind what a buffer has.
+fn push_all(buffer: &mut LogBuffer, commands: &[Command]) -> Result<(), Memory>
+    ensures pushed { OnOk result (buffer.new ≡ buffer.old ++ log_text short_keys commands.now) }
+{
+    for command in commands {
+        buffer.push(command)?;
+    }
+    Ok(())
+}
+
 // The workers behind the setup of so many shards, which worker 0 logged.
 pub(crate) fn workers_for(
     alloc: Global,
@@ -251,6 +305,7 @@ pub(crate) fn workers_for(
     requires verifiers { 0 < header.now.verifiers }
     requires some { 0 < shards }
     requires counters { shards ≤ header.now.end }
+    requires typed { AllByRecursion (IsCommand short_keys) commands }
     ensures workers { IfOk result (λ workers. workers.items
         ≡ idle commands (first_clock header.now.first header.now.end shards)
         ∷ replicate (header.now.verifiers - 1) (fresh header.now)) }

@@ -7,8 +7,8 @@ use Rattle.host_core.specs.WorldEvent.{after_move}
 use Rattle.host_shard.specs.Content.{Content}
 use Rattle.host_world.specs.Behind.{CanTakeSeats}
 use Rattle.host_world.specs.Moving.{stage_of, move_seats}
-use Rattle.host_world.specs.Shown.{shown_world, shown_seats, contents_of, digests_of}
-use Rattle.host_world.proofs.BehindLemmas.{moves_there}
+use Rattle.host_world.specs.Shown.{shown_world, shown_seats, contents_of, digests_of, requests_of}
+use Rattle.host_world.proofs.BehindLemmas.{moves_with}
 use Rattle.host_world.proofs.WorldLemmas.{read_shown, set_same, put_back, read_back, after_moved, after_stuck, none_of, on_err, one_answer}
 use Rattle.host_world.proofs.world.World.move_shard.Goals as goal
 
@@ -21,7 +21,7 @@ move_by-requires g c =
     record {
       seats = subst (λ (w : Worker). CanTakeSeats w.clock (contents_of c.index_mut-seats.result.now)) (sym worker)
           (subst (λ (s : Seats Content). CanTakeSeats (get_or old.workers.items c.args.worker (fresh old.settings.header)).clock s.contents) seats
-          (moves_there (g.D.Digests.functions (digests_of old)) old.settings old.requests (λ text. (g.met.D.Digests.text_digest_shape old.d.now text).size) (shown_world old) c.requires.behind
+          (moves_with (g.D.Digests.functions (digests_of old)) old.settings (requests_of old) (λ text. (g.met.D.Digests.text_digest_shape old.d.now text).size) c.requires.behind.0 (shown_world old) c.requires.behind.1.behind
           c.args.worker c.args.shard c.requires.may));
     }
 

@@ -8,8 +8,8 @@ use Rattle.host_plan.specs.Plan.{Owns, IsOpenAt}
 use Rattle.host_shard.specs.Content.{Content, vacant}
 use Rattle.host_world.specs.Places.{place_of}
 use Rattle.host_world.specs.ShippedHost.{serve_at}
-use Rattle.host_world.specs.Shown.{shown_world, shown_seats, contents_of, digests_of}
-use Rattle.host_world.proofs.BehindLemmas.{serves_there}
+use Rattle.host_world.specs.Shown.{shown_world, shown_seats, contents_of, digests_of, requests_of}
+use Rattle.host_world.proofs.BehindLemmas.{serves_with}
 use Rattle.host_world.proofs.WorldLemmas.{read_shown, set_same, same_seats, put_back, read_back, after_served, after_stopped, none_of, on_err, one_answer}
 use Rattle.host_world.proofs.world.World.serve.Goals as goal
 
@@ -19,7 +19,7 @@ serve-requires-clause-own g c =
     let there : c.args.place / 5 < length old.shards.items = omega (arith, c.requires.may.there.0, length-map old.shards.items shown_seats) in
     let seats = read_shown shown_seats old.shards.items (c.args.place / 5) c.index_mut-seats.result.now (unmoved []) there c.index_mut-seats.ensures.value in
     subst (λ (s : Seats Content). Owns short_keys (get_or s.contents (c.args.place % 5) vacant) c.args.request.now.key) seats
-    (serves_there (g.D.Digests.functions (digests_of old)) old.settings old.requests (λ text. (g.met.D.Digests.text_digest_shape old.d.now text).size) (shown_world old) c.requires.behind
+    (serves_with (g.D.Digests.functions (digests_of old)) old.settings (requests_of old) (λ text. (g.met.D.Digests.text_digest_shape old.d.now text).size) c.requires.behind.0 (shown_world old) c.requires.behind.1.behind
     c.args.worker (place_of c.args.place) c.args.request.now c.requires.may).0
 
 pub serve-requires-clause-open : goal.serve-requires-clause-open
@@ -30,7 +30,7 @@ serve-requires-clause-open g c =
     let worker = get_or_read old.workers.items c.args.worker c.index_mut-server.result.now c.requires.may.serving.there c.index_mut-server.ensures.value (fresh old.settings.header) in
     subst (λ (w : Worker). IsOpenAt w.clock (get_or (contents_of c.index_mut-seats.result.now) (c.args.place % 5) vacant)) (sym worker)
     (subst (λ (s : Seats Content). IsOpenAt (get_or old.workers.items c.args.worker (fresh old.settings.header)).clock (get_or s.contents (c.args.place % 5) vacant)) seats
-    (serves_there (g.D.Digests.functions (digests_of old)) old.settings old.requests (λ text. (g.met.D.Digests.text_digest_shape old.d.now text).size) (shown_world old) c.requires.behind
+    (serves_with (g.D.Digests.functions (digests_of old)) old.settings (requests_of old) (λ text. (g.met.D.Digests.text_digest_shape old.d.now text).size) c.requires.behind.0 (shown_world old) c.requires.behind.1.behind
     c.args.worker (place_of c.args.place) c.args.request.now c.requires.may).1)
 
 pub returns-in_err-serve-clause-as_before : goal.returns-in_err-serve-clause-as_before

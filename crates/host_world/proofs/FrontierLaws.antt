@@ -1,0 +1,164 @@
+-- The frontiers of a world's shards stay where the setup put them.
+use Rattle.std.proofs.Common.{◌≡◌, ℕ, zero, suc, ◌==◌, Bool, true, false, List, [], ◌∷◌, get_or, set, map, nat_lt, Option, Some, None, is_some, if◌then◌else◌, refl, sym, ◌∙◌, ap, subst, arith}
+use Rattle.std.proofs.lemmas.Bool.{false≢true}
+use Rattle.std.proofs.lemmas.List.{map-set, set-get_or}
+use Rattle.std.proofs.lemmas.Option.{same_Some}
+use Rattle.lamport_clocks.specs.Reading.{Reading}
+use Rattle.lamport_clocks.specs.Clock.{last_epoch}
+use Rattle.record_hash.specs.Functions.{DigestFunctions}
+use Rattle.record_text.specs.declared.request.Request.{Request}
+use Rattle.record_text.specs.Format.{short_keys}
+use Rattle.merkle_records.specs.Merkle.{Digest, GivesDigests}
+use Rattle.log_codec.specs.declared.command.Command.TheVariants.{NextEpoch}
+use Rattle.host_core.specs.Host.{Done}
+use Rattle.host_core.specs.World.{Place, Seats, World, unmoved, worker_at, shard_at, set_up}
+use Rattle.host_core.specs.WorldEvent.{WorldEvent, takes, loses, serves, gives, advances, moves, opens, IsEnabled, AreEnabled, MayServe, MayMove, step, run_events, with_worker, with_shard, after_serve, after_move, logging, next_clock}
+use Rattle.host_shard.specs.Content.{Content, cold, hot, vacant}
+use Rattle.host_shard.specs.Shard.{Shard, pending_shard}
+use Rattle.host_plan.specs.Moments.{renewing}
+use Rattle.host_plan.specs.Visit.{between}
+use Rattle.host_plan.specs.Setup.{paths_below, first_content}
+use Rattle.script_text.specs.declared.task.Task.{Task}
+use Rattle.host_world.specs.declared.settings.Settings.{Settings}
+use Rattle.host_world.specs.Settings.{frontier_bits}
+use Rattle.host_world.specs.Behind.{IsBehindSetup}
+use Rattle.host_world.specs.Moving.{stage_of, move_seats}
+use Rattle.host_world.specs.Orderly.{IsOrderlyShard, IsOrderly}
+use Rattle.host_world.specs.ShippedHost.{new_seats, serve_at, is_place_of}
+use Rattle.host_world.proofs.SeatLemmas.{place_is, done_is}
+use Rattle.host_world.proofs.OrderlyLemmas.{host, set_up_orderly, step_orderly}
+use Rattle.host_world.proofs.BehindLemmas.{frontier_bits_are}
+
+-- the frontier of the shard among these seats
+abbrev pub frontier_in : List Content → List Bool
+frontier_in [] = []
+frontier_in (cold shard ∷ places) = shard.frontier
+frontier_in (hot record' ∷ places) = []
+frontier_in (vacant ∷ places) = []
+
+-- of each shard of a world
+abbrev pub frontiers : World Content → List (List Bool)
+frontiers world = map (λ (seats : Seats Content). frontier_in seats.contents) world.shards
+
+-- ---- what is done at a shard
+
+-- a request leaves it
+serve_frontier : (digest : Digest) (i epoch : ℕ) (clock : Reading) (seats : List Content) (seat : ℕ) (request : Request) (done : Done Content)
+    → IsOrderlyShard digest epoch seats → is_place_of short_keys seats seat request ≡ true
+    → serve_at short_keys digest i clock (get_or seats seat vacant) request ≡ Some done
+    → frontier_in (set seats seat done.after) ≡ frontier_in seats
+serve_frontier digest i epoch clock seats seat request done orderly owned served =
+    subst (λ (xs : List Content). is_place_of short_keys xs seat request ≡ true
+    → serve_at short_keys digest i clock (get_or xs seat vacant) request ≡ Some done
+    → frontier_in (set xs seat done.after) ≡ frontier_in xs)
+    (sym orderly.is) (λ owns is. at_seat seat (place_is orderly.shard seat request owns) is) owned served
+  where
+    at_seat : (seat : ℕ) → seat ≡ 0
+        → serve_at short_keys digest i clock (get_or (new_seats (cold orderly.shard)) seat vacant) request ≡ Some done
+        → frontier_in (set (new_seats (cold orderly.shard)) seat done.after) ≡ orderly.shard.frontier
+    at_seat zero same is =
+        ap (λ (d : Done Content). frontier_in (d.after ∷ vacant ∷ vacant ∷ vacant ∷ vacant ∷ [])) (done_is digest i clock (cold orderly.shard) request done is)
+    at_seat (suc more) same is = absurd (omega (arith, same))
+
+-- a move leaves it
+move_frontier : (digest : Digest) (i epoch : ℕ) (clock : Reading) (seats : List Content) (done : Done (List Content))
+    → IsOrderlyShard digest epoch seats → move_seats short_keys digest i (stage_of clock seats) ≡ Some done
+    → frontier_in done.after ≡ frontier_in seats
+move_frontier digest i epoch clock seats done orderly moved =
+    subst (λ (xs : List Content). move_seats short_keys digest i (stage_of clock xs) ≡ Some done → frontier_in done.after ≡ frontier_in xs)
+    (sym orderly.is) (go (nat_lt clock.end (renewing clock shard.stamp).at.counter)) moved
+  where
+    shard : Shard
+    shard = orderly.shard
+
+    after : Shard
+    after = record shard { touches = λ k. 0; stamp = (renewing clock shard.stamp).at; evictor = i }
+
+    go : (b : Bool) → (if b then None else Some (record {
+      commands = between (pending_shard shard) (renewing clock shard.stamp).at [];
+      after = new_seats (cold after);
+      clock = renewing clock shard.stamp;
+    })) ≡ Some done
+        → frontier_in done.after ≡ shard.frontier
+    go true is = absurd (false≢true (ap is_some is))
+    go false is = ap (λ (d : Done (List Content)). frontier_in d.after) (sym (same_Some _ _ is))
+
+-- ---- what happens in a world
+
+-- other seats of a shard, with its frontier
+shard_frontiers : (world : World Content) (s : ℕ) (new : Seats Content) → frontier_in new.contents ≡ frontier_in (shard_at world s).contents
+    → frontiers (with_shard world s new) ≡ frontiers world
+shard_frontiers world s new same =
+    map-set (λ (seats : Seats Content). frontier_in seats.contents) world.shards s new
+    ∙ ap (set (frontiers world) s) same
+    ∙ sym (map-set (λ (seats : Seats Content). frontier_in seats.contents) world.shards s (shard_at world s))
+    ∙ ap (map (λ (seats : Seats Content). frontier_in seats.contents)) (set-get_or world.shards s (unmoved []))
+
+-- no shard is moved any more
+opened_frontiers : (shards : List (Seats Content))
+    → map (λ (seats : Seats Content). frontier_in seats.contents) (map (λ (seats : Seats Content). unmoved seats.contents) shards)
+    ≡ map (λ (seats : Seats Content). frontier_in seats.contents) shards
+opened_frontiers [] = refl
+opened_frontiers (seats ∷ shards) = ap (λ (more : List (List Bool)). frontier_in seats.contents ∷ more) (opened_frontiers shards)
+
+module _ (functions : DigestFunctions) (settings : Settings) (script : List (List Task)) where
+  serve_step : (world : World Content) (i : ℕ) (place : Place) (request : Request) → IsOrderly functions settings script world
+      → MayServe (host functions settings script) world i place request → (done : Option (Done Content))
+      → serve_at short_keys functions.digest i (worker_at (host functions settings script) world i).clock (get_or (shard_at world place.shard).contents place.seat vacant) request ≡ done
+      → frontiers (after_serve world i (worker_at (host functions settings script) world i) place (shard_at world place.shard) done) ≡ frontiers world
+  serve_step world i place request orderly may None is = refl
+  serve_step world i place request orderly may (Some done) is =
+      shard_frontiers world place.shard (record (shard_at world place.shard) { contents = set (shard_at world place.shard).contents place.seat done.after })
+      (serve_frontier functions.digest i _ (worker_at (host functions settings script) world i).clock (shard_at world place.shard).contents place.seat request done
+      (orderly.shards place.shard may.there.0) may.owns is)
+
+  move_step : (world : World Content) (i s : ℕ) → IsOrderly functions settings script world
+      → MayMove (host functions settings script) world i s → (done : Option (Done (List Content)))
+      → move_seats short_keys functions.digest i (stage_of (worker_at (host functions settings script) world i).clock (shard_at world s).contents) ≡ done
+      → frontiers (after_move world i (worker_at (host functions settings script) world i) s done) ≡ frontiers world
+  move_step world i s orderly may None is = refl
+  move_step world i s orderly may (Some done) is =
+      shard_frontiers world s (record { contents = done.after; moved = true })
+      (move_frontier functions.digest i _ (worker_at (host functions settings script) world i).clock (shard_at world s).contents done (orderly.shards s may.shard) is)
+
+  -- an event that is enabled
+  step_frontiers : (world : World Content) (event : WorldEvent Request) → IsOrderly functions settings script world
+      → IsEnabled (host functions settings script) world event → frontiers (step (host functions settings script) world event) ≡ frontiers world
+  step_frontiers world (takes i place) orderly may = refl
+  step_frontiers world (loses i place) orderly may = refl
+  step_frontiers world (serves i place request) orderly may = serve_step world i place request orderly may _ refl
+  step_frontiers world (gives i place) orderly may = refl
+  step_frontiers world (advances i) orderly may = go ((worker_at (host functions settings script) world i).clock.at.epoch == last_epoch)
+    where
+      go : (b : Bool) → frontiers (if b then record world { over = true }
+          else record (with_worker world i (logging (worker_at (host functions settings script) world i) (NextEpoch ∷ [])
+          (next_clock (worker_at (host functions settings script) world i).clock))) { closing = true }) ≡ frontiers world
+      go true = refl
+      go false = refl
+  step_frontiers world (moves i s) orderly may = move_step world i s orderly may _ refl
+  step_frontiers world opens orderly may = opened_frontiers world.shards
+
+  run_frontiers : (digests : GivesDigests functions.digest) (world : World Content) (events : List (WorldEvent Request)) → IsOrderly functions settings script world
+      → AreEnabled (host functions settings script) world events → frontiers (run_events (host functions settings script) world events) ≡ frontiers world
+  run_frontiers digests world [] orderly enabled = refl
+  run_frontiers digests world (event ∷ events) orderly enabled =
+      run_frontiers digests (step (host functions settings script) world event) events
+      (step_orderly functions settings script digests world event orderly enabled.0) enabled.1
+      ∙ step_frontiers world event orderly enabled.0
+
+  -- the setup
+  set_up_frontiers : (paths : List (List Bool))
+      → map (λ (seats : Seats Content). frontier_in seats.contents) (map unmoved (map new_seats (map (first_content short_keys settings.header.first) paths))) ≡ paths
+  set_up_frontiers [] = refl
+  set_up_frontiers (path ∷ paths) = ap (λ (more : List (List Bool)). path ∷ more) (set_up_frontiers paths)
+
+  -- Behind the setup, whatever happened: the paths of the shards' numbers, in their order.
+  pub frontiers_behind : (digests : GivesDigests functions.digest) (world : World Content) → IsBehindSetup functions settings script world
+      → frontiers world ≡ paths_below (frontier_bits settings.shards) []
+  frontiers_behind digests world behind =
+      let count = behind.settings_fit.shards in
+      let bits = frontier_bits_are settings.shards count in
+      ap frontiers behind.is
+      ∙ run_frontiers digests (set_up (host functions settings script)) behind.events
+      (set_up_orderly functions settings script (omega (arith, bits, count.some)) (omega (arith, bits, count.most)) digests) behind.enabled
+      ∙ set_up_frontiers (paths_below (frontier_bits settings.shards) [])
