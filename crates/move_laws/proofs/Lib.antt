@@ -2,8 +2,8 @@
 mod CounterLaws
 mod RenewLemmas
 mod StageLemmas
-mod TripLemmas
-mod FitLemmas
+pub mod TripLaws
+pub mod FitLaws
 mod MoveLaws
 mod EventLemmas
 mod DeedLemmas
