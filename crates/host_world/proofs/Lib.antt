@@ -1,5 +1,8 @@
 -- Lemmas on the shipped host.
 pub mod LinkLaws
+pub mod DueLaws
+pub mod TripLaws
+pub mod PlaceLaws
 pub mod FrontLaws
 mod ServeLemmas
 mod SeatLemmas

@@ -31,7 +31,7 @@ use Rattle.errand_laws.specs.Errands.{IsFit}
 use Rattle.errand_laws.proofs.PlaceLaws.{HasNone, AreApart, all-are, all-map, all-replaced, one_of-all}
 use Rattle.errand_laws.proofs.VacantLaws.{AreDifferent, among-member, member-among, one-member, member-one, all-images, images-all, one-vacant, vacancies-vacant, vacancies-hot, all-placed, placed-one, vacancies-placed}
 use Rattle.errand_laws.proofs.AboveLaws.{closed_some}
-use Rattle.move_laws.proofs.RenewLemmas.{IsFresh, still_there, renewed-keys, renewed-all, renewed-fresh}
+use Rattle.move_laws.proofs.RenewLaws.{IsFresh, still_there, renewed-keys, renewed-all, renewed-fresh}
 use Rattle.move_laws.proofs.StageLemmas.{all_split, all_untouched, apart_untouched}
 use Rattle.move_laws.proofs.TripLaws.{AreFit, apart_by_number}
 
@@ -393,6 +393,15 @@ begun_mirrors format digest worker stage mirrors = record {
   in_range = renewed-all (λ found. found.key < 2 ^ path_bits format) (λ number clock found is. is) worker stage.clock stage.places (touched_in stage.places)
       (touched_all (λ found. found.key < 2 ^ path_bits format) stage.places mirrors.in_range) mirrors.in_range;
 }
+
+-- What is hot behind a move was handed out in it.
+pub move_fresh : (format : Format) (digest : Digest) (worker : ℕ) (threshold : Option ℕ) (stage : Stage) (due : List ℕ) (trips : List Trip)
+    → IfSome threshold (λ least. 0 < least) → StageMirrors format digest stage → AreDue format stage threshold due
+    → map (λ (trip : Trip). trip.errand) trips ≡ errands_of stage due
+    → AllByRecursion (IsFresh worker stage.clock.at.epoch) (hot_records (done_by_each format digest worker (begun worker stage) trips).places)
+move_fresh format digest worker threshold stage due trips some mirrors are is =
+    (all_go format digest worker stage.clock.at.epoch (untouched_in stage.places) (take (vacancies stage.places + length (untouched_in stage.places)) due) trips (begun worker stage)
+    is (begun-ready format digest worker threshold stage due some mirrors (apart_by_number format digest worker stage mirrors) are)).fresh
 
 -- Trips that are the errands of a move can be done, each when its turn comes.
 pub move_fits : (format : Format) (digest : Digest) (worker : ℕ) (threshold : Option ℕ) (stage : Stage) (due : List ℕ) (trips : List Trip)

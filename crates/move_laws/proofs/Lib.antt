@@ -1,9 +1,9 @@
 -- How the laws of moves are proved, in reading order.
 mod CounterLaws
-mod RenewLemmas
+pub mod RenewLaws
 mod StageLemmas
 pub mod TripLaws
 pub mod FitLaws
-mod MoveLaws
+pub mod MoveLaws
 mod EventLemmas
-mod DeedLemmas
+pub mod DeedLaws

@@ -53,7 +53,7 @@ use Rattle.errand_laws.proofs.PlaceLaws.{AreApart, all-are, all-map}
 use Rattle.errand_laws.proofs.VacantLaws.{all-images, images-all}
 use Rattle.errand_laws.proofs.AroundLaws.{told_in, told_out, takes_in, hands_out}
 use Rattle.move_laws.specs.Moved.{waiting_in, CanMove, IsOfClock, MoveRuns, at_stage}
-use Rattle.move_laws.proofs.RenewLemmas.{not_root, told_renewing, renewing-runs, renewed_each, added-renewing, evicted-renewing, no_access-renewing, unsealed-renewing, carried-renewing, carries-renewing, renewed-weight, renewed-keys, renewed-all}
+use Rattle.move_laws.proofs.RenewLaws.{not_root, told_renewing, renewing-runs, renewed_each, added-renewing, evicted-renewing, no_access-renewing, unsealed-renewing, carried-renewing, carries-renewing, renewed-weight, renewed-keys, renewed-all}
 use Rattle.move_laws.proofs.StageLemmas.{weight_split, all_untouched, apart_touched}
 use Rattle.move_laws.proofs.TripLaws.{adds_by_each, evicts_by_each, apart_by_number, trips_mirror, trips_typed, trips-weight, TripsRun, trips_run, each-up, each-epoch, each-end, each-frontier}
 use Rattle.move_laws.proofs.FitLaws.{GoWell, all_go, begun-ready, begun_mirrors}
