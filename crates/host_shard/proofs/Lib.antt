@@ -6,3 +6,4 @@ mod RecordLemmas
 mod SettleLemmas
 mod TouchLemmas
 mod ForgetLemmas
+mod OrderLemmas

@@ -1,7 +1,9 @@
 -- Records of the code, as a finite map.
+use Rattle.std.specs.List.{AllByRecursion}
 use Rattle.std.specs.Map.{lookup}
 use Rattle.std.specs.Option.{option_map, option_map_or}
-use Rattle.std.specs.Prelude.{ℕ, Bool, List, Option, if◌then◌else◌}
+use Rattle.std.specs.Prelude.{◌≡◌, ℕ, ◌<◌, ◌⊎◌, Bool, List, [], ◌∷◌, length, Option, if◌then◌else◌}
+use Rattle.tree_keys.specs.Bits.{number_of}
 use Rattle.tree_keys.specs.Path.{same_path}
 use Rattle.record_text.specs.Format.{Format}
 use Rattle.record_text.specs.Value.{initial_value}
@@ -44,3 +46,12 @@ touches_in kept = λ path. option_map_or (λ r. r.touches) (kept path) 0
 
 abbrev pub touches_of : Listed → List Bool → ℕ
 touches_of listed = touches_in (record_at listed)
+
+-- the first path stands before the second: it is shorter, or as long and of lower bits
+abbrev pub IsBefore : List Bool → List Bool → Type 0
+IsBefore path other = (length path < length other) ⊎ ((length path ≡ length other) × (number_of path < number_of other))
+
+-- each record stands before those behind it
+abbrev pub AreInOrder : Listed → Type 0
+AreInOrder [] = Unit {0}
+AreInOrder (entry ∷ listed) = AllByRecursion (λ other. IsBefore entry.0 other.0) listed × AreInOrder listed

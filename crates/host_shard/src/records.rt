@@ -3,13 +3,14 @@ ghost use Rattle.std.specs.Prelude.{◌≡◌, [], not, is_some, unwrap_or, Some
 ghost use Rattle.std.specs.Option.{option_copied, option_map};
 ghost use Rattle.record_text.specs.Format.{short_keys};
 ghost use Rattle.host_shard.specs.declared.record.Record.{Record};
-ghost use Rattle.host_shard.specs.Records.{record_at, with_kept, new_record, untouched};
+ghost use Rattle.host_shard.specs.Records.{record_at, with_kept, new_record, untouched, AreInOrder};
 ghost use Rattle.host_shard.specs.Shard.{one_more};
 
 use crate::record::Record;
 use record_text::{Value, initial};
 use std::alloc::Global;
 use std::collections::BTreeMap;
+use std::collections::btree_map::Iter;
 use std::marker::Model;
 use tree_keys::Path;
 use want_of_memory::Memory;
@@ -43,6 +44,14 @@ impl Records {
         ensures value { option_copied result ≡ record_at self.now path.now }
     {
         self.map.get(path)
+    }
+
+    /// The records with their paths, in the order of the paths: shorter ones first, then by their bits.
+    pub fn iter(&self) -> Iter<'_, Path, Record>
+        ensures rest { result ≡ self.now }
+        ensures in_order { AreInOrder self.now }
+    {
+        self.map.iter()
     }
 
     /// Makes sure that a path has a record, and answers whether it is a new one. For want of memory all is as before.
