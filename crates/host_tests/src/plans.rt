@@ -295,7 +295,7 @@ fn a_verifier_accepts_what_the_host_logs(rt: HostRuntime) -> Result<(), Fail> {
 }
 
 // One verifier, from epoch 0 on.
-fn header() -> Header
+pub(crate) fn header() -> Header
     ensures header { IsHeader result }
     ensures one { result.verifiers ≡ 1 }
 {

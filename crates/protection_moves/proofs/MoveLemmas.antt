@@ -1,57 +1,185 @@
--- The move of a shard in which no hot record comes back and none becomes hot.
-use Rattle.std.proofs.Common.{◌≡◌, ℕ, ◌<◌, List, [], Option, None, refl, sym, ap, subst, arith}
+-- The move of a shard, put together: what is due, the counters, and the run of its errands.
+use Rattle.std.proofs.Common.{◌≡◌, ◌⊎◌, ℕ, zero, suc, ◌+◌, ◌<◌, ◌≤◌, Bool, true, false, not, List, [], ◌∷◌, ◌++◌, map, take, length, Option, Some, None, IsTrue, refl, sym, ◌∙◌, ap, subst, inl, inr, append_assoc, arith}
+use Rattle.std.proofs.Math.Path.{fun_ext}
+use Rattle.std.specs.Prelude.{◌↔◌, slice_index_or, AllPairs}
+use Rattle.std.specs.List.{AllByRecursion, IsAmong}
+use Rattle.lamport_clocks.specs.declared.stamp.Stamp.{Stamp}
+use Rattle.lamport_clocks.specs.Clock.{is_open}
 use Rattle.lamport_clocks.specs.Reading.{Reading}
-use Rattle.record_text.specs.Format.{Format}
+use Rattle.record_text.specs.Format.{Format, short_keys}
 use Rattle.log_codec.specs.declared.command.Command.{Command}
+use Rattle.log_codec.specs.declared.command.Command.TheVariants.{EvictB}
 use Rattle.merkle_records.specs.Merkle.{Digest}
-use Rattle.host_plan.specs.Moments.{taking, giving, renewing}
-use Rattle.protection_moves.specs.Stage.{Stage, touched_in, untouched_in}
-use Rattle.protection_moves.specs.Renewing.{renewing_each}
-use Rattle.protection_moves.specs.Errand.{Errand, AreDue, clock_by_each, clock_needed}
-use Rattle.protection_moves.specs.Move.{IsMove, IsPastEnd, moved, move_commands}
-use Rattle.protection_moves.proofs.ErrandLaws.{none_due, no_errands}
-use Rattle.protection_moves.proofs.RenewingLaws.{renewing-up}
+use Rattle.host_shard.specs.declared.content.HotRecord.{HotRecord}
+use Rattle.host_shard.specs.Content.{Content}
+use Rattle.host_shard.specs.Shard.{Shard, pending_shard}
+use Rattle.host_plan.specs.Moments.{taking, giving}
+use Rattle.host_plan.specs.Visit.{between}
+use Rattle.protection_moves.specs.Stage.{Stage, vacancies, touched_in, untouched_in}
+use Rattle.protection_moves.specs.Renewing.{renewing_each, renewed_places, renewing_commands}
+use Rattle.protection_moves.specs.Errand.{Errand, demotes, promotes, AreDue, errands_of, clock_by_each, clock_needed}
+use Rattle.protection_moves.specs.Move.{IsMove, IsPastEnd, begun, handed_out, moved, move_commands}
+use Rattle.protection_moves.specs.Trip.{AreTrips, done_by_each, commands_by_each}
+use Rattle.protection_moves.specs.Run.{IsRun, AreRising, AreFirstDue, stage_with, taking_in}
+use Rattle.protection_moves.proofs.CountingLaws.{clock_by_each-up, clock_by_each-open}
+use Rattle.protection_moves.proofs.RenewingLaws.{renewing_each-open}
 
-module _ (stage : Stage) (all_touched : untouched_in stage.places ≡ []) where
-  -- A stage without errands moves with no trips.
-  pub is_move : (format : Format) (digest : Digest) (worker : ℕ) (threshold : Option ℕ) (commands : List Command) (new : Stage) → threshold ≡ None
-      → commands ≡ move_commands format digest worker stage [] → new ≡ moved format digest worker stage []
-      → IsMove format digest worker threshold stage commands new
-  is_move format digest worker threshold commands new none' logged after = record {
-    due = [];
-    are_due = subst (λ (t : Option ℕ). AreDue format stage t []) (sym none') (none_due format stage);
-    trips = [];
-    errands = sym (no_errands format None stage [] all_touched refl (none_due format stage));
-    ways = tt;
-    commands = logged;
-    after = after;
-  }
+-- ---- the keys that are due are one list
 
-  -- the counters that it takes
-  abbrev pub end_clock : Reading
-  end_clock = renewing (renewing_each stage.clock (touched_in stage.places)) stage.shard.stamp
+among_head : (x : ℕ) (xs : List ℕ) → IsAmong (x ∷ xs) x
+among_head x xs = (0, (omega arith, refl))
 
-  needed : (format : Format) (threshold : Option ℕ) (due : List ℕ) → threshold ≡ None → AreDue format stage threshold due → clock_needed stage due ≡ end_clock
-  needed format threshold due none' are =
-      ap (λ (errands : List Errand). giving (clock_by_each (taking (renewing_each stage.clock (touched_in stage.places)) stage.shard.stamp) errands))
-      (no_errands format threshold stage due all_touched none' are)
+among_tail : (x v : ℕ) (xs : List ℕ) → IsAmong xs v → IsAmong (x ∷ xs) v
+among_tail x v xs is = (suc is.0, (omega (arith, is.1.0), is.1.1))
 
-  pub is_past : (format : Format) (threshold : Option ℕ) → threshold ≡ None → stage.clock.end < end_clock.at.counter → IsPastEnd format threshold stage
-  is_past format threshold none' past = record {
-    due = [];
-    are_due = are;
-    past = subst (λ (clock : Reading). stage.clock.end < clock.at.counter) (sym (needed format threshold [] none' are)) past;
-  }
-    where
-      are : AreDue format stage threshold []
-      are = subst (λ (t : Option ℕ). AreDue format stage t []) (sym none') (none_due format stage)
+among_cases : (x v : ℕ) (xs : List ℕ) → IsAmong (x ∷ xs) v → (v ≡ x) ⊎ IsAmong xs v
+among_cases x v xs (zero, is) = inl is.1
+among_cases x v xs (suc i, is) = inr (i, (omega (arith, is.0), is.1))
 
-  pub past_is : (format : Format) (threshold : Option ℕ) → threshold ≡ None → IsPastEnd format threshold stage → stage.clock.end < end_clock.at.counter
-  past_is format threshold none' is =
-      subst (λ (clock : Reading). stage.clock.end < clock.at.counter) (needed format threshold is.due none' is.are_due) is.past
+-- in a rising list the first is the least
+head_least : (x v : ℕ) (xs : List ℕ) → AllPairs (λ a b. a < b) (x ∷ xs) → IsAmong xs v → x < v
+head_least x v xs rising among =
+    subst (λ (w : ℕ). x < w) (sym among.1.1) (rising 0 (suc among.0) v (omega arith) (omega (arith, among.1.0)))
 
-  -- the hot records alone pass it
-  pub past_by_hot : (format : Format) (threshold : Option ℕ) → threshold ≡ None
-      → stage.clock.end < (renewing_each stage.clock (touched_in stage.places)).at.counter → IsPastEnd format threshold stage
-  past_by_hot format threshold none' past =
-      is_past format threshold none' (omega (arith, past, renewing-up (renewing_each stage.clock (touched_in stage.places)) stage.shard.stamp))
+tail_rises : (x : ℕ) (xs : List ℕ) → AllPairs (λ a b. a < b) (x ∷ xs) → AllPairs (λ a b. a < b) xs
+tail_rises x xs rising i j d before within = rising (suc i) (suc j) d (omega (arith, before)) (omega (arith, within))
+
+-- of two rising lists with the same numbers the first ones are the same
+same_head : (x y : ℕ) (xs ys : List ℕ) → AllPairs (λ a b. a < b) (x ∷ xs) → AllPairs (λ a b. a < b) (y ∷ ys)
+    → IsAmong (y ∷ ys) x → IsAmong (x ∷ xs) y → x ≡ y
+same_head x y xs ys one two there back = go (among_cases y x ys there) (among_cases x y xs back)
+  where
+    go : (x ≡ y) ⊎ IsAmong ys x → (y ≡ x) ⊎ IsAmong xs y → x ≡ y
+    go (inl same) other = same
+    go (inr above) (inl same) = sym same
+    go (inr above) (inr below) = absurd (omega (arith, head_least y x ys two above, head_least x y xs one below))
+
+same_tail : (x y k : ℕ) (xs ys : List ℕ) → AllPairs (λ a b. a < b) (x ∷ xs) → x ≡ y → IsAmong xs k → IsAmong (y ∷ ys) k → IsAmong ys k
+same_tail x y k xs ys rising same among there = go (among_cases y k ys there)
+  where
+    go : (k ≡ y) ⊎ IsAmong ys k → IsAmong ys k
+    go (inl is) = absurd (omega (arith, head_least x k xs rising among, is, same))
+    go (inr is) = is
+
+rising_unique : (xs ys : List ℕ) → AllPairs (λ a b. a < b) xs → AllPairs (λ a b. a < b) ys → ((k : ℕ) → IsAmong xs k → IsAmong ys k) → ((k : ℕ) → IsAmong ys k → IsAmong xs k)
+    → xs ≡ ys
+rising_unique [] [] one two there back = refl
+rising_unique [] (y ∷ ys) one two there back = absurd (omega (arith, (back y (among_head y ys)).1.0))
+rising_unique (x ∷ xs) [] one two there back = absurd (omega (arith, (there x (among_head x xs)).1.0))
+rising_unique (x ∷ xs) (y ∷ ys) one two there back =
+    let same = same_head x y xs ys one two (there x (among_head x xs)) (back y (among_head y ys)) in
+    ap (λ (z : ℕ). z ∷ xs) same
+    ∙ ap (λ (zs : List ℕ). y ∷ zs)
+    (rising_unique xs ys (tail_rises x xs one) (tail_rises y ys two)
+    (λ k is. same_tail x y k xs ys one same is (there k (among_tail x k xs is)))
+    (λ k is. same_tail y x k ys xs two (sym same) is (back k (among_tail y k ys is))))
+
+pub due_unique : (format : Format) (stage : Stage) (threshold : Option ℕ) (xs ys : List ℕ) → AreDue format stage threshold xs → AreDue format stage threshold ys → xs ≡ ys
+due_unique format stage threshold xs ys one two =
+    rising_unique xs ys one.rising two.rising (λ k is. (two.due k).1 ((one.due k).0 is)) (λ k is. (one.due k).1 ((two.due k).0 is))
+
+-- ---- one stage
+
+module _ (stage : Stage) (threshold : Option ℕ) (back : List HotRecord) (keys : List ℕ) (returning : back ≡ untouched_in stage.places)
+  (first : AreFirstDue short_keys stage threshold (vacancies stage.places + length back) keys) where
+
+  abbrev pub errands : List Errand
+  errands = map (λ (f : HotRecord). demotes f) back ++ map (λ (k : ℕ). promotes k) keys
+
+  -- the errands of the move
+  are_errands : (due : List ℕ) → AreDue short_keys stage threshold due → errands ≡ errands_of stage due
+  are_errands due are =
+      ap (λ (ks : List ℕ). map (λ (f : HotRecord). demotes f) back ++ map (λ (k : ℕ). promotes k) ks)
+      (first.first ∙ ap (take (vacancies stage.places + length back)) (due_unique short_keys stage threshold first.due due first.are_due are))
+      ∙ ap (λ (fs : List HotRecord). map (λ (f : HotRecord). demotes f) fs ++ map (λ (k : ℕ). promotes k) (take (vacancies stage.places + length fs) due)) returning
+
+  -- the clock that has the frontier taken in, and the one at the end
+  module _ (touched : List HotRecord) (staying : touched ≡ touched_in stage.places) where
+    abbrev pub start_clock : Reading
+    start_clock = taking (renewing_each stage.clock touched) stage.shard.stamp
+
+    abbrev pub end_clock : Reading
+    end_clock = giving (clock_by_each start_clock errands)
+
+    needed : (due : List ℕ) → AreDue short_keys stage threshold due → end_clock ≡ clock_needed stage due
+    needed due are =
+        ap (λ (es : List Errand). giving (clock_by_each start_clock es)) (are_errands due are)
+        ∙ ap (λ (fs : List HotRecord). giving (clock_by_each (taking (renewing_each stage.clock fs) stage.shard.stamp) (errands_of stage due))) staying
+
+    pub is_past : stage.clock.end < end_clock.at.counter → IsPastEnd short_keys threshold stage
+    is_past past = record {
+      due = first.due;
+      are_due = first.are_due;
+      past = subst (λ (c : Reading). stage.clock.end < c.at.counter) (needed first.due first.are_due) past;
+    }
+
+    pub past_is : IsPastEnd short_keys threshold stage → stage.clock.end < end_clock.at.counter
+    past_is past = subst (λ (c : Reading). stage.clock.end < c.at.counter) (sym (needed past.due past.are_due)) past.past
+
+    -- the frontier alone passes it
+    pub past_at_start : stage.clock.end < start_clock.at.counter → IsPastEnd short_keys threshold stage
+    past_at_start past = is_past (omega (arith, past, clock_by_each-up start_clock errands))
+
+    -- A run of the errands is the move.
+    pub is_move : (digest : Digest) (worker : ℕ) (mid later : Reading) (start logged : List Command) (left : Shard) (places : List Content) (new : Stage)
+        → mid ≡ start_clock → later ≡ giving (clock_by_each mid errands)
+        → start ≡ renewing_commands short_keys stage.clock touched ++ taking_in (pending_shard stage.shard) ∷ []
+        → IsRun short_keys digest worker (stage_with stage.shard (λ k. 0) (renewed_places worker stage.clock stage.places touched) mid) errands start
+            (EvictB stage.shard.frontier (giving (clock_by_each mid errands)).at) logged
+            (stage_with left (λ k. 0) places (clock_by_each mid errands))
+        → new ≡ record { shard = record left { touches = λ k. 0; stamp = later.at; evictor = worker }; places = places; clock = later }
+        → IsMove short_keys digest worker threshold stage logged new
+    is_move digest worker mid later start logged left places new begins ends starts run becomes = record {
+      due = first.due;
+      are_due = first.are_due;
+      trips = run.trips;
+      errands = run.errands ∙ are_errands first.due first.are_due;
+      ways = subst (λ (s : Stage). AreTrips short_keys digest worker s run.trips) started run.ways;
+      commands = run.logged
+          ∙ ap (λ (cs : List Command). cs ++ (commands_by_each short_keys digest worker first_stage run.trips ++ last mid ∷ [])) starts
+          ∙ append_assoc (renewing_commands short_keys stage.clock touched) (taking_in (pending_shard stage.shard) ∷ []) (commands_by_each short_keys digest worker first_stage run.trips ++ last mid ∷ [])
+          ∙ ap (λ (s : Stage). renewing_commands short_keys stage.clock touched ++ taking_in (pending_shard stage.shard) ∷ (commands_by_each short_keys digest worker s run.trips ++ last mid ∷ [])) started
+          ∙ ap (λ (c : Reading). renewing_commands short_keys stage.clock touched
+          ++ taking_in (pending_shard stage.shard) ∷ (commands_by_each short_keys digest worker (begun worker stage) run.trips ++ EvictB stage.shard.frontier (giving c).at ∷ []))
+          (ap (λ (s : Stage). s.clock) done)
+          ∙ ap (λ (fs : List HotRecord). renewing_commands short_keys stage.clock fs
+          ++ taking_in (pending_shard stage.shard) ∷ (commands_by_each short_keys digest worker (begun worker stage) run.trips
+          ++ EvictB stage.shard.frontier (moved short_keys digest worker stage run.trips).clock.at ∷ [])) staying;
+      after = becomes
+          ∙ ap (λ (c : Reading). let now : Stage = record { shard = record left { touches = λ k. 0; stamp = c.at; evictor = worker }; places = places; clock = c } in now) ends
+          ∙ ap (handed_out worker) done;
+    }
+      where
+        first_stage : Stage
+        first_stage = stage_with stage.shard (λ k. 0) (renewed_places worker stage.clock stage.places touched) mid
+
+        last : Reading → Command
+        last c = EvictB stage.shard.frontier (giving (clock_by_each c errands)).at
+
+        started : first_stage ≡ begun worker stage
+        started = ap (λ (c : Reading). stage_with stage.shard (λ k. 0) (renewed_places worker stage.clock stage.places touched) c) begins
+            ∙ ap (λ (fs : List HotRecord). stage_with stage.shard (λ k. 0) (renewed_places worker stage.clock stage.places fs) (taking (renewing_each stage.clock fs) stage.shard.stamp)) staying
+
+        done : stage_with left (λ k. 0) places (clock_by_each mid errands) ≡ done_by_each short_keys digest worker (begun worker stage) run.trips
+        done = run.leaves ∙ ap (λ (s : Stage). done_by_each short_keys digest worker s run.trips) started
+
+-- ---- the clock within a move
+
+-- it takes the same stamps once the frontier is taken in
+pub open_between : (clock mid : Reading) (touched : List HotRecord) (stamp : Stamp) (records : List HotRecord) → mid ≡ taking (renewing_each clock touched) stamp
+    → AllByRecursion (λ (f : HotRecord). IsTrue (is_open clock f.stamp.epoch)) records → AllByRecursion (λ (f : HotRecord). IsTrue (is_open mid f.stamp.epoch)) records
+open_between clock mid touched stamp records is all =
+    subst (λ (opens : ℕ → Bool). AllByRecursion (λ (f : HotRecord). IsTrue (opens f.stamp.epoch)) records)
+    (fun_ext (λ epoch. sym (ap (λ (c : Reading). is_open c epoch) is ∙ renewing_each-open clock touched epoch))) all
+
+pub open_after : (clock mid later : Reading) (touched : List HotRecord) (stamp : Stamp) (errands : List Errand) (epoch : ℕ)
+    → mid ≡ taking (renewing_each clock touched) stamp → later ≡ giving (clock_by_each mid errands) → is_open later epoch ≡ is_open clock epoch
+open_after clock mid later touched stamp errands epoch begins ends =
+    ap (λ (c : Reading). is_open c epoch) ends ∙ clock_by_each-open mid errands epoch ∙ ap (λ (c : Reading). is_open c epoch) begins ∙ renewing_each-open clock touched epoch
+
+-- the keys that the code found
+pub first_keys : (stage : Stage) (threshold : Option ℕ) (back : List HotRecord) (found keys : List ℕ) (vacant' count : ℕ) → vacant' ≡ vacancies stage.places → count ≡ length back → keys ≡ found
+    → AreFirstDue short_keys stage threshold (vacant' + count) found → AreFirstDue short_keys stage threshold (vacancies stage.places + length back) keys
+first_keys stage threshold back found keys vacant' count vacancy many same first =
+    subst (AreFirstDue short_keys stage threshold (vacancies stage.places + length back)) (sym same)
+    (subst (λ (room : ℕ). AreFirstDue short_keys stage threshold room found) (ap (λ (v : ℕ). v + count) vacancy ∙ ap (λ (n : ℕ). vacancies stage.places + n) many) first)

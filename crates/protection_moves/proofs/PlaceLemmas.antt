@@ -4,6 +4,7 @@ use Rattle.std.proofs.lemmas.Bool.{lt-ltb, le-ltb}
 use Rattle.stamp_order.specs.InOrder.{put_in_order}
 use Rattle.host_shard.specs.declared.content.HotRecord.{HotRecord}
 use Rattle.host_shard.specs.Content.{Content}
+use Rattle.protection_moves.specs.Run.{replaced_at}
 use Rattle.protection_moves.specs.Stage.{is_hot_at, replaced}
 
 -- one record comes before another
@@ -76,7 +77,7 @@ front_get zero key now d places = refl
 front_get (suc i) key now d [] = refl
 front_get (suc i) key now d (content ∷ places) = front_get i key now d places
 
-map_set : {A B : Type 0} (f : A → B) (xs : List A) (i : ℕ) (x : A) → map f (set xs i x) ≡ set (map f xs) i (f x)
+pub map_set : {A B : Type 0} (f : A → B) (xs : List A) (i : ℕ) (x : A) → map f (set xs i x) ≡ set (map f xs) i (f x)
 map_set f [] i x = refl
 map_set f (y ∷ xs) zero x = refl
 map_set f (y ∷ xs) (suc i) x = ap (λ rest. f y ∷ rest) (map_set f xs i x)
@@ -101,35 +102,17 @@ set_same (x ∷ xs) zero d = refl
 set_same (x ∷ xs) (suc i) d = ap (λ rest. x ∷ rest) (set_same xs i d)
 
 module _ {A : Type 0} (f : A → Content) (key : ℕ) (now : Content) where
-  -- a place that is written, and one that is left
-  pub replaced_here : (i : ℕ) (places old : List A) (d new : A) → map f places ≡ replaced_front i key now (map f old) → i < length places
-      → is_hot_at key (f (get_or places i d)) ≡ true → f new ≡ now → map f (set places i new) ≡ replaced_front (suc i) key now (map f old)
-  replaced_here i places old d new so_far within is same =
+  -- the next place is written, or left
+  pub replaced_step : (i : ℕ) (places old : List A) (d new : A) → map f places ≡ replaced_front i key now (map f old) → i < length places
+      → f new ≡ replaced_at key now (f (get_or places i d)) → map f (set places i new) ≡ replaced_front (suc i) key now (map f old)
+  replaced_step i places old d new so_far within same =
       map_set f places i new
       ∙ ap (λ (xs : List Content). set xs i (f new)) so_far
-      ∙ ap (λ (x : Content). set (replaced_front i key now (map f old)) i x)
-      (same ∙ sym (ap (λ (b : Bool). if b then now else get_or (map f old) i (f d)) there))
+      ∙ ap (λ (x : Content). set (replaced_front i key now (map f old)) i x) (same ∙ ap (replaced_at key now) there)
       ∙ replaced_next i key now (f d) (map f old) inside
     where
-      there : is_hot_at key (get_or (map f old) i (f d)) ≡ true
-      there =
-          ap (is_hot_at key) (sym (front_get i key now (f d) (map f old)) ∙ ap (λ (xs : List Content). get_or xs i (f d)) (sym so_far) ∙ map_get f places i d) ∙ is
-
-      inside : i < length (map f old)
-      inside = omega (arith, within, length_front i key now (map f old), ap (λ (xs : List Content). length xs) so_far, length_map f places)
-
-  pub left_here : (i : ℕ) (places old : List A) (d : A) → map f places ≡ replaced_front i key now (map f old) → i < length places
-      → is_hot_at key (f (get_or places i d)) ≡ false → map f places ≡ replaced_front (suc i) key now (map f old)
-  left_here i places old d so_far within is =
-      so_far
-      ∙ sym (set_same (replaced_front i key now (map f old)) i (f d))
-      ∙ ap (λ (x : Content). set (replaced_front i key now (map f old)) i x)
-      (front_get i key now (f d) (map f old) ∙ sym (ap (λ (b : Bool). if b then now else get_or (map f old) i (f d)) there))
-      ∙ replaced_next i key now (f d) (map f old) inside
-    where
-      there : is_hot_at key (get_or (map f old) i (f d)) ≡ false
-      there =
-          ap (is_hot_at key) (sym (front_get i key now (f d) (map f old)) ∙ ap (λ (xs : List Content). get_or xs i (f d)) (sym so_far) ∙ map_get f places i d) ∙ is
+      there : f (get_or places i d) ≡ get_or (map f old) i (f d)
+      there = sym (map_get f places i d) ∙ ap (λ (xs : List Content). get_or xs i (f d)) so_far ∙ front_get i key now (f d) (map f old)
 
       inside : i < length (map f old)
       inside = omega (arith, within, length_front i key now (map f old), ap (λ (xs : List Content). length xs) so_far, length_map f places)

@@ -5,4 +5,9 @@ pub mod Errand
 pub mod Trip
 pub mod Move
 pub mod Shown
+pub mod Due
+pub mod Run
+pub mod Saving
+pub mod Turn
+pub mod Lending
 pub use Rattle.host_plan.specs

@@ -4,10 +4,16 @@
 //! `migrate` in `migrating.rt` beside `specs/Move.antt`.
 #![tactic(auto)]
 
+mod counting;
+mod demoting;
+mod due;
 mod fault;
 mod hot_places;
 mod migrating;
+mod promoting;
 mod renewing;
+mod saving;
+mod trips;
 
 pub use fault::MoveFault;
 pub use hot_places::HOT_PLACES;

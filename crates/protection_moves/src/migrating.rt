@@ -1,33 +1,36 @@
 //! How one shard is moved at a close: `migrate`.
-ghost use Rattle.std.specs.Prelude.{◌≡◌, ◌↔◌, ◌≤◌, ℕ, [], None, IfOk, OnErr, IsTrue, Err, length, map};
+ghost use Rattle.std.specs.Prelude.{◌≡◌, ◌↔◌, ◌<◌, ◌≤◌, ℕ, IfOk, IfSome, OnErr, IsTrue, Err, length, map};
 ghost use Rattle.std.specs.List.{AllByRecursion};
 ghost use Rattle.lamport_clocks.specs.Clock.{is_open};
 ghost use Rattle.record_text.specs.Format.{short_keys};
 ghost use Rattle.log_codec.specs.Command.{IsCommand};
-ghost use Rattle.host_shard.specs.Mirrors.{IsShard};
+ghost use Rattle.host_shard.specs.Content.{key_path};
+ghost use Rattle.host_shard.specs.Mirrors.{IsShard, IsKeyOf};
 ghost use Rattle.host_shard.specs.Shown.{shown, shown_content};
 ghost use Rattle.protection_moves.specs.declared.fault.MoveFault.TheVariants.{ClockEnd};
-ghost use Rattle.protection_moves.specs.Stage.{hot_records, untouched_in};
+ghost use Rattle.protection_moves.specs.Stage.{hot_records};
 ghost use Rattle.protection_moves.specs.Move.{IsMove, IsPastEnd};
 ghost use Rattle.protection_moves.specs.Shown.{shown_stage};
 
+use crate::counting::{begun, ended};
+use crate::demoting::demote_each;
+use crate::due::due_keys;
 use crate::fault::MoveFault;
-use crate::hot_places::touched_in;
-use crate::renewing::{counted, log, renew_places};
+use crate::hot_places::{place_each, touched_in, untouched_in, vacancies, vacate};
+use crate::renewing::{begin, renew_places};
 use host_plan::Commands;
 use host_shard::{Content, Shard};
 use lamport_clocks::Clock;
 use record_hash::Digests;
 use std::alloc::Global;
 
-/// Moves a shard at a close: the commands that this worker logs. Shard, hot places and clock become what these leave, with
-/// this worker as evictor and no touch counted. After a fault all is as before.
-///
-/// Each hot record was touched, and no threshold is given: so the hot records and the shard are taken in and handed out
-/// again, and none comes back or becomes hot.
+/// Moves a shard at a close: the commands that this worker logs. Each hot record that was touched stays hot, and each other
+/// one comes back to the shard. Where a threshold is given, the first keys that were touched so often become hot, as many
+/// as there are vacant places then. Shard, hot places and clock become what the commands leave, with this worker as evictor
+/// and no touch counted. After a fault all is as before.
 pub fn migrate<D: Digests>(
     alloc: Global,
-    _d: &D,
+    d: &D,
     shard: &mut Shard,
     hot: &mut [Content],
     threshold: Option<u32>,
@@ -39,9 +42,10 @@ pub fn migrate<D: Digests>(
     requires places { length hot.old ≤ 4 }
     requires hot_open { AllByRecursion (λ found. IsTrue (is_open clock.old found.stamp.epoch))
         (hot_records (map shown_content hot.old)) }
-    requires all_touched { untouched_in (map shown_content hot.old) ≡ [] }
-    requires no_threshold { threshold ≡ None }
-    ensures moved { IfOk result (λ commands. IsMove short_keys (D.functions _d.now).digest worker threshold
+    requires hot_own { AllByRecursion (λ found. IsKeyOf short_keys (shown shard.old) (key_path short_keys found.key))
+        (hot_records (map shown_content hot.old)) }
+    requires threshold { IfSome threshold (λ touches. 0 < touches) }
+    ensures moved { IfOk result (λ commands. IsMove short_keys (D.functions d.now).digest worker threshold
         (shown_stage shard.old hot.old clock.old) commands (shown_stage shard.new hot.new clock.new)) }
     ensures typed { IfOk result (λ commands. AllByRecursion (IsCommand short_keys) commands) }
     ensures clock_end { (result ≡ Err ClockEnd) ↔ IsPastEnd short_keys threshold (shown_stage shard.old hot.old clock.old) }
@@ -49,17 +53,28 @@ pub fn migrate<D: Digests>(
     ensures open { (epoch : ℕ) → is_open clock.new epoch ≡ is_open clock.old epoch }
     ensures as_before { OnErr result (shown_stage shard.new hot.new clock.new ≡ shown_stage shard.old hot.old clock.old) }
 {
-    let records = touched_in(hot);
-    let touched = records.as_slice();
-    let later = match counted(clock, touched, shard.stamp) {
+    let staying = touched_in(hot);
+    let touched = staying.as_slice();
+    let returning = untouched_in(hot);
+    let back = returning.as_slice();
+    let due = due_keys(shard, hot, threshold, vacancies(hot) + back.len());
+    let keys = due.as_slice();
+    let between = match begun(clock, touched, shard.stamp) {
+        Some(between) => between,
+        None => return Err(MoveFault::ClockEnd),
+    };
+    let later = match ended(&between, back, keys) {
         Some(later) => later,
         None => return Err(MoveFault::ClockEnd),
     };
-    let commands = log(alloc, clock, touched, shard.pending(), later.at())?;
+    let mut commands = begin(alloc, clock, touched, shard.pending())?;
+    let new = demote_each(alloc, d, shard, worker, &between, back, keys, &mut commands)?;
     renew_places(hot, worker, clock, touched);
+    vacate(hot, back);
+    place_each(hot, new.as_slice());
     shard.forget_touches();
     shard.stamp = later.at();
     shard.evictor = worker;
     *clock = later;
-    Ok(commands)
+    Ok(Commands::of(commands))
 }

@@ -1,5 +1,5 @@
 //! Hot records that stay hot: each is taken in and handed out again.
-ghost use Rattle.std.specs.Prelude.{◌≡◌, ◌<◌, ◌≤◌, ◌^◌, [], ◌++◌, length, map, IfSome, IfNone, IfOk, OnOk, IsTrue};
+ghost use Rattle.std.specs.Prelude.{◌≡◌, ◌<◌, ◌≤◌, ◌^◌, [], ◌∷◌, ◌++◌, length, map, IfOk, OnOk, IsTrue};
 ghost use Rattle.std.specs.List.{AllByRecursion};
 ghost use Rattle.lamport_clocks.specs.Clock.{is_open};
 ghost use Rattle.record_text.specs.Format.{short_keys};
@@ -7,12 +7,12 @@ ghost use Rattle.record_text.specs.Value.{IsOf};
 ghost use Rattle.record_text.specs.Element.{IsStamp};
 ghost use Rattle.log_codec.specs.Command.{IsCommand};
 ghost use Rattle.host_shard.specs.Shown.{shown_content};
-ghost use Rattle.host_plan.specs.Moments.{renewing};
 ghost use Rattle.host_plan.specs.Visit.{between};
 ghost use Rattle.protection_moves.specs.Renewing.{renewing_commands, renewing_each, renewed_places};
+ghost use Rattle.protection_moves.specs.Run.{taking_in};
 
 use crate::hot_places::replace;
-use host_plan::{Commands, renewed};
+use host_plan::renewed;
 use host_shard::{Content, HotRecord};
 use lamport_clocks::{Clock, Stamp};
 use log_codec::Command;
@@ -20,61 +20,27 @@ use record_text::Element;
 use std::alloc::Global;
 use want_of_memory::Memory;
 
-// The clock once these records were renewed one after another, if that is not past the end.
-fn renewed_by_each(clock: &Clock, records: &[HotRecord]) -> Option<Clock>
-    requires open { AllByRecursion (λ found. IsTrue (is_open clock.now found.stamp.epoch)) records.now }
-    ensures renewed { IfSome result (λ later. later ≡ renewing_each clock.now records.now) }
-    ensures within { IfSome result (λ later. later.at.counter ≤ clock.now.end) }
-    ensures past { IfNone result (clock.now.end < (renewing_each clock.now records.now).at.counter) }
-{
-    match records.split_first() {
-        None => {
-            let _at = clock.at();
-            Some(*clock)
-        }
-        Some((first, rest)) => match renewed(clock, first.stamp) {
-            Some(next) => renewed_by_each(&next, rest),
-            None => None,
-        },
-    }
-}
-
-// The clock once these records and then an element of this stamp were renewed, if that is not past the end.
-pub(crate) fn counted(clock: &Clock, records: &[HotRecord], stamp: Stamp) -> Option<Clock>
-    requires open { IsTrue (is_open clock.now stamp.epoch) }
-    requires hot_open { AllByRecursion (λ found. IsTrue (is_open clock.now found.stamp.epoch)) records.now }
-    ensures counted { IfSome result (λ later. later ≡ renewing (renewing_each clock.now records.now) stamp) }
-    ensures within { IfSome result (λ later. later.at.counter ≤ clock.now.end) }
-    ensures past { IfNone result (clock.now.end < (renewing (renewing_each clock.now records.now) stamp).at.counter) }
-{
-    match renewed_by_each(clock, records) {
-        Some(between) => renewed(&between, stamp),
-        None => None,
-    }
-}
-
-// The commands that renew these records and then an element.
-pub(crate) fn log(
+// The commands that renew these records and then take an element in. There is room for the rest of a move without errands.
+pub(crate) fn begin(
     alloc: Global,
     clock: &Clock,
     records: &[HotRecord],
     element: Element,
-    stamp: Stamp,
-) -> Result<Commands, Memory>
+) -> Result<Vec<Command>, Memory>
     requires few { length records.now ≤ 4 }
     requires open { AllByRecursion (λ found. IsTrue (is_open clock.now found.stamp.epoch)) records.now }
     requires within { (renewing_each clock.now records.now).at.counter ≤ clock.now.end }
     requires kind { IsOf short_keys element.path element.value }
     requires added { IsStamp element.stamp }
     requires verifier { element.verifier < 2 ^ 16 }
-    ensures logged { IfOk result (λ commands. commands
-        ≡ renewing_commands short_keys clock.now records.now ++ between element stamp []) }
-    ensures typed { IfOk result (λ commands. AllByRecursion (IsCommand short_keys) commands) }
+    ensures logged { IfOk result (λ commands. commands.items
+        ≡ renewing_commands short_keys clock.now records.now ++ taking_in element ∷ []) }
+    ensures typed { IfOk result (λ commands. AllByRecursion (IsCommand short_keys) commands.items) }
 {
     let mut commands = room_for(alloc, records.len() + 1)?;
     log_renewals(&mut commands, clock, records)?;
-    log_renewal(&mut commands, element, stamp)?;
-    Ok(Commands::of(commands))
+    log_taking(&mut commands, element)?;
+    Ok(commands)
 }
 
 // Room for the commands of so many renewals.
@@ -83,6 +49,24 @@ fn room_for(alloc: Global, renewals: usize) -> Result<Vec<Command>, Memory>
     ensures empty { IfOk result (λ commands. commands.items ≡ []) }
 {
     Ok(Vec::with_capacity(alloc, 2 * renewals)?)
+}
+
+// Logs that an element is taken in.
+fn log_taking(commands: &mut Vec<Command>, element: Element) -> Result<(), Memory>
+    requires kind { IsOf short_keys element.path element.value }
+    requires added { IsStamp element.stamp }
+    requires verifier { element.verifier < 2 ^ 16 }
+    ensures logged { OnOk result (commands.new.items ≡ commands.old.items ++ taking_in element ∷ []) }
+    ensures typed { OnOk result (AllByRecursion (IsCommand short_keys) commands.old.items
+        → AllByRecursion (IsCommand short_keys) commands.new.items) }
+{
+    commands.push(Command::AddB {
+        path: element.path,
+        value: element.value,
+        stamp: element.stamp,
+        verifier: element.verifier,
+    })?;
+    Ok(())
 }
 
 // Logs that an element is taken in and its path handed out with this stamp.
@@ -95,12 +79,7 @@ fn log_renewal(commands: &mut Vec<Command>, element: Element, stamp: Stamp) -> R
         → AllByRecursion (IsCommand short_keys) commands.new.items) }
 {
     let path = element.path;
-    commands.push(Command::AddB {
-        path,
-        value: element.value,
-        stamp: element.stamp,
-        verifier: element.verifier,
-    })?;
+    log_taking(commands, element)?;
     commands.push(Command::EvictB { path, stamp })?;
     Ok(())
 }
@@ -153,7 +132,7 @@ pub(crate) fn renew_places(
                     evictor: worker,
                     touches: 0,
                 };
-                replace(places, &new);
+                replace(places, first.key, Some(&new));
                 renew_places(places, worker, &next, rest);
             }
             None => unreachable!(),

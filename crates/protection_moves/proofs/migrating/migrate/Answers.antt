@@ -1,118 +1,223 @@
-use Rattle.std.proofs.Common.{rules, ◌≡◌, ◌<◌, List, [], ◌++◌, map, IsTrue, refl, sym, ◌∙◌, ap, subst, arith}
+use Rattle.std.proofs.Common.{rules, ◌≡◌, ℕ, ◌+◌, ◌<◌, ◌≤◌, List, Bool, [], ◌∷◌, ◌++◌, map, length, IsTrue, refl, sym, ◌∙◌, ap, subst, arith}
 use Rattle.std.specs.List.{AllByRecursion}
 use Rattle.lamport_clocks.specs.declared.stamp.Stamp.{Stamp}
-use Rattle.lamport_clocks.specs.Reading.{Reading}
 use Rattle.lamport_clocks.specs.Clock.{is_open}
+use Rattle.lamport_clocks.specs.Reading.{Reading}
 use Rattle.record_text.specs.declared.element.Element.{Element}
 use Rattle.record_text.specs.Format.{short_keys}
 use Rattle.record_text.specs.Value.{IsOf}
+use Rattle.log_codec.specs.declared.command.Command.{Command}
 use Rattle.host_shard.specs.declared.content.HotRecord.{HotRecord}
-use Rattle.host_shard.specs.Shard.{Shard, pending_shard}
-use Rattle.host_shard.specs.Content.{Content}
-use Rattle.host_shard.specs.Mirrors.{IsShard}
+use Rattle.host_shard.specs.Content.{Content, key_path}
+use Rattle.host_shard.specs.Mirrors.{IsShard, IsKeyOf}
+use Rattle.host_shard.specs.Shard.{Shard}
 use Rattle.host_shard.specs.Shown.{shown, shown_content}
 use Rattle.host_shard.proofs.ChainLaws.{frontier_kind}
-use Rattle.host_plan.specs.Moments.{renewing}
-use Rattle.host_plan.specs.Visit.{between}
-use Rattle.protection_moves.specs.Stage.{Stage, touched_in}
-use Rattle.protection_moves.specs.Renewing.{renewing_each, renewing_commands, renewed_places}
+use Rattle.host_plan.specs.Moments.{giving}
+use Rattle.protection_moves.specs.Errand.{demotes, promotes, clock_by_each}
+use Rattle.protection_moves.specs.Stage.{Stage, touched_in, untouched_in, vacancies}
+use Rattle.protection_moves.specs.Renewing.{renewed_places, renewing_commands}
+use Rattle.protection_moves.specs.Run.{AreFirstDue, IsRun, placed_each, stage_with, taking_in, vacated}
+use Rattle.protection_moves.specs.Move.{IsMove}
 use Rattle.protection_moves.specs.Shown.{shown_stage}
-use Rattle.protection_moves.proofs.RenewingLaws.{renewing_each-open}
-use Rattle.protection_moves.proofs.TouchedLaws.{touched_all}
-use Rattle.protection_moves.proofs.MoveLemmas.{is_move, is_past, past_is}
+use Rattle.protection_moves.proofs.TouchedLaws.{touched_all, untouched_all}
+use Rattle.protection_moves.proofs.MoveLemmas.{is_move, is_past, past_is, past_at_start, open_between, end_clock, open_after, first_keys}
+use Rattle.protection_moves.proofs.RenewingLaws.{renewing_each-end}
 use Rattle.protection_moves.proofs.migrating.migrate.Goals as goal
 
-pub counted-requires-clause-hot_open : goal.counted-requires-clause-hot_open
-counted-requires-clause-hot_open g c =
-    subst (AllByRecursion (λ found. IsTrue (is_open c.args.clock.now found.stamp.epoch))) (sym (c.as_slice-touched.ensures.value ∙ c.touched_in-records.ensures.records))
-    (touched_all (λ found. IsTrue (is_open c.args.clock.now found.stamp.epoch)) (map shown_content c.args.hot.now) c.requires.hot_open)
+pub begun-requires-clause-hot_open : goal.begun-requires-clause-hot_open
+begun-requires-clause-hot_open g c =
+    subst (AllByRecursion (λ (f : HotRecord). IsTrue (is_open c.args.clock.now f.stamp.epoch))) (sym (c.as_slice-touched.ensures.value ∙ c.touched_in-staying.ensures.records))
+    (touched_all (λ f. IsTrue (is_open c.args.clock.now f.stamp.epoch)) (map shown_content c.args.hot.now) c.requires.hot_open)
 
 pub returns-in-None-clause-clock_end : goal.returns-in-None-clause-clock_end
 returns-in-None-clause-clock_end g c =
-    let stage : Stage = shown_stage c.args.shard.now c.args.hot.now c.args.clock.now in (
-      λ same. is_past stage c.requires.all_touched short_keys c.args.threshold c.requires.no_threshold
-          (subst (λ (records : List HotRecord). c.args.clock.now.end < (renewing (renewing_each c.args.clock.now records) c.args.shard.now.stamp).at.counter)
-          (c.as_slice-touched.ensures.value ∙ c.touched_in-records.ensures.records) c.in-None.ensures.past),
+    let stage : Stage = shown_stage c.args.shard.now c.args.hot.now c.args.clock.now in
+    let back : List HotRecord = c.as_slice-back.result.now in
+    let keys : List ℕ = c.as_slice-keys.result.now in
+    let touched : List HotRecord = c.as_slice-touched.result.now in
+    let returning : back ≡ untouched_in stage.places = c.as_slice-back.ensures.value ∙ c.untouched_in-returning.ensures.records in
+    let staying : touched ≡ touched_in stage.places = c.as_slice-touched.ensures.value ∙ c.touched_in-staying.ensures.records in
+    let first : AreFirstDue short_keys stage c.args.threshold (vacancies stage.places + length back) keys =
+        first_keys stage c.args.threshold back c.due_keys-due.result.items keys c.vacancies.result (length back)
+        c.vacancies.ensures.value refl c.as_slice-keys.ensures.value (c.due_keys-due.ensures.first c.args.clock.now) in
+    (λ same. past_at_start stage c.args.threshold back keys returning first touched staying c.in-None.ensures.past, λ past. refl)
+
+pub ended-requires : goal.ended-requires
+ended-requires g c = record {
+  «open» = open_between c.args.clock.now c.in-Some.between c.as_slice-touched.result.now c.args.shard.now.stamp c.as_slice-back.result.now c.in-Some.ensures.begun
+    (subst (AllByRecursion (λ (f : HotRecord). IsTrue (is_open c.args.clock.now f.stamp.epoch))) (sym (c.as_slice-back.ensures.value ∙ c.untouched_in-returning.ensures.records))
+    (untouched_all (λ f. IsTrue (is_open c.args.clock.now f.stamp.epoch)) (map shown_content c.args.hot.now) c.requires.hot_open));
+}
+
+pub returns-in-None-ended-clause-clock_end : goal.returns-in-None-ended-clause-clock_end
+returns-in-None-ended-clause-clock_end g c =
+    let stage : Stage = shown_stage c.args.shard.now c.args.hot.now c.args.clock.now in
+    let back : List HotRecord = c.as_slice-back.result.now in
+    let keys : List ℕ = c.as_slice-keys.result.now in
+    let touched : List HotRecord = c.as_slice-touched.result.now in
+    let returning : back ≡ untouched_in stage.places = c.as_slice-back.ensures.value ∙ c.untouched_in-returning.ensures.records in
+    let staying : touched ≡ touched_in stage.places = c.as_slice-touched.ensures.value ∙ c.touched_in-staying.ensures.records in
+    let first : AreFirstDue short_keys stage c.args.threshold (vacancies stage.places + length back) keys =
+        first_keys stage c.args.threshold back c.due_keys-due.result.items keys c.vacancies.result (length back)
+        c.vacancies.ensures.value refl c.as_slice-keys.ensures.value (c.due_keys-due.ensures.first c.args.clock.now) in
+    (
+      λ same. is_past stage c.args.threshold back keys returning first touched staying
+          (subst (λ (end : ℕ). end < (end_clock stage c.args.threshold back keys returning first touched staying).at.counter)
+          (ap (λ (clock : Reading). clock.end) c.in-Some.ensures.begun ∙ renewing_each-end c.args.clock.now touched)
+          (subst (λ (clock : Reading). c.in-Some.between.end < (giving (clock_by_each clock (map (λ (f : HotRecord). demotes f) back ++ map (λ (k : ℕ). promotes k) keys))).at.counter) c.in-Some.ensures.begun c.in-None-ended.ensures.past)),
       λ past. refl,
     )
 
-pub log-requires-clause-open : goal.log-requires-clause-open
-log-requires-clause-open g c =
-    subst (AllByRecursion (λ found. IsTrue (is_open c.args.clock.now found.stamp.epoch))) (sym (c.as_slice-touched.ensures.value ∙ c.touched_in-records.ensures.records))
-    (touched_all (λ found. IsTrue (is_open c.args.clock.now found.stamp.epoch)) (map shown_content c.args.hot.now) c.requires.hot_open)
+pub begin-requires-clause-open : goal.begin-requires-clause-open
+begin-requires-clause-open g c =
+    subst (AllByRecursion (λ (f : HotRecord). IsTrue (is_open c.args.clock.now f.stamp.epoch))) (sym (c.as_slice-touched.ensures.value ∙ c.touched_in-staying.ensures.records))
+    (touched_all (λ f. IsTrue (is_open c.args.clock.now f.stamp.epoch)) (map shown_content c.args.hot.now) c.requires.hot_open)
 
-pub log-requires-clause-kind : goal.log-requires-clause-kind
-log-requires-clause-kind g c =
+pub begin-requires-clause-kind : goal.begin-requires-clause-kind
+begin-requires-clause-kind g c =
     subst (λ (element : Element). IsOf short_keys element.path element.value) (sym c.pending.ensures.value)
     (frontier_kind short_keys (shown c.args.shard.now) c.requires.fits.kinds)
-
-pub renew_places-requires-clause-open : goal.renew_places-requires-clause-open
-renew_places-requires-clause-open g c =
-    subst (AllByRecursion (λ found. IsTrue (is_open c.args.clock.now found.stamp.epoch))) (sym (c.as_slice-touched.ensures.value ∙ c.touched_in-records.ensures.records))
-    (touched_all (λ found. IsTrue (is_open c.args.clock.now found.stamp.epoch)) (map shown_content c.args.hot.now) c.requires.hot_open)
 
 pub returns-in_err-commands-clause-clock_end : goal.returns-in_err-commands-clause-clock_end
 returns-in_err-commands-clause-clock_end g c =
     let stage : Stage = shown_stage c.args.shard.now c.args.hot.now c.args.clock.now in
-    let same : c.as_slice-touched.result.now ≡ touched_in stage.places = c.as_slice-touched.ensures.value ∙ c.touched_in-records.ensures.records in
-    let later = c.in-Some.ensures.counted ∙ ap (λ (records : List HotRecord). renewing (renewing_each c.args.clock.now records) c.args.shard.now.stamp) same in (
+    let back : List HotRecord = c.as_slice-back.result.now in
+    let keys : List ℕ = c.as_slice-keys.result.now in
+    let touched : List HotRecord = c.as_slice-touched.result.now in
+    let returning : back ≡ untouched_in stage.places = c.as_slice-back.ensures.value ∙ c.untouched_in-returning.ensures.records in
+    let staying : touched ≡ touched_in stage.places = c.as_slice-touched.ensures.value ∙ c.touched_in-staying.ensures.records in
+    let first : AreFirstDue short_keys stage c.args.threshold (vacancies stage.places + length back) keys =
+        first_keys stage c.args.threshold back c.due_keys-due.result.items keys c.vacancies.result (length back)
+        c.vacancies.ensures.value refl c.as_slice-keys.ensures.value (c.due_keys-due.ensures.first c.args.clock.now) in
+    let later : c.in-Some-ended.later ≡ end_clock stage c.args.threshold back keys returning first touched staying =
+        c.in-Some-ended.ensures.ended
+        ∙ ap (λ (clock : Reading). giving (clock_by_each clock (map (λ (f : HotRecord). demotes f) back ++ map (λ (k : ℕ). promotes k) keys))) c.in-Some.ensures.begun in (
       λ fault. search rules,
       λ past. absurd (omega (
         arith,
-        past_is stage c.requires.all_touched short_keys c.args.threshold c.requires.no_threshold past,
-        c.in-Some.ensures.within,
+        past_is stage c.args.threshold back keys returning first touched staying past,
+        c.in-Some-ended.ensures.within,
         ap (λ (clock : Reading). clock.at.counter) later,
+        ap (λ (clock : Reading). clock.end) (c.in-Some.ensures.begun),
+        renewing_each-end c.args.clock.now touched,
       )),
     )
+
+pub demote_each-requires-clause-own_back : goal.demote_each-requires-clause-own_back
+demote_each-requires-clause-own_back g c =
+    subst (AllByRecursion (λ (f : HotRecord). IsKeyOf short_keys (shown c.args.shard.now) (key_path short_keys f.key))) (sym (c.as_slice-back.ensures.value ∙ c.untouched_in-returning.ensures.records))
+    (untouched_all (λ f. IsKeyOf short_keys (shown c.args.shard.now) (key_path short_keys f.key)) (map shown_content c.args.hot.now) c.requires.hot_own)
+
+pub demote_each-requires-clause-own : goal.demote_each-requires-clause-own
+demote_each-requires-clause-own g c =
+    subst (AllByRecursion (λ (k : ℕ). IsKeyOf short_keys (shown c.args.shard.now) (key_path short_keys k))) (sym c.as_slice-keys.ensures.value) c.due_keys-due.ensures.own
+
+pub demote_each-requires-clause-open : goal.demote_each-requires-clause-open
+demote_each-requires-clause-open g c =
+    open_between c.args.clock.now c.in-Some.between c.as_slice-touched.result.now c.args.shard.now.stamp c.as_slice-back.result.now c.in-Some.ensures.begun
+    (subst (AllByRecursion (λ (f : HotRecord). IsTrue (is_open c.args.clock.now f.stamp.epoch))) (sym (c.as_slice-back.ensures.value ∙ c.untouched_in-returning.ensures.records))
+    (untouched_all (λ f. IsTrue (is_open c.args.clock.now f.stamp.epoch)) (map shown_content c.args.hot.now) c.requires.hot_open))
+
+pub returns-in_err-new-clause-clock_end : goal.returns-in_err-new-clause-clock_end
+returns-in_err-new-clause-clock_end g c =
+    let stage : Stage = shown_stage c.args.shard.now c.args.hot.now c.args.clock.now in
+    let back : List HotRecord = c.as_slice-back.result.now in
+    let keys : List ℕ = c.as_slice-keys.result.now in
+    let touched : List HotRecord = c.as_slice-touched.result.now in
+    let returning : back ≡ untouched_in stage.places = c.as_slice-back.ensures.value ∙ c.untouched_in-returning.ensures.records in
+    let staying : touched ≡ touched_in stage.places = c.as_slice-touched.ensures.value ∙ c.touched_in-staying.ensures.records in
+    let first : AreFirstDue short_keys stage c.args.threshold (vacancies stage.places + length back) keys =
+        first_keys stage c.args.threshold back c.due_keys-due.result.items keys c.vacancies.result (length back)
+        c.vacancies.ensures.value refl c.as_slice-keys.ensures.value (c.due_keys-due.ensures.first c.args.clock.now) in
+    let later : c.in-Some-ended.later ≡ end_clock stage c.args.threshold back keys returning first touched staying =
+        c.in-Some-ended.ensures.ended
+        ∙ ap (λ (clock : Reading). giving (clock_by_each clock (map (λ (f : HotRecord). demotes f) back ++ map (λ (k : ℕ). promotes k) keys))) c.in-Some.ensures.begun in (
+      λ fault. search rules,
+      λ past. absurd (omega (
+        arith,
+        past_is stage c.args.threshold back keys returning first touched staying past,
+        c.in-Some-ended.ensures.within,
+        ap (λ (clock : Reading). clock.at.counter) later,
+        ap (λ (clock : Reading). clock.end) (c.in-Some.ensures.begun),
+        renewing_each-end c.args.clock.now touched,
+      )),
+    )
+
+pub renew_places-requires-clause-open : goal.renew_places-requires-clause-open
+renew_places-requires-clause-open g c =
+    subst (AllByRecursion (λ (f : HotRecord). IsTrue (is_open c.args.clock.now f.stamp.epoch))) (sym (c.as_slice-touched.ensures.value ∙ c.touched_in-staying.ensures.records))
+    (touched_all (λ f. IsTrue (is_open c.args.clock.now f.stamp.epoch)) (map shown_content c.args.hot.now) c.requires.hot_open)
 
 pub returns-clause-moved : goal.returns-clause-moved
 returns-clause-moved g c =
     let stage : Stage = shown_stage c.args.shard.now c.args.hot.now c.args.clock.now in
-    let touched : List HotRecord = touched_in stage.places in
-    let same : c.as_slice-touched.result.now ≡ touched = c.as_slice-touched.ensures.value ∙ c.touched_in-records.ensures.records in
-    let end : Reading = renewing (renewing_each c.args.clock.now touched) c.args.shard.now.stamp in
-    let later : c.in-Some.later ≡ end = c.in-Some.ensures.counted ∙ ap (λ (records : List HotRecord). renewing (renewing_each c.args.clock.now records) c.args.shard.now.stamp) same in
-    let left : Shard → List Content → Stamp → Reading → Stage = λ shard places stamp clock. record {
+    let back : List HotRecord = c.as_slice-back.result.now in
+    let keys : List ℕ = c.as_slice-keys.result.now in
+    let touched : List HotRecord = c.as_slice-touched.result.now in
+    let returning : back ≡ untouched_in stage.places = c.as_slice-back.ensures.value ∙ c.untouched_in-returning.ensures.records in
+    let staying : touched ≡ touched_in stage.places = c.as_slice-touched.ensures.value ∙ c.touched_in-staying.ensures.records in
+    let first : AreFirstDue short_keys stage c.args.threshold (vacancies stage.places + length back) keys =
+        first_keys stage c.args.threshold back c.due_keys-due.result.items keys c.vacancies.result (length back)
+        c.vacancies.ensures.value refl c.as_slice-keys.ensures.value (c.due_keys-due.ensures.first c.args.clock.now) in
+    let digest = (g.D.Digests.functions c.args.d.now).digest in
+    let left : Shard = shown c.demote_each.new.shard in
+    let renewed : List Content = renewed_places c.args.worker c.args.clock.now stage.places touched in
+    let placed : List Content = placed_each c.in_ok-new.new.items (vacated back renewed) in
+    let became : Shard → List Content → Stamp → Stage = λ shard places stamp. record {
       shard = record shard { stamp = stamp; evictor = c.args.worker };
       places = places;
-      clock = clock;
+      clock = c.in-Some-ended.later;
     } in
-    let forgotten : Shard = record (shown c.args.shard.now) { touches = λ k. 0 } in
-    let places : List Content = map shown_content c.renew_places.new.places in
-    let renewed : List Content = renewed_places c.args.worker c.args.clock.now stage.places touched in
-    is_move stage c.requires.all_touched short_keys _ c.args.worker c.args.threshold _ _ c.requires.no_threshold
-    (c.in_ok-commands.ensures.logged
-    ∙ ap (λ (records : List HotRecord). renewing_commands short_keys c.args.clock.now records ++ between c.pending.result c.at.result []) same
-    ∙ ap (λ (element : Element). renewing_commands short_keys c.args.clock.now touched ++ between element c.at.result []) c.pending.ensures.value
-    ∙ ap (λ (stamp : Stamp). renewing_commands short_keys c.args.clock.now touched ++ between (pending_shard (shown c.args.shard.now)) stamp [])
-    (c.at.ensures.value ∙ ap (λ (clock : Reading). clock.at) later))
-    (ap (λ (shard : Shard). left shard places c.at-shard.result c.in-Some.later) c.forget_touches.ensures.forgotten
-    ∙ ap (λ (contents : List Content). left forgotten contents c.at-shard.result c.in-Some.later)
-    (c.renew_places.ensures.renewed ∙ ap (λ (records : List HotRecord). renewed_places c.args.worker c.args.clock.now stage.places records) same)
-    ∙ ap (λ (stamp : Stamp). left forgotten renewed stamp c.in-Some.later) c.at-shard.ensures.value
-    ∙ ap (λ (clock : Reading). left forgotten renewed clock.at clock) later)
+    let forgotten : Shard = record left { touches = λ k. 0 } in
+    subst (λ (logged : List Command). IsMove short_keys digest c.args.worker c.args.threshold stage logged
+        (became (shown c.forget_touches.new.self) (map shown_content c.place_each.new.places) c.at-shard.result)) (sym c.of.ensures.commands)
+    (is_move stage c.args.threshold back keys returning first touched staying digest c.args.worker c.in-Some.between c.in-Some-ended.later c.in_ok-commands.commands.items c.demote_each.new.commands.items left placed
+    (became (shown c.forget_touches.new.self) (map shown_content c.place_each.new.places) c.at-shard.result)
+    c.in-Some.ensures.begun c.in-Some-ended.ensures.ended
+    (c.in_ok-commands.ensures.logged ∙ ap (λ (element : Element). renewing_commands short_keys c.args.clock.now touched ++ taking_in element ∷ []) c.pending.ensures.value)
+    (c.in_ok-new.ensures.run (λ k. 0) renewed)
+    (ap (λ (shard : Shard). became shard (map shown_content c.place_each.new.places) c.at-shard.result) c.forget_touches.ensures.forgotten
+    ∙ ap (λ (places : List Content). became forgotten places c.at-shard.result)
+    (c.place_each.ensures.placed
+    ∙ ap (λ (records : List HotRecord). placed_each records (map shown_content c.vacate.new.places)) c.as_slice.ensures.value
+    ∙ ap (placed_each c.in_ok-new.new.items) (c.vacate.ensures.vacated ∙ ap (vacated back) c.renew_places.ensures.renewed))
+    ∙ ap (λ (stamp : Stamp). became forgotten placed stamp) c.at-shard.ensures.value))
 
 pub returns-clause-clock_end : goal.returns-clause-clock_end
 returns-clause-clock_end g c =
     let stage : Stage = shown_stage c.args.shard.now c.args.hot.now c.args.clock.now in
-    let same : c.as_slice-touched.result.now ≡ touched_in stage.places = c.as_slice-touched.ensures.value ∙ c.touched_in-records.ensures.records in
-    let later = c.in-Some.ensures.counted ∙ ap (λ (records : List HotRecord). renewing (renewing_each c.args.clock.now records) c.args.shard.now.stamp) same in (
-      λ fault. cc,
+    let back : List HotRecord = c.as_slice-back.result.now in
+    let keys : List ℕ = c.as_slice-keys.result.now in
+    let touched : List HotRecord = c.as_slice-touched.result.now in
+    let returning : back ≡ untouched_in stage.places = c.as_slice-back.ensures.value ∙ c.untouched_in-returning.ensures.records in
+    let staying : touched ≡ touched_in stage.places = c.as_slice-touched.ensures.value ∙ c.touched_in-staying.ensures.records in
+    let first : AreFirstDue short_keys stage c.args.threshold (vacancies stage.places + length back) keys =
+        first_keys stage c.args.threshold back c.due_keys-due.result.items keys c.vacancies.result (length back)
+        c.vacancies.ensures.value refl c.as_slice-keys.ensures.value (c.due_keys-due.ensures.first c.args.clock.now) in
+    let later : c.in-Some-ended.later ≡ end_clock stage c.args.threshold back keys returning first touched staying =
+        c.in-Some-ended.ensures.ended
+        ∙ ap (λ (clock : Reading). giving (clock_by_each clock (map (λ (f : HotRecord). demotes f) back ++ map (λ (k : ℕ). promotes k) keys))) c.in-Some.ensures.begun in (
+      λ fault. search rules,
       λ past. absurd (omega (
         arith,
-        past_is stage c.requires.all_touched short_keys c.args.threshold c.requires.no_threshold past,
-        c.in-Some.ensures.within,
+        past_is stage c.args.threshold back keys returning first touched staying past,
+        c.in-Some-ended.ensures.within,
         ap (λ (clock : Reading). clock.at.counter) later,
+        ap (λ (clock : Reading). clock.end) (c.in-Some.ensures.begun),
+        renewing_each-end c.args.clock.now touched,
       )),
     )
 
 pub returns-clause-fits : goal.returns-clause-fits
 returns-clause-fits g c =
+    let fits = c.in_ok-new.ensures.fits in
     subst (λ (shard : Shard). IsShard short_keys (record shard { stamp = c.at-shard.result; evictor = c.args.worker })) (sym c.forget_touches.ensures.forgotten)
-    (record { below_root = c.requires.fits.below_root; no_data = c.requires.fits.no_data; kinds = c.requires.fits.kinds })
+    (record { below_root = fits.below_root; no_data = fits.no_data; kinds = fits.kinds })
 
 pub returns-clause-open : goal.returns-clause-open
 returns-clause-open g c epoch =
-    let same : c.as_slice-touched.result.now ≡ touched_in (map shown_content c.args.hot.now) = c.as_slice-touched.ensures.value ∙ c.touched_in-records.ensures.records in
-    ap (λ (clock : Reading). is_open clock epoch) (c.in-Some.ensures.counted ∙ ap (λ (records : List HotRecord). renewing (renewing_each c.args.clock.now records) c.args.shard.now.stamp) same)
-    ∙ renewing_each-open c.args.clock.now (touched_in (map shown_content c.args.hot.now)) epoch
+    let back : List HotRecord = c.as_slice-back.result.now in
+    let keys : List ℕ = c.as_slice-keys.result.now in
+    open_after c.args.clock.now c.in-Some.between c.in-Some-ended.later c.as_slice-touched.result.now c.args.shard.now.stamp (map (λ (f : HotRecord). demotes f) back ++ map (λ (k : ℕ). promotes k) keys) epoch
+    c.in-Some.ensures.begun c.in-Some-ended.ensures.ended

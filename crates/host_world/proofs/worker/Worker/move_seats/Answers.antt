@@ -8,7 +8,8 @@ use Rattle.record_text.specs.Format.{short_keys}
 use Rattle.host_core.specs.Host.{Done}
 use Rattle.host_core.specs.World.{Worker}
 use Rattle.host_core.specs.WorldEvent.{logging}
-use Rattle.host_shard.specs.Content.{Content, cold}
+use Rattle.host_shard.specs.Content.{Content, cold, key_path}
+use Rattle.host_shard.specs.Mirrors.{IsKeyOf}
 use Rattle.host_shard.specs.Shown.{shown, shown_content}
 use Rattle.protection_moves.specs.Shown.{shown_stage}
 use Rattle.host_shard.specs.declared.content.Content as place
@@ -30,8 +31,10 @@ migrate-requires-clause-hot_open g c =
     subst (AllByRecursion (λ found. IsTrue (is_open c.self.inside.clock found.stamp.epoch)))
     (sym (ap (λ (cs : List Content). hot_records (drop 1 cs)) c.requires.seats.is)) tt
 
-pub migrate-requires-clause-all_touched : goal.migrate-requires-clause-all_touched
-migrate-requires-clause-all_touched g c = ap (λ (cs : List Content). untouched_in (drop 1 cs)) c.requires.seats.is
+pub migrate-requires-clause-hot_own : goal.migrate-requires-clause-hot_own
+migrate-requires-clause-hot_own g c =
+    subst (AllByRecursion (λ found. IsKeyOf short_keys (shown c.in-Cold.shard) (key_path short_keys found.key)))
+    (sym (ap (λ (cs : List Content). hot_records (drop 1 cs)) c.requires.seats.is)) tt
 
 pub returns-in-Ok-clause-moved : goal.returns-in-Ok-clause-moved
 returns-in-Ok-clause-moved g c is =

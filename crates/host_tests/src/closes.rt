@@ -1,0 +1,796 @@
+//! Closes with hot records, beside the rows that `tools/slow_plans.py` prints for the same script.
+ghost use Rattle.std.specs.Prelude.{◌≡◌, ◌<◌, ◌≤◌, IsTrue, OnOk, length, map};
+ghost use Rattle.std.specs.List.{AllByRecursion};
+ghost use Rattle.lamport_clocks.specs.Clock.{is_open};
+ghost use Rattle.record_text.specs.Format.{short_keys};
+ghost use Rattle.host_shard.specs.Content.{key_path};
+ghost use Rattle.host_shard.specs.Mirrors.{IsShard, IsKeyOf};
+ghost use Rattle.host_shard.specs.Shown.{shown, shown_content};
+ghost use Rattle.host_plan.specs.Plan.{Owns};
+ghost use Rattle.protection_moves.specs.Stage.{hot_records};
+ghost use Rattle.host_tests.specs.Owned.{IsFit};
+
+use crate::plans::header;
+use crate::shards::{clock_at, push_all, request_of, serve};
+use bundle_rows::log_of;
+use host_plan::setup;
+use host_shard::{Content, Shard};
+use lamport_clocks::{Clock, Stamp};
+use log_codec::Command;
+use protection_moves::{MoveFault, migrate};
+use record_hash::{Digests, ShaDigests, ToyDigests};
+use record_text::Request;
+use std::alloc::Global;
+use std::test::Fail;
+use tree_keys::Path;
+use verifier_run::Run;
+
+// What is tried, the threshold, requests and closes of two shards, and the rows of the log.
+const CASES: [(&str, u32, &str, &str); 6] = [
+    (
+        "a key becomes hot, is touched in one epoch, and comes back",
+        2,
+        "
+put 5 6162
+get 5
+epoch
+get 5
+epoch
+epoch
+get 5
+",
+        "
+addB /0 -,- 0.1 v0
+addM 5 none /0
+put 5 6162
+evictM 5 /0
+evictB /0 0.4
+addB /0 5:c6,- 0.4 v0
+addM 5 6162 /0
+get 5 6162
+evictM 5 /0
+evictB /0 0.6
+next
+addB /0 5:c6,- 0.6 v0
+addM 5 6162 /0
+evictBM 5 /0 1.2
+evictB /0 1.3
+addB /1 -,- 0.2 v0
+evictB /1 1.5
+addB 5 6162 1.2 v0
+get 5 6162
+evictB 5 1.7
+next
+addB 5 6162 1.7 v0
+evictB 5 2.2
+addB /0 5?c6,- 1.3 v0
+evictB /0 2.4
+addB /1 -,- 1.5 v0
+evictB /1 2.6
+next
+addB /0 5?c6,- 2.4 v0
+addB 5 6162 2.2 v0
+evictM 5 /0
+evictB /0 3.3
+addB /1 -,- 2.6 v0
+evictB /1 3.5
+addB /0 5:c6,- 3.3 v0
+addM 5 6162 /0
+get 5 6162
+evictM 5 /0
+evictB /0 3.7
+",
+    ),
+    (
+        "a fifth key is left out",
+        1,
+        "
+put 1 01
+get 2
+put 9223372036854775809 02
+get 3
+get 4
+get 5
+epoch
+get 5
+",
+        "
+addB /0 -,- 0.1 v0
+addM 1 none /0
+put 1 01
+evictM 1 /0
+evictB /0 0.4
+addB /0 1:03,- 0.4 v0
+addM 0/62 -,- /0
+addM 2 none 0/62
+get 2 none
+evictM 2 0/62
+evictM 0/62 /0
+evictB /0 0.6
+addB /1 -,- 0.2 v0
+addM 9223372036854775809 none /1
+put 9223372036854775809 02
+evictM 9223372036854775809 /1
+evictB /1 0.8
+addB /0 0/62:88,- 0.6 v0
+addM 0/62 1:03,2:00 /0
+addM 2/63 -,- 0/62
+addM 3 none 2/63
+get 3 none
+evictM 3 2/63
+evictM 2/63 0/62
+evictM 0/62 /0
+evictB /0 0.10
+addB /0 0/62:010e,- 0.10 v0
+addM 0/61 -,- /0
+addM 4 none 0/61
+get 4 none
+evictM 4 0/61
+evictM 0/61 /0
+evictB /0 0.12
+addB /0 0/61:93,- 0.12 v0
+addM 0/61 0/62:010e,4:00 /0
+addM 4/63 -,- 0/61
+addM 5 none 4/63
+get 5 none
+evictM 5 4/63
+evictM 4/63 0/61
+evictM 0/61 /0
+evictB /0 0.14
+next
+addB /0 0/61:011d,- 0.14 v0
+addM 0/61 0/62:010e,4/63:8b /0
+addM 0/62 1:03,2/63:87 0/61
+addM 1 01 0/62
+evictBM 1 0/62 1.2
+evictM 0/62 0/61
+evictM 0/61 /0
+addM 0/61 0/62:010f,4/63:8b /0
+addM 0/62 1?03,2/63:87 0/61
+addM 2/63 2:00,3:00 0/62
+addM 2 none 2/63
+evictBM 2 2/63 1.3
+evictM 2/63 0/62
+evictM 0/62 0/61
+evictM 0/61 /0
+addM 0/61 0/62:0110,4/63:8b /0
+addM 0/62 1?03,2/63:88 0/61
+addM 2/63 2?00,3:00 0/62
+addM 3 none 2/63
+evictBM 3 2/63 1.4
+evictM 2/63 0/62
+evictM 0/62 0/61
+evictM 0/61 /0
+addM 0/61 0/62:0111,4/63:8b /0
+addM 4/63 4:00,5:00 0/61
+addM 4 none 4/63
+evictBM 4 4/63 1.5
+evictM 4/63 0/61
+evictM 0/61 /0
+evictB /0 1.6
+addB /1 9223372036854775809:04,- 0.8 v0
+addM 9223372036854775809 02 /1
+evictBM 9223372036854775809 /1 1.8
+evictB /1 1.9
+addB /0 0/61:0121,- 1.6 v0
+addM 0/61 0/62:0111,4/63:8c /0
+addM 4/63 4?00,5:00 0/61
+addM 5 none 4/63
+get 5 none
+evictM 5 4/63
+evictM 4/63 0/61
+evictM 0/61 /0
+evictB /0 1.11
+",
+    ),
+    (
+        "a key takes the place that another left in the same close",
+        1,
+        "
+get 1
+get 2
+get 3
+get 4
+epoch
+get 9
+get 1
+put 2 61
+get 4
+epoch
+",
+        "
+addB /0 -,- 0.1 v0
+addM 1 none /0
+get 1 none
+evictM 1 /0
+evictB /0 0.4
+addB /0 1:00,- 0.4 v0
+addM 0/62 -,- /0
+addM 2 none 0/62
+get 2 none
+evictM 2 0/62
+evictM 0/62 /0
+evictB /0 0.6
+addB /0 0/62:85,- 0.6 v0
+addM 0/62 1:00,2:00 /0
+addM 2/63 -,- 0/62
+addM 3 none 2/63
+get 3 none
+evictM 3 2/63
+evictM 2/63 0/62
+evictM 0/62 /0
+evictB /0 0.8
+addB /0 0/62:010b,- 0.8 v0
+addM 0/61 -,- /0
+addM 4 none 0/61
+get 4 none
+evictM 4 0/61
+evictM 0/61 /0
+evictB /0 0.10
+next
+addB /0 0/61:90,- 0.10 v0
+addM 0/61 0/62:010b,4:00 /0
+addM 0/62 1:00,2/63:87 0/61
+addM 1 none 0/62
+evictBM 1 0/62 1.2
+evictM 0/62 0/61
+evictM 0/61 /0
+addM 0/61 0/62:010c,4:00 /0
+addM 0/62 1?00,2/63:87 0/61
+addM 2/63 2:00,3:00 0/62
+addM 2 none 2/63
+evictBM 2 2/63 1.3
+evictM 2/63 0/62
+evictM 0/62 0/61
+evictM 0/61 /0
+addM 0/61 0/62:010d,4:00 /0
+addM 0/62 1?00,2/63:88 0/61
+addM 2/63 2?00,3:00 0/62
+addM 3 none 2/63
+evictBM 3 2/63 1.4
+evictM 2/63 0/62
+evictM 0/62 0/61
+evictM 0/61 /0
+addM 0/61 0/62:010e,4:00 /0
+addM 4 none 0/61
+evictBM 4 0/61 1.5
+evictM 0/61 /0
+evictB /0 1.6
+addB /1 -,- 0.2 v0
+evictB /1 1.8
+addB /0 0/61:94,- 1.6 v0
+addM 0/60 -,- /0
+addM 9 none 0/60
+get 9 none
+evictM 9 0/60
+evictM 0/60 /0
+evictB /0 1.10
+addB 1 none 1.2 v0
+get 1 none
+evictB 1 1.12
+addB 2 none 1.3 v0
+put 2 61
+evictB 2 1.14
+addB 4 none 1.5 v0
+get 4 none
+evictB 4 1.16
+next
+addB 1 none 1.12 v0
+evictB 1 2.2
+addB 2 61 1.14 v0
+evictB 2 2.4
+addB 4 none 1.16 v0
+evictB 4 2.6
+addB /0 0/60:011c,- 1.10 v0
+addM 0/60 0/61:94,9:00 /0
+addM 0/61 0/62:010e,4?00 0/60
+addM 0/62 1?00,2/63:89 0/61
+addM 2/63 2?00,3?00 0/62
+addB 3 none 1.4 v0
+evictM 3 2/63
+evictM 2/63 0/62
+evictM 0/62 0/61
+evictM 0/61 0/60
+evictM 0/60 /0
+addM 0/60 0/61:93,9:00 /0
+addM 9 none 0/60
+evictBM 9 0/60 2.9
+evictM 0/60 /0
+evictB /0 2.10
+addB /1 -,- 1.8 v0
+evictB /1 2.12
+",
+    ),
+    (
+        "a record comes back beside a fork",
+        3,
+        "
+put 4 61
+get 4
+get 4
+epoch
+put 5 62
+get 4
+put 4 63
+epoch
+put 20 64
+epoch
+",
+        "
+addB /0 -,- 0.1 v0
+addM 4 none /0
+put 4 61
+evictM 4 /0
+evictB /0 0.4
+addB /0 4:63,- 0.4 v0
+addM 4 61 /0
+get 4 61
+evictM 4 /0
+evictB /0 0.6
+addB /0 4:63,- 0.6 v0
+addM 4 61 /0
+get 4 61
+evictM 4 /0
+evictB /0 0.8
+next
+addB /0 4:63,- 0.8 v0
+addM 4 61 /0
+evictBM 4 /0 1.2
+evictB /0 1.3
+addB /1 -,- 0.2 v0
+evictB /1 1.5
+addB /0 4?63,- 1.3 v0
+addM 4/63 -,- /0
+addM 5 none 4/63
+put 5 62
+evictM 5 4/63
+evictM 4/63 /0
+evictB /0 1.7
+addB 4 61 1.2 v0
+get 4 61
+evictB 4 1.9
+addB 4 61 1.9 v0
+put 4 63
+evictB 4 1.11
+next
+addB 4 63 1.11 v0
+evictB 4 2.2
+addB /0 4/63:0153,- 1.7 v0
+evictB /0 2.4
+addB /1 -,- 1.5 v0
+evictB /1 2.6
+addB /0 4/63:0153,- 2.4 v0
+addM 0/59 -,- /0
+addM 20 none 0/59
+put 20 64
+evictM 20 0/59
+evictM 0/59 /0
+evictB /0 2.8
+next
+addB /0 0/59:0153,- 2.8 v0
+addM 0/59 4/63:0153,20:66 /0
+addM 4/63 4?63,5:64 0/59
+addB 4 63 2.2 v0
+evictM 4 4/63
+evictM 4/63 0/59
+evictM 0/59 /0
+evictB /0 3.3
+addB /1 -,- 2.6 v0
+evictB /1 3.5
+",
+    ),
+    (
+        "one touch is too few, and two are enough",
+        2,
+        "
+get 5
+get 6
+get 6
+epoch
+get 5
+get 6
+epoch
+",
+        "
+addB /0 -,- 0.1 v0
+addM 5 none /0
+get 5 none
+evictM 5 /0
+evictB /0 0.4
+addB /0 5:00,- 0.4 v0
+addM 4/62 -,- /0
+addM 6 none 4/62
+get 6 none
+evictM 6 4/62
+evictM 4/62 /0
+evictB /0 0.6
+addB /0 4/62:8d,- 0.6 v0
+addM 4/62 5:00,6:00 /0
+addM 6 none 4/62
+get 6 none
+evictM 6 4/62
+evictM 4/62 /0
+evictB /0 0.8
+next
+addB /0 4/62:8d,- 0.8 v0
+addM 4/62 5:00,6:00 /0
+addM 6 none 4/62
+evictBM 6 4/62 1.2
+evictM 4/62 /0
+evictB /0 1.3
+addB /1 -,- 0.2 v0
+evictB /1 1.5
+addB /0 4/62:8e,- 1.3 v0
+addM 4/62 5:00,6?00 /0
+addM 5 none 4/62
+get 5 none
+evictM 5 4/62
+evictM 4/62 /0
+evictB /0 1.7
+addB 6 none 1.2 v0
+get 6 none
+evictB 6 1.9
+next
+addB 6 none 1.9 v0
+evictB 6 2.2
+addB /0 4/62:8e,- 1.7 v0
+evictB /0 2.4
+addB /1 -,- 1.5 v0
+evictB /1 2.6
+",
+    ),
+    (
+        "one touch is enough",
+        1,
+        "
+get 18446744073709551615
+get 9223372036854775808
+epoch
+epoch
+",
+        "
+addB /1 -,- 0.2 v0
+addM 18446744073709551615 none /1
+get 18446744073709551615 none
+evictM 18446744073709551615 /1
+evictB /1 0.4
+addB /1 -,18446744073709551615:00 0.4 v0
+addM 9223372036854775808 none /1
+get 9223372036854775808 none
+evictM 9223372036854775808 /1
+evictB /1 0.6
+next
+addB /0 -,- 0.1 v0
+evictB /0 1.2
+addB /1 9223372036854775808:00,18446744073709551615:00 0.6 v0
+addM 9223372036854775808 none /1
+evictBM 9223372036854775808 /1 1.4
+addM 18446744073709551615 none /1
+evictBM 18446744073709551615 /1 1.5
+evictB /1 1.6
+next
+addB /0 -,- 1.2 v0
+evictB /0 2.2
+addB /1 9223372036854775808?00,18446744073709551615?00 1.6 v0
+addB 9223372036854775808 none 1.4 v0
+evictM 9223372036854775808 /1
+addB 18446744073709551615 none 1.5 v0
+evictM 18446744073709551615 /1
+evictB /1 2.6
+",
+    ),
+];
+
+/// A shard and its hot places.
+#[derive(Drop)]
+struct Seats {
+    cold: Content,
+    hot: [Content; 4],
+}
+
+// A shard as a setup leaves it, evicted last with this counter of epoch 0, and vacant places.
+fn fresh(alloc: Global, side: bool, counter: u32) -> Seats
+    ensures fit { IsFit (shown_content result.cold) }
+{
+    let frontier = Path::root().child(side);
+    let stamp = Stamp { epoch: 0, counter };
+    Seats {
+        cold: Content::Cold(Shard::new(alloc, frontier, stamp, 0)),
+        hot: [
+            Content::Vacant,
+            Content::Vacant,
+            Content::Vacant,
+            Content::Vacant,
+        ],
+    }
+}
+
+// Whether a content is the one in which a request for a key is served.
+fn owns(content: &Content, key: u64) -> bool
+    ensures own { IsTrue result → IsFit (shown_content content.now)
+        → Owns short_keys (shown_content content.now) key }
+{
+    match content {
+        Content::Cold(shard) => Path::of_key(key).is_below(&shard.frontier),
+        Content::Hot(found) => found.key == key,
+        Content::Vacant => false,
+    }
+}
+
+// Whether the clock takes a stamp in.
+fn takes(clock: &Clock, stamp: Stamp) -> bool
+    ensures open { IsTrue result → IsTrue (is_open clock.now stamp.epoch) }
+{
+    let mut later = *clock;
+    later.on_add(stamp).is_ok()
+}
+
+// Whether the clock takes in each record in these places.
+fn takes_all(clock: &Clock, places: &[Content]) -> bool
+    ensures open { IsTrue result → AllByRecursion (λ found. IsTrue (is_open clock.now found.stamp.epoch))
+        (hot_records (map shown_content places.now)) }
+{
+    let (first, rest) = match places.split_first() {
+        Some(parts) => parts,
+        None => return true,
+    };
+    match first {
+        Content::Hot(found) => takes(clock, found.stamp) && takes_all(clock, rest),
+        Content::Cold(_) => takes_all(clock, rest),
+        Content::Vacant => takes_all(clock, rest),
+    }
+}
+
+// Whether each record in these places is of a key of the shard.
+fn owns_all(shard: &Shard, places: &[Content]) -> bool
+    ensures own { IsTrue result → AllByRecursion (λ found. IsKeyOf short_keys (shown shard.now) (key_path short_keys found.key))
+        (hot_records (map shown_content places.now)) }
+{
+    let (first, rest) = match places.split_first() {
+        Some(parts) => parts,
+        None => return true,
+    };
+    match first {
+        Content::Hot(found) => {
+            Path::of_key(found.key).is_below(&shard.frontier) && owns_all(shard, rest)
+        }
+        Content::Cold(_) => owns_all(shard, rest),
+        Content::Vacant => owns_all(shard, rest),
+    }
+}
+
+// Moves a shard at a close for worker 0, and logs the commands. It answers whether the counters reached. For want of memory
+// it tries once more: all is as before.
+fn close<D: Digests>(
+    alloc: Global,
+    d: &D,
+    shard: &mut Shard,
+    hot: &mut [Content],
+    threshold: u32,
+    clock: &mut Clock,
+    log: &mut Vec<u8>,
+    tries: u8,
+) -> Result<bool, Fail>
+    requires fits { IsShard short_keys (shown shard.old) }
+    requires places { length hot.old ≤ 4 }
+    ensures fits { IsShard short_keys (shown shard.new) }
+{
+    if threshold == 0 || !takes(clock, shard.stamp) {
+        return Err("not to be moved")?;
+    }
+    if !takes_all(clock, hot) || !owns_all(shard, hot) {
+        return Err("hot records of others")?;
+    }
+    match migrate(alloc, d, shard, hot, Some(threshold), 0, clock) {
+        Ok(commands) => {
+            push_all(log, commands.as_slice())?;
+            Ok(true)
+        }
+        Err(MoveFault::ClockEnd) => Ok(false),
+        Err(MoveFault::Memory) => {
+            if tries == 0 {
+                return Err("no memory")?;
+            }
+            close(alloc, d, shard, hot, threshold, clock, log, tries - 1)
+        }
+    }
+}
+
+impl Seats {
+    // Moves the shard at a close.
+    fn close<D: Digests>(
+        &mut self,
+        alloc: Global,
+        d: &D,
+        threshold: u32,
+        clock: &mut Clock,
+        log: &mut Vec<u8>,
+    ) -> Result<bool, Fail>
+        requires fit { IsFit (shown_content self.old.cold) }
+        ensures fit { IsFit (shown_content self.new.cold) }
+    {
+        match &mut self.cold {
+            Content::Cold(shard) => close(alloc, d, shard, &mut self.hot, threshold, clock, log, 1),
+            _ => Err("no shard")?,
+        }
+    }
+
+    // Serves a request in the place of its key.
+    fn serve<D: Digests>(
+        &mut self,
+        alloc: Global,
+        d: &D,
+        request: &Request,
+        clock: &mut Clock,
+        log: &mut Vec<u8>,
+    ) -> Result<(), Fail>
+        requires fit { IsFit (shown_content self.old.cold) }
+        ensures fit { OnOk result (IsFit (shown_content self.new.cold)) }
+    {
+        for index in 0..4 {
+            if serve_in(alloc, d, &mut self.hot[index], request, clock, log)? {
+                return Ok(());
+            }
+        }
+        if serve_in(alloc, d, &mut self.cold, request, clock, log)? {
+            return Ok(());
+        }
+        Err("no place of this key")?
+    }
+}
+
+// Serves a request if the content is that of its key, and answers that.
+fn serve_in<D: Digests>(
+    alloc: Global,
+    d: &D,
+    content: &mut Content,
+    request: &Request,
+    clock: &mut Clock,
+    log: &mut Vec<u8>,
+) -> Result<bool, Fail>
+    requires fit { IsFit (shown_content content.old) }
+    ensures fit { OnOk result (IsFit (shown_content content.new)) }
+{
+    if !owns(content, request.key) {
+        return Ok(false);
+    }
+    serve(alloc, d, content, request, 0, clock, log)?;
+    Ok(true)
+}
+
+// Serves the requests of these rows on two new shards and closes at each `epoch`, behind what is logged already.
+fn play<D: Digests>(
+    alloc: Global,
+    d: &D,
+    threshold: u32,
+    script: &str,
+    log: &mut Vec<u8>,
+) -> Result<(), Fail> {
+    let mut low = fresh(alloc, false, 1);
+    let mut high = fresh(alloc, true, 2);
+    let mut clock = clock_at(2);
+    for row in script.trim().lines() {
+        if row == "epoch" {
+            if clock.next_epoch().is_err() {
+                return Err("no next epoch")?;
+            }
+            push_all(log, &[Command::NextEpoch])?;
+            low.close(alloc, d, threshold, &mut clock, log)?;
+            high.close(alloc, d, threshold, &mut clock, log)?;
+        } else {
+            let request = request_of(alloc, row)?;
+            if request.key >> 63 == 0 {
+                low.serve(alloc, d, &request, &mut clock, log)?;
+            } else {
+                high.serve(alloc, d, &request, &mut clock, log)?;
+            }
+        }
+    }
+    Ok(())
+}
+
+#[test]
+fn closes_are_those_of_the_slow_program(rt: HostRuntime) -> Result<(), Fail> {
+    for (label, threshold, script, rows) in CASES {
+        let mut log = Vec::new(rt.alloc());
+        play(rt.alloc(), &ToyDigests, threshold, script, &mut log)?;
+        let wanted = match log_of(rt.alloc(), rows.trim()) {
+            Ok(bytes) => bytes,
+            Err(_) => return Err("a row that is no command")?,
+        };
+        assert_eq!(rt; log.as_slice(), wanted.as_slice(), "{label}");
+    }
+    Ok(())
+}
+
+#[test]
+fn a_verifier_accepts_closes_with_hot_records(rt: HostRuntime) -> Result<(), Fail> {
+    let d = ShaDigests::new(&[7; 32]);
+    let header = header();
+    for (label, threshold, script, _) in CASES {
+        let Ok((commands, _)) = setup(rt.alloc(), 2, &header) else {
+            return Err("no setup")?;
+        };
+        let mut log = Vec::new(rt.alloc());
+        push_all(&mut log, commands.as_slice())?;
+        play(rt.alloc(), &d, threshold, script, &mut log)?;
+        let Ok(mut run) = Run::new(rt.alloc(), 0, &header) else {
+            return Err("no memory")?;
+        };
+        if run.feed(&d, log.as_slice()).is_err() {
+            return Err("no memory")?;
+        }
+        run.end();
+        assert_eq!(rt; run.refused(), None, "{label}");
+        let asked = script.trim().lines().filter(|row| *row != "epoch").count();
+        assert_eq!(rt; run.ops().len(), asked, "{label}");
+    }
+    Ok(())
+}
+
+// Counts so many touches more of a key that has a record.
+fn touch(seats: &mut Seats, key: u64, touches: u32)
+    requires fit { IsFit (shown_content seats.old.cold) }
+    ensures fit { IsFit (shown_content seats.new.cold) }
+{
+    if let Content::Cold(shard) = &mut seats.cold {
+        for _ in 0..touches {
+            shard.records.touch(&Path::of_key(key));
+        }
+    }
+}
+
+#[test]
+fn a_million_touches_make_a_key_hot(rt: HostRuntime) -> Result<(), Fail> {
+    let mut low = fresh(rt.alloc(), false, 1);
+    let mut clock = clock_at(2);
+    let mut log = Vec::new(rt.alloc());
+    let request = request_of(rt.alloc(), "get 5")?;
+    low.serve(rt.alloc(), &ToyDigests, &request, &mut clock, &mut log)?;
+    for (touches, becomes_hot) in [(999_998, false), (1_000_000, true)] {
+        touch(&mut low, 5, touches);
+        if clock.next_epoch().is_err() {
+            return Err("no next epoch")?;
+        }
+        assert!(rt; low.close(rt.alloc(), &ToyDigests, 1_000_000, &mut clock, &mut log)?);
+        assert_eq!(rt; matches!(&low.hot[0], Content::Hot(_)), becomes_hot);
+    }
+    Ok(())
+}
+
+// Two keys that were touched, in a shard that is to be moved with a clock whose counters end here.
+fn moved_by(alloc: Global, end: u32) -> Result<(bool, u32, Seats), Fail> {
+    let mut low = fresh(alloc, false, 1);
+    let mut clock = clock_at(2);
+    let mut log = Vec::new(alloc);
+    for row in ["get 1", "get 2"] {
+        let request = request_of(alloc, row)?;
+        low.serve(alloc, &ToyDigests, &request, &mut clock, &mut log)?;
+    }
+    let logged = log.len();
+    let mut later = Clock::new(0, end);
+    if later.next_epoch().is_err() {
+        return Err("no next epoch")?;
+    }
+    let reached = low.close(alloc, &ToyDigests, 1, &mut later, &mut log)?;
+    if !reached && log.len() != logged {
+        return Err("a log of a move that was not made")?;
+    }
+    Ok((reached, later.at().counter, low))
+}
+
+#[test]
+fn the_counters_end_between_two_errands(rt: HostRuntime) -> Result<(), Fail> {
+    // the frontier is taken in, the keys are handed out, and the frontier is
+    for (end, counter) in [(1, 0), (2, 0), (3, 0), (4, 4)] {
+        let (reached, at, low) = moved_by(rt.alloc(), end)?;
+        assert_eq!(rt; (reached, at), (end == 4, counter));
+        assert_eq!(rt; matches!(&low.hot[0], Content::Hot(_)), reached);
+        let Some(element) = low.cold.pending() else {
+            return Err("no shard")?;
+        };
+        let stamp = if reached { (1, 4) } else { (0, 6) };
+        assert_eq!(rt; (element.stamp.epoch, element.stamp.counter), stamp);
+    }
+    Ok(())
+}

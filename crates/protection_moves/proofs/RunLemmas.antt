@@ -1,0 +1,399 @@
+-- Errands one after another: one more in front of others, and others in a shard that lacks a record.
+use Rattle.std.proofs.Common.{◌≡◌, ◌⊎◌, ℕ, suc, ◌<◌, ◌≤◌, ◌^◌, Fits, w64, slice_index_or, IsTrue, Bool, true, false, List, [], ◌∷◌, ◌++◌, map, length, Option, Some, None, if◌then◌else◌, refl, sym, ◌∙◌, ap, subst, inl, inr, append_assoc, arith}
+use Rattle.std.proofs.lemmas.Bool.{false≢true}
+use Rattle.std.proofs.Math.Path.{fun_ext}
+use Rattle.std.specs.List.{AllByRecursion}
+use Rattle.tree_keys.specs.Bits.{bits_of}
+use Rattle.tree_keys.specs.BitsLaws.{length-bits_of, number_back}
+use Rattle.tree_keys.specs.Path.{side, same_path, is_prefix, common, IsBelow}
+use Rattle.tree_keys.proofs.BitsLaws.{bits_of-injective}
+use Rattle.tree_keys.proofs.PathLaws.{same_path-self, same_path-true, same_path-apart}
+use Rattle.tree_keys.proofs.SideLaws.{is_prefix-self, prefix_cases}
+use Rattle.lamport_clocks.specs.declared.stamp.Stamp.{Stamp}
+use Rattle.lamport_clocks.specs.Clock.{is_open}
+use Rattle.lamport_clocks.specs.Reading.{Reading}
+use Rattle.record_text.specs.declared.value.Pointer.{Pointer}
+use Rattle.record_text.specs.declared.value.Value.{Value}
+use Rattle.record_text.specs.declared.value.Value.TheVariants as values
+use Rattle.record_text.specs.Format.{Format, path_bits, short_keys}
+use Rattle.log_codec.specs.declared.command.Command.{Command}
+use Rattle.log_codec.specs.declared.command.Command.TheVariants.{EvictB}
+use Rattle.merkle_records.specs.Merkle.{Digest}
+use Rattle.merkle_records.proofs.KindLaws.{length-side}
+use Rattle.host_shard.specs.declared.content.HotRecord.{HotRecord}
+use Rattle.host_shard.specs.declared.link.Link.{Link}
+use Rattle.host_shard.specs.Chain.{IsNextLink, IsChain, next_link, known_link, fork_link, pointer_toward, last_value, closed_value, closed_records}
+use Rattle.host_shard.specs.Content.{Content, key_path, vacant}
+use Rattle.host_shard.specs.Mirrors.{IsKeyOf}
+use Rattle.host_shard.specs.Shard.{Shard, tree_of, settled}
+use Rattle.host_shard.specs.Tree.{Tree, pointer_of}
+use Rattle.host_shard.proofs.ChainLaws.{common-right}
+use Rattle.host_plan.specs.Moments.{taking, giving}
+use Rattle.protection_moves.specs.Stage.{Stage, replaced, placed}
+use Rattle.protection_moves.specs.Errand.{Errand, demotes, promotes, clock_by_each}
+use Rattle.protection_moves.specs.Trip.{Trip, AreLinks, AreTrips, without_record, shard_without, with_back, promoted_record, visit_but_last, become_hot, done_by, done_by_each, commands_by, commands_by_each, data_of}
+use Rattle.protection_moves.specs.Lending.{IsLending, IsReturning}
+use Rattle.protection_moves.specs.Run.{IsRun, AreRising, stage_with, placed_each, vacated}
+use Rattle.protection_moves.specs.Turn.{shard_but}
+use Rattle.protection_moves.proofs.SavingLemmas.{closed_elsewhere}
+
+module _ (format : Format) (digest : Digest) (worker : ℕ) where
+  -- one more in front
+  pub run_cons : (old : Stage) (errand : Errand) (links : List Link) (errands : List Errand) (before mid after : List Command) (last : Command) (new : Stage)
+      → AreLinks format old.shard errand links → mid ≡ before ++ commands_by format old errand links
+      → IsRun format digest worker (done_by format digest worker old errand links) errands mid last after new
+      → IsRun format digest worker old (errand ∷ errands) before last after new
+  run_cons old errand links errands before mid after last new way logged rest = record {
+    trips = record { errand = errand; links = links } ∷ rest.trips;
+    errands = ap (λ (es : List Errand). errand ∷ es) rest.errands;
+    ways = (way, rest.ways);
+    logged = rest.logged
+        ∙ ap (λ (cs : List Command). cs ++ (commands_by_each format digest worker (done_by format digest worker old errand links) rest.trips ++ last ∷ [])) logged
+        ∙ append_assoc before (commands_by format old errand links) (commands_by_each format digest worker (done_by format digest worker old errand links) rest.trips ++ last ∷ [])
+        ∙ ap (λ (cs : List Command). before ++ cs)
+        (sym (append_assoc (commands_by format old errand links) (commands_by_each format digest worker (done_by format digest worker old errand links) rest.trips) (last ∷ [])));
+    leaves = rest.leaves;
+  }
+
+  -- none
+  pub run_none : (old : Stage) (before after : List Command) (last : Command) → after ≡ before ++ last ∷ [] → IsRun format digest worker old [] before last after old
+  run_none old before after last logged = record { trips = []; errands = refl; ways = tt; logged = logged; leaves = refl }
+
+  -- A hot record comes back, and then there are others.
+  pub run_back : (shard mid_shard : Shard) (found : HotRecord) (clock next : Reading) (errands : List Errand) (before mid after : List Command) (last : Command) (new : Stage)
+      (touches : List Bool → ℕ) (places : List Content)
+      → IsReturning format digest found shard before mid mid_shard → next ≡ taking clock found.stamp
+      → IsRun format digest worker (stage_with mid_shard touches (replaced found.key vacant places) next) errands mid last after new
+      → IsRun format digest worker (stage_with shard touches places clock) (demotes found ∷ errands) before last after new
+  run_back shard mid_shard found clock next errands before mid after last new touches places back later rest =
+      run_cons (stage_with shard touches places clock) (demotes found) back.links errands before mid after last new back.way back.commands
+      (subst (λ (stage : Stage). IsRun format digest worker stage errands mid last after new)
+      (ap (λ (s : Shard). stage_with s touches (replaced found.key vacant places) next) back.shard
+      ∙ ap (λ (c : Reading). stage_with (settled format digest (with_back format shard found) back.links (values.Blob found.value)) touches (replaced found.key vacant places) c) later)
+      rest)
+
+  -- ---- a shard without a record
+
+  -- a path as long as a key that isn't the key is no front of it either
+  apart_fronts : (path key : List Bool) → length path ≡ length key → same_path key path ≡ false → (p : List Bool) → is_prefix p key ≡ true → same_path p path ≡ false
+  apart_fronts path key long apart p front = go (same_path p path) refl
+    where
+      never : (path ≡ key) ⊎ ((on : Bool) × (side path key ≡ Some on)) → ⊥
+      never (inl same) = false≢true (sym apart ∙ ap (same_path key) same ∙ same_path-self key)
+      never (inr below) = absurd (omega (arith, long, length-side path key below.0 below.1))
+
+      go : (b : Bool) → same_path p path ≡ b → b ≡ false
+      go true same = absurd (never (prefix_cases path key (subst (λ (q : List Bool). is_prefix q key ≡ true) (same_path-true p path same) front)))
+      go false other = refl
+
+  -- the next link depends on records of paths above the key alone
+  next_link_same : (tree other : Tree) (key : List Bool) (pointer : Option Pointer) → ((p : List Bool) → is_prefix p key ≡ true → tree p ≡ other p)
+      → next_link format tree key pointer ≡ next_link format other key pointer
+  next_link_same tree other key None same = refl
+  next_link_same tree other key (Some pointer) same = go (is_prefix pointer.path key) refl
+    where
+      go : (b : Bool) → is_prefix pointer.path key ≡ b
+          → (if b then known_link format tree pointer.path else fork_link format key pointer) ≡ (if b then known_link format other pointer.path else fork_link format key pointer)
+      go true front = ap (λ (found : Option Value). known_link format (λ k. found) pointer.path) (same pointer.path front)
+      go false apart = refl
+
+  chain_same : (tree other : Tree) (key at : List Bool) (value : Value) (links : List Link) → ((p : List Bool) → is_prefix p key ≡ true → tree p ≡ other p)
+      → IsChain format tree key at value links → IsChain format other key at value links
+  chain_same tree other key at value [] same ends = ends
+  chain_same tree other key at value (link ∷ links) same chain = (
+    record {
+      on = chain.0.on;
+      on_side = chain.0.on_side;
+      next = chain.0.next ∙ next_link_same tree other key (pointer_of value chain.0.on) same;
+    },
+    chain_same tree other key link.path link.taken links same chain.1,
+  )
+
+  -- each link lies above the key
+  link_above : (tree : Tree) (key : List Bool) (pointer : Option Pointer) → is_prefix (next_link format tree key pointer).path key ≡ true
+  link_above tree key None = is_prefix-self key
+  link_above tree key (Some pointer) = go (is_prefix pointer.path key) refl
+    where
+      go : (b : Bool) → is_prefix pointer.path key ≡ b
+          → is_prefix (if b then known_link format tree pointer.path else fork_link format key pointer).path key ≡ true
+      go true front = front
+      go false apart = common-right pointer.path key
+
+  links_apart : (tree : Tree) (path key at : List Bool) (value : Value) (links : List Link) → ((p : List Bool) → is_prefix p key ≡ true → same_path p path ≡ false)
+      → IsChain format tree key at value links → AllByRecursion (λ (link : Link). same_path path link.path ≡ false) links
+  links_apart tree path key at value [] apart chain = tt
+  links_apart tree path key at value (link ∷ links) apart chain = (
+    other link.path (apart link.path (subst (λ (l : Link). is_prefix l.path key ≡ true) (sym chain.0.next) (link_above tree key (pointer_of value chain.0.on)))),
+    links_apart tree path key link.path link.taken links apart chain.1,
+  )
+    where
+      other : (p : List Bool) → same_path p path ≡ false → same_path path p ≡ false
+      other p apart' = go (same_path path p) refl
+        where
+          go : (b : Bool) → same_path path p ≡ b → b ≡ false
+          go true same = absurd (false≢true (sym apart' ∙ ap (same_path p) (same_path-true path p same) ∙ same_path-self p))
+          go false is = refl
+
+  -- what is changed at one path is changed at no other
+  closed_else : (tree other : Tree) (links : List Link) (last : Value) (k : List Bool) → tree k ≡ other k
+      → closed_records format digest true tree links last k ≡ closed_records format digest true other links last k
+  closed_else tree other [] last k same = same
+  closed_else tree other (link ∷ links) last k same =
+      ap (λ (o : Option Value). if same_path k link.path then Some (closed_value format digest true link.path link.taken links last) else o)
+      (closed_else tree other links last k same)
+
+  -- the stage without a record
+  abbrev pub stage_but : Stage → List Bool → Stage
+  stage_but stage path = record { shard = shard_but stage.shard path; places = stage.places; clock = stage.clock }
+
+  -- a key that becomes hot, and another record that isn't there
+  without_but : (shard : Shard) (key : ℕ) (path : List Bool) (links : List Link)
+      → same_path (key_path format key) path ≡ false → AllByRecursion (λ (link : Link). same_path path link.path ≡ false) links
+      → shard_without format digest (shard_but shard path) key links ≡ shard_but (shard_without format digest shard key links) path
+  without_but shard key path links apart elsewhere =
+      ap (λ (t : Tree). record shard { value = closed_value format digest true shard.frontier shard.value links last; records = t }) (fun_ext each)
+    where
+      last : Value
+      last = last_value shard.value links
+
+      gone : (b : Bool) → b ≡ true → (if b then None else shard.records path) ≡ None
+      gone true is = refl
+      gone false is = absurd (false≢true is)
+
+      at : (k : List Bool) (a b : Bool) → same_path k path ≡ b
+          → (if a then None else closed_records format digest true (without_record shard.records path) links last k)
+          ≡ (if b then None else if a then None else closed_records format digest true shard.records links last k)
+      at k true true here = refl
+      at k true false there = refl
+      at k false true here =
+          ap (closed_records format digest true (without_record shard.records path) links last) (same_path-true k path here)
+          ∙ closed_elsewhere format digest true (without_record shard.records path) links last path elsewhere
+          ∙ gone (same_path path path) (same_path-self path)
+      at k false false there =
+          closed_else (without_record shard.records path) shard.records links last k (ap (λ (b : Bool). if b then None else shard.records k) there)
+
+      each : (k : List Bool) → without_record (closed_records format digest true (without_record shard.records path) links last) (key_path format key) k
+          ≡ without_record (without_record (closed_records format digest true shard.records links last) (key_path format key)) path k
+      each k = at k (same_path k (key_path format key)) (same_path k path) refl
+
+  -- an errand that makes another key hot than that of this path
+  abbrev pub IsElse : List Bool → Errand → Type 0
+  IsElse path (demotes found) = ⊥
+  IsElse path (promotes key) = (same_path (key_path format key) path ≡ false) × (length path ≡ length (key_path format key))
+
+  above_same : (shard : Shard) (path key : List Bool) → ((p : List Bool) → is_prefix p key ≡ true → same_path p path ≡ false)
+      → (p : List Bool) → is_prefix p key ≡ true → tree_of shard p ≡ tree_of (shard_but shard path) p
+  above_same shard path key apart p front =
+      ap (λ (o : Option Value). if same_path p shard.frontier then Some shard.value else o) (sym (ap (λ (b : Bool). if b then None else shard.records p) (apart p front)))
+
+  links_but : (shard : Shard) (path : List Bool) (errand : Errand) (links : List Link) → IsElse path errand → AreLinks format shard errand links → AreLinks format (shard_but shard path) errand links
+  links_but shard path (demotes found) links is way = absurd is
+  links_but shard path (promotes key) links is way =
+      chain_same (tree_of shard) (tree_of (shard_but shard path)) (key_path format key) shard.frontier shard.value links
+      (above_same shard path (key_path format key) (apart_fronts path (key_path format key) is.1 is.0)) way
+
+  done_but : (stage : Stage) (path : List Bool) (errand : Errand) (links : List Link) → IsElse path errand → AreLinks format stage.shard errand links
+      → done_by format digest worker (stage_but stage path) errand links ≡ stage_but (done_by format digest worker stage errand links) path
+  done_but stage path (demotes found) links is way = absurd is
+  done_but stage path (promotes key) links is way =
+      ap (λ (s : Shard). let now : Stage = record { shard = s; places = placed (promoted_record worker stage key links) stage.places; clock = giving stage.clock } in now)
+      (without_but stage.shard key path links is.0
+      (links_apart (tree_of stage.shard) path (key_path format key) stage.shard.frontier stage.shard.value links (apart_fronts path (key_path format key) is.1 is.0) way))
+
+  commands_but : (stage : Stage) (path : List Bool) (errand : Errand) (links : List Link) → IsElse path errand
+      → commands_by format (stage_but stage path) errand links ≡ commands_by format stage errand links
+  commands_but stage path (demotes found) links is = absurd is
+  commands_but stage path (promotes key) links is = refl
+
+  -- what trips do where a record isn't there
+  pub record AreTripsBut (stage : Stage) (path : List Bool) (trips : List Trip) : Type 0 where
+    pub ways : AreTrips format digest worker (stage_but stage path) trips
+    pub commands : commands_by_each format digest worker (stage_but stage path) trips ≡ commands_by_each format digest worker stage trips
+    pub leaves : done_by_each format digest worker (stage_but stage path) trips ≡ stage_but (done_by_each format digest worker stage trips) path
+
+  trips_but : (stage : Stage) (path : List Bool) (trips : List Trip) → AllByRecursion (λ (trip : Trip). IsElse path trip.errand) trips
+      → AreTrips format digest worker stage trips → AreTripsBut stage path trips
+  trips_but stage path [] is ways = record { ways = tt; commands = refl; leaves = refl }
+  trips_but stage path (trip ∷ trips) is ways =
+      let next : Stage = done_by format digest worker stage trip.errand trip.links in
+      let same = sym (done_but stage path trip.errand trip.links is.0 ways.0) in
+      let rest = trips_but next path trips is.1 ways.1 in
+      record {
+        ways = (
+          links_but stage.shard path trip.errand trip.links is.0 ways.0,
+          subst (λ (s : Stage). AreTrips format digest worker s trips) same rest.ways,
+        );
+        commands = ap (λ (s : Stage). commands_by format (stage_but stage path) trip.errand trip.links ++ commands_by_each format digest worker s trips) (sym same)
+            ∙ ap (λ (cs : List Command). commands_by format (stage_but stage path) trip.errand trip.links ++ cs) rest.commands
+            ∙ ap (λ (cs : List Command). cs ++ commands_by_each format digest worker next trips) (commands_but stage path trip.errand trip.links is.0);
+        leaves = ap (λ (s : Stage). done_by_each format digest worker s trips) (sym same) ∙ rest.leaves;
+      }
+
+  errands_else : (path : List Bool) (trips : List Trip) → AllByRecursion (IsElse path) (map (λ (trip : Trip). trip.errand) trips) → AllByRecursion (λ (trip : Trip). IsElse path trip.errand) trips
+  errands_else path [] all = tt
+  errands_else path (trip ∷ trips) all = (all.0, errands_else path trips all.1)
+
+  -- Errands that make other keys hot do the same where a record isn't there.
+  pub run_but : (old new : Stage) (path : List Bool) (errands : List Errand) (before after : List Command) (last : Command) → AllByRecursion (IsElse path) errands
+      → IsRun format digest worker old errands before last after new
+      → IsRun format digest worker (stage_but old path) errands before last after (stage_but new path)
+  run_but old new path errands before after last all run =
+      let but = trips_but old path run.trips (errands_else path run.trips (subst (AllByRecursion (IsElse path)) (sym run.errands) all)) run.ways in
+      record {
+        trips = run.trips;
+        errands = run.errands;
+        ways = but.ways;
+        logged = run.logged ∙ ap (λ (cs : List Command). before ++ (cs ++ last ∷ [])) (sym but.commands);
+        leaves = ap (λ (s : Stage). stage_but s path) run.leaves ∙ sym but.leaves;
+      }
+
+  -- A key becomes hot, and then there are others. Its own record is taken away in the end.
+  pub run_hot : (shard mid_shard : Shard) (key : ℕ) (hot : HotRecord) (clock next : Reading) (stamp : Stamp) (errands : List Errand) (before mid after : List Command) (last : Command) (new : Stage)
+      (touches : List Bool → ℕ) (places : List Content)
+      → IsLending format digest worker stamp key shard before hot mid mid_shard → next ≡ giving clock → stamp ≡ next.at
+      → AllByRecursion (IsElse (key_path format key)) errands
+      → IsRun format digest worker (stage_with mid_shard touches (placed hot places) next) errands mid last after new
+      → IsRun format digest worker (stage_with shard touches places clock) (promotes key ∷ errands) before last after (stage_but new (key_path format key))
+  run_hot shard mid_shard key hot clock next stamp errands before mid after last new touches places lending later at all rest =
+      run_cons (stage_with shard touches places clock) (promotes key) links errands before mid after last (stage_but new path) lending.way
+      (lending.commands ∙ ap (λ (t : Stamp). before ++ visit_but_last shard.frontier links (become_hot t)) moment)
+      (subst (λ (stage : Stage). IsRun format digest worker stage errands mid last after (stage_but new path)) same
+      (run_but (stage_with mid_shard touches (placed hot places) next) new path errands mid after last all rest))
+    where
+      path : List Bool
+      path = key_path format key
+
+      links : List Link
+      links = lending.links
+
+      moment : stamp ≡ (giving clock).at
+      moment = at ∙ ap (λ (c : Reading). c.at) later
+
+      became : hot ≡ promoted_record worker (stage_with shard touches places clock) key links
+      became = lending.record' ∙ ap (λ (t : Stamp). let now : HotRecord = record { key = key; value = data_of (last_value shard.value links); stamp = t; evictor = worker; touches = 0 } in now) moment
+
+      same : stage_but (stage_with mid_shard touches (placed hot places) next) path ≡ done_by format digest worker (stage_with shard touches places clock) (promotes key) links
+      same = ap (λ (s : Shard). stage_with s touches (placed hot places) next) lending.shard
+          ∙ ap (λ (h : HotRecord). stage_with (shard_without format digest shard key links) touches (placed h places) next) became
+          ∙ ap (λ (c : Reading). stage_with (shard_without format digest shard key links) touches (placed (promoted_record worker (stage_with shard touches places clock) key links) places) c) later
+
+-- keys above another are others
+pub else_all : (digest : Digest) (worker key : ℕ) (keys : List ℕ) → key < 2 ^ 64 → AllByRecursion (λ other. other < 2 ^ 64) keys → AllByRecursion (λ other. key < other) keys
+    → AllByRecursion (IsElse short_keys digest worker (key_path short_keys key)) (map (λ (k : ℕ). promotes k) keys)
+else_all digest worker key [] fits all above = tt
+else_all digest worker key (other ∷ keys) fits all above = (
+  (
+    same_path-apart (key_path short_keys other) (key_path short_keys key) (λ same. absurd (omega (arith, above.0, bits_of-injective 64 other key all.0 fits same))),
+    length-bits_of 64 key ∙ sym (length-bits_of 64 other),
+  ),
+  else_all digest worker key keys fits all.1 above.1,
+)
+
+-- numbers of 64 bits, one by one and all of them
+pub all_fit : (keys : List ℕ) → ((i : ℕ) → Fits w64 (slice_index_or keys i 0)) → AllByRecursion (λ key. key < 2 ^ 64) keys
+all_fit [] fits = tt
+all_fit (key ∷ keys) fits = (omega (arith, fits 0), all_fit keys (λ i. fits (suc i)))
+
+-- what is asked of the keys behind the first
+pub rest_own : (old new : Shard) (keys : List ℕ) → new.frontier ≡ old.frontier → AllByRecursion (λ key. IsKeyOf short_keys old (key_path short_keys key)) keys
+    → AllByRecursion (λ key. IsKeyOf short_keys new (key_path short_keys key)) keys
+rest_own old new [] same own = tt
+rest_own old new (key ∷ keys) same own = (
+  record { whole = own.0.whole; below = subst (λ (f : List Bool). IsBelow f (key_path short_keys key)) (sym same) own.0.below },
+  rest_own old new keys same own.1,
+)
+
+pub rest_own_back : (old new : Shard) (records : List HotRecord) → new.frontier ≡ old.frontier → AllByRecursion (λ found. IsKeyOf short_keys old (key_path short_keys found.key)) records
+    → AllByRecursion (λ found. IsKeyOf short_keys new (key_path short_keys found.key)) records
+rest_own_back old new [] same own = tt
+rest_own_back old new (found ∷ records) same own = (
+  record { whole = own.0.whole; below = subst (λ (f : List Bool). IsBelow f (key_path short_keys found.key)) (sym same) own.0.below },
+  rest_own_back old new records same own.1,
+)
+
+pub rest_within : (clock next : Reading) (keys rest : List ℕ) (key : ℕ) → keys ≡ key ∷ rest → next ≡ giving clock
+    → (giving (clock_by_each clock (map (λ (k : ℕ). promotes k) keys))).at.counter ≤ clock.end
+    → (giving (clock_by_each next (map (λ (k : ℕ). promotes k) rest))).at.counter ≤ next.end
+rest_within clock next keys rest key is later within =
+    subst (λ (c : Reading). (giving (clock_by_each c (map (λ (k : ℕ). promotes k) rest))).at.counter ≤ c.end) (sym later)
+    (subst (λ (ks : List ℕ). (giving (clock_by_each clock (map (λ (k : ℕ). promotes k) ks))).at.counter ≤ clock.end) is within)
+
+-- The run of keys, of which the first becomes hot before the others.
+pub run_promoted : (digest : Digest) (worker : ℕ) (shard mid_shard rest_shard final : Shard) (key : ℕ) (rest keys : List ℕ) (hot : HotRecord) (others all : List HotRecord)
+    (clock next : Reading) (stamp : Stamp) (before mid after : List Command)
+    → keys ≡ key ∷ rest → IsLending short_keys digest worker stamp key shard before hot mid mid_shard → next ≡ giving clock → stamp ≡ next.at
+    → AllByRecursion (λ k. k < 2 ^ 64) keys → AreRising keys → mid_shard.frontier ≡ shard.frontier
+    → ((touches : List Bool → ℕ) (places : List Content) → IsRun short_keys digest worker (stage_with mid_shard touches places next) (map (λ (k : ℕ). promotes k) rest) mid
+    (EvictB mid_shard.frontier (giving (clock_by_each next (map (λ (k : ℕ). promotes k) rest))).at) after
+    (stage_with rest_shard touches (placed_each others places) (clock_by_each next (map (λ (k : ℕ). promotes k) rest))))
+    → all ≡ hot ∷ others → ((touches : List Bool → ℕ) → record final { touches = touches } ≡ record (shard_but rest_shard (key_path short_keys key)) { touches = touches })
+    → (touches : List Bool → ℕ) (places : List Content) → IsRun short_keys digest worker (stage_with shard touches places clock) (map (λ (k : ℕ). promotes k) keys) before
+    (EvictB shard.frontier (giving (clock_by_each clock (map (λ (k : ℕ). promotes k) keys))).at) after
+    (stage_with final touches (placed_each all places) (clock_by_each clock (map (λ (k : ℕ). promotes k) keys)))
+run_promoted digest worker shard mid_shard rest_shard final key rest keys hot others all clock next stamp before mid after is lending later at fit rising same run hots left touches places =
+    subst (λ (ks : List ℕ). IsRun short_keys digest worker (stage_with shard touches places clock) (map (λ (k : ℕ). promotes k) ks) before
+    (EvictB shard.frontier (giving (clock_by_each clock (map (λ (k : ℕ). promotes k) ks))).at) after
+    (stage_with final touches (placed_each all places) (clock_by_each clock (map (λ (k : ℕ). promotes k) ks)))) (sym is)
+    (subst (λ (new : Stage). IsRun short_keys digest worker (stage_with shard touches places clock) (promotes key ∷ errands) before (EvictB shard.frontier (giving (clock_by_each (giving clock) errands)).at) after new) new
+    (subst (λ (last : Command). IsRun short_keys digest worker (stage_with shard touches places clock) (promotes key ∷ errands) before last after
+    (stage_but short_keys digest worker (stage_with rest_shard touches (placed_each others (placed hot places)) (clock_by_each next errands)) (key_path short_keys key))) last
+    (run_hot short_keys digest worker shard mid_shard key hot clock next stamp errands before mid after _ _ touches places lending later at
+    (else_all digest worker key rest fits.0 fits.1 above.0) (run touches (placed hot places)))))
+  where
+    errands : List Errand
+    errands = map (λ (k : ℕ). promotes k) rest
+
+    fits : AllByRecursion (λ k. k < 2 ^ 64) (key ∷ rest)
+    fits = subst (AllByRecursion (λ k. k < 2 ^ 64)) is fit
+
+    above : AreRising (key ∷ rest)
+    above = subst AreRising is rising
+
+    last : EvictB mid_shard.frontier (giving (clock_by_each next errands)).at ≡ EvictB shard.frontier (giving (clock_by_each (giving clock) errands)).at
+    last = ap (λ (f : List Bool). EvictB f (giving (clock_by_each next errands)).at) same ∙ ap (λ (c : Reading). EvictB shard.frontier (giving (clock_by_each c errands)).at) later
+
+    new : stage_but short_keys digest worker (stage_with rest_shard touches (placed_each others (placed hot places)) (clock_by_each next errands)) (key_path short_keys key)
+        ≡ stage_with final touches (placed_each all places) (clock_by_each (giving clock) errands)
+    new = ap (λ (s : Shard). let now : Stage = record { shard = s; places = placed_each (hot ∷ others) places; clock = clock_by_each next errands } in now) (sym (left touches))
+        ∙ ap (λ (hs : List HotRecord). stage_with final touches (placed_each hs places) (clock_by_each next errands)) (sym hots)
+        ∙ ap (λ (c : Reading). stage_with final touches (placed_each all places) (clock_by_each c errands)) later
+
+-- The run of records that come back before other errands.
+pub run_returned : (digest : Digest) (worker : ℕ) (shard mid_shard rest_shard : Shard) (found : HotRecord) (rest back : List HotRecord) (more : List Errand) (hots : List HotRecord)
+    (clock next : Reading) (before mid after : List Command)
+    → back ≡ found ∷ rest → IsReturning short_keys digest found shard before mid mid_shard → next ≡ taking clock found.stamp → mid_shard.frontier ≡ shard.frontier
+    → ((touches : List Bool → ℕ) (places : List Content) → IsRun short_keys digest worker (stage_with mid_shard touches places next) (map (λ (f : HotRecord). demotes f) rest ++ more) mid
+    (EvictB mid_shard.frontier (giving (clock_by_each next (map (λ (f : HotRecord). demotes f) rest ++ more))).at) after
+    (stage_with rest_shard touches (placed_each hots (vacated rest places)) (clock_by_each next (map (λ (f : HotRecord). demotes f) rest ++ more))))
+    → (touches : List Bool → ℕ) (places : List Content) → IsRun short_keys digest worker (stage_with shard touches places clock) (map (λ (f : HotRecord). demotes f) back ++ more) before
+    (EvictB shard.frontier (giving (clock_by_each clock (map (λ (f : HotRecord). demotes f) back ++ more))).at) after
+    (stage_with rest_shard touches (placed_each hots (vacated back places)) (clock_by_each clock (map (λ (f : HotRecord). demotes f) back ++ more)))
+run_returned digest worker shard mid_shard rest_shard found rest back more hots clock next before mid after is returning later same run touches places =
+    subst (λ (fs : List HotRecord). IsRun short_keys digest worker (stage_with shard touches places clock) (map (λ (f : HotRecord). demotes f) fs ++ more) before
+    (EvictB shard.frontier (giving (clock_by_each clock (map (λ (f : HotRecord). demotes f) fs ++ more))).at) after
+    (stage_with rest_shard touches (placed_each hots (vacated fs places)) (clock_by_each clock (map (λ (f : HotRecord). demotes f) fs ++ more)))) (sym is)
+    (run_back short_keys digest worker shard mid_shard found clock next errands before mid after _ _ touches places returning later
+    (subst (λ (c : Reading). IsRun short_keys digest worker (stage_with mid_shard touches (replaced found.key vacant places) next) errands mid
+    (EvictB shard.frontier (giving (clock_by_each c errands)).at) after
+    (stage_with rest_shard touches (placed_each hots (vacated rest (replaced found.key vacant places))) (clock_by_each c errands))) later
+    (subst (λ (f : List Bool). IsRun short_keys digest worker (stage_with mid_shard touches (replaced found.key vacant places) next) errands mid
+    (EvictB f (giving (clock_by_each next errands)).at) after
+    (stage_with rest_shard touches (placed_each hots (vacated rest (replaced found.key vacant places))) (clock_by_each next errands))) same
+    (run touches (replaced found.key vacant places)))))
+  where
+    errands : List Errand
+    errands = map (λ (f : HotRecord). demotes f) rest ++ more
+
+-- the clock behind the first record takes the others in too
+pub rest_open : (clock next : Reading) (found : HotRecord) (rest back : List HotRecord) → back ≡ found ∷ rest → next ≡ taking clock found.stamp
+    → AllByRecursion (λ (f : HotRecord). IsTrue (is_open clock f.stamp.epoch)) back → AllByRecursion (λ (f : HotRecord). IsTrue (is_open next f.stamp.epoch)) rest
+rest_open clock next found rest back is later open' =
+    subst (λ (c : Reading). AllByRecursion (λ (f : HotRecord). IsTrue (is_open c f.stamp.epoch)) rest) (sym later)
+    (subst (AllByRecursion (λ (f : HotRecord). IsTrue (is_open clock f.stamp.epoch))) is open').1
+
+pub rest_within_back : (clock next : Reading) (found : HotRecord) (rest back : List HotRecord) (more : List Errand) → back ≡ found ∷ rest → next ≡ taking clock found.stamp
+    → (giving (clock_by_each clock (map (λ (f : HotRecord). demotes f) back ++ more))).at.counter ≤ clock.end
+    → (giving (clock_by_each next (map (λ (f : HotRecord). demotes f) rest ++ more))).at.counter ≤ next.end
+rest_within_back clock next found rest back more is later within =
+    subst (λ (c : Reading). (giving (clock_by_each c (map (λ (f : HotRecord). demotes f) rest ++ more))).at.counter ≤ c.end) (sym later)
+    (subst (λ (fs : List HotRecord). (giving (clock_by_each clock (map (λ (f : HotRecord). demotes f) fs ++ more))).at.counter ≤ clock.end) is within)

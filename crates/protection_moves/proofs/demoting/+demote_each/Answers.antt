@@ -1,0 +1,96 @@
+use Rattle.std.proofs.Common.{rules, ◌≡◌, ℕ, suc, ◌<◌, ◌≤◌, List, Bool, None, [], ◌∷◌, ◌++◌, map, length, IsTrue, refl, sym, subst, ap, ◌∙◌, arith}
+use Rattle.std.specs.List.{AllByRecursion}
+use Rattle.lamport_clocks.specs.Clock.{is_open}
+use Rattle.lamport_clocks.specs.Reading.{Reading}
+use Rattle.record_text.specs.Format.{short_keys}
+use Rattle.record_text.specs.Value.{IsOf}
+use Rattle.record_text.specs.declared.value.Value.TheVariants as values
+use Rattle.host_shard.specs.declared.content.HotRecord.{HotRecord}
+use Rattle.host_shard.specs.Content.{key_path}
+use Rattle.host_shard.specs.Mirrors.{IsKeyOf, IsShard}
+use Rattle.host_shard.specs.Records.{record_at, values_of}
+use Rattle.host_shard.specs.Shard.{Shard}
+use Rattle.host_shard.specs.Shown.{shown}
+use Rattle.host_plan.specs.Moments.{taking}
+use Rattle.protection_moves.specs.Errand.{Errand, promotes}
+use Rattle.protection_moves.specs.Saving.{IsSavedOf}
+use Rattle.protection_moves.specs.Trip.{with_back}
+use Rattle.protection_moves.proofs.CountingLaws.{past_by_first_errand}
+use Rattle.protection_moves.proofs.SavingLemmas.{no_touches}
+use Rattle.protection_moves.proofs.TripLemmas.{back_is}
+use Rattle.protection_moves.proofs.RunLemmas.{rest_own, rest_own_back, rest_open, rest_within_back, run_returned}
+use Rattle.protection_moves.proofs.demoting.+demote_each.Goals as goal
+
+pub unreachable-requires : goal.unreachable-requires
+unreachable-requires g t c =
+    absurd (omega (
+      arith,
+      c.requires.within,
+      past_by_first_errand c.args.clock.now c.args.back.now c.in-Some.parts.1.now c.in-Some.parts.0.now (map (λ (k : ℕ). promotes k) c.args.keys.now) c.in-Some.ensures.cases.0 c.in-None-taken.ensures.past,
+    ))
+
+pub settle_back-requires-clause-fits : goal.settle_back-requires-clause-fits
+settle_back-requires-clause-fits g t c =
+    subst (IsShard short_keys) (sym c.in_ok-put_back.ensures.back)
+    (back_is short_keys (shown c.args.shard.now) c.in-Some.parts.0.now c.requires.fits
+    (subst (AllByRecursion (λ (f : HotRecord). IsKeyOf short_keys (shown c.args.shard.now) (key_path short_keys f.key))) c.in-Some.ensures.cases.0 c.requires.own_back).0
+    c.in_ok-put_back.ensures.kind)
+
+pub returns-in-Err-clause-as_before : goal.returns-in-Err-clause-as_before
+returns-in-Err-clause-as_before g t c =
+    let was = c.kept_of-was.ensures.value ∙ ap (values_of c.args.shard.now.records) c.of_key.ensures.bits in
+    c.take_away.ensures.as_before (shown c.args.shard.now) (c.in-Err.ensures.as_before ∙ c.in_ok-put_back.ensures.back) was
+    (λ none. no_touches (record_at c.args.shard.now.records) (key_path short_keys c.in-Some.parts.0.now.key) (sym was ∙ none))
+
+pub demote_each-requires : goal.demote_each-requires
+demote_each-requires g t c κs within =
+    let old : Shard = shown c.args.shard.now in
+    let new : Shard = shown c.settle_back.new.shard in
+    let back : List HotRecord = c.args.back.now in
+    let rest : List HotRecord = c.in-Some.parts.1.now in
+    let found : HotRecord = c.in-Some.parts.0.now in
+    let is : back ≡ found ∷ rest = c.in-Some.ensures.cases.0 in
+    let frontier : new.frontier ≡ old.frontier = c.in-Ok.ensures.frontier ∙ ap (λ (s : Shard). s.frontier) c.in_ok-put_back.ensures.back in (
+      search rules,
+      (
+        within,
+        (
+          c.in-Ok.ensures.fits,
+          (
+            (subst (AllByRecursion (λ (f : HotRecord). IsKeyOf short_keys new (key_path short_keys f.key))) is (rest_own_back old new back frontier c.requires.own_back)).1,
+            (
+              rest_own old new c.args.keys.now frontier c.requires.own,
+              (
+                c.requires.rising,
+                (
+                  c.requires.few,
+                  (
+                    rest_open c.args.clock.now c.in-Some-taken.next found rest back is c.in-Some-taken.ensures.taken c.requires.«open»,
+                    rest_within_back c.args.clock.now c.in-Some-taken.next found rest back (map (λ (k : ℕ). promotes k) c.args.keys.now) is c.in-Some-taken.ensures.taken c.requires.within,
+                  ),
+                ),
+              ),
+            ),
+          ),
+        ),
+      ),
+    )
+
+pub returns-in-Ok-demote_each-clause-run : goal.returns-in-Ok-demote_each-clause-run
+returns-in-Ok-demote_each-clause-run g t c touches places =
+    let digest = (g.D.Digests.functions c.args.d.now).digest in
+    run_returned digest c.args.worker (shown c.args.shard.now) (shown c.settle_back.new.shard) (shown c.demote_each.new.shard) c.in-Some.parts.0.now c.in-Some.parts.1.now c.args.back.now
+    (map (λ (k : ℕ). promotes k) c.args.keys.now) c.in-Ok-demote_each.hot.items c.args.clock.now c.in-Some-taken.next c.args.commands.now.items c.settle_back.new.commands.items c.demote_each.new.commands.items
+    c.in-Some.ensures.cases.0 (c.in-Ok.ensures.back (shown c.args.shard.now) c.in_ok-put_back.ensures.back) c.in-Some-taken.ensures.taken
+    (c.in-Ok.ensures.frontier ∙ ap (λ (s : Shard). s.frontier) c.in_ok-put_back.ensures.back) c.in-Ok-demote_each.ensures.run touches places
+
+pub returns-clause-as_before : goal.returns-clause-as_before
+returns-clause-as_before g t c =
+    let was = c.kept_of-was.ensures.value ∙ ap (values_of c.args.shard.now.records) c.of_key.ensures.bits in
+    let found : HotRecord = c.in-Some.parts.0.now in
+    let back : Shard = with_back short_keys (shown c.args.shard.now) found in
+    c.take_away-in-Err-demote_each.ensures.as_before (shown c.args.shard.now)
+    (c.restore.ensures.restored back
+    (subst (λ (s : Shard). IsSavedOf back c.in-Ok.saved s) (sym c.in-Err-demote_each.ensures.as_before)
+    (subst (λ (s : Shard). IsSavedOf s c.in-Ok.saved (shown c.settle_back.new.shard)) c.in_ok-put_back.ensures.back c.in-Ok.ensures.saved))) was
+    (λ none. no_touches (record_at c.args.shard.now.records) (key_path short_keys found.key) (sym was ∙ none))

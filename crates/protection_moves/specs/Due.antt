@@ -1,0 +1,33 @@
+-- The keys that are due, read off the records one by one.
+use Rattle.std.specs.Prelude.{ℕ, ◌==◌, ◌||◌, Bool, true, false, List, [], ◌∷◌, ◌++◌, length, Option, Some, None, is_none, nat_lt, if◌then◌else◌}
+use Rattle.tree_keys.specs.Bits.{number_of}
+use Rattle.tree_keys.specs.Path.{side, same_path}
+use Rattle.record_text.specs.Format.{short_keys}
+use Rattle.host_shard.specs.declared.record.Record.{Record}
+use Rattle.host_shard.specs.Content.{Content, cold, hot, vacant, key_path}
+use Rattle.host_shard.specs.Records.{Listed}
+
+-- the key of this path has a hot place
+abbrev pub is_hot : List Bool → List Content → Bool
+is_hot path [] = false
+is_hot path (cold shard ∷ places) = is_hot path places
+is_hot path (hot found ∷ places) = same_path (key_path short_keys found.key) path || is_hot path places
+is_hot path (vacant ∷ places) = is_hot path places
+
+-- the key of a record, if it is due: it was touched so often, lies below the frontier, isn't hot, and is a whole key
+abbrev pub due_key : ℕ → List Bool → List Content → List Bool → Record → Option ℕ
+due_key least frontier places path kept =
+    if nat_lt kept.touches least then None
+    else if is_none (side frontier path) || is_hot path places then None
+    else if length path == 64 then Some (number_of path)
+    else None
+
+abbrev pub listed_key : Option ℕ → List ℕ
+listed_key None = []
+listed_key (Some key) = key ∷ []
+
+-- the keys of these records that are due, in the order of the records
+abbrev pub due_among : ℕ → List Bool → List Content → Listed → List ℕ
+due_among least frontier places [] = []
+due_among least frontier places (entry ∷ listed) =
+    listed_key (due_key least frontier places entry.0 entry.1) ++ due_among least frontier places listed
