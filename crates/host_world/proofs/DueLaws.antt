@@ -1,7 +1,7 @@
 -- The keys that are due are one list, and it is this one.
-use Rattle.std.proofs.Common.{◌≡◌, ◌≢◌, ◌⊎◌, ℕ, zero, suc, ◌+◌, ◌<◌, ◌≤◌, ◌^◌, Bool, true, false, not, ◌&&◌, ◌||◌, List, [], ◌∷◌, length, cond, nat_le, get_or, Option, Some, None, is_some, refl, sym, ◌∙◌, ap, subst, inl, inr, arith}
-use Rattle.std.specs.Prelude.{◌↔◌, filter}
-use Rattle.std.specs.List.{list_any, AllByRecursion, All, AllPairs, IsAmong}
+use Rattle.std.proofs.Common.{◌≡◌, ◌⊎◌, ℕ, zero, suc, ◌+◌, ◌<◌, ◌≤◌, ◌^◌, Bool, true, false, not, ◌||◌, List, [], ◌∷◌, length, cond, get_or, Option, Some, None, is_some, refl, sym, ◌∙◌, ap, subst, inl, inr, arith}
+use Rattle.std.specs.Prelude.{filter}
+use Rattle.std.specs.List.{list_any, AllByRecursion, All, AllPairs}
 use Rattle.std.proofs.lemmas.Bool.{false≢true, and_parts, and_from, leb-true, le-leb, cases_eq}
 use Rattle.std.proofs.lemmas.List.Elements.{All-head, All-tail}
 use Rattle.tree_keys.specs.BitsLaws.{length-bits_of}
@@ -10,8 +10,8 @@ use Rattle.tree_keys.proofs.PathLaws.{same_path-self, same_path-true}
 use Rattle.record_text.specs.Format.{Format, path_bits}
 use Rattle.host_shard.specs.Content.{key_path}
 use Rattle.protection_moves.specs.Stage.{Stage, hot_paths}
-use Rattle.protection_moves.specs.Errand.{IsTouchedOften, IsDue, AreDue}
-use Rattle.protection_moves.proofs.ErrandLaws.{none_due, no_due}
+use Rattle.protection_moves.specs.Errand.{IsTouchedOften, AreDue}
+use Rattle.protection_moves.proofs.ErrandLaws.{none_due}
 use Rattle.errand_laws.proofs.VacantLaws.{IsMember, among-member, member-among}
 use Rattle.host_world.specs.Due.{numbers_from, is_due, due_keys, due_in}
 
@@ -187,9 +187,9 @@ module _ (format : Format) (stage : Stage) (least : ℕ) where
     rising = pairs-rising _ (passing_rise (is_due format stage least) (numbers_from 0 (2 ^ path_bits format)) (numbers_rise 0 (2 ^ path_bits format)));
     due = λ key. (
       (λ among. let is = passing (is_due format stage least) (numbers_from 0 (2 ^ path_bits format)) key (among-member _ key among) in
-      test_says key (omega (arith, number_below 0 (2 ^ path_bits format) key is.0)) is.1),
+          test_says key (omega (arith, number_below 0 (2 ^ path_bits format) key is.0)) is.1),
       (λ is. member-among _ key (pass_there (is_due format stage least) (numbers_from 0 (2 ^ path_bits format)) key
-      (number_there 0 (2 ^ path_bits format) key (omega arith) (omega (arith, is.in_range))) (says_test key is))),
+          (number_there 0 (2 ^ path_bits format) key (omega arith) (omega (arith, is.in_range))) (says_test key is))),
     );
   }
 

@@ -5,11 +5,12 @@ pub mod TripLaws
 pub mod PlaceLaws
 pub mod FrontLaws
 mod ServeLemmas
-mod SeatLemmas
+pub mod PlannedLaws
+pub mod SeatLaws
+pub mod RangeLaws
 mod OrderlyLemmas
 mod BehindLemmas
 pub mod FrontierLaws
 mod WorldLemmas
-mod MovedLemmas
+mod TakenLemmas
 mod StandingLemmas
-mod PlannedLemmas

@@ -1,5 +1,5 @@
 -- The trips of a move are one list: the errands are given, and the links to each key are one list.
-use Rattle.std.proofs.Common.{◌≡◌, ℕ, ◌<◌, Bool, true, false, List, [], ◌∷◌, map, nat_lt, Option, Some, None, is_some, if◌then◌else◌, refl, sym, ◌∙◌, ap, subst, arith}
+use Rattle.std.proofs.Common.{◌≡◌, ℕ, ◌<◌, Bool, true, false, List, [], ◌∷◌, map, nat_lt, Option, Some, None, is_some, if◌then◌else◌, refl, sym, ◌∙◌, ap, subst}
 use Rattle.std.specs.Prelude.{IfSome}
 use Rattle.std.proofs.lemmas.Bool.{false≢true, lt-ltb, ltb-true}
 use Rattle.std.proofs.lemmas.Option.{same_Some}
@@ -10,7 +10,7 @@ use Rattle.host_core.specs.Host.{Done}
 use Rattle.host_shard.specs.declared.link.Link.{Link}
 use Rattle.host_shard.specs.Content.{Content}
 use Rattle.protection_moves.specs.Stage.{Stage}
-use Rattle.protection_moves.specs.Errand.{Errand, demotes, promotes, AreDue, errands_of, clock_needed}
+use Rattle.protection_moves.specs.Errand.{Errand, demotes, promotes, errands_of, clock_needed}
 use Rattle.protection_moves.specs.Trip.{Trip, AreLinks, AreTrips, done_by}
 use Rattle.protection_moves.specs.Move.{IsMove, IsPastEnd, begun, moved}
 use Rattle.errand_laws.specs.Stages.{StageMirrors}
@@ -50,9 +50,11 @@ module _ (format : Format) (digest : Digest) (worker : ℕ) (digests : GivesDige
       → AreTrips format digest worker stage (trips_for format digest worker stage errands)
   trips_there stage [] mirrors fit = tt
   trips_there stage (errand ∷ errands) mirrors fit =
-      let way = links_there stage errand mirrors fit.0 in
-      (way, trips_there (done_by format digest worker stage errand (links_for format stage.shard errand)) errands
-      (errand_mirrors format digest worker stage errand (links_for format stage.shard errand) digests mirrors fit.0 way) fit.1)
+      let way = links_there stage errand mirrors fit.0 in (
+        way,
+        trips_there (done_by format digest worker stage errand (links_for format stage.shard errand)) errands
+            (errand_mirrors format digest worker stage errand (links_for format stage.shard errand) digests mirrors fit.0 way) fit.1,
+      )
 
   trips_one : (stage : Stage) (trips : List Trip) → StageMirrors format digest stage → AreFit format digest worker stage trips → AreTrips format digest worker stage trips
       → trips ≡ trips_for format digest worker stage (map (λ (trip : Trip). trip.errand) trips)
