@@ -1,5 +1,5 @@
 -- How the laws of moves are proved, in reading order.
-mod CounterLaws
+pub mod CounterLaws
 pub mod RenewLaws
 mod StageLemmas
 pub mod TripLaws

@@ -1,5 +1,5 @@
 -- The move of a stage: the touched hot records are renewed, then the errands are done while the frontier stands in the cache.
-use Rattle.std.proofs.Common.{◌≡◌, ◌⊎◌, ℕ, ◌+◌, ◌^◌, ◌<◌, ◌≤◌, Bool, true, false, List, [], ◌∷◌, ◌++◌, map, take, length, Option, Some, Ok, refl, sym, ◌∙◌, ap, subst, inl, inr, arith, append-nil}
+use Rattle.std.proofs.Common.{◌≡◌, ◌⊎◌, ℕ, ◌+◌, ◌<◌, ◌≤◌, Bool, true, false, List, [], ◌∷◌, ◌++◌, map, take, length, Option, Some, Ok, refl, sym, ◌∙◌, ap, subst, inl, inr, arith, append-nil}
 use Rattle.std.specs.Prelude.{IfSome}
 use Rattle.std.specs.List.{AllByRecursion, flat_map}
 use Rattle.std.proofs.lemmas.Bool.{false≢true, cases_lt}
@@ -26,8 +26,7 @@ use Rattle.soundness.specs.Permutation.{count_of}
 use Rattle.soundness.specs.Typed.{IsTyped}
 use Rattle.host_shard.specs.declared.content.HotRecord.{HotRecord}
 use Rattle.host_shard.specs.Shard.{pending_shard}
-use Rattle.host_shard.specs.Content.{key_path, pending_hot}
-use Rattle.host_shard.specs.Mirrors.{Mirrors}
+use Rattle.host_shard.specs.Content.{pending_hot}
 use Rattle.host_plan.specs.Moments.{taking, giving, renewing}
 use Rattle.host_laws.specs.Running.{Told, Access, run, added_told, evicted_told, accesses_told}
 use Rattle.host_laws.specs.Carried.{carried, carries}
@@ -53,7 +52,7 @@ use Rattle.errand_laws.proofs.PlaceLaws.{AreApart, all-are, all-map}
 use Rattle.errand_laws.proofs.VacantLaws.{all-images, images-all}
 use Rattle.errand_laws.proofs.AroundLaws.{told_in, told_out, takes_in, hands_out}
 use Rattle.move_laws.specs.Moved.{waiting_in, CanMove, IsOfClock, MoveRuns, at_stage}
-use Rattle.move_laws.proofs.RenewLaws.{not_root, told_renewing, renewing-runs, renewed_each, added-renewing, evicted-renewing, no_access-renewing, unsealed-renewing, carried-renewing, carries-renewing, renewed-weight, renewed-keys, renewed-all}
+use Rattle.move_laws.proofs.RenewLaws.{not_root, told_renewing, renewing-runs, renewed_each, added-renewing, evicted-renewing, no_access-renewing, unsealed-renewing, carried-renewing, carries-renewing, renewed-weight}
 use Rattle.move_laws.proofs.StageLemmas.{weight_split, all_untouched, apart_touched}
 use Rattle.move_laws.proofs.TripLaws.{adds_by_each, evicts_by_each, apart_by_number, trips_mirror, trips_typed, trips-weight, TripsRun, trips_run, each-up, each-epoch, each-end, each-frontier}
 use Rattle.move_laws.proofs.FitLaws.{GoWell, all_go, begun-ready, begun_mirrors}
