@@ -1,6 +1,6 @@
 -- Lemmas on the shipped host.
 pub mod LinkLaws
-pub mod DueLaws
+mod DueLemmas
 pub mod TripLaws
 pub mod PlaceLaws
 pub mod FrontLaws

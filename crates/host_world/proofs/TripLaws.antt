@@ -21,7 +21,7 @@ use Rattle.move_laws.proofs.TripLaws.{AreFit}
 use Rattle.host_world.specs.Due.{due_in}
 use Rattle.host_world.specs.Moving.{seats_of, links_for, trips_for, trips_of, done_with, move_due}
 use Rattle.host_world.specs.Planned.{IsMoved}
-use Rattle.host_world.proofs.DueLaws.{are_due, due_is}
+use Rattle.host_world.proofs.DueLemmas.{are_due, due_is}
 use Rattle.host_world.proofs.LinkLaws.{shard_links_are, shard_chain_is}
 
 module _ (format : Format) (digest : Digest) (worker : ℕ) (digests : GivesDigests digest) where
