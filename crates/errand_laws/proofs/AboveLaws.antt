@@ -1,6 +1,7 @@
 -- The pointers of a stage that mirrors, on the way to a whole key.
-use Rattle.std.proofs.Common.{◌≡◌, ◌≢◌, ◌⊎◌, ◌<◌, Bool, true, false, List, [], ◌∷◌, map, length, Some, IsSome, if◌then◌else◌, refl, sym, ◌∙◌, ap, inl, inr, arith}
-use Rattle.tree_keys.specs.Path.{is_prefix, same_path}
+use Rattle.std.proofs.Common.{◌≡◌, ◌≢◌, ◌⊎◌, ◌<◌, Bool, true, false, List, [], ◌∷◌, map, length, Option, Some, IsSome, if◌then◌else◌, refl, sym, ◌∙◌, ap, inl, inr, arith}
+use Rattle.tree_keys.specs.Path.{side, is_prefix, same_path}
+use Rattle.tree_keys.proofs.SideLaws.{prefix_cases, side-trans}
 use Rattle.record_text.specs.declared.value.Pointer.{Pointer}
 use Rattle.record_text.specs.declared.value.Value.{Value}
 use Rattle.record_text.specs.Format.{Format, path_bits}
@@ -38,6 +39,14 @@ different_one of (first ∷ records) r found different (inl one) (inr other) =
 different_one of (first ∷ records) r found different (inr one) (inl other) =
     inr (λ same. one_of-all (λ h. of first ≢ of h) records r (all-images of (λ y. of first ≢ y) records different.0) one (ap of (sym other) ∙ sym same))
 different_one of (first ∷ records) r found different (inr one) (inr other) = different_one of records r found different.1 one other
+
+-- what lies below a path that has another as a front lies below that one
+pub side-prefix-of : (front at path : List Bool) (on : Bool) → is_prefix front at ≡ true → side at path ≡ Some on → (which : Bool) × (side front path ≡ Some which)
+side-prefix-of front at path on begins below = go (prefix_cases front at begins)
+  where
+    go : (front ≡ at) ⊎ ((which : Bool) × (side front at ≡ Some which)) → (which : Bool) × (side front path ≡ Some which)
+    go (inl same) = (on, ap (λ (k : List Bool). side k path) same ∙ below)
+    go (inr above) = (above.0, side-trans front at path above.0 on above.1 below)
 
 module _ (format : Format) (digest : Digest) (stage : Stage) (mirrors : StageMirrors format digest stage) where
   abbrev shard : Shard

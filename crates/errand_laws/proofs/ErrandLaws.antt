@@ -27,6 +27,7 @@ use Rattle.host_shard.specs.Tree.{Tree}
 use Rattle.host_shard.specs.Chain.{last_value}
 use Rattle.host_shard.specs.Shard.{Shard, tree_of}
 use Rattle.host_shard.specs.Content.{key_path, pending_hot}
+use Rattle.host_shard.specs.Mirrors.{IsShard, IsKeyOf}
 use Rattle.host_plan.specs.Moments.{taking, giving}
 use Rattle.host_laws.specs.Served.{IsBare}
 use Rattle.host_laws.proofs.BetweenLaws.{clear-bare, length-bare}
@@ -35,11 +36,12 @@ use Rattle.protection_moves.specs.Stage.{Stage, hot_records}
 use Rattle.protection_moves.specs.Errand.{Errand, demotes, promotes}
 use Rattle.protection_moves.specs.Trip.{with_back, AreLinks, visit_but_last, come_back, become_hot, commands_by, done_by}
 use Rattle.errand_laws.specs.Stages.{StageMirrors, IsOne}
+use Rattle.errand_laws.proofs.PlaceLaws.{all-are, all-map}
 use Rattle.errand_laws.specs.Errands.{IsPromotable, IsFit, CanDo, ErrandRuns}
 use Rattle.errand_laws.proofs.WayLemmas.{IsStep, IsWay, way_length}
 use Rattle.errand_laws.proofs.AlongLemmas.{Along, IsOnward, along, back_ends, hot_ends}
 use Rattle.errand_laws.proofs.AboveLaws.{apart_from}
-use Rattle.errand_laws.proofs.BackLemmas.{end, blob, back_way, back_sound, back_mirrors}
+use Rattle.errand_laws.proofs.BackLemmas.{back_shard, back_own, end, blob, back_way, back_sound, back_mirrors}
 use Rattle.errand_laws.proofs.HotLemmas.{recorded, hot_way, hot_end, hot_sound, last_data, hot_mirrors}
 
 not_root : (path : List Bool) → 0 < length path → is_root path ≡ false
@@ -67,6 +69,35 @@ pub errand_mirrors : (format : Format) (digest : Digest) (worker : ℕ) (stage :
 errand_mirrors format digest worker stage (demotes found) links digests mirrors fit chain = back_mirrors format digest stage mirrors found fit links chain worker digests
 errand_mirrors format digest worker stage (promotes key) links digests mirrors fit chain = hot_mirrors format digest stage mirrors key fit links chain worker digests
 
+-- the shard in which an errand's links lead
+abbrev pub shard_for : Format → Stage → Errand → Shard
+shard_for format stage (demotes found) = with_back format stage.shard found
+shard_for format stage (promotes key) = stage.shard
+
+-- and the key to which they do
+abbrev pub key_for : Format → Errand → List Bool
+key_for format (demotes found) = key_path format found.key
+key_for format (promotes key) = key_path format key
+
+-- That is a shard, and the key is one of it.
+pub errand_shard : (format : Format) (digest : Digest) (stage : Stage) (errand : Errand) → StageMirrors format digest stage → IsFit format stage errand
+    → IsShard format (shard_for format stage errand)
+errand_shard format digest stage (demotes found) mirrors fit = back_shard format digest stage mirrors found fit
+errand_shard format digest stage (promotes key) mirrors fit = mirrors.shard.fits
+
+pub errand_own : (format : Format) (digest : Digest) (stage : Stage) (errand : Errand) → StageMirrors format digest stage → IsFit format stage errand
+    → IsKeyOf format (shard_for format stage errand) (key_for format errand)
+errand_own format digest stage (demotes found) mirrors fit = back_own format digest stage mirrors found fit
+errand_own format digest stage (promotes key) mirrors fit = fit.own
+
+-- each hot key is one of the shard
+pub hot_own : (format : Format) (digest : Digest) (stage : Stage) → StageMirrors format digest stage
+    → AllByRecursion (λ found. IsKeyOf format stage.shard (key_path format found.key)) (hot_records stage.places)
+hot_own format digest stage mirrors =
+    all-map (IsOne (hot_records stage.places)) (λ found. IsKeyOf format stage.shard (key_path format found.key))
+    (λ found is. let own = back_own format digest stage mirrors found is in record { whole = own.whole; below = own.below })
+    (hot_records stage.places) (all-are (hot_records stage.places))
+
 -- ---- what is logged is typed
 
 along_typed : (format : Format) (tree : Tree) (key : List Bool) (late : Bool) (at_end : List Bool → Link → List Command)
@@ -86,7 +117,7 @@ pub errand_typed : (format : Format) (digest : Digest) (stage : Stage) (errand :
     → AllByRecursion (IsTyped format) (commands_by format stage errand links)
 errand_typed format digest stage (demotes found) links mirrors fit chain =
     along_typed format (tree_of (with_back format stage.shard found)) (key_path format found.key) true (come_back (pending_hot format found))
-    (λ at value link step is_key. ((length-bits_of (path_bits format) found.key, blob format digest stage mirrors found fit links chain), (tt, tt)))
+    (λ at value link step is_key. ((length-bits_of (path_bits format) found.key, blob format digest stage mirrors found fit), (tt, tt)))
     stage.shard.frontier stage.shard.value links (back_way format digest stage mirrors found fit links chain)
 errand_typed format digest stage (promotes key) links mirrors fit chain =
     along_typed format (tree_of stage.shard) (key_path format key) false (become_hot (giving stage.clock).at)
@@ -154,7 +185,7 @@ runs_back rules entries room stage found (link ∷ more) bare roomy mirrors is_h
         (λ at value one apart step. back_sound format rules.scheme.digest stage mirrors found is_hot (link ∷ more) chain at value one apart step)
         (λ at hold value one at_based step is_key.
         back_ends rules tree shard.records base key (pending_hot format found) stage.clock at hold value one kept_base step is_key refl
-        (end format rules.scheme.digest stage mirrors found is_hot (link ∷ more) chain) can.takable.0.0 can.takable.0.1 can.counters (onward-taking stage.clock found.stamp))
+        (end format rules.scheme.digest stage mirrors found is_hot) can.takable.0.0 can.takable.0.1 can.counters (onward-taking stage.clock found.stamp))
         shard.frontier B shard.value link more based is_way
 
 runs_hot : (rules : Rules) (entries : List Entry) (room : ℕ) (stage : Stage) (key : ℕ) (links : List Link)

@@ -1,5 +1,5 @@
 -- A key of a stage that mirrors becomes hot: the way to its record, and that the stage mirrors again.
-use Rattle.std.proofs.Common.{◌≡◌, ◌≢◌, ◌⊎◌, ℕ, ◌<◌, Bool, true, false, List, length, Option, Some, None, is_some, IsSome, if◌then◌else◌, refl, sym, ◌∙◌, ap, subst, inl, inr, arith}
+use Rattle.std.proofs.Common.{◌≡◌, ◌≢◌, ◌⊎◌, ℕ, ◌^◌, ◌<◌, Bool, true, false, List, length, Option, Some, None, is_some, IsSome, if◌then◌else◌, refl, sym, ◌∙◌, ap, subst, inl, inr, arith}
 use Rattle.std.specs.List.{IsAmong, AllPairs}
 use Rattle.std.proofs.lemmas.Bool.{false≢true}
 use Rattle.std.proofs.lemmas.Option.{same_Some}
@@ -145,6 +145,7 @@ module _ (format : Format) (digest : Digest) (stage : Stage) (mirrors : StageMir
         };
       };
       blobs = all-placed (λ r. IsBlob format r.value) new stage.places last_blob mirrors.blobs;
+      in_range = all-placed (λ r. r.key < 2 ^ path_bits format) new stage.places can.in_range mirrors.in_range;
     }
       where
         new : HotRecord

@@ -1,11 +1,11 @@
 -- Which errands can be done, and what one does to the verifier of its worker while the shard's frontier stands in its cache.
-use Rattle.std.specs.Prelude.{◌≡◌, ℕ, ◌<◌, ◌≤◌, Bool, List, [], ◌∷◌, ◌++◌, IsSome, Ok}
+use Rattle.std.specs.Prelude.{◌≡◌, ℕ, ◌^◌, ◌<◌, ◌≤◌, Bool, List, [], ◌∷◌, ◌++◌, IsSome, Ok}
 use Rattle.std.specs.List.{AllByRecursion, IsAmong, flat_map}
 use Rattle.tree_keys.specs.Path.{IsBelow}
 use Rattle.lamport_clocks.specs.declared.stamp.Stamp.{Stamp}
 use Rattle.lamport_clocks.specs.Reading.{Reading}
 use Rattle.record_text.specs.declared.element.Element.{Element}
-use Rattle.record_text.specs.Format.{Format}
+use Rattle.record_text.specs.Format.{Format, path_bits}
 use Rattle.verifier_cache.specs.declared.entry.Entry.{Entry}
 use Rattle.verifier_cache.specs.declared.entry.Hold.TheVariants.{B}
 use Rattle.verifier_cache.specs.Entry.{new_entry}
@@ -25,6 +25,7 @@ use Rattle.errand_laws.specs.Stages.{IsOne, IsTakable}
 
 -- A key of the shard can become hot: it has a record there and isn't hot, its touches are forgotten, and a place is vacant.
 pub record IsPromotable (format : Format) (stage : Stage) (key : ℕ) : Type 0 where
+  pub in_range : key < 2 ^ path_bits format
   pub own : IsKeyOf format stage.shard (key_path format key)
   pub cold : IsAmong (hot_paths format stage.places) (key_path format key) → ⊥
   pub there : IsSome (stage.shard.records (key_path format key))

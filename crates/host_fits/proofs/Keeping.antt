@@ -1,5 +1,5 @@
 -- What the shipped host keeps at the places of a shard, as the proofs speak of it.
-use Rattle.std.specs.Prelude.{◌≡◌, ℕ, ◌^◌, ◌<◌, ◌≤◌, ◌&&◌, nat_lt, Bool, List, [], ◌∷◌, length, take, replicate, Option, Some, None, if◌then◌else◌}
+use Rattle.std.specs.Prelude.{◌≡◌, ℕ, ◌^◌, ◌<◌, ◌≤◌, ◌&&◌, nat_lt, Bool, List, [], ◌∷◌, length, take, IfSome, Option, Some, None, if◌then◌else◌}
 use Rattle.tree_keys.specs.Bits.{number_of}
 use Rattle.lamport_clocks.specs.declared.stamp.Stamp.{Stamp}
 use Rattle.lamport_clocks.specs.Reading.{Reading}
@@ -9,19 +9,16 @@ use Rattle.record_text.specs.declared.value.Value.{Value}
 use Rattle.record_text.specs.Format.{path_bits, format_of}
 use Rattle.merkle_records.specs.Merkle.{GivesDigests}
 use Rattle.script_text.specs.declared.task.Task.{Task}
-use Rattle.host_shard.specs.Shard.{Shard, pending_shard}
 use Rattle.host_shard.specs.Content.{Content, cold, hot, vacant}
-use Rattle.host_plan.specs.Moments.{renewing}
-use Rattle.host_plan.specs.Visit.{between}
 use Rattle.host_plan.specs.Plan.{commands_of, content_after, clock_after}
 use Rattle.host_laws.specs.SettingUp.{CanSetUp}
-use Rattle.host_mirrors.specs.Mirroring.{IsMirrored}
 use Rattle.host_core.specs.Host.{Done, Host}
 use Rattle.host_core.specs.Clear.{Keeping}
 use Rattle.host_world.specs.declared.settings.Settings.{Settings}
 use Rattle.host_world.specs.Links.{links_of}
+use Rattle.host_world.specs.Seated.{SeatsMirror}
 use Rattle.host_world.specs.Settings.{frontier_bits}
-use Rattle.host_world.specs.ShippedHost.{hot_places, is_place_of, shipped_host}
+use Rattle.host_world.specs.ShippedHost.{is_place_of, shipped_host}
 
 -- what a shipped host is given
 pub record Setting : Type 0 where
@@ -44,12 +41,13 @@ ranged setting = record (shipped_host setting.functions setting.settings setting
 }
 
 -- What the proofs take of its numbers: a worker at least, shards that can be set up, a cache with room for each path
--- above a key, and digests of 32 bytes.
+-- above a key, digests of 32 bytes, and a threshold of a touch or more if there is one.
 pub record IsSetting (setting : Setting) : Type 0 where
   pub some : 1 ≤ setting.settings.header.verifiers
   pub shards : CanSetUp (format_of setting.settings.header) setting.settings.header (bits_in setting)
   pub room : path_bits (format_of setting.settings.header) < setting.settings.header.cache
   pub digests : GivesDigests setting.functions.digest
+  pub threshold : IfSome setting.settings.hot (λ least. 0 < least)
 
 -- ---- what is done
 
@@ -64,40 +62,7 @@ served_at setting worker clock content request =
       clock = clock_after content clock;
     }
 
--- a shard behind a close, where no key of it is hot
-abbrev pub rested : ℕ → Shard → Reading → Shard
-rested worker shard clock = record {
-  frontier = shard.frontier;
-  value = shard.value;
-  records = shard.records;
-  stamp = (renewing clock shard.stamp).at;
-  evictor = worker;
-  touches = λ k. 0;
-}
-
--- the places of a shard of which no key is hot
-abbrev pub places : Content → List Content
-places content = content ∷ replicate hot_places vacant
-
--- for them at a close: the shard is taken in and handed out again
-abbrev pub rested_at : ℕ → Reading → Shard → Done (List Content)
-rested_at worker clock shard = record {
-  commands = between (pending_shard shard) (renewing clock shard.stamp).at [];
-  after = places (cold (rested worker shard clock));
-  clock = renewing clock shard.stamp;
-}
-
 -- ---- what is kept
-
--- The contents of a shard's places mirror: the shard does, with no hot key, its frontier is the path of its number, it
--- waits since the first epoch or later, and its other places are vacant.
-pub record PlacesMirror (setting : Setting) (s : ℕ) (contents : List Content) : Type 0 where
-  pub shard : Shard
-  pub all : contents ≡ places (cold shard)
-  pub mirrored : IsMirrored (format_of setting.settings.header) setting.functions.digest shard []
-  pub levels : length shard.frontier ≡ bits_in setting
-  pub number : number_of shard.frontier ≡ s
-  pub from_first : setting.settings.header.first ≤ shard.stamp.epoch
 
 -- the records of a shard's places, and the stamp with which the shard waits
 abbrev pub kept_of : List Content → List Bool → Option Value
@@ -111,6 +76,20 @@ front_of [] = record { epoch = 0; counter = 0 }
 front_of (cold shard ∷ rest) = shard.stamp
 front_of (hot record' ∷ rest) = record { epoch = 0; counter = 0 }
 front_of (vacant ∷ rest) = record { epoch = 0; counter = 0 }
+
+-- and its path
+abbrev pub frontier_in : List Content → List Bool
+frontier_in [] = []
+frontier_in (cold shard ∷ rest) = shard.frontier
+frontier_in (hot record' ∷ rest) = []
+frontier_in (vacant ∷ rest) = []
+
+-- The contents of a shard's places mirror, its frontier is the path of its number, and it waits since the first epoch or later.
+pub record PlacesMirror (setting : Setting) (s : ℕ) (contents : List Content) : Type 0 where
+  pub mirrors : SeatsMirror (format_of setting.settings.header) setting.functions.digest contents
+  pub levels : length (frontier_in contents) ≡ bits_in setting
+  pub number : number_of (frontier_in contents) ≡ s
+  pub from_first : setting.settings.header.first ≤ (front_of contents).epoch
 
 -- What the host keeps of its records: a path longer than the frontiers is of the shard whose number its first bits spell.
 abbrev pub keeping_of : Setting → Keeping Content

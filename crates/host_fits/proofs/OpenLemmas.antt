@@ -89,9 +89,16 @@ module _ (setting : Setting) (is_setting : IsSetting setting) where
       → PlacesMirror setting (number + s) (get_or (after_of frontiers) s [])
   new_places [] number numbered s within = absurd (omega arith)
   new_places (frontier ∷ frontiers) number numbered zero within = record {
-    shard = new_shard format frontier (first_stamp first frontier) 0;
-    all = refl;
-    mirrored = new_mirrors format setting.functions.digest frontier (first_stamp first frontier) 0 (omega (arith, numbered.1, is_setting.shards.some)) (omega (arith, numbered.1, is_setting.shards.short));
+    mirrors = record {
+      shard = new_shard format frontier (first_stamp first frontier) 0;
+      places = replicate hot_places vacant;
+      is = refl;
+      four = refl;
+      hot_alone = (tt, (tt, (tt, (tt, tt))));
+      mirrored = new_mirrors format setting.functions.digest frontier (first_stamp first frontier) 0 (omega (arith, numbered.1, is_setting.shards.some)) (omega (arith, numbered.1, is_setting.shards.short));
+      blobs = tt;
+      in_range = tt;
+    };
     levels = numbered.1;
     number = omega (arith, numbered.0);
     from_first = omega arith;

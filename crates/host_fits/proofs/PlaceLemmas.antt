@@ -1,7 +1,7 @@
 -- The places of a shard: which one a request is served at, what waits at them, and which paths are the shard's.
-use Rattle.std.proofs.Common.{◌≡◌, ◌⊎◌, ℕ, zero, suc, ◌<◌, ◌≤◌, Bool, true, false, List, [], length, take, replicate, get_or, Option, Some, None, IsSome, is_some, nat_lt, if◌then◌else◌, refl, sym, ◌∙◌, ap, subst, inl, inr, arith}
+use Rattle.std.proofs.Common.{◌≡◌, ◌⊎◌, ℕ, zero, suc, ◌<◌, ◌≤◌, Bool, true, false, List, [], ◌∷◌, length, take, replicate, get_or, Option, Some, None, IsSome, is_some, nat_lt, if◌then◌else◌, refl, sym, ◌∙◌, ap, subst, inl, inr, arith}
 use Rattle.std.specs.Prelude.{◌&&◌}
-use Rattle.std.specs.List.{flat_map}
+use Rattle.std.specs.List.{AllByRecursion, flat_map}
 use Rattle.std.proofs.lemmas.List.{length-take}
 use Rattle.std.proofs.lemmas.Bool.{false≢true}
 use Rattle.std.proofs.lemmas.Bool.Decides.{nat_tests}
@@ -16,6 +16,11 @@ use Rattle.record_text.specs.Format.{Format}
 use Rattle.host_shard.specs.Content.{vacant, pending}
 use Rattle.host_laws.specs.Served.{waiting}
 use Rattle.host_core.specs.Host.{Done}
+
+-- what is said of each is said of each so
+pub all-each : {A : Type 0} (P Q : A → Type 0) → ((x : A) → P x → Q x) → (xs : List A) → AllByRecursion P xs → AllByRecursion Q xs
+all-each P Q step [] all = tt
+all-each P Q step (x ∷ xs) all = (step x all.0, all-each P Q step xs all.1)
 
 -- both of two tests
 pub both : (a b : Bool) → (a && b) ≡ true → (a ≡ true) × (b ≡ true)

@@ -1,138 +1,217 @@
--- A shard that is taken in and handed out again at a close fits, and is clear.
-use Rattle.std.proofs.Common.{◌≡◌, ℕ, suc, ◌≤◌, true, false, List, [], ◌++◌, Some, Ok, append-nil, refl, sym, ◌∙◌, ap, subst, inl, arith}
-use Rattle.std.specs.List.{AllByRecursion, flat_map}
+-- A shard that is moved at a close fits, and is clear.
+use Rattle.std.proofs.Common.{◌≡◌, ℕ, suc, ◌<◌, ◌≤◌, Bool, true, false, List, [], ◌∷◌, map, length, nat_lt, Some, refl, sym, ◌∙◌, ap, subst, arith}
+use Rattle.std.specs.List.{AllByRecursion}
 use Rattle.std.proofs.lemmas.Bool.Decides.{nat_tests}
-use Rattle.lamport_clocks.specs.declared.stamp.Stamp.{Stamp}
-use Rattle.lamport_clocks.specs.Stamp.{IsLater}
+use Rattle.tree_keys.specs.Bits.{number_of}
 use Rattle.lamport_clocks.specs.Reading.{Reading}
 use Rattle.lamport_clocks.specs.Clock.{is_open}
 use Rattle.record_text.specs.declared.element.Element.{Element}
-use Rattle.record_text.specs.Format.{format_of}
-use Rattle.verifier_cache.specs.declared.entry.Hold.TheVariants.{B}
-use Rattle.verifier_commands.specs.declared.state.State.{State}
-use Rattle.verifier_commands.specs.Change.{Change}
-use Rattle.verifier_commands.specs.Transition.{Rules, is_root}
+use Rattle.record_text.specs.declared.operation.Operation.{Operation}
+use Rattle.record_text.specs.Format.{Format, format_of}
+use Rattle.merkle_records.specs.Merkle.{Digest}
+use Rattle.verifier_cache.specs.Cache.{Held}
+use Rattle.verifier_commands.specs.Transition.{Rules}
 use Rattle.soundness.specs.StateHistory.{rules_under}
-use Rattle.host_shard.specs.Shard.{Shard, pending_shard}
-use Rattle.host_shard.specs.Content.{Content, cold, pending}
-use Rattle.host_plan.specs.Moments.{taking, renewing}
+use Rattle.soundness.specs.Permutation.{count_of}
+use Rattle.host_shard.specs.Shard.{pending_shard}
+use Rattle.host_shard.specs.Content.{Content, cold}
 use Rattle.host_core.specs.Host.{Done, scheme, resting}
-use Rattle.host_core.specs.Deeds.{IsStamped, IsReady, IsDeed, MoveFits}
-use Rattle.host_core.specs.Clear.{IsNotAfter, IsClearDeed}
-use Rattle.host_laws.specs.Running.{Told, run}
-use Rattle.host_laws.specs.Served.{IsWithin, waiting}
-use Rattle.host_laws.proofs.WorksLaws.{works-none}
-use Rattle.host_laws.proofs.BetweenLaws.{clear-bare, length-bare, told_between, between_runs}
-use Rattle.host_laws.proofs.FrontierLaws.{frontier_there}
-use Rattle.host_laws.proofs.RequestLaws.{not_root, within_between}
-use Rattle.host_mirrors.specs.Mirroring.{IsMirrored}
-use Rattle.host_world.specs.ShippedHost.{hot_places}
-use Rattle.host_fits.proofs.Keeping.{Setting, IsSetting, ranged, rested, rested_at, places, PlacesMirror, keeping_of}
-use Rattle.host_fits.proofs.DeedLemmas.{is_deed}
-use Rattle.host_fits.proofs.PlaceLemmas.{done_within, waiting_behind}
-use Rattle.host_fits.proofs.ClearLemmas.{not_after, renewing-rises}
+use Rattle.host_core.specs.Deeds.{IsStamped, IsReady, IsDeed, MoveFits, request_of}
+use Rattle.host_core.specs.Clear.{IsClearDeed}
+use Rattle.protection_moves.specs.Stage.{Stage, touched_in}
+use Rattle.protection_moves.specs.Move.{begun}
+use Rattle.protection_moves.proofs.RenewingLaws.{renewing_each-end}
+use Rattle.errand_laws.specs.Stages.{StageMirrors, IsTakable}
+use Rattle.move_laws.specs.Moved.{MoveRuns, CanMove, waiting_in}
+use Rattle.move_laws.specs.Deed.{IsMoveDeed, IsClearMove}
+use Rattle.move_laws.proofs.CounterLaws.{move_clock}
+use Rattle.move_laws.proofs.DeedLaws.{move_deed, clear_move}
+use Rattle.move_laws.proofs.MoveLaws.{move_runs, move_typed}
+use Rattle.move_laws.proofs.TripLaws.{each-end, each-frontier}
+use Rattle.host_world.specs.Planned.{IsMoved}
+use Rattle.host_world.specs.Seated.{SeatsMirror, IsHotPlace, waiting_at}
+use Rattle.host_world.proofs.PlaceLaws.{waits-hot, hot-moved}
+use Rattle.host_world.proofs.SeatLaws.{stage_at, stage_mirrors, MoveKeeps, move_keeps, seats_moved}
+use Rattle.host_fits.proofs.Keeping.{Setting, IsSetting, bits_in, ranged, PlacesMirror, front_of, frontier_in, keeping_of}
+use Rattle.host_fits.proofs.PlaceLemmas.{all-each, home-below}
 use Rattle.host_fits.proofs.ServeLemmas.{bare_at_rest}
-use Rattle.host_fits.proofs.FitLemmas.{AtShard, at_shard, all-weaker, clear_deed}
 
-open_before : (clock : Reading) (first epoch stamp : ℕ) → clock.first ≡ first → clock.at.epoch ≡ suc epoch → stamp ≡ epoch → first ≤ stamp → is_open clock stamp ≡ true
+open_before : (clock : Reading) (first epoch stamp : ℕ) → clock.first ≡ first → clock.at.epoch ≡ suc epoch → stamp ≡ epoch → first ≤ epoch → is_open clock stamp ≡ true
 open_before clock first epoch stamp one two three four = grind (arith, nat_tests)
 
-module _ (setting : Setting) (worker : ℕ) (clock : Reading) (epoch s : ℕ) (shard : Shard)
-    (at : AtShard setting worker clock epoch s shard) (turned : clock.at.epoch ≡ suc epoch)
-    (within : (renewing clock shard.stamp).at.counter ≤ clock.end) where
+not_past : (end counter : ℕ) → (end < counter → ⊥) → counter ≤ end
+not_past end counter within = go (nat_lt end counter) refl
+  where
+    go : (b : Bool) → nat_lt end counter ≡ b → counter ≤ end
+    go true past = absurd (within (grind (arith, nat_tests)))
+    go false is = grind (arith, nat_tests)
+
+-- a worker that moves a shard of the epoch before
+pub record Moves (setting : Setting) (worker epoch : ℕ) (clock : Reading) (s : ℕ) (contents : List Content) (found : Done (List Content)) : Type 0 where
+  pub settled : IsSetting setting
+  pub ready : IsReady (PlacesMirror setting) (ranged setting) worker clock epoch s contents
+  pub turned : clock.at.epoch ≡ suc epoch
+  pub is : (ranged setting).move worker clock s contents ≡ Some found
+
+module _ (setting : Setting) (worker epoch : ℕ) (clock : Reading) (s : ℕ) (contents : List Content) (found : Done (List Content))
+    (moves : Moves setting worker epoch clock s contents found) where
+  abbrev format : Format
+  format = format_of setting.settings.header
+
+  abbrev digest : Digest
+  digest = setting.functions.digest
+
   abbrev rules : Rules
   rules = rules_under (scheme (ranged setting)) setting.settings.header worker
 
-  abbrev state : State
-  state = resting (ranged setting) worker clock
+  abbrev cache : Held
+  cache = (ranged setting).cache worker
 
-  abbrev left : Shard
-  left = rested worker shard clock
+  abbrev mirrors : SeatsMirror format digest contents
+  mirrors = moves.ready.mirrored.mirrors
 
-  abbrev told : Told
-  told = told_between rules (pending_shard shard) shard.value clock []
+  abbrev old : Stage
+  old = stage_at mirrors.shard mirrors.places clock
 
-  abbrev done : Done (List Content)
-  done = rested_at worker clock shard
+  there : StageMirrors format digest old
+  there = stage_mirrors format digest contents clock mirrors
 
-  taken : is_open clock shard.stamp.epoch ≡ true
-  taken = open_before clock setting.settings.header.first epoch shard.stamp.epoch at.is_clock.first turned at.epoch_there at.from_first
+  moved_so : IsMoved format digest worker setting.settings.hot old found
+  moved_so = seats_moved format digest worker setting.settings.hot clock contents found moves.settled.digests moves.settled.threshold mirrors moves.is
 
-  apart : is_root shard.frontier ≡ false
-  apart = not_root shard.frontier at.mirrored.fits.below_root
+  keeps : MoveKeeps format digest worker clock found
+  keeps = move_keeps format digest worker setting.settings.hot clock contents found moves.settled.digests moves.settled.threshold mirrors moves.is
 
-  runs : run rules state done.commands ≡ Ok (told, resting (ranged setting) worker done.clock)
-  runs =
-      between_runs rules state (pending_shard shard) 0 [] [] shard.value apart (clear-bare state.cache.entries shard.frontier (bare_at_rest setting worker) apart)
-      (omega (arith, length-bare state.cache.entries (bare_at_rest setting worker), at.settled.room)) at.known taken within
-      (works-none rules 0 shard.frontier B shard.value (taking clock shard.stamp))
+  abbrev new : Stage
+  new = moved_so.new
 
-  -- the element of the places of a shard
-  waits : (content : Content) → flat_map (λ c. waiting (pending (format_of setting.settings.header) c)) (places content) ≡ waiting (pending (format_of setting.settings.header) content)
-  waits content =
-      ap (λ (xs : List Element). waiting (pending (format_of setting.settings.header) content) ++ xs) (waiting_behind (format_of setting.settings.header) hot_places)
-      ∙ append-nil (waiting (pending (format_of setting.settings.header) content))
+  -- the elements of seats are those of their stage
+  waits_there : waiting_at format contents ≡ waiting_in format old
+  waits_there =
+      ap (waiting_at format) mirrors.is
+      ∙ ap (λ (xs : List Element). pending_shard mirrors.shard ∷ xs) (waits-hot format mirrors.places mirrors.hot_alone)
 
-  rest_deed : IsDeed (ranged setting) worker state done.commands done.clock (places (cold shard)) done.after []
-  rest_deed =
-      is_deed (ranged setting) worker state done.commands told done.clock (places (cold shard)) done.after [] runs
-      (at.mirrored.fits.kinds shard.frontier shard.value (frontier_there shard), (tt, tt))
-      (record { first = at.is_clock.first; end = at.is_clock.end; reading = record { within = within; from_first = at.is_clock.reading.from_first } })
-      refl
-      (subst (AllByRecursion (IsStamped (ranged setting) clock.at.epoch)) (sym (waits (cold left))) ((at.there, refl), tt))
-      (sym (waits (cold shard))) (sym (waits (cold left))) refl
+  stamped : AllByRecursion (IsStamped (ranged setting) epoch) (waiting_in format old)
+  stamped = subst (AllByRecursion (IsStamped (ranged setting) epoch)) waits_there moves.ready.stamped
 
-  rest_mirrors : IsMirrored (format_of setting.settings.header) setting.functions.digest left []
+  from_first : setting.settings.header.first ≤ epoch
+  from_first =
+      let since : setting.settings.header.first ≤ mirrors.shard.stamp.epoch = subst (λ (cs : List Content). setting.settings.header.first ≤ (front_of cs).epoch) mirrors.is moves.ready.mirrored.from_first in
+      omega (arith, since, stamped.0.1)
+
+  can : CanMove rules cache setting.settings.hot old
+  can = record {
+    bare = bare_at_rest setting worker;
+    room = moves.settled.room;
+    takable = all-each (IsStamped (ranged setting) epoch) (IsTakable rules clock)
+        (λ element is. (is.0, open_before clock setting.settings.header.first epoch element.stamp.epoch moves.ready.is_clock.first moves.turned is.1 from_first))
+        (waiting_in format old) stamped;
+    counters = moved_so.within;
+  }
+
+  runs : MoveRuns rules cache old new found.commands
+  runs = move_runs rules cache setting.settings.hot old new found.commands moves.settled.digests moves.settled.threshold can there moved_so.is
+
+  deed : IsMoveDeed rules cache old new found.commands
+  deed = move_deed rules cache old new found.commands runs
+
+  clears : IsClearMove rules cache old new found.commands
+  clears = clear_move rules cache old new found.commands runs
+
+  -- the new places have no shard
+  still_alone : AllByRecursion IsHotPlace new.places
+  still_alone = subst (λ (st : Stage). AllByRecursion IsHotPlace st.places) (sym moved_so.is.after) (hot-moved format digest worker old moved_so.is.trips mirrors.hot_alone)
+
+  waits_then : waiting_at format found.after ≡ waiting_in format new
+  waits_then =
+      ap (waiting_at format) moved_so.after
+      ∙ ap (λ (xs : List Element). pending_shard new.shard ∷ xs) (waits-hot format new.places still_alone)
+
+  clock_end : found.clock.end ≡ clock.end
+  clock_end =
+      ap (λ (c : Reading). c.end) (moved_so.clock ∙ ap (λ (st : Stage). st.clock) moved_so.is.after)
+      ∙ (each-end format digest worker (begun worker old) moved_so.is.trips ∙ renewing_each-end clock (touched_in mirrors.places))
+
+  counters : found.clock.at.counter ≤ clock.end
+  counters =
+      subst (λ (c : Reading). c.at.counter ≤ clock.end)
+      (sym (moved_so.clock ∙ move_clock format digest worker setting.settings.hot old new found.commands moved_so.is))
+      (not_past clock.end _ (λ past. moved_so.within (record { due = moved_so.is.due; are_due = moved_so.is.are_due; past = past })))
+
+  rest_deed : IsDeed (ranged setting) worker (resting (ranged setting) worker clock) found.commands found.clock contents found.after []
+  rest_deed = record {
+    typed = move_typed format digest worker setting.settings.hot old new found.commands moves.settled.digests moves.settled.threshold there moved_so.is;
+    accepted = deed.accepted;
+    rests = deed.rests ∙ ap (λ (c : Reading). resting (ranged setting) worker c) (sym moved_so.clock);
+    is_clock = record {
+      first = keeps.same_epoch.first ∙ moves.ready.is_clock.first;
+      end = clock_end ∙ moves.ready.is_clock.end;
+      reading = record {
+        within = omega (arith, counters, clock_end);
+        from_first = omega (arith, keeps.same_epoch.first, keeps.same_epoch.epoch, moves.ready.is_clock.reading.from_first);
+      };
+    };
+    epoch = keeps.same_epoch.epoch;
+    stamped = all-each (λ (element : Element). (element.verifier ≡ worker) × (element.stamp.epoch ≡ clock.at.epoch)) (IsStamped (ranged setting) found.clock.at.epoch)
+        (λ element is. (subst (λ (n : ℕ). n < setting.settings.header.verifiers) (sym is.0) moves.ready.known, is.1 ∙ sym keeps.same_epoch.epoch))
+        (waiting_at format found.after) keeps.waits;
+    added = λ index x. deed.added worker index x ∙ ap (λ (xs : List Element). count_of x xs) (sym waits_there);
+    evicted = λ index x. deed.evicted worker index x ∙ ap (λ (xs : List Element). count_of x xs) (sym waits_then);
+    answered = λ index. ap (λ (operations : List Operation). map (λ (operation : Operation). (operation.stamp.epoch, request_of operation)) operations) (deed.unanswered worker index);
+    unsealed = λ index. deed.unsealed worker index;
+  }
+
+  frontier_new : frontier_in found.after ≡ frontier_in contents
+  frontier_new =
+      ap frontier_in moved_so.after
+      ∙ (ap (λ (st : Stage). st.shard.frontier) moved_so.is.after
+      ∙ (each-frontier format digest worker (begun worker old) moved_so.is.trips ∙ ap frontier_in (sym mirrors.is)))
+
+  rest_mirrors : PlacesMirror setting s found.after
   rest_mirrors = record {
-    fits = record { below_root = at.mirrored.fits.below_root; no_data = at.mirrored.fits.no_data; kinds = at.mirrored.fits.kinds };
-    mirrors = record {
-      kept = at.mirrored.mirrors.kept;
-      waits = at.mirrored.mirrors.waits;
-      reached = at.mirrored.mirrors.reached;
-      hot_waits = at.mirrored.mirrors.hot_waits;
-      hot_keys = at.mirrored.mirrors.hot_keys;
-      touched = λ path some. absurd (omega arith);
-    };
+    mirrors = keeps.mirrors;
+    levels = ap (λ (path : List Bool). length path) frontier_new ∙ moves.ready.mirrored.levels;
+    number = ap number_of frontier_new ∙ moves.ready.mirrored.number;
+    from_first = subst (λ (cs : List Content). setting.settings.header.first ≤ (front_of cs).epoch) (sym moved_so.after)
+        (subst (λ (n : ℕ). setting.settings.header.first ≤ n) (sym since) (omega (arith, from_first, moves.turned)));
   }
-
-  pub rest_fits : MoveFits (PlacesMirror setting) (ranged setting) worker clock s (places (cold shard)) done
-  rest_fits = record {
-    deed = rest_deed;
-    mirrored = record {
-      shard = left;
-      all = refl;
-      mirrored = rest_mirrors;
-      levels = at.levels;
-      number = at.number;
-      from_first = subst (λ (n : ℕ). n ≤ clock.at.epoch) at.is_clock.first at.is_clock.reading.from_first;
-    };
-  }
-
-  pub rest_clear : IsClearDeed (PlacesMirror setting) (keeping_of setting) (ranged setting) worker state done.commands s (places (cold shard)) done.after
-  rest_clear =
-      clear_deed setting worker state (resting (ranged setting) worker done.clock) done.commands told s (places (cold shard)) done.after runs
-      (λ path. inl (refl, refl)) (λ path not_home. refl)
-      (all-weaker (IsWithin (Some (pending_shard shard)) (Some (pending_shard left))) (λ stamp. IsLater stamp shard.stamp) (λ stamp is. is.0) told stamps)
-      (all-weaker (IsWithin (Some (pending_shard shard)) (Some (pending_shard left))) (λ stamp. IsNotAfter stamp left.stamp) (λ stamp is. not_after stamp left.stamp is.1) told stamps)
-      (renewing-rises clock shard.stamp taken)
     where
-      stamps : AllByRecursion (λ (one : Stamp × Change). IsWithin (Some (pending_shard shard)) (Some (pending_shard left)) one.0) told
-      stamps = within_between rules (pending_shard shard) (pending_shard left) shard.value clock [] taken within refl tt
+      since : new.shard.stamp.epoch ≡ clock.at.epoch
+      since = (subst (AllByRecursion (λ (element : Element). (element.verifier ≡ worker) × (element.stamp.epoch ≡ clock.at.epoch))) waits_then keeps.waits).0.1
 
--- it fits, and is clear
-abbrev pub BothMove : Setting → ℕ → Reading → ℕ → List Content → Done (List Content) → Type 0
-BothMove setting worker clock s contents found =
-    MoveFits (PlacesMirror setting) (ranged setting) worker clock s contents found
-    × IsClearDeed (PlacesMirror setting) (keeping_of setting) (ranged setting) worker (resting (ranged setting) worker clock) found.commands s contents found.after
+  levels : length mirrors.shard.frontier ≡ bits_in setting
+  levels = subst (λ (cs : List Content). length (frontier_in cs) ≡ bits_in setting) mirrors.is moves.ready.mirrored.levels
 
--- what a worker does for a shard at a close
+  number : number_of mirrors.shard.frontier ≡ s
+  number = subst (λ (cs : List Content). number_of (frontier_in cs) ≡ s) mirrors.is moves.ready.mirrored.number
+
+  clear_there : IsClearDeed (PlacesMirror setting) (keeping_of setting) (ranged setting) worker (resting (ranged setting) worker clock) found.commands s
+      (cold mirrors.shard ∷ mirrors.places) (cold new.shard ∷ new.places)
+  clear_there = record {
+    apart = λ index path not_home. clears.apart worker index path (λ below. not_home (home-below mirrors.shard.frontier path (bits_in setting) s levels number below));
+    clear = λ index path last home kept. clears.clear worker index path last kept;
+    keeps = λ index path last home kept. clears.keeps worker index path last kept;
+    behind = λ index path. clears.behind worker index path;
+    up_to = λ index path. clears.up_to worker index path;
+    rises = clears.rises;
+  }
+
+  rest_clear : IsClearDeed (PlacesMirror setting) (keeping_of setting) (ranged setting) worker (resting (ranged setting) worker clock) found.commands s contents found.after
+  rest_clear =
+      subst (λ (cs : List Content). IsClearDeed (PlacesMirror setting) (keeping_of setting) (ranged setting) worker (resting (ranged setting) worker clock) found.commands s cs found.after) (sym mirrors.is)
+      (subst (λ (cs : List Content). IsClearDeed (PlacesMirror setting) (keeping_of setting) (ranged setting) worker (resting (ranged setting) worker clock) found.commands s (cold mirrors.shard ∷ mirrors.places) cs) (sym moved_so.after)
+      clear_there)
+
+  -- It fits, and is clear.
+  pub both_move : MoveFits (PlacesMirror setting) (ranged setting) worker clock s contents found
+      × IsClearDeed (PlacesMirror setting) (keeping_of setting) (ranged setting) worker (resting (ranged setting) worker clock) found.commands s contents found.after
+  both_move = (record { deed = rest_deed; mirrored = rest_mirrors }, rest_clear)
+
+-- What a worker does for a shard at a close.
 pub rest_any : (setting : Setting) (worker epoch : ℕ) (clock : Reading) (s : ℕ) (contents : List Content) (found : Done (List Content))
     → IsSetting setting → IsReady (PlacesMirror setting) (ranged setting) worker clock epoch s contents → clock.at.epoch ≡ suc epoch
-    → (ranged setting).move worker clock s contents ≡ Some found → BothMove setting worker clock s contents found
-rest_any setting worker epoch clock s contents found is_setting ready turned is =
-    subst (λ (cs : List Content). BothMove setting worker clock s cs found) (sym ready.mirrored.all)
-    (let did = done_within clock.end (renewing clock ready.mirrored.shard.stamp).at.counter (rested_at worker clock ready.mirrored.shard) found
-    (subst (λ (cs : List Content). (ranged setting).move worker clock s cs ≡ Some found) ready.mirrored.all is) in
-    let at = at_shard setting worker clock epoch s contents is_setting ready in
-    subst (λ (f : Done (List Content)). BothMove setting worker clock s (places (cold ready.mirrored.shard)) f) did.0
-    (rest_fits setting worker clock epoch s ready.mirrored.shard at turned did.1, rest_clear setting worker clock epoch s ready.mirrored.shard at turned did.1))
+    → (ranged setting).move worker clock s contents ≡ Some found
+    → MoveFits (PlacesMirror setting) (ranged setting) worker clock s contents found
+    × IsClearDeed (PlacesMirror setting) (keeping_of setting) (ranged setting) worker (resting (ranged setting) worker clock) found.commands s contents found.after
+rest_any setting worker epoch clock s contents found settled ready turned is =
+    both_move setting worker epoch clock s contents found (record { settled = settled; ready = ready; turned = turned; is = is })

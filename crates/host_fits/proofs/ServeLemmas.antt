@@ -1,62 +1,55 @@
--- A request that is served fits.
-use Rattle.std.proofs.Common.{◌≡◌, ◌⊎◌, ℕ, ◌^◌, ◌<◌, ◌≤◌, Bool, true, false, List, [], ◌∷◌, length, map, Option, Some, None, is_some, nat_lt, if◌then◌else◌, refl, ◌∙◌, ap, subst, inl, inr, arith}
+-- A request that is served fits, wherever its place is.
+use Rattle.std.proofs.Common.{◌≡◌, ◌⊎◌, ℕ, zero, suc, ◌^◌, ◌<◌, ◌≤◌, Bool, true, false, List, [], ◌∷◌, length, map, get_or, set, Ok, Option, Some, None, nat_lt, if◌then◌else◌, append-nil, refl, sym, ◌∙◌, ap, subst, inl, inr, arith}
 use Rattle.std.specs.Prelude.{◌==◌}
+use Rattle.std.specs.List.{AllByRecursion}
+use Rattle.std.proofs.lemmas.Bool.{ltb-true}
 use Rattle.std.proofs.lemmas.Bool.Decides.{nat_tests}
-use Rattle.tree_keys.specs.BitsLaws.{length-bits_of, number_back}
-use Rattle.tree_keys.specs.Path.{side, is_prefix, IsBelow}
-use Rattle.tree_keys.proofs.SideLaws.{prefix_cases}
+use Rattle.tree_keys.specs.Bits.{number_of}
+use Rattle.tree_keys.specs.BitsLaws.{number_back}
+use Rattle.lamport_clocks.specs.declared.stamp.Stamp.{Stamp}
 use Rattle.lamport_clocks.specs.Reading.{Reading}
 use Rattle.lamport_clocks.specs.Clock.{is_open}
+use Rattle.record_text.specs.declared.element.Element.{Element}
 use Rattle.record_text.specs.declared.request.Request.{Request}
 use Rattle.record_text.specs.declared.value.Value.{Value}
 use Rattle.record_text.specs.declared.value.Value.TheVariants as values
 use Rattle.record_text.specs.Format.{Format, path_bits, format_of}
-use Rattle.record_text.specs.Value.{IsBlob, IsOf}
+use Rattle.log_codec.specs.declared.command.Command.{Command}
+use Rattle.merkle_records.specs.Merkle.{Digest}
 use Rattle.verifier_cache.specs.declared.entry.Entry.{Entry}
 use Rattle.verifier_cache.specs.declared.entry.Hold.TheVariants.{Root}
 use Rattle.verifier_cache.specs.Entry.{new_entry}
-use Rattle.record_text.specs.declared.element.Element.{Element}
-use Rattle.std.proofs.lemmas.Option.{same_Some}
-use Rattle.host_laws.specs.Running.{Access}
 use Rattle.verifier_commands.specs.Outcome.{blob_of}
 use Rattle.verifier_commands.specs.Transition.{Rules}
 use Rattle.soundness.specs.StateHistory.{rules_under}
+use Rattle.soundness.specs.Typed.{IsTyped}
 use Rattle.host_shard.specs.declared.link.Link.{Link}
-use Rattle.host_shard.specs.Chain.{IsChain, last_value}
-use Rattle.host_shard.specs.Shard.{Shard, tree_of, pending_shard}
-use Rattle.host_shard.specs.Content.{Content, cold, key_path}
-use Rattle.host_shard.specs.Mirrors.{IsKeyOf}
-use Rattle.host_plan.specs.Moments.{renewing}
-use Rattle.host_plan.specs.Request.{value_after, served}
-use Rattle.host_plan.specs.Plan.{IsServable, IsPlan}
-use Rattle.host_plan.specs.declared.plans.Plan.{Plan}
+use Rattle.host_shard.specs.Shard.{Shard, pending_shard}
+use Rattle.host_shard.specs.Content.{Content, cold, hot, vacant, pending}
+use Rattle.host_plan.specs.Request.{value_after}
+use Rattle.host_plan.specs.Plan.{IsOpenAt, clock_after, content_after, value_found}
 use Rattle.host_core.specs.Host.{Done, scheme, resting}
-use Rattle.host_core.specs.Deeds.{IsClock, IsDeed}
-use Rattle.host_world.specs.Links.{links_of}
-use Rattle.host_world.specs.ShippedHost.{is_blob, told, resting_cache}
-use Rattle.host_world.proofs.LinkLaws.{shard_links_are}
-use Rattle.host_laws.specs.Served.{IsBare, CanTake, PlanRuns}
+use Rattle.host_core.specs.Deeds.{IsStamped, IsClock, IsReady, IsDeed}
+use Rattle.host_core.specs.Clear.{IsNotAfter}
+use Rattle.host_laws.specs.Running.{Access, run}
+use Rattle.host_laws.specs.Served.{IsBare, CanTake, PlanRuns, access_for, waiting}
 use Rattle.host_laws.specs.SettingUp.{set_up_root}
-use Rattle.host_laws.proofs.ChainLaws.{LeadTo}
-use Rattle.host_laws.proofs.FrontierLaws.{leads, frontier_there, frontier_of}
 use Rattle.host_laws.proofs.RequestLaws.{plan_runs}
-use Rattle.host_mirrors.specs.Mirroring.{IsMirrored}
-use Rattle.host_mirrors.proofs.FirstLaws.{among_none}
-use Rattle.host_mirrors.proofs.MirrorLaws.{last_kind, served_mirrors, plan_typed}
-use Rattle.host_fits.proofs.Keeping.{Setting, IsSetting, bits_in, served_at, ranged}
+use Rattle.host_mirrors.proofs.MirrorLaws.{mirrors_serve, plan_typed}
+use Rattle.protection_moves.specs.Stage.{hot_paths}
+use Rattle.host_world.specs.Planned.{IsPlanned}
+use Rattle.host_world.specs.Seated.{SeatsMirror, waiting_at}
+use Rattle.host_world.specs.ShippedHost.{is_place_of, told, resting_cache}
+use Rattle.host_world.proofs.PlaceLaws.{waits_there}
+use Rattle.host_world.proofs.PlannedLaws.{served_is_planned}
+use Rattle.host_world.proofs.SeatLaws.{SeatServes, seat_serves, ServeKeeps, serve_keeps}
+use Rattle.host_fits.proofs.Keeping.{Setting, IsSetting, PlacesMirror, bits_in, served_at, ranged, frontier_in, front_of}
 use Rattle.host_fits.proofs.EventLemmas.{ask_of}
 use Rattle.host_fits.proofs.DeedLemmas.{is_deed}
+use Rattle.host_fits.proofs.PlaceLemmas.{all-each, both, done_within}
+use Rattle.host_fits.proofs.ClearLemmas.{renewing-rises}
 
 -- ---- requests
-
-short_blob : (format : Format) (blob : Option (List ℕ)) → is_blob format blob ≡ true → IsBlob format blob
-short_blob format None is = tt
-short_blob format (Some bytes) is = grind (arith, nat_tests)
-
--- a data value as one
-data_value : (format : Format) (path : List Bool) (value : Value) → IsOf format path value → length path ≡ path_bits format → values.Blob (blob_of value) ≡ value
-data_value format path (values.Blob blob) kind whole = refl
-data_value format path (values.Node node) kind whole = absurd (omega (arith, kind.0, whole))
 
 -- what was asked is answered so
 asked_so : (request : Request) (found : Value) (answer : Option (List ℕ)) → values.Blob answer ≡ value_after request found
@@ -77,117 +70,162 @@ pub bare_at_rest : (setting : Setting) (worker : ℕ) → IsBare (resting_cache 
 bare_at_rest setting worker =
     bare_if (worker == 0) (new_entry [] (values.Node (set_up_root (format_of setting.settings.header) setting.functions.digest (bits_in setting))) Root) refl
 
-pub open_now : (clock : Reading) (epoch : ℕ) → epoch ≡ clock.at.epoch → is_open clock epoch ≡ true
+open_now : (clock : Reading) (epoch : ℕ) → epoch ≡ clock.at.epoch → is_open clock epoch ≡ true
 open_now clock epoch same = grind (arith, nat_tests)
 
--- ---- a request at a shard
+-- what is said of all that waits is said of what does
+of_waiting : (P : Element → Type 0) (o : Option Element) (element : Element) → AllByRecursion P (waiting o) → o ≡ Some element → P element
+of_waiting P None element all is = absurd (none_is element is)
+  where
+    none_is : (e : Element) → ◌≡◌ {A = Option Element} None (Some e) → ⊥
+    none_is e same = absurd (cc)
+of_waiting P (Some first) element all is = subst P (same first element is) all.0
+  where
+    same : (a b : Element) → Some a ≡ Some b → a ≡ b
+    same a b eq = cc
 
--- a shard that mirrors with no hot key, at a worker that may serve a key of it
-pub record MayServeShard (setting : Setting) (worker : ℕ) (clock : Reading) (shard : Shard) (request : Request) : Type 0 where
+-- ---- what it leaves of the shard's frontier
+
+-- The frontier stays, and waits since the same stamp or since one of this epoch that is not before.
+pub record FrontLeft (clock : Reading) (old new : List Content) : Type 0 where
+  pub frontier : frontier_in new ≡ frontier_in old
+  pub rises : IsNotAfter (front_of old) (front_of new)
+  pub since : ((front_of new).epoch ≡ clock.at.epoch) ⊎ (front_of new ≡ front_of old)
+
+front_there : (format : Format) (digest : Digest) (worker : ℕ) (clock : Reading) (request : Request) (links : List Link) (shard : Shard) (places : List Content)
+    (seat : ℕ) (after : Content) → is_open clock shard.stamp.epoch ≡ true
+    → after ≡ content_after format digest worker (get_or (cold shard ∷ places) seat vacant) links request clock
+    → FrontLeft clock (cold shard ∷ places) (set (cold shard ∷ places) seat after)
+front_there format digest worker clock request links shard places zero after open' is =
+    subst (λ (c : Content). FrontLeft clock (cold shard ∷ places) (c ∷ places)) (sym is) (record { frontier = refl; rises = renewing-rises clock shard.stamp open'; since = inl refl })
+front_there format digest worker clock request links shard places (suc k) after open' is =
+    record { frontier = refl; rises = inr (refl, omega arith); since = inr refl }
+
+-- ---- a request
+
+-- a worker that serves a request at its place
+pub record Serves (setting : Setting) (worker : ℕ) (clock : Reading) (s seat : ℕ) (contents : List Content) (request : Request) (found : Done Content) : Type 0 where
   pub settled : IsSetting setting
-  pub known : shard.evictor < setting.settings.header.verifiers
-  pub epoch : shard.stamp.epoch ≡ clock.at.epoch
-  pub mirrored : IsMirrored (format_of setting.settings.header) setting.functions.digest shard []
-  pub in_range : nat_lt request.key (2 ^ path_bits (format_of setting.settings.header)) ≡ true
-  pub short : is_blob (format_of setting.settings.header) request.value ≡ true
-  pub owned : is_prefix shard.frontier (key_path (format_of setting.settings.header) request.key) ≡ true
-  pub counters : (renewing clock shard.stamp).at.counter ≤ clock.end
+  pub ready : IsReady (PlacesMirror setting) (ranged setting) worker clock clock.at.epoch s contents
+  pub owns : (ranged setting).owns s contents seat request ≡ true
+  pub is : (ranged setting).serve worker clock (get_or contents seat vacant) request ≡ Some found
 
-module _ (setting : Setting) (worker : ℕ) (clock : Reading) (shard : Shard) (request : Request) (may : MayServeShard setting worker clock shard request) where
+module _ (setting : Setting) (worker : ℕ) (clock : Reading) (s seat : ℕ) (contents : List Content) (request : Request) (found : Done Content)
+    (serves : Serves setting worker clock s seat contents request found) where
   abbrev format : Format
   format = format_of setting.settings.header
 
-  abbrev key : List Bool
-  key = key_path format request.key
+  abbrev digest : Digest
+  digest = setting.functions.digest
 
-  -- the links, and what is done
-  abbrev links : List Link
-  links = links_of format (cold shard) request.key
-
-  abbrev done : Done Content
-  done = served_at setting worker clock (cold shard) request
+  abbrev content : Content
+  content = get_or contents seat vacant
 
   abbrev rules : Rules
   rules = rules_under (scheme (ranged setting)) setting.settings.header worker
 
-  whole : length key ≡ path_bits format
-  whole = length-bits_of (path_bits format) request.key
+  abbrev mirrors : SeatsMirror format digest contents
+  mirrors = serves.ready.mirrored.mirrors
 
-  own : IsKeyOf format shard key
-  own = record { whole = whole; below = go (prefix_cases shard.frontier key may.owned) }
-    where
-      go : (shard.frontier ≡ key) ⊎ ((on : Bool) × (side shard.frontier key ≡ Some on)) → IsBelow shard.frontier key
-      go (inl same) = absurd (omega (arith, ap (λ (p : List Bool). length p) same, whole, may.mirrored.fits.no_data))
-      go (inr below) = ap (λ (o : Option Bool). is_some o) below.1
+  abbrev hot_keys : List (List Bool)
+  hot_keys = hot_paths format mirrors.places
 
-  servable : IsServable format setting.functions.digest shard key
-  servable = record { hot = []; fits = may.mirrored.fits; mirrors = may.mirrored.mirrors; own = own; cold = among_none key }
+  range : (nat_lt request.key (2 ^ path_bits format) ≡ true) × (is_place_of format contents seat request ≡ true)
+  range = both (nat_lt request.key (2 ^ path_bits format)) (is_place_of format contents seat request) serves.owns
 
-  lead : LeadTo format setting.functions.digest (tree_of shard) key
-  lead = leads format setting.functions.digest shard key servable
+  small : request.key < 2 ^ path_bits format
+  small = ltb-true request.key (2 ^ path_bits format) range.0
 
-  kind : IsOf format shard.frontier shard.value
-  kind = may.mirrored.fits.kinds shard.frontier shard.value (frontier_there shard)
+  there : SeatServes format digest hot_keys content request
+  there = seat_serves format digest contents mirrors seat request small range.1
 
-  chain : IsChain format (tree_of shard) key shard.frontier shard.value links
-  chain = shard_links_are format shard key may.mirrored.fits own
+  pub planned : IsPlanned format digest worker clock content request found
+  planned = served_is_planned format digest worker clock content request found there.own serves.is
 
-  abbrev found : Value
-  found = last_value shard.value links
+  keeps : ServeKeeps format digest worker clock contents seat found
+  keeps = serve_keeps format digest worker clock contents seat request found serves.settled.digests mirrors small range.1 serves.is
 
-  found_kind : IsOf format key found
-  found_kind = last_kind format setting.functions.digest (tree_of shard) key lead shard.frontier shard.value links kind (frontier_of shard) chain
+  counters : (clock_after content clock).at.counter ≤ clock.end
+  counters = (done_within clock.end (clock_after content clock).at.counter (served_at setting worker clock content request) found serves.is).1
 
-  abbrev answer : Option (List ℕ)
-  answer = blob_of (value_after request found)
+  stamped : AllByRecursion (IsStamped (ranged setting) clock.at.epoch) (waiting (pending format content))
+  stamped = waits_there format (IsStamped (ranged setting) clock.at.epoch) contents seat serves.ready.stamped
 
-  answers : values.Blob answer ≡ value_after request found
-  answers = go request.put
-    where
-      go : (b : Bool) → values.Blob (blob_of (if b then values.Blob request.value else found)) ≡ (if b then values.Blob request.value else found)
-      go true = refl
-      go false = data_value format key found found_kind whole
+  opens : (c : Content) → AllByRecursion (IsStamped (ranged setting) clock.at.epoch) (waiting (pending format c)) → IsOpenAt clock c
+  opens (cold shard) all = open_now clock shard.stamp.epoch all.0.1
+  opens (hot record') all = open_now clock record'.stamp.epoch all.0.1
+  opens vacant all = tt
 
-  -- the plan
-  abbrev pub plan : Plan
-  plan = record { commands = done.commands; answer = answer }
-
-  is_plan : IsPlan format setting.functions.digest worker (cold shard) request clock plan done.after done.clock
-  is_plan = record { links = links; way = chain; commands = refl; answer = answers; content = refl; clock = refl }
-
-  can : CanTake rules (resting (ranged setting) worker clock) (cold shard)
+  can : CanTake rules (resting (ranged setting) worker clock) content
   can = record {
     rest = record {
       bare = bare_at_rest setting worker;
-      room = may.settled.room;
-      known = λ element is. subst (λ (e : Element). e.verifier < setting.settings.header.verifiers) (same_Some (pending_shard shard) element is) may.known;
-      open_epoch = open_now clock shard.stamp.epoch may.epoch;
+      room = serves.settled.room;
+      known = λ element is. (of_waiting (IsStamped (ranged setting) clock.at.epoch) (pending format content) element stamped is).0;
+      open_epoch = opens content stamped;
     };
-    counters = may.counters;
+    counters = counters;
   }
 
-  pub plan_run : PlanRuns rules (resting (ranged setting) worker clock) (cold shard) done.after request plan done.clock
-  plan_run = plan_runs rules (resting (ranged setting) worker clock) (cold shard) done.after request plan done.clock can servable is_plan
+  pub runs : PlanRuns rules (resting (ranged setting) worker clock) content found.after request planned.plan found.clock
+  runs =
+      plan_runs rules (resting (ranged setting) worker clock) content found.after request planned.plan found.clock can
+      (mirrors_serve format digest hot_keys content request.key there.mirrors there.own there.cold_there) planned.is
 
-  fits_blob : IsBlob format request.value
-  fits_blob = short_blob format request.value may.short
+  pub logged : run rules (resting (ranged setting) worker clock) found.commands ≡ Ok (runs.told, resting (ranged setting) worker found.clock)
+  logged = ap (λ (commands : List Command). run rules (resting (ranged setting) worker clock) commands) planned.logged ∙ runs.runs
 
-  small : request.key < 2 ^ path_bits format
-  small = let test = may.in_range in grind (arith, nat_tests)
+  clock_is : (c : Content) → (clock_after c clock).at.counter ≤ clock.end → IsClock (ranged setting) (clock_after c clock)
+  clock_is (cold shard) within = record { first = serves.ready.is_clock.first; end = serves.ready.is_clock.end; reading = record { within = within; from_first = serves.ready.is_clock.reading.from_first } }
+  clock_is (hot record') within = record { first = serves.ready.is_clock.first; end = serves.ready.is_clock.end; reading = record { within = within; from_first = serves.ready.is_clock.reading.from_first } }
+  clock_is vacant within = serves.ready.is_clock
 
-  pub deed : worker < setting.settings.header.verifiers → IsClock (ranged setting) clock
-      → IsDeed (ranged setting) worker (resting (ranged setting) worker clock) done.commands done.clock (cold shard ∷ []) (done.after ∷ []) ((clock.at.epoch, told request) ∷ [])
-  deed there is_clock =
-      is_deed (ranged setting) worker (resting (ranged setting) worker clock) done.commands plan_run.told done.clock (cold shard ∷ []) (done.after ∷ []) ((clock.at.epoch, told request) ∷ [])
-      plan_run.runs
-      (plan_typed format setting.functions.digest worker [] (cold shard) done.after request clock done.clock plan fits_blob may.mirrored (may.mirrored.fits, own) (among_none key) is_plan)
-      (record { first = is_clock.first; end = is_clock.end; reading = record { within = may.counters; from_first = is_clock.reading.from_first } })
-      refl ((there, refl), tt) plan_run.added plan_run.evicted
-      (ap (λ (xs : List Access). map (ask_of clock.at.epoch) xs) plan_run.access ∙ ap asks (ap (λ (k : ℕ). record { put = request.put; key = k; value = if request.put then answer else None }) (number_back (path_bits format) request.key small)
-      ∙ ap (λ (v : Option (List ℕ)). record { put = request.put; key = request.key; value = v }) (asked_so request found answer answers)))
+  renewed : AllByRecursion (IsStamped (ranged setting) found.clock.at.epoch) (waiting (pending format found.after))
+  renewed =
+      all-each (λ (element : Element). (element.verifier ≡ worker) × (element.stamp.epoch ≡ clock.at.epoch)) (IsStamped (ranged setting) found.clock.at.epoch)
+      (λ element is. (subst (λ (n : ℕ). n < setting.settings.header.verifiers) (sym is.0) serves.ready.known, is.1 ∙ sym keeps.same_epoch.epoch))
+      (waiting (pending format found.after)) keeps.waits
+
+  asked : map (ask_of clock.at.epoch) (access_for format request planned.plan.answer ∷ []) ≡ (clock.at.epoch, told request) ∷ []
+  asked =
+      ap asks (ap (λ (k : ℕ). record { put = request.put; key = k; value = if request.put then planned.plan.answer else None }) (number_back (path_bits format) request.key small)
+      ∙ ap (λ (v : Option (List ℕ)). record { put = request.put; key = request.key; value = v }) (asked_so request (value_found content planned.is.links) planned.plan.answer planned.is.answer))
     where
       asks : Request → List (ℕ × Request)
       asks ask = (clock.at.epoch, ask) ∷ []
 
-  pub mirrors_again : IsMirrored format setting.functions.digest (served format setting.functions.digest worker shard links request clock) []
-  mirrors_again = served_mirrors format setting.functions.digest worker shard [] links request clock may.settled.digests fits_blob may.mirrored own (among_none key) chain
+  pub serve_deed : IsDeed (ranged setting) worker (resting (ranged setting) worker clock) found.commands found.clock (content ∷ []) (found.after ∷ []) ((clock.at.epoch, told request) ∷ [])
+  serve_deed =
+      is_deed (ranged setting) worker (resting (ranged setting) worker clock) found.commands runs.told found.clock (content ∷ []) (found.after ∷ []) ((clock.at.epoch, told request) ∷ [])
+      logged
+      (subst (AllByRecursion (IsTyped format)) (sym planned.logged)
+      (plan_typed format digest worker hot_keys content found.after request clock found.clock planned.plan there.fits there.mirrors there.own there.cold_there planned.is))
+      (subst (IsClock (ranged setting)) (sym planned.is.clock) (clock_is content counters))
+      keeps.same_epoch.epoch
+      (subst (AllByRecursion (IsStamped (ranged setting) found.clock.at.epoch)) (sym (append-nil (waiting (pending format found.after)))) renewed)
+      (runs.added ∙ sym (append-nil (waiting (pending format content))))
+      (runs.evicted ∙ sym (append-nil (waiting (pending format found.after))))
+      (ap (λ (xs : List Access). map (ask_of clock.at.epoch) xs) runs.access ∙ asked)
+
+  shard_stamped : IsStamped (ranged setting) clock.at.epoch (pending_shard mirrors.shard)
+  shard_stamped = (subst (λ (cs : List Content). AllByRecursion (IsStamped (ranged setting) clock.at.epoch) (waiting_at format cs)) mirrors.is serves.ready.stamped).0
+
+  pub front : FrontLeft clock contents (set contents seat found.after)
+  front =
+      subst (λ (cs : List Content). found.after ≡ content_after format digest worker (get_or cs seat vacant) planned.is.links request clock → FrontLeft clock cs (set cs seat found.after)) (sym mirrors.is)
+      (front_there format digest worker clock request planned.is.links mirrors.shard mirrors.places seat found.after (open_now clock mirrors.shard.stamp.epoch shard_stamped.1))
+      planned.is.content
+
+  -- the seats mirror again
+  pub serve_mirrors : PlacesMirror setting s (set contents seat found.after)
+  serve_mirrors = record {
+    mirrors = keeps.mirrors;
+    levels = ap (λ (path : List Bool). length path) front.frontier ∙ serves.ready.mirrored.levels;
+    number = ap number_of front.frontier ∙ serves.ready.mirrored.number;
+    from_first = from front.since;
+  }
+    where
+      from : ((front_of (set contents seat found.after)).epoch ≡ clock.at.epoch) ⊎ (front_of (set contents seat found.after) ≡ front_of contents)
+          → setting.settings.header.first ≤ (front_of (set contents seat found.after)).epoch
+      from (inl same) = omega (arith, same, serves.ready.is_clock.first, serves.ready.is_clock.reading.from_first)
+      from (inr same) = subst (λ (at : Stamp). setting.settings.header.first ≤ at.epoch) (sym same) serves.ready.mirrored.from_first

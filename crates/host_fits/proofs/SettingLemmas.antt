@@ -59,6 +59,7 @@ is_setting functions settings script can = record {
   };
   room = omega (arith, width, can.in_range.cache);
   digests = can.digests;
+  threshold = can.in_range.hot;
 }
   where
     two : 2 ≤ settings.shards

@@ -1,5 +1,5 @@
 -- What a request does to a clock and to an element, whatever else there is.
-use Rattle.std.proofs.Common.{◌≡◌, ◌≢◌, ℕ, zero, suc, ◌<◌, ◌≤◌, max, Bool, true, false, List, [], ◌∷◌, length, get_or, set, nat_eq, nat_lt, not, Some, None, if◌then◌else◌, eq-eqb, refl, sym, ◌∙◌, ap, subst, arith}
+use Rattle.std.proofs.Common.{◌≡◌, ◌≢◌, ℕ, zero, suc, ◌<◌, ◌≤◌, max, Bool, true, false, List, [], ◌∷◌, length, get_or, set, nat_eq, nat_lt, not, Option, Some, None, if◌then◌else◌, eq-eqb, refl, sym, ◌∙◌, ap, subst, arith}
 use Rattle.std.specs.Prelude.{◌&&◌, ◌||◌}
 use Rattle.std.specs.List.{AllByRecursion, list_any}
 use Rattle.std.proofs.lemmas.Bool.{false≢true}
@@ -33,6 +33,7 @@ use Rattle.protection_moves.specs.Errand.{Errand, demotes, promotes, clock_neede
 use Rattle.protection_moves.specs.Trip.{Trip, done_by, done_by_each}
 use Rattle.protection_moves.specs.Move.{begun}
 use Rattle.host_world.specs.declared.settings.Settings.{Settings}
+use Rattle.host_world.specs.Due.{due_in}
 use Rattle.host_world.specs.Links.{links_of}
 use Rattle.host_world.specs.Moving.{stage_of, trips_of, done_with, move_seats}
 use Rattle.host_world.specs.ShippedHost.{is_blob, serves_key, shipped_host}
@@ -71,18 +72,21 @@ trips_epoch format digest worker stage (trip ∷ trips) =
     trips_epoch format digest worker (done_by format digest worker stage trip.errand trip.links) trips
     ∙ errand_epoch format digest worker stage trip.errand trip.links
 
-move_epoch : (format : Format) (digest : Digest) (worker : ℕ) (clock : Reading) (contents : List Content) (done : Done (List Content))
-    → move_seats format digest worker (stage_of clock contents) ≡ Some done → done.clock.at.epoch ≡ clock.at.epoch
-move_epoch format digest worker clock [] done is = absurd (none-some done is)
-move_epoch format digest worker clock (cold shard ∷ rest) done is =
+move_epoch : (format : Format) (digest : Digest) (worker : ℕ) (threshold : Option ℕ) (clock : Reading) (contents : List Content) (done : Done (List Content))
+    → move_seats format digest worker threshold (stage_of clock contents) ≡ Some done → done.clock.at.epoch ≡ clock.at.epoch
+move_epoch format digest worker threshold clock [] done is = absurd (none-some done is)
+move_epoch format digest worker threshold clock (cold shard ∷ rest) done is =
     ap (λ (d : Done (List Content)). d.clock.at.epoch)
-    (sym (done_within clock.end (clock_needed stage []).at.counter (done_with format digest worker stage (trips_of format digest worker stage [])) done is).0)
-    ∙ (trips_epoch format digest worker (begun worker stage) (trips_of format digest worker stage []) ∙ renew_epoch clock (touched_in rest))
+    (sym (done_within clock.end (clock_needed stage due).at.counter (done_with format digest worker stage (trips_of format digest worker stage due)) done is).0)
+    ∙ (trips_epoch format digest worker (begun worker stage) (trips_of format digest worker stage due) ∙ renew_epoch clock (touched_in rest))
   where
     stage : Stage
     stage = record { shard = shard; places = rest; clock = clock }
-move_epoch format digest worker clock (hot found ∷ rest) done is = absurd (none-some done is)
-move_epoch format digest worker clock (vacant ∷ rest) done is = absurd (none-some done is)
+
+    due : List ℕ
+    due = due_in format stage threshold
+move_epoch format digest worker threshold clock (hot found ∷ rest) done is = absurd (none-some done is)
+move_epoch format digest worker threshold clock (vacant ∷ rest) done is = absurd (none-some done is)
 
 module _ (functions : DigestFunctions) (settings : Settings) (script : List (List Task)) where
   abbrev host : Host Content Request
@@ -231,4 +235,4 @@ module _ (functions : DigestFunctions) (settings : Settings) (script : List (Lis
 
   -- Nor does a close of a shard leave the epoch.
   pub moves_keep_epoch : MovesKeepEpoch host
-  moves_keep_epoch worker clock s contents done is = move_epoch format functions.digest worker clock contents done is
+  moves_keep_epoch worker clock s contents done is = move_epoch format functions.digest worker settings.hot clock contents done is

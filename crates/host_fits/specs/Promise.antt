@@ -1,6 +1,5 @@
--- What the shipped host promises, while no key is hot.
-use Rattle.std.specs.Prelude.{◌^◌, ◌<◌, ◌≤◌, List}
-use Rattle.std.specs.List.{AllByRecursion}
+-- What the shipped host promises.
+use Rattle.std.specs.Prelude.{◌≤◌, List}
 use Rattle.record_hash.specs.Functions.{DigestFunctions}
 use Rattle.merkle_records.specs.Merkle.{GivesDigests}
 use Rattle.script_text.specs.declared.task.Task.{Task}
@@ -9,11 +8,8 @@ use Rattle.host_core.specs.World.{World}
 use Rattle.host_core.specs.Core.{AreAccepted, AreAnswered, IsDone, IsEven, IsInPhase, IsBehindClose, AreSealed, SealedArePermuted, AllCertified, IsWhole}
 use Rattle.host_core.specs.Clear.{HasNothingToShow, IsServedSerially}
 use Rattle.host_world.specs.declared.settings.Settings.{Settings}
+use Rattle.host_world.specs.Behind.{AreInRange}
 use Rattle.host_world.specs.Settings.{IsSettings}
-
--- each key that the script asks for has no more than 64 bits
-abbrev pub AreInRange : List (List Task) → Type 0
-AreInRange script = AllByRecursion (λ phase. AllByRecursion (λ task. task.request.key < 2 ^ 64) phase) script
 
 -- What is asked of what a host is given: numbers in their ranges, a counter for each shard at the setup, keys in range, and
 -- digests of 32 bytes.

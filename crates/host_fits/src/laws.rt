@@ -1,16 +1,18 @@
 //! What holds of the shipped host's world, behind whatever events. The functions do nothing: their contracts are the laws.
-ghost use Rattle.std.specs.Prelude.{◌≡◌, ℕ, ◌≤◌, List, [], Some, None};
+ghost use Rattle.std.specs.Prelude.{◌≡◌, ℕ, ◌<◌, ◌≤◌, List, IfSome, Some, None};
 ghost use Rattle.lamport_clocks.specs.Reading.{Reading};
 ghost use Rattle.record_hash.specs.Functions.{DigestFunctions};
 ghost use Rattle.record_text.specs.declared.request.Request.{Request};
 ghost use Rattle.record_text.specs.Format.{format_of};
 ghost use Rattle.log_codec.specs.declared.command.Command.{Command};
+ghost use Rattle.merkle_records.specs.Merkle.{GivesDigests};
 ghost use Rattle.script_text.specs.declared.task.Task.{Task};
 ghost use Rattle.script_text.specs.Text.{AreTasks};
 ghost use Rattle.host_shard.specs.Content.{Content};
 ghost use Rattle.host_plan.specs.Plan.{CanServe, IsPlan, IsPastEnd, clock_after};
 ghost use Rattle.host_plan.specs.declared.plans.Plan.{Plan};
-ghost use Rattle.protection_moves.specs.Stage.{Stage, untouched_in};
+ghost use Rattle.errand_laws.specs.Stages.{StageMirrors};
+ghost use Rattle.protection_moves.specs.Stage.{Stage};
 ghost use Rattle.protection_moves.specs.Move.{IsMove};
 ghost use Rattle.protection_moves.specs.Move as move;
 ghost use Rattle.host_core.specs.World.{set_up};
@@ -18,9 +20,10 @@ ghost use Rattle.host_core.specs.WorldEvent.{WorldEvent, AreEnabled, run_events}
 ghost use Rattle.host_order.specs.Steady.{IsSteady};
 ghost use Rattle.host_order.specs.Close.{MovesKeepEpoch};
 ghost use Rattle.host_world.specs.declared.settings.Settings.{Settings};
+ghost use Rattle.host_world.specs.Behind.{AreInRange};
 ghost use Rattle.host_world.specs.Moving.{seats_of};
 ghost use Rattle.host_world.specs.ShippedHost.{shipped_host};
-ghost use Rattle.host_fits.specs.Promise.{CanRun, AreInRange, IsPromised};
+ghost use Rattle.host_fits.specs.Promise.{CanRun, IsPromised};
 
 /// Whatever the script, the workers, the shards, the first epoch and the counters' end: behind every list of events that
 /// are enabled from the setup on, the promise holds. It is asked that the numbers are in their ranges, that the setup's
@@ -51,18 +54,21 @@ pub fn plans_are_what_the_host_does()
         → IsPastEnd content clock → (shipped_host functions settings script).serve worker clock content request ≡ None }
 {}
 
-/// A move for which no threshold is given, and in which no hot record comes back, is what the host does for the shard at a
-/// close. Where the counters would pass their end the host does nothing.
+/// A move of a stage that mirrors is what the host does for the shard at a close, for its threshold. Where the counters
+/// would pass their end the host does nothing.
 pub fn moves_are_what_the_host_does()
     ensures moved { (functions : DigestFunctions) (settings : Settings) (script : List (List Task)) (worker s : ℕ)
         (old new : Stage) (commands : List Command)
-        → untouched_in old.places ≡ []
-        → IsMove (format_of settings.header) functions.digest worker None old commands new
-        → (move.IsPastEnd (format_of settings.header) None old → ⊥)
+        → GivesDigests functions.digest → IfSome settings.hot (λ least. 0 < least)
+        → StageMirrors (format_of settings.header) functions.digest old
+        → IsMove (format_of settings.header) functions.digest worker settings.hot old commands new
+        → (move.IsPastEnd (format_of settings.header) settings.hot old → ⊥)
         → (shipped_host functions settings script).move worker old.clock s (seats_of old)
         ≡ Some (record { commands = commands; after = seats_of new; clock = new.clock }) }
     ensures ended { (functions : DigestFunctions) (settings : Settings) (script : List (List Task)) (worker s : ℕ) (old : Stage)
-        → move.IsPastEnd (format_of settings.header) None old
+        → GivesDigests functions.digest → IfSome settings.hot (λ least. 0 < least)
+        → StageMirrors (format_of settings.header) functions.digest old
+        → move.IsPastEnd (format_of settings.header) settings.hot old
         → (shipped_host functions settings script).move worker old.clock s (seats_of old) ≡ None }
 {}
 

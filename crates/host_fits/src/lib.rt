@@ -1,5 +1,5 @@
 //! The shipped host keeps its promise: whatever happens, its logs are accepted, its answers follow the script, and its
-//! sealed epochs are certified, with nothing to exhibit. So it is while no key is hot.
+//! sealed epochs are certified, with nothing to exhibit. So it is whichever keys become hot.
 //!
 //! `host_core` shows this of any host whose deeds fit and are clear. Here the deeds are those of `shipped_host` of
 //! `host_world`, which `host_laws` and `host_mirrors` speak of, and they fit. The crate has no code to run. Begin with

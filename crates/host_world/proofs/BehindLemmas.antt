@@ -1,29 +1,31 @@
 -- What holds of a world behind the setup: its shards can be served and taken in.
-use Rattle.std.proofs.Common.{◌≡◌, ℕ, zero, suc, ◌+◌, ◌^◌, ◌<◌, ◌≤◌, ◌==◌, ◌||◌, ◌&&◌, Bool, true, false, List, get_or, nat_lt, nat_le, IsTrue, if◌then◌else◌, refl, sym, ◌∙◌, ap, subst, arith, inl, inr, ◌⊎◌}
+use Rattle.std.proofs.Common.{◌≡◌, ℕ, zero, suc, ◌+◌, ◌^◌, ◌<◌, ◌≤◌, ◌==◌, ◌||◌, ◌&&◌, Bool, true, false, List, [], ◌∷◌, get_or, nat_lt, nat_le, IsTrue, if◌then◌else◌, refl, sym, ◌∙◌, ap, subst, arith, inl, inr, ◌⊎◌}
 use Rattle.std.proofs.lemmas.Bool.{cases_eq, le-leb, leb-true, eq-eqb, lt-ltb, or_right, and_from}
 use Rattle.std.proofs.lemmas.Nat.{pow_below}
+use Rattle.std.specs.List.{AllByRecursion}
 use Rattle.lamport_clocks.specs.Clock.{is_open}
 use Rattle.lamport_clocks.specs.Reading.{Reading}
 use Rattle.record_hash.specs.Functions.{DigestFunctions}
+use Rattle.record_text.specs.declared.element.Element.{Element}
 use Rattle.record_text.specs.declared.request.Request.{Request}
 use Rattle.record_text.specs.Format.{short_keys}
 use Rattle.merkle_records.specs.Merkle.{GivesDigests}
 use Rattle.host_core.specs.World.{Place, World, worker_at, shard_at}
 use Rattle.log_codec.specs.declared.command.Command.{Command}
 use Rattle.host_core.specs.WorldEvent.{serves, moves, MayServe, MayMove}
-use Rattle.host_shard.specs.Content.{Content, cold, vacant}
-use Rattle.host_shard.specs.Mirrors.{IsShard}
-use Rattle.host_shard.specs.Shard.{Shard}
+use Rattle.host_shard.specs.Content.{Content, cold, hot, vacant, pending}
+use Rattle.host_laws.specs.Served.{waiting}
 use Rattle.host_plan.specs.Plan.{Owns, IsOpenAt}
 use Rattle.host_plan.specs.Setup.{IsShardCount}
 use Rattle.script_text.specs.declared.task.Task.{Task}
 use Rattle.host_world.specs.declared.settings.Settings.{Settings}
 use Rattle.host_world.specs.Settings.{bits_within, frontier_bits}
-use Rattle.host_world.specs.ShippedHost.{new_seats, is_place_of}
 use Rattle.host_world.specs.Orderly.{IsOrderly, moved_by}
 use Rattle.host_world.specs.Behind.{IsBehindSetup, with_logs, CanTakeSeats}
 use Rattle.host_world.proofs.FrontLaws.{clock_with, enabled_with}
-use Rattle.host_world.proofs.SeatLemmas.{place_is, place_owns}
+use Rattle.host_world.proofs.PlaceLaws.{waits_there}
+use Rattle.host_world.proofs.RangeLaws.{next_in_range}
+use Rattle.host_world.proofs.SeatLaws.{seat_serves}
 use Rattle.host_world.proofs.OrderlyLemmas.{host, set_up_orderly, run_orderly}
 
 -- The number of bits is that of the power.
@@ -60,7 +62,7 @@ module _ (functions : DigestFunctions) (settings : Settings) (script : List (Lis
       let count = behind.settings_fit.shards in
       let bits = frontier_bits_are settings.shards count in
       subst (IsOrderly functions settings script) (sym behind.is)
-      (run_orderly functions settings script digests _ behind.events
+      (run_orderly functions settings script digests behind.settings_fit.hot behind.keys _ behind.events
       (set_up_orderly functions settings script (omega (arith, bits, count.some)) (omega (arith, bits, count.most)) digests) behind.enabled)
 
   -- The content of a request's place owns its key, and the worker's clock takes its stamp.
@@ -71,37 +73,44 @@ module _ (functions : DigestFunctions) (settings : Settings) (script : List (Lis
       let still = behind_orderly.unmoved may.serving.phase place.shard may.there.0 in
       let epoch = behind_orderly.clocked may.serving.phase i may.serving.there in
       let whole = behind_orderly.shards place.shard may.there.0 in
-      let clock = (worker_at (host functions settings script) world i).clock in
-      subst (λ (seats : List Content). is_place_of short_keys seats place.seat request ≡ true
-      → Owns short_keys (get_or seats place.seat vacant) request.key × IsOpenAt clock (get_or seats place.seat vacant))
-      (sym whole.is)
-      (λ owns. at_seat whole.shard clock place.seat (place_is whole.shard place.seat request owns) owns whole.mirrored.fits
-      (omega (arith, epoch, whole.stamped, ap moved_by still)))
-      may.owns
+      let seats = (shard_at world place.shard).contents in
+      let clock = (worker_at (host functions settings script) world i).clock in (
+        (seat_serves short_keys functions.digest seats whole.mirrors place.seat request (next_in_range functions settings script behind.keys world i request may.next) may.owns).own,
+        open_at clock _ (get_or seats place.seat vacant) (omega (arith, epoch, ap moved_by still))
+            (waits_there short_keys (λ element. element.stamp.epoch ≡ _) seats place.seat whole.stamped),
+      )
     where
-      at_seat : (shard : Shard) (clock : Reading) (seat : ℕ) → seat ≡ 0 → is_place_of short_keys (new_seats (cold shard)) seat request ≡ true → IsShard short_keys shard → shard.stamp.epoch ≡ clock.at.epoch
-          → Owns short_keys (get_or (new_seats (cold shard)) seat vacant) request.key × IsOpenAt clock (get_or (new_seats (cold shard)) seat vacant)
-      at_seat shard clock zero same owns fits epoch =
-          ((fits, (place_owns shard request fits owns).0), ap (λ (b : Bool). b || (nat_lt clock.first clock.at.epoch && shard.stamp.epoch + 1 == clock.at.epoch)) (eq-eqb shard.stamp.epoch clock.at.epoch epoch))
-      at_seat shard clock (suc more) same owns fits epoch = absurd (omega (arith, same))
+      now : (clock : Reading) (epoch stamp : ℕ) → epoch ≡ clock.at.epoch → stamp ≡ epoch → IsTrue (is_open clock stamp)
+      now clock epoch stamp same is =
+          ap (λ (b : Bool). b || (nat_lt clock.first clock.at.epoch && stamp + 1 == clock.at.epoch)) (eq-eqb stamp clock.at.epoch (is ∙ same))
+
+      open_at : (clock : Reading) (epoch : ℕ) (content : Content) → epoch ≡ clock.at.epoch
+          → AllByRecursion (λ element. element.stamp.epoch ≡ epoch) (waiting (pending short_keys content)) → IsOpenAt clock content
+      open_at clock epoch (cold shard) same stamped = now clock epoch shard.stamp.epoch same stamped.0
+      open_at clock epoch (hot found) same stamped = now clock epoch found.stamp.epoch same stamped.0
+      open_at clock epoch vacant same stamped = tt
 
   -- The seats of a shard that is to be moved can be taken in.
   pub moves_there : (i s : ℕ) → MayMove (host functions settings script) world i s
-      → CanTakeSeats (worker_at (host functions settings script) world i).clock (shard_at world s).contents
+      → CanTakeSeats functions.digest (worker_at (host functions settings script) world i).clock (shard_at world s).contents
   moves_there i s may =
       let whole = behind_orderly.shards s may.shard in
       let clock = (worker_at (host functions settings script) world i).clock in
       record {
-        shard = whole.shard;
-        is = whole.is;
-        fits = whole.mirrored.fits;
-        open_epoch = opened clock whole.shard.stamp.epoch (omega (arith, behind_orderly.bounded i, may.turned)) (omega (arith, may.turned, whole.stamped, ap moved_by may.still));
+        mirrors = whole.mirrors;
+        open_epochs = all-open clock _ (omega (arith, behind_orderly.bounded i, may.turned)) (omega (arith, may.turned, ap moved_by may.still)) _ whole.stamped;
       }
     where
       opened : (clock : Reading) (epoch : ℕ) → clock.first < clock.at.epoch → epoch + 1 ≡ clock.at.epoch → IsTrue (is_open clock epoch)
       opened clock epoch past next =
           or_right (epoch == clock.at.epoch) (nat_lt clock.first clock.at.epoch && epoch + 1 == clock.at.epoch)
           (and_from (nat_lt clock.first clock.at.epoch) (epoch + 1 == clock.at.epoch) (lt-ltb clock.first clock.at.epoch past) (eq-eqb (epoch + 1) clock.at.epoch next))
+
+      all-open : (clock : Reading) (epoch : ℕ) → clock.first < clock.at.epoch → epoch + 1 ≡ clock.at.epoch → (elements : List Element)
+          → AllByRecursion (λ element. element.stamp.epoch ≡ epoch) elements → AllByRecursion (λ element. IsTrue (is_open clock element.stamp.epoch)) elements
+      all-open clock epoch past next [] all = tt
+      all-open clock epoch past next (element ∷ elements) all =
+          (subst (λ (e : ℕ). IsTrue (is_open clock e)) (sym all.0) (opened clock epoch past next), all-open clock epoch past next elements all.1)
 
 -- The same where logs were handed out.
 module _ (functions : DigestFunctions) (settings : Settings) (script : List (List Task)) (digests : GivesDigests functions.digest) (logs : List (List Command))
@@ -117,8 +126,8 @@ module _ (functions : DigestFunctions) (settings : Settings) (script : List (Lis
       (enabled_with (host functions settings script) logs world (serves i place request) may))
 
   pub moves_with : (i s : ℕ) → MayMove (host functions settings script) world i s
-      → CanTakeSeats (worker_at (host functions settings script) world i).clock (shard_at world s).contents
+      → CanTakeSeats functions.digest (worker_at (host functions settings script) world i).clock (shard_at world s).contents
   moves_with i s may =
-      subst (λ (clock : Reading). CanTakeSeats clock (shard_at world s).contents) (clock_with (host functions settings script) logs world i)
+      subst (λ (clock : Reading). CanTakeSeats functions.digest clock (shard_at world s).contents) (clock_with (host functions settings script) logs world i)
       (moves_there functions settings script digests (with_logs logs world) behind i s
       (enabled_with (host functions settings script) logs world (moves i s) may))

@@ -1,8 +1,7 @@
 -- The frontiers of a world's shards stay where the setup put them.
-use Rattle.std.proofs.Common.{◌≡◌, ℕ, zero, suc, ◌==◌, Bool, true, false, List, [], ◌∷◌, get_or, set, map, nat_lt, Option, Some, None, is_some, if◌then◌else◌, refl, sym, ◌∙◌, ap, subst, arith}
-use Rattle.std.proofs.lemmas.Bool.{false≢true}
+use Rattle.std.proofs.Common.{◌≡◌, ℕ, zero, suc, ◌<◌, ◌==◌, Bool, true, false, List, [], ◌∷◌, get_or, set, map, Option, Some, None, if◌then◌else◌, refl, sym, ◌∙◌, ap, subst, arith}
+use Rattle.std.specs.Prelude.{IfSome}
 use Rattle.std.proofs.lemmas.List.{map-set, set-get_or}
-use Rattle.std.proofs.lemmas.Option.{same_Some}
 use Rattle.lamport_clocks.specs.Reading.{Reading}
 use Rattle.lamport_clocks.specs.Clock.{last_epoch}
 use Rattle.record_hash.specs.Functions.{DigestFunctions}
@@ -14,18 +13,21 @@ use Rattle.host_core.specs.Host.{Done}
 use Rattle.host_core.specs.World.{Place, Seats, World, unmoved, worker_at, shard_at, set_up}
 use Rattle.host_core.specs.WorldEvent.{WorldEvent, takes, loses, serves, gives, advances, moves, opens, IsEnabled, AreEnabled, MayServe, MayMove, step, run_events, with_worker, with_shard, after_serve, after_move, logging, next_clock}
 use Rattle.host_shard.specs.Content.{Content, cold, hot, vacant}
-use Rattle.host_shard.specs.Shard.{Shard, pending_shard}
-use Rattle.host_plan.specs.Moments.{renewing}
-use Rattle.host_plan.specs.Visit.{between}
 use Rattle.host_plan.specs.Setup.{paths_below, first_content}
 use Rattle.script_text.specs.declared.task.Task.{Task}
 use Rattle.host_world.specs.declared.settings.Settings.{Settings}
 use Rattle.host_world.specs.Settings.{frontier_bits}
-use Rattle.host_world.specs.Behind.{IsBehindSetup}
+use Rattle.host_world.specs.Behind.{IsBehindSetup, AreInRange}
+use Rattle.host_world.specs.Planned.{IsMoved}
+use Rattle.host_world.specs.Seated.{SeatsMirror}
+use Rattle.protection_moves.specs.Stage.{Stage}
+use Rattle.protection_moves.specs.Move.{begun}
+use Rattle.move_laws.proofs.TripLaws.{each-frontier}
 use Rattle.host_world.specs.Moving.{stage_of, move_seats}
 use Rattle.host_world.specs.Orderly.{IsOrderlyShard, IsOrderly}
-use Rattle.host_world.specs.ShippedHost.{new_seats, serve_at, is_place_of}
-use Rattle.host_world.proofs.SeatLemmas.{place_is, done_is}
+use Rattle.host_world.specs.ShippedHost.{new_seats, serve_at}
+use Rattle.host_world.proofs.SeatLaws.{IsSame, content-same, seats_moved, stage_at}
+use Rattle.host_world.proofs.ServeLemmas.{done_is}
 use Rattle.host_world.proofs.OrderlyLemmas.{host, set_up_orderly, step_orderly}
 use Rattle.host_world.proofs.BehindLemmas.{frontier_bits_are}
 
@@ -42,46 +44,46 @@ frontiers world = map (λ (seats : Seats Content). frontier_in seats.contents) w
 
 -- ---- what is done at a shard
 
+-- another content at a seat, which is the same shard or hot record
+frontier-set : (digest : Digest) (seats : List Content) (mirrors : SeatsMirror short_keys digest seats) (seat : ℕ) (new : Content)
+    → IsSame short_keys digest seats mirrors (get_or seats seat vacant) new → frontier_in (set seats seat new) ≡ frontier_in seats
+frontier-set digest seats mirrors seat new same =
+    ap (λ (xs : List Content). frontier_in (set xs seat new)) mirrors.is
+    ∙ (go seat new (subst (λ (xs : List Content). IsSame short_keys digest seats mirrors (get_or xs seat vacant) new) mirrors.is same)
+    ∙ ap (λ (xs : List Content). frontier_in xs) (sym mirrors.is))
+  where
+    go : (k : ℕ) (content : Content) → IsSame short_keys digest seats mirrors (get_or (cold mirrors.shard ∷ mirrors.places) k vacant) content
+        → frontier_in (set (cold mirrors.shard ∷ mirrors.places) k content) ≡ mirrors.shard.frontier
+    go zero (cold shard) is = is
+    go zero (hot found) is = absurd is
+    go zero vacant is = absurd is
+    go (suc k) content is = refl
+
 -- a request leaves it
 serve_frontier : (digest : Digest) (i epoch : ℕ) (clock : Reading) (seats : List Content) (seat : ℕ) (request : Request) (done : Done Content)
-    → IsOrderlyShard digest epoch seats → is_place_of short_keys seats seat request ≡ true
-    → serve_at short_keys digest i clock (get_or seats seat vacant) request ≡ Some done
+    → IsOrderlyShard digest epoch seats → serve_at short_keys digest i clock (get_or seats seat vacant) request ≡ Some done
     → frontier_in (set seats seat done.after) ≡ frontier_in seats
-serve_frontier digest i epoch clock seats seat request done orderly owned served =
-    subst (λ (xs : List Content). is_place_of short_keys xs seat request ≡ true
-    → serve_at short_keys digest i clock (get_or xs seat vacant) request ≡ Some done
-    → frontier_in (set xs seat done.after) ≡ frontier_in xs)
-    (sym orderly.is) (λ owns is. at_seat seat (place_is orderly.shard seat request owns) is) owned served
-  where
-    at_seat : (seat : ℕ) → seat ≡ 0
-        → serve_at short_keys digest i clock (get_or (new_seats (cold orderly.shard)) seat vacant) request ≡ Some done
-        → frontier_in (set (new_seats (cold orderly.shard)) seat done.after) ≡ orderly.shard.frontier
-    at_seat zero same is =
-        ap (λ (d : Done Content). frontier_in (d.after ∷ vacant ∷ vacant ∷ vacant ∷ vacant ∷ [])) (done_is digest i clock (cold orderly.shard) request done is)
-    at_seat (suc more) same is = absurd (omega (arith, same))
+serve_frontier digest i epoch clock seats seat request done orderly served =
+    frontier-set digest seats orderly.mirrors seat done.after
+    (subst (λ (d : Done Content). IsSame short_keys digest seats orderly.mirrors (get_or seats seat vacant) d.after)
+    (sym (done_is digest i clock (get_or seats seat vacant) request done served))
+    (content-same short_keys digest seats orderly.mirrors i (get_or seats seat vacant) _ request clock))
 
 -- a move leaves it
-move_frontier : (digest : Digest) (i epoch : ℕ) (clock : Reading) (seats : List Content) (done : Done (List Content))
-    → IsOrderlyShard digest epoch seats → move_seats short_keys digest i (stage_of clock seats) ≡ Some done
+move_frontier : (digest : Digest) (i epoch : ℕ) (threshold : Option ℕ) (clock : Reading) (seats : List Content) (done : Done (List Content))
+    → GivesDigests digest → IfSome threshold (λ least. 0 < least)
+    → IsOrderlyShard digest epoch seats → move_seats short_keys digest i threshold (stage_of clock seats) ≡ Some done
     → frontier_in done.after ≡ frontier_in seats
-move_frontier digest i epoch clock seats done orderly moved =
-    subst (λ (xs : List Content). move_seats short_keys digest i (stage_of clock xs) ≡ Some done → frontier_in done.after ≡ frontier_in xs)
-    (sym orderly.is) (go (nat_lt clock.end (renewing clock shard.stamp).at.counter)) moved
+move_frontier digest i epoch threshold clock seats done digests least orderly is =
+    moved_frontier (seats_moved short_keys digest i threshold clock seats done digests least orderly.mirrors is)
+    ∙ ap (λ (xs : List Content). frontier_in xs) (sym orderly.mirrors.is)
   where
-    shard : Shard
-    shard = orderly.shard
-
-    after : Shard
-    after = record shard { touches = λ k. 0; stamp = (renewing clock shard.stamp).at; evictor = i }
-
-    go : (b : Bool) → (if b then None else Some (record {
-      commands = between (pending_shard shard) (renewing clock shard.stamp).at [];
-      after = new_seats (cold after);
-      clock = renewing clock shard.stamp;
-    })) ≡ Some done
-        → frontier_in done.after ≡ shard.frontier
-    go true is = absurd (false≢true (ap is_some is))
-    go false is = ap (λ (d : Done (List Content)). frontier_in d.after) (sym (same_Some _ _ is))
+    moved_frontier : IsMoved short_keys digest i threshold (stage_at orderly.mirrors.shard orderly.mirrors.places clock) done
+        → frontier_in done.after ≡ orderly.mirrors.shard.frontier
+    moved_frontier moved =
+        ap (λ (xs : List Content). frontier_in xs) moved.after
+        ∙ (ap (λ (s : Stage). s.shard.frontier) moved.is.after
+        ∙ each-frontier short_keys digest i (begun i (stage_at orderly.mirrors.shard orderly.mirrors.places clock)) moved.is.trips)
 
 -- ---- what happens in a world
 
@@ -101,7 +103,8 @@ opened_frontiers : (shards : List (Seats Content))
 opened_frontiers [] = refl
 opened_frontiers (seats ∷ shards) = ap (λ (more : List (List Bool)). frontier_in seats.contents ∷ more) (opened_frontiers shards)
 
-module _ (functions : DigestFunctions) (settings : Settings) (script : List (List Task)) where
+module _ (functions : DigestFunctions) (settings : Settings) (script : List (List Task)) (digests : GivesDigests functions.digest)
+    (least : IfSome settings.hot (λ touches. 0 < touches)) (keys : AreInRange script) where
   serve_step : (world : World Content) (i : ℕ) (place : Place) (request : Request) → IsOrderly functions settings script world
       → MayServe (host functions settings script) world i place request → (done : Option (Done Content))
       → serve_at short_keys functions.digest i (worker_at (host functions settings script) world i).clock (get_or (shard_at world place.shard).contents place.seat vacant) request ≡ done
@@ -110,16 +113,16 @@ module _ (functions : DigestFunctions) (settings : Settings) (script : List (Lis
   serve_step world i place request orderly may (Some done) is =
       shard_frontiers world place.shard (record (shard_at world place.shard) { contents = set (shard_at world place.shard).contents place.seat done.after })
       (serve_frontier functions.digest i _ (worker_at (host functions settings script) world i).clock (shard_at world place.shard).contents place.seat request done
-      (orderly.shards place.shard may.there.0) may.owns is)
+      (orderly.shards place.shard may.there.0) is)
 
   move_step : (world : World Content) (i s : ℕ) → IsOrderly functions settings script world
       → MayMove (host functions settings script) world i s → (done : Option (Done (List Content)))
-      → move_seats short_keys functions.digest i (stage_of (worker_at (host functions settings script) world i).clock (shard_at world s).contents) ≡ done
+      → move_seats short_keys functions.digest i settings.hot (stage_of (worker_at (host functions settings script) world i).clock (shard_at world s).contents) ≡ done
       → frontiers (after_move world i (worker_at (host functions settings script) world i) s done) ≡ frontiers world
   move_step world i s orderly may None is = refl
   move_step world i s orderly may (Some done) is =
       shard_frontiers world s (record { contents = done.after; moved = true })
-      (move_frontier functions.digest i _ (worker_at (host functions settings script) world i).clock (shard_at world s).contents done (orderly.shards s may.shard) is)
+      (move_frontier functions.digest i _ settings.hot (worker_at (host functions settings script) world i).clock (shard_at world s).contents done digests least (orderly.shards s may.shard) is)
 
   -- an event that is enabled
   step_frontiers : (world : World Content) (event : WorldEvent Request) → IsOrderly functions settings script world
@@ -138,12 +141,12 @@ module _ (functions : DigestFunctions) (settings : Settings) (script : List (Lis
   step_frontiers world (moves i s) orderly may = move_step world i s orderly may _ refl
   step_frontiers world opens orderly may = opened_frontiers world.shards
 
-  run_frontiers : (digests : GivesDigests functions.digest) (world : World Content) (events : List (WorldEvent Request)) → IsOrderly functions settings script world
+  run_frontiers : (world : World Content) (events : List (WorldEvent Request)) → IsOrderly functions settings script world
       → AreEnabled (host functions settings script) world events → frontiers (run_events (host functions settings script) world events) ≡ frontiers world
-  run_frontiers digests world [] orderly enabled = refl
-  run_frontiers digests world (event ∷ events) orderly enabled =
-      run_frontiers digests (step (host functions settings script) world event) events
-      (step_orderly functions settings script digests world event orderly enabled.0) enabled.1
+  run_frontiers world [] orderly enabled = refl
+  run_frontiers world (event ∷ events) orderly enabled =
+      run_frontiers (step (host functions settings script) world event) events
+      (step_orderly functions settings script digests least keys world event orderly enabled.0) enabled.1
       ∙ step_frontiers world event orderly enabled.0
 
   -- the setup
@@ -152,13 +155,13 @@ module _ (functions : DigestFunctions) (settings : Settings) (script : List (Lis
   set_up_frontiers [] = refl
   set_up_frontiers (path ∷ paths) = ap (λ (more : List (List Bool)). path ∷ more) (set_up_frontiers paths)
 
-  -- Behind the setup, whatever happened: the paths of the shards' numbers, in their order.
-  pub frontiers_behind : (digests : GivesDigests functions.digest) (world : World Content) → IsBehindSetup functions settings script world
-      → frontiers world ≡ paths_below (frontier_bits settings.shards) []
-  frontiers_behind digests world behind =
-      let count = behind.settings_fit.shards in
-      let bits = frontier_bits_are settings.shards count in
-      ap frontiers behind.is
-      ∙ run_frontiers digests (set_up (host functions settings script)) behind.events
-      (set_up_orderly functions settings script (omega (arith, bits, count.some)) (omega (arith, bits, count.most)) digests) behind.enabled
-      ∙ set_up_frontiers (paths_below (frontier_bits settings.shards) [])
+-- Behind the setup, whatever happened: the paths of the shards' numbers, in their order.
+pub frontiers_behind : (functions : DigestFunctions) (settings : Settings) (script : List (List Task)) (digests : GivesDigests functions.digest) (world : World Content)
+    → IsBehindSetup functions settings script world → frontiers world ≡ paths_below (frontier_bits settings.shards) []
+frontiers_behind functions settings script digests world behind =
+    let count = behind.settings_fit.shards in
+    let bits = frontier_bits_are settings.shards count in
+    ap frontiers behind.is
+    ∙ run_frontiers functions settings script digests behind.settings_fit.hot behind.keys (set_up (host functions settings script)) behind.events
+    (set_up_orderly functions settings script (omega (arith, bits, count.some)) (omega (arith, bits, count.most)) digests) behind.enabled
+    ∙ set_up_frontiers functions settings script digests behind.settings_fit.hot behind.keys (paths_below (frontier_bits settings.shards) [])

@@ -1,12 +1,16 @@
 -- Lemmas on the shipped host.
 pub mod LinkLaws
+mod DueLemmas
+pub mod TripLaws
+pub mod PlaceLaws
 mod FrontLaws
 mod ServeLemmas
-mod SeatLemmas
+pub mod PlannedLaws
+pub mod SeatLaws
+pub mod RangeLaws
 mod OrderlyLemmas
 mod BehindLemmas
 mod FrontierLaws
 mod WorldLemmas
-mod MovedLemmas
+mod TakenLemmas
 mod StandingLemmas
-mod PlannedLemmas

@@ -2,9 +2,11 @@
 use Rattle.std.proofs.Common.{◌≡◌, ℕ, zero, suc, ◌+◌, ◌-◌, ◌<◌, ◌≤◌, ◌==◌, Bool, true, false, List, [], ◌∷◌, length, get_or, set, map, replicate, Option, Some, None, inl, inr, ◌⊎◌, if◌then◌else◌, refl, sym, ◌∙◌, ap, subst, arith}
 use Rattle.std.proofs.lemmas.Bool.{false≢true, cases_eq, cases_lt}
 use Rattle.std.proofs.lemmas.List.{length-set, get_or-set_same, get_or-set_other, set_past, get_or-map, length-map}
+use Rattle.std.specs.Prelude.{IfSome}
 use Rattle.std.specs.List.{AllByRecursion}
 use Rattle.lamport_clocks.specs.Clock.{last_epoch}
 use Rattle.record_hash.specs.Functions.{DigestFunctions}
+use Rattle.record_text.specs.declared.element.Element.{Element}
 use Rattle.record_text.specs.declared.request.Request.{Request}
 use Rattle.record_text.specs.Format.{short_keys, path_bits}
 use Rattle.merkle_records.specs.Merkle.{GivesDigests}
@@ -23,7 +25,10 @@ use Rattle.host_world.specs.Settings.{frontier_bits}
 use Rattle.host_world.specs.Moving.{stage_of, move_seats}
 use Rattle.host_world.specs.ShippedHost.{shipped_host, new_seats, serve_at}
 use Rattle.host_world.specs.Orderly.{IsOrderlyShard, IsOrderly, moved_by}
-use Rattle.host_world.proofs.SeatLemmas.{serve_keeps, move_keeps}
+use Rattle.host_world.specs.Behind.{AreInRange}
+use Rattle.host_world.proofs.PlaceLaws.{waits-set}
+use Rattle.host_world.proofs.RangeLaws.{next_in_range}
+use Rattle.host_world.proofs.SeatLaws.{serve_keeps, move_keeps}
 
 -- what is found in a list behind a change: what was put there, or what was there
 found_in_set : {X : Type 0} (xs : List X) (i : ℕ) (x d : X) (j : ℕ)
@@ -47,6 +52,12 @@ get_or-same : {X : Type 0} (n i : ℕ) (d : X) → get_or (replicate n d) i d �
 get_or-same zero i d = refl
 get_or-same (suc n) zero d = refl
 get_or-same (suc n) (suc i) d = get_or-same n i d
+
+-- elements of a worker in an epoch are of that epoch
+all-epochs : (worker epoch : ℕ) (elements : List Element) → AllByRecursion (λ element. (element.verifier ≡ worker) × (element.stamp.epoch ≡ epoch)) elements
+    → AllByRecursion (λ element. element.stamp.epoch ≡ epoch) elements
+all-epochs worker epoch [] all = tt
+all-epochs worker epoch (element ∷ elements) all = (all.0.1, all-epochs worker epoch elements all.1)
 
 module _ (functions : DigestFunctions) (settings : Settings) (script : List (List Task)) where
   abbrev pub host : Host Content Request
@@ -108,7 +119,7 @@ module _ (functions : DigestFunctions) (settings : Settings) (script : List (Lis
       still_there phase t there (inl is) = ap (λ (seats : Seats Content). seats.moved) is.1.1 ∙ still phase
       still_there phase t there (inr is) = ap (λ (seats : Seats Content). seats.moved) is ∙ orderly.unmoved phase t there
 
-  module _ (digests : GivesDigests functions.digest) where
+  module _ (digests : GivesDigests functions.digest) (least : IfSome settings.hot (λ touches. 0 < touches)) (keys : AreInRange script) where
     -- a request
     serve_orderly : (world : World Content) (i : ℕ) (place : Place) (request : Request) → IsOrderly functions settings script world → MayServe host world i place request
         → (done : Option (Done Content))
@@ -123,25 +134,35 @@ module _ (functions : DigestFunctions) (settings : Settings) (script : List (Lis
         let epoch : clock.at.epoch ≡ epoch_of host world = orderly.clocked may.serving.phase i may.serving.there in
         let whole : IsOrderlyShard functions.digest clock.at.epoch seats.contents =
         subst (λ (e : ℕ). IsOrderlyShard functions.digest e seats.contents) (omega (arith, epoch, ap moved_by still)) (orderly.shards place.shard may.there.0) in
-        let kept = serve_keeps functions.digest i clock seats.contents place.seat request done digests whole may.owns is in
+        let small = next_in_range functions settings script keys world i request may.next in
+        let kept = serve_keeps short_keys functions.digest i clock seats.contents place.seat request done digests whole.mirrors small may.owns is in
+        let after : IsOrderlyShard functions.digest clock.at.epoch (set seats.contents place.seat done.after) = record {
+          mirrors = kept.mirrors;
+          stamped = waits-set short_keys (λ element. element.stamp.epoch ≡ clock.at.epoch) seats.contents place.seat done.after
+              (all-epochs i clock.at.epoch _ kept.waits) whole.stamped;
+        } in
         shard_keeps (with_worker world i _) place.shard _
-        (worker_keeps world i _ orderly (kept.1.first ∙ orderly.bounded i) (λ there phase. kept.1.epoch ∙ epoch))
-        (subst (λ (e : ℕ). IsOrderlyShard functions.digest e (set seats.contents place.seat done.after)) (omega (arith, epoch, ap moved_by still)) kept.0)
+        (worker_keeps world i _ orderly (kept.same_epoch.first ∙ orderly.bounded i) (λ there phase. kept.same_epoch.epoch ∙ epoch))
+        (subst (λ (e : ℕ). IsOrderlyShard functions.digest e (set seats.contents place.seat done.after)) (omega (arith, epoch, ap moved_by still)) after)
         (λ phase. still)
 
     -- a move
     move_orderly : (world : World Content) (i s : ℕ) → IsOrderly functions settings script world → MayMove host world i s
         → (done : Option (Done (List Content)))
-        → move_seats short_keys functions.digest i (stage_of (worker_at host world i).clock (shard_at world s).contents) ≡ done
+        → move_seats short_keys functions.digest i settings.hot (stage_of (worker_at host world i).clock (shard_at world s).contents) ≡ done
         → IsOrderly functions settings script (after_move world i (worker_at host world i) s done)
     move_orderly world i s orderly may None is =
         same_clock_keeps world i (record (worker_at host world i) { stuck = true }) orderly refl
     move_orderly world i s orderly may (Some done) is =
         let clock = (worker_at host world i).clock in
-        let kept = move_keeps functions.digest i _ clock (shard_at world s).contents done (orderly.shards s may.shard) is in
+        let kept = move_keeps short_keys functions.digest i settings.hot clock (shard_at world s).contents done digests least (orderly.shards s may.shard).mirrors is in
+        let after : IsOrderlyShard functions.digest clock.at.epoch done.after = record {
+          mirrors = kept.mirrors;
+          stamped = all-epochs i clock.at.epoch _ kept.waits;
+        } in
         shard_keeps (with_worker world i _) s _
-        (worker_keeps world i _ orderly (kept.1.first ∙ orderly.bounded i) (λ there phase. absurd (false≢true (sym phase ∙ may.closing))))
-        (subst (λ (e : ℕ). IsOrderlyShard functions.digest e done.after) may.turned kept.0)
+        (worker_keeps world i _ orderly (kept.same_epoch.first ∙ orderly.bounded i) (λ there phase. absurd (false≢true (sym phase ∙ may.closing))))
+        (subst (λ (e : ℕ). IsOrderlyShard functions.digest e done.after) may.turned after)
         (λ phase. absurd (false≢true (sym phase ∙ may.closing)))
 
     -- the next epoch
@@ -238,9 +259,16 @@ module _ (functions : DigestFunctions) (settings : Settings) (script : List (Lis
           subst (λ (found : Seats Content). IsOrderlyShard functions.digest (settings.header.first + 0 + moved_by found.moved) found.contents)
           (sym (at_place ∙ ap unmoved (at_seats ∙ ap new_seats at_content)))
           (record {
-            shard = new_shard short_keys frontier (first_stamp settings.header.first frontier) 0;
-            is = refl;
-            mirrored = subst (ContentMirrors short_keys functions.digest []) at_content
-                (all-get (ContentMirrors short_keys functions.digest []) contents s vacant (contents_mirror short_keys functions.digest settings.header.first bits some short) there);
-            stamped = omega arith;
+            mirrors = record {
+              shard = new_shard short_keys frontier (first_stamp settings.header.first frontier) 0;
+              places = replicate 4 vacant;
+              is = refl;
+              four = refl;
+              hot_alone = (tt, (tt, (tt, (tt, tt))));
+              mirrored = subst (ContentMirrors short_keys functions.digest []) at_content
+                  (all-get (ContentMirrors short_keys functions.digest []) contents s vacant (contents_mirror short_keys functions.digest settings.header.first bits some short) there);
+              blobs = tt;
+              in_range = tt;
+            };
+            stamped = (omega arith, tt);
           })

@@ -1,12 +1,13 @@
 -- A plan is what the shipped host serves.
-use Rattle.std.proofs.Common.{◌≡◌, ℕ, suc, Bool, true, false, List, [], ◌∷◌, ◌++◌, nat_lt, Some, None, if◌then◌else◌, refl, sym, ◌∙◌, ap}
+use Rattle.std.proofs.Common.{◌≡◌, ℕ, suc, Bool, true, false, List, [], ◌∷◌, ◌++◌, nat_lt, Some, None, is_some, if◌then◌else◌, refl, sym, ◌∙◌, ap}
 use Rattle.std.specs.List.{flat_map, AllByRecursion}
-use Rattle.std.proofs.lemmas.Bool.{lt-ltb, ltb-true}
+use Rattle.std.proofs.lemmas.Bool.{false≢true, lt-ltb, ltb-true}
+use Rattle.std.proofs.lemmas.Option.{same_Some}
 use Rattle.std.proofs.lemmas.Grind.{flat_map-append}
 use Rattle.std.proofs.lemmas.List.{append-nil}
 use Rattle.lamport_clocks.specs.Reading.{Reading}
 use Rattle.record_text.specs.declared.request.Request.{Request}
-use Rattle.record_text.specs.Format.{Format}
+use Rattle.record_text.specs.Format.{Format, short_keys}
 use Rattle.log_codec.specs.declared.command.Command.{Command}
 use Rattle.merkle_records.specs.Merkle.{Digest}
 use Rattle.host_core.specs.Host.{Done}
@@ -62,6 +63,17 @@ module _ (format : Format) (digest : Digest) (worker : ℕ) (clock : Reading) (c
       ∙ ap (λ (commands : List Command). Some (record { commands = commands; after = content_after format digest worker content is.links request clock; clock = clock_after content clock })) (sym is.commands)
       ∙ ap (λ (c : Content). Some (record { commands = plan.commands; after = c; clock = clock_after content clock })) (sym is.content)
       ∙ ap (λ (r : Reading). Some (record { commands = plan.commands; after = after; clock = r })) (sym is.clock)
+
+-- what was done to serve a request, where it was
+pub done_is : (digest : Digest) (i : ℕ) (clock : Reading) (content : Content) (request : Request) (done : Done Content)
+    → serve_at short_keys digest i clock content request ≡ Some done
+    → done ≡ done_along short_keys digest i clock content request (links_of short_keys content request.key)
+done_is digest i clock content request done is = go (nat_lt clock.end (clock_after content clock).at.counter) is
+  where
+    go : (b : Bool) → (if b then None else Some (done_along short_keys digest i clock content request (links_of short_keys content request.key))) ≡ Some done
+        → done ≡ done_along short_keys digest i clock content request (links_of short_keys content request.key)
+    go true is = absurd (false≢true (ap is_some is))
+    go false is = sym (same_Some _ _ is)
 
 -- one deed more in a log
 pub one_deed_more : (log : List (List Command)) (deed : List Command) → flat_map (λ commands. commands) (log ++ deed ∷ []) ≡ flat_map (λ commands. commands) log ++ deed

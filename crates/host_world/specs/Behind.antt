@@ -1,27 +1,33 @@
 -- A world behind the setup, and what a worker can move there.
-use Rattle.std.specs.Prelude.{◌≡◌, ℕ, List, [], ◌∷◌, ◌++◌, length, get_or, IsTrue}
+use Rattle.std.specs.Prelude.{◌≡◌, ℕ, ◌^◌, ◌<◌, List, [], ◌∷◌, ◌++◌, length, get_or, IsTrue}
+use Rattle.std.specs.List.{AllByRecursion}
 use Rattle.lamport_clocks.specs.Clock.{is_open}
 use Rattle.lamport_clocks.specs.Reading.{Reading}
 use Rattle.record_hash.specs.Functions.{DigestFunctions}
 use Rattle.record_text.specs.declared.request.Request.{Request}
 use Rattle.record_text.specs.Format.{short_keys}
 use Rattle.log_codec.specs.declared.command.Command.{Command}
+use Rattle.merkle_records.specs.Merkle.{Digest}
 use Rattle.host_core.specs.Host.{Host}
 use Rattle.host_core.specs.World as machine
 use Rattle.host_core.specs.WorldEvent.{WorldEvent, AreEnabled, run_events}
-use Rattle.host_shard.specs.Content.{Content, cold}
-use Rattle.host_shard.specs.Mirrors.{IsShard}
-use Rattle.host_shard.specs.Shard.{Shard}
+use Rattle.host_shard.specs.Content.{Content}
 use Rattle.script_text.specs.declared.task.Task.{Task}
 use Rattle.host_world.specs.declared.settings.Settings.{Settings}
 use Rattle.host_world.specs.declared.world.World.{World}
 use Rattle.host_world.specs.Settings.{IsSettings}
-use Rattle.host_world.specs.ShippedHost.{shipped_host, new_seats}
+use Rattle.host_world.specs.Seated.{SeatsMirror, waiting_at}
+use Rattle.host_world.specs.ShippedHost.{shipped_host}
 use Rattle.host_world.specs.Shown.{shown_world, digests_of, requests_of}
+
+-- each key that the script asks for has no more than 64 bits
+abbrev pub AreInRange : List (List Task) → Type 0
+AreInRange script = AllByRecursion (λ phase. AllByRecursion (λ task. task.request.key < 2 ^ 64) phase) script
 
 -- The world of a shipped host behind its setup and some events, each of which was enabled.
 pub record IsBehindSetup (functions : DigestFunctions) (settings : Settings) (script : List (List Task)) (world : machine.World Content) : Type 0 where
   pub settings_fit : IsSettings settings
+  pub keys : AreInRange script
   pub events : List (WorldEvent Request)
   pub enabled : AreEnabled (shipped_host functions settings script) (machine.set_up (shipped_host functions settings script)) events
   pub is : world ≡ run_events (shipped_host functions settings script) (machine.set_up (shipped_host functions settings script)) events
@@ -59,12 +65,10 @@ pub record AreOfOneHost {D : Type 0} (old new : World D) : Type 0 where
   pub requests : requests_of new ≡ requests_of old
   pub digests : digests_of new ≡ digests_of old
 
--- A worker whose clock stands so can take a shard's seats in: nothing is hot there, and the clock takes the shard's stamp.
-pub record CanTakeSeats (clock : Reading) (seats : List Content) : Type 0 where
-  pub shard : Shard
-  pub is : seats ≡ new_seats (cold shard)
-  pub fits : IsShard short_keys shard
-  pub open_epoch : IsTrue (is_open clock shard.stamp.epoch)
+-- A worker whose clock stands so can take a shard's seats in: they mirror, and the clock takes each stamp there.
+pub record CanTakeSeats (digest : Digest) (clock : Reading) (seats : List Content) : Type 0 where
+  pub mirrors : SeatsMirror short_keys digest seats
+  pub open_epochs : AllByRecursion (λ element. IsTrue (is_open clock element.stamp.epoch)) (waiting_at short_keys seats)
 
 -- what a worker of the world has logged and not handed out
 abbrev pub log_at : {D : Type 0} → World D → ℕ → List Command

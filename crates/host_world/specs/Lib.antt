@@ -1,8 +1,10 @@
 -- The shipped host as a host of the machine, and the world that its code steps, in reading order.
 pub mod Links
 pub mod Settings
+pub mod Due
 pub mod Moving
 pub mod ShippedHost
+pub mod Seated
 pub mod Planned
 pub mod Places
 pub mod Doing

@@ -11,6 +11,7 @@ use Rattle.protection_moves.specs.Stage.{Stage}
 use Rattle.protection_moves.specs.Errand.{Errand, demotes, promotes, errands_of, clock_needed}
 use Rattle.protection_moves.specs.Trip.{Trip, with_back, done_by}
 use Rattle.protection_moves.specs.Move.{begun, moved, move_commands}
+use Rattle.host_world.specs.Due.{due_in}
 use Rattle.host_world.specs.Links.{links_in}
 
 -- the seats of a shard as a stage, for a worker whose clock stands so: the shard, then its hot places
@@ -54,7 +55,7 @@ move_due format digest worker stage due =
     if nat_lt stage.clock.end (clock_needed stage due).at.counter then None
     else Some (done_with format digest worker stage (trips_of format digest worker stage due))
 
--- The move of a shard's seats. No key is due: the shipped host makes no key hot yet.
-abbrev pub move_seats : Format → Digest → ℕ → Option Stage → Option (Done (List Content))
-move_seats format digest worker None = None
-move_seats format digest worker (Some stage) = move_due format digest worker stage []
+-- The move of a shard's seats, for some threshold.
+abbrev pub move_seats : Format → Digest → ℕ → Option ℕ → Option Stage → Option (Done (List Content))
+move_seats format digest worker threshold None = None
+move_seats format digest worker threshold (Some stage) = move_due format digest worker stage (due_in format stage threshold)

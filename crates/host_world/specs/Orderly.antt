@@ -1,22 +1,20 @@
 -- What holds of every world behind the setup: how its clocks and its shards stand.
-use Rattle.std.specs.Prelude.{◌≡◌, ℕ, ◌+◌, ◌<◌, Bool, true, false, List, [], length}
+use Rattle.std.specs.Prelude.{◌≡◌, ℕ, ◌+◌, ◌<◌, Bool, true, false, List, length}
+use Rattle.std.specs.List.{AllByRecursion}
 use Rattle.record_hash.specs.Functions.{DigestFunctions}
 use Rattle.record_text.specs.Format.{short_keys}
 use Rattle.merkle_records.specs.Merkle.{Digest}
 use Rattle.host_core.specs.World.{World, worker_at, shard_at, epoch_of}
-use Rattle.host_shard.specs.Content.{Content, cold}
-use Rattle.host_shard.specs.Shard.{Shard}
-use Rattle.host_mirrors.specs.Mirroring.{IsMirrored}
+use Rattle.host_shard.specs.Content.{Content}
 use Rattle.script_text.specs.declared.task.Task.{Task}
 use Rattle.host_world.specs.declared.settings.Settings.{Settings}
-use Rattle.host_world.specs.ShippedHost.{shipped_host, new_seats}
+use Rattle.host_world.specs.Seated.{SeatsMirror, waiting_at}
+use Rattle.host_world.specs.ShippedHost.{shipped_host}
 
--- These seats are a shard that mirrors and waits in this epoch, and no key is hot.
+-- These seats mirror, and what waits there waits in this epoch.
 pub record IsOrderlyShard (digest : Digest) (epoch : ℕ) (seats : List Content) : Type 0 where
-  pub shard : Shard
-  pub is : seats ≡ new_seats (cold shard)
-  pub mirrored : IsMirrored short_keys digest shard []
-  pub stamped : shard.stamp.epoch ≡ epoch
+  pub mirrors : SeatsMirror short_keys digest seats
+  pub stamped : AllByRecursion (λ element. element.stamp.epoch ≡ epoch) (waiting_at short_keys seats)
 
 -- one epoch more, where a shard was moved
 abbrev pub moved_by : Bool → ℕ

@@ -1,5 +1,5 @@
 -- What the shipped host does, as plans and moves.
-use Rattle.std.specs.Prelude.{◌≡◌, ℕ, List, None}
+use Rattle.std.specs.Prelude.{◌≡◌, ℕ, List, Option}
 use Rattle.lamport_clocks.specs.Reading.{Reading}
 use Rattle.record_text.specs.declared.request.Request.{Request}
 use Rattle.record_text.specs.Format.{Format}
@@ -19,10 +19,10 @@ pub record IsPlanned (format : Format) (digest : Digest) (worker : ℕ) (clock :
   pub logged : done.commands ≡ plan.commands
   pub within : plans.IsPastEnd content clock → ⊥
 
--- What was done to move a stage is a move of it, whose counters don't pass their end.
-pub record IsMoved (format : Format) (digest : Digest) (worker : ℕ) (stage : Stage) (done : Done (List Content)) : Type 0 where
+-- What was done to move a stage is a move of it for this threshold, whose counters don't pass their end.
+pub record IsMoved (format : Format) (digest : Digest) (worker : ℕ) (threshold : Option ℕ) (stage : Stage) (done : Done (List Content)) : Type 0 where
   pub new : Stage
-  pub is : moves.IsMove format digest worker None stage done.commands new
+  pub is : moves.IsMove format digest worker threshold stage done.commands new
   pub after : done.after ≡ seats_of new
   pub clock : done.clock ≡ new.clock
-  pub within : moves.IsPastEnd format None stage → ⊥
+  pub within : moves.IsPastEnd format threshold stage → ⊥

@@ -1,5 +1,5 @@
 -- The numbers of a shipped host.
-use Rattle.std.specs.Prelude.{◌≡◌, ℕ, zero, suc, ◌^◌, nat_le, if◌then◌else◌}
+use Rattle.std.specs.Prelude.{◌≡◌, ℕ, zero, suc, ◌^◌, ◌<◌, nat_le, IfSome, if◌then◌else◌}
 use Rattle.lamport_clocks.specs.Header.{IsHeader}
 use Rattle.host_plan.specs.Setup.{IsShardCount}
 use Rattle.host_world.specs.declared.settings.Settings.{Settings}
@@ -13,6 +13,7 @@ pub record IsSettings (settings : Settings) : Type 0 where
   pub header : IsHeader settings.header
   pub cache : settings.header.cache ≡ shipped_cache
   pub shards : IsShardCount settings.shards
+  pub hot : IfSome settings.hot (λ least. 0 < least)
 
 -- the greatest number of bits, up to a bound, that have no more than so many values
 abbrev pub bits_within : ℕ → ℕ → ℕ

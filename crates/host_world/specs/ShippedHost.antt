@@ -102,5 +102,5 @@ shipped_host functions settings script =
       script = map (map turn_of) script;
       setup = set_up_by format header bits;
       serve = λ i clock content request. serve_at format functions.digest i clock content request;
-      move = λ i clock s seats. move_seats format functions.digest i (stage_of clock seats);
+      move = λ i clock s seats. move_seats format functions.digest i settings.hot (stage_of clock seats);
     }

@@ -10,6 +10,7 @@ use Rattle.script_text.specs.declared.task.Task.{Task}
 use Rattle.host_world.specs.declared.event.Event.{Event}
 use Rattle.host_world.specs.declared.event.Event.TheVariants as events
 use Rattle.host_world.specs.declared.seats.Seats.{Seats}
+use Rattle.host_world.specs.declared.settings.Settings.{Settings}
 use Rattle.host_world.specs.declared.world.World.{World}
 use Rattle.host_world.specs.Places.{place_of}
 
@@ -48,3 +49,7 @@ digests_of world = world.d.now
 -- what is asked of the world's workers
 abbrev pub requests_of : {D : Type 0} → World D → List (List Task)
 requests_of world = world.requests.now
+
+-- the numbers of the world's host
+abbrev pub settings_of : {D : Type 0} → World D → Settings
+settings_of world = world.settings

@@ -21,7 +21,7 @@ use Rattle.host_world.specs.ShippedHost.{shipped_host}
 
 -- so many workers, whose counters end there, and two shards
 abbrev pub two_shards : ℕ → ℕ → Settings
-two_shards workers end = record { header = record { verifiers = workers; cache = 128; first = 0; end = end }; shards = 2 }
+two_shards workers end = record { header = record { verifiers = workers; cache = 128; first = 0; end = end }; shards = 2; hot = None }
 
 -- where counters end at most
 abbrev pub most : ℕ
@@ -202,4 +202,4 @@ ended_at epoch counter = Some (record { worker = 0; at = stamp epoch counter })
 
 -- one worker and two shards, where the first epoch is the last that there is
 abbrev pub in_last_epoch : Settings
-in_last_epoch = record { header = record { verifiers = 1; cache = 128; first = 4294967295; end = most }; shards = 2 }
+in_last_epoch = record { header = record { verifiers = 1; cache = 128; first = 4294967295; end = most }; shards = 2; hot = None }

@@ -148,7 +148,7 @@ parted_log functions =
 
 -- one worker, whose counters end at most, and four shards
 abbrev pub four_shards : Settings
-four_shards = record { header = record { verifiers = 1; cache = 128; first = 0; end = most }; shards = 4 }
+four_shards = record { header = record { verifiers = 1; cache = 128; first = 0; end = most }; shards = 4; hot = None }
 
 -- a frontier of two bits, and what is logged as it is set up
 abbrev pub at : Bool → Bool → List Bool

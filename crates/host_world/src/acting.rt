@@ -103,7 +103,7 @@ impl<'a, D: Digests> World<'a, D> {
         let number = worker as usize;
         let seats = &mut self.shards[shard as usize];
         let mover = &mut self.workers[number];
-        if seats.move_by(self.alloc, self.d, mover, worker)? {
+        if seats.move_by(self.alloc, self.d, mover, worker, self.settings.hot)? {
             return Ok(None);
         }
         let at = self.workers[number].clock().at();

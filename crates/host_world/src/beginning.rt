@@ -5,8 +5,8 @@ ghost use Rattle.host_world.specs.declared.fault.ClockEnd.{ClockEnd};
 ghost use Rattle.host_world.specs.declared.fault.WorldFault.TheVariants as faults;
 ghost use Rattle.host_world.specs.Settings.{IsSettings};
 ghost use Rattle.host_world.specs.ShippedHost.{shipped_host};
-ghost use Rattle.host_world.specs.Shown.{shown_world, digests_of};
-ghost use Rattle.host_world.specs.Behind.{host_of, StandsWith};
+ghost use Rattle.host_world.specs.Shown.{shown_world, digests_of, requests_of, settings_of};
+ghost use Rattle.host_world.specs.Behind.{AreInRange, host_of, StandsWith};
 
 use crate::fault::{ClockEnd, WorldFault};
 use crate::seats::seats_for;
@@ -28,10 +28,14 @@ impl<'a, D: Digests> World<'a, D> {
         requests: &'a Requests,
     ) -> Result<Self, WorldFault>
         requires settings { IsSettings settings.now }
+        requires keys { AreInRange requests.now }
         ensures set_up { IfOk result (λ world. shown_world world
             ≡ set_up (shipped_host (D.functions d.now) settings.now requests.now)) }
         ensures host { IfOk result (λ world. host_of (D.functions (digests_of world)) world
             ≡ shipped_host (D.functions d.now) settings.now requests.now) }
+        ensures digests { IfOk result (λ world. digests_of world ≡ d.now) }
+        ensures numbers { IfOk result (λ world. settings_of world ≡ settings.now) }
+        ensures asked { IfOk result (λ world. requests_of world ≡ requests.now) }
         ensures behind { IfOk result (λ world. StandsWith (D.functions (digests_of world)) world (replicate settings.now.header.verifiers [])) }
         ensures clock_end { (end : ClockEnd) → (result ≡ Err (faults.ClockEnd end))
             ↔ ((settings.now.header.end < settings.now.shards)

@@ -1,5 +1,5 @@
 //! What follows from the definitions of the shipped host. These functions do nothing: their contracts are the laws.
-ghost use Rattle.std.specs.Prelude.{◌≡◌, ℕ, Bool, List, [], ◌∷◌, ◌++◌, Some};
+ghost use Rattle.std.specs.Prelude.{◌≡◌, ℕ, ◌<◌, Bool, List, [], ◌∷◌, ◌++◌, Option, Some, IfSome};
 ghost use Rattle.lamport_clocks.specs.Reading.{Reading};
 ghost use Rattle.record_text.specs.declared.request.Request.{Request};
 ghost use Rattle.merkle_records.specs.Merkle.{Digest, GivesDigests};
@@ -15,7 +15,10 @@ ghost use Rattle.host_world.specs.WorkedKeys.{apart_events, apart_logs, deleted_
 ghost use Rattle.host_core.specs.Host.{Done};
 ghost use Rattle.host_plan.specs.Plan.{Owns};
 ghost use Rattle.host_shard.specs.Content.{Content};
-ghost use Rattle.protection_moves.specs.Stage.{Stage, untouched_in};
+ghost use Rattle.protection_moves.specs.Stage.{Stage};
+ghost use Rattle.protection_moves.specs.Errand.{AreDue};
+ghost use Rattle.errand_laws.specs.Stages.{StageMirrors};
+ghost use Rattle.host_world.specs.Due.{due_in};
 ghost use Rattle.host_world.specs.Moving.{move_due};
 ghost use Rattle.host_world.specs.Planned.{IsPlanned, IsMoved};
 ghost use Rattle.host_world.specs.ShippedHost.{serve_at};
@@ -41,11 +44,20 @@ pub fn what_is_served_is_planned()
         → IsPlanned format digest worker clock content request done }
 {}
 
-/// What the shipped host moves at a close is a move, where no hot record comes back.
+/// The keys that are due to become hot are one list: there is one, and no other.
+pub fn due_keys_are_one_list()
+    ensures there { (format : Format) (stage : Stage) (threshold : Option ℕ) → AreDue format stage threshold (due_in format stage threshold) }
+    ensures only { (format : Format) (stage : Stage) (threshold : Option ℕ) (due : List ℕ) → AreDue format stage threshold due
+        → due ≡ due_in format stage threshold }
+{}
+
+/// What the shipped host moves at a close is a move, for every threshold of at least one touch, where the stage mirrors. It
+/// is asked that digests have 32 bytes.
 pub fn what_is_moved_is_a_move()
-    ensures moved { (format : Format) (digest : Digest) (worker : ℕ) (stage : Stage) (done : Done (List Content))
-        → untouched_in stage.places ≡ [] → move_due format digest worker stage [] ≡ Some done
-        → IsMoved format digest worker stage done }
+    ensures moved { (format : Format) (digest : Digest) (worker : ℕ) (threshold : Option ℕ) (stage : Stage) (done : Done (List Content))
+        → GivesDigests digest → IfSome threshold (λ least. 0 < least) → StageMirrors format digest stage
+        → move_due format digest worker stage (due_in format stage threshold) ≡ Some done
+        → IsMoved format digest worker threshold stage done }
 {}
 
 /// A world behind the setup is orderly: in a phase the clocks stand in its epoch, and each shard mirrors what the verifiers

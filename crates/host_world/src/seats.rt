@@ -1,5 +1,5 @@
 //! The places of one shard.
-ghost use Rattle.std.specs.Prelude.{◌≡◌, ◌≢◌, ◌<◌, List, [], ◌∷◌, length, get_or, set, map, true, Ok, IfOk, OnOk, OnErr, is_some};
+ghost use Rattle.std.specs.Prelude.{◌≡◌, ◌≢◌, ◌<◌, List, [], ◌∷◌, length, get_or, set, map, true, Ok, IfOk, IfSome, OnOk, OnErr, is_some};
 ghost use Rattle.record_text.specs.Format.{short_keys};
 ghost use Rattle.host_core.specs.World.{unmoved};
 ghost use Rattle.host_shard.specs.Content.{vacant};
@@ -80,27 +80,36 @@ impl Seats {
         worker.serve(alloc, d, number, place, &mut self.hot[seat - 1], request)
     }
 
-    // A worker moves the shard, where its clock does not pass its end: it answers that. Else, and for want of memory, all
-    // is as before.
+    // A worker moves the shard for this threshold, where its clock does not pass its end: it answers that. Else, and for
+    // want of memory, all is as before.
     pub(crate) fn move_by<D: Digests>(
         &mut self,
         alloc: Global,
         d: &D,
         worker: &mut Worker,
         number: u16,
+        threshold: Option<u32>,
     ) -> Result<bool, Memory>
-        requires seats { CanTakeSeats worker.old.clock (contents_of self.old) }
+        requires threshold { IfSome threshold (λ least. 0 < least) }
+        requires seats { CanTakeSeats (D.functions d.now).digest worker.old.clock (contents_of self.old) }
         ensures within { IfOk result (λ moved. moved ≡ is_some (move_seats short_keys (D.functions d.now).digest
-            number (stage_of worker.old.clock (contents_of self.old)))) }
+            number threshold (stage_of worker.old.clock (contents_of self.old)))) }
         ensures moved { result ≡ Ok true
             → HasDone (move_seats short_keys (D.functions d.now).digest
-            number (stage_of worker.old.clock (contents_of self.old)))
+            number threshold (stage_of worker.old.clock (contents_of self.old)))
             worker.old (contents_of self.new) worker.new }
         ensures counted { result ≡ Ok true → self.new.moved ≡ true }
         ensures worker_as_before { result ≢ Ok true → worker.new ≡ worker.old }
         ensures as_before { result ≢ Ok true → shown_seats self.new ≡ shown_seats self.old }
     {
-        let moved = worker.move_seats(alloc, d, number, &mut self.first, self.hot.as_mut_slice())?;
+        let moved = worker.move_seats(
+            alloc,
+            d,
+            number,
+            threshold,
+            &mut self.first,
+            self.hot.as_mut_slice(),
+        )?;
         if moved {
             self.moved = true;
         }

@@ -8,4 +8,7 @@ pub struct Settings {
     pub header: Header,
     /// How many shards it has: a power of two from 2 to 1,024.
     pub shards: u32,
+    /// How often a key is touched in an epoch, at least, so that it becomes hot at its close: once or more. Without it no key
+    /// does.
+    pub hot: Option<u32>,
 }

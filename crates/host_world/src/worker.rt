@@ -1,5 +1,5 @@
 //! One worker of a world.
-ghost use Rattle.std.specs.Prelude.{◌≡◌, ◌≢◌, ◌↔◌, ◌-◌, ◌<◌, ◌≤◌, List, [], ◌∷◌, ◌++◌, map, replicate, false, true, Some, None, Ok, IfOk, OnOk, OnErr, is_some};
+ghost use Rattle.std.specs.Prelude.{◌≡◌, ◌≢◌, ◌↔◌, ◌-◌, ◌<◌, ◌≤◌, List, [], ◌∷◌, ◌++◌, map, replicate, false, true, Some, None, Ok, IfOk, IfSome, OnOk, OnErr, is_some};
 ghost use Rattle.std.specs.List.{flat_map, AllByRecursion};
 ghost use Rattle.record_text.specs.Format.{short_keys};
 ghost use Rattle.lamport_clocks.specs.Clock.{last_epoch};
@@ -248,22 +248,25 @@ impl Worker {
         }
     }
 
-    // Moves a shard with its hot places, where its clock does not pass its end: it answers that. Else, and for want of
-    // memory, all is as before.
+    // Moves a shard with its hot places, for this threshold, where its clock does not pass its end: it answers that. Else,
+    // and for want of memory, all is as before.
     pub(crate) fn move_seats<D: Digests>(
         &mut self,
         alloc: Global,
         d: &D,
         number: u16,
+        threshold: Option<u32>,
         first: &mut Content,
         hot: &mut [Content],
     ) -> Result<bool, Memory>
-        requires seats { CanTakeSeats self.old.clock (shown_content first.old ∷ map shown_content hot.old) }
+        requires threshold { IfSome threshold (λ least. 0 < least) }
+        requires seats { CanTakeSeats (D.functions d.now).digest self.old.clock
+            (shown_content first.old ∷ map shown_content hot.old) }
         ensures within { IfOk result (λ moved. moved ≡ is_some (move_seats short_keys (D.functions d.now).digest
-            number (stage_of self.old.clock (shown_content first.old ∷ map shown_content hot.old)))) }
+            number threshold (stage_of self.old.clock (shown_content first.old ∷ map shown_content hot.old)))) }
         ensures moved { result ≡ Ok true
             → HasDone (move_seats short_keys (D.functions d.now).digest
-            number (stage_of self.old.clock (shown_content first.old ∷ map shown_content hot.old)))
+            number threshold (stage_of self.old.clock (shown_content first.old ∷ map shown_content hot.old)))
             self.old (shown_content first.new ∷ map shown_content hot.new) self.new }
         ensures worker_as_before { result ≢ Ok true → self.new ≡ self.old }
         ensures first_as_before { result ≢ Ok true → shown_content first.new ≡ shown_content first.old }
@@ -274,7 +277,7 @@ impl Worker {
             _ => unreachable!(),
         };
         self.log.reserve(1)?;
-        match migrate(alloc, d, shard, hot, None, number, &mut self.clock) {
+        match migrate(alloc, d, shard, hot, threshold, number, &mut self.clock) {
             Ok(commands) => {
                 self.log.push_reserved(commands);
                 Ok(true)

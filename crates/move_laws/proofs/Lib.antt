@@ -1,9 +1,9 @@
 -- How the laws of moves are proved, in reading order.
-mod CounterLaws
-mod RenewLemmas
+pub mod CounterLaws
+pub mod RenewLaws
 mod StageLemmas
-mod TripLemmas
-mod FitLemmas
-mod MoveLaws
+pub mod TripLaws
+pub mod FitLaws
+pub mod MoveLaws
 mod EventLemmas
-mod DeedLemmas
+pub mod DeedLaws

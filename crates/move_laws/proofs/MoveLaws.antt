@@ -26,8 +26,7 @@ use Rattle.soundness.specs.Permutation.{count_of}
 use Rattle.soundness.specs.Typed.{IsTyped}
 use Rattle.host_shard.specs.declared.content.HotRecord.{HotRecord}
 use Rattle.host_shard.specs.Shard.{pending_shard}
-use Rattle.host_shard.specs.Content.{key_path, pending_hot}
-use Rattle.host_shard.specs.Mirrors.{Mirrors}
+use Rattle.host_shard.specs.Content.{pending_hot}
 use Rattle.host_plan.specs.Moments.{taking, giving, renewing}
 use Rattle.host_laws.specs.Running.{Told, Access, run, added_told, evicted_told, accesses_told}
 use Rattle.host_laws.specs.Carried.{carried, carries}
@@ -53,10 +52,10 @@ use Rattle.errand_laws.proofs.PlaceLaws.{AreApart, all-are, all-map}
 use Rattle.errand_laws.proofs.VacantLaws.{all-images, images-all}
 use Rattle.errand_laws.proofs.AroundLaws.{told_in, told_out, takes_in, hands_out}
 use Rattle.move_laws.specs.Moved.{waiting_in, CanMove, IsOfClock, MoveRuns, at_stage}
-use Rattle.move_laws.proofs.RenewLemmas.{not_root, told_renewing, renewing-runs, renewed_each, added-renewing, evicted-renewing, no_access-renewing, unsealed-renewing, carried-renewing, carries-renewing, renewed-weight, renewed-keys, renewed-all}
+use Rattle.move_laws.proofs.RenewLaws.{not_root, told_renewing, renewing-runs, renewed_each, added-renewing, evicted-renewing, no_access-renewing, unsealed-renewing, carried-renewing, carries-renewing, renewed-weight}
 use Rattle.move_laws.proofs.StageLemmas.{weight_split, all_untouched, apart_touched}
-use Rattle.move_laws.proofs.TripLemmas.{adds_by_each, evicts_by_each, apart_by_number, trips_mirror, trips_typed, trips-weight, TripsRun, trips_run, each-up, each-epoch, each-end, each-frontier}
-use Rattle.move_laws.proofs.FitLemmas.{GoWell, all_go, begun-ready}
+use Rattle.move_laws.proofs.TripLaws.{adds_by_each, evicts_by_each, apart_by_number, trips_mirror, trips_typed, trips-weight, TripsRun, trips_run, each-up, each-epoch, each-end, each-frontier}
+use Rattle.move_laws.proofs.FitLaws.{GoWell, all_go, begun-ready, begun_mirrors}
 use Rattle.move_laws.proofs.CounterLaws.{move_clock}
 
 -- later than what is later
@@ -73,28 +72,9 @@ not_past counter end past = go (cases_lt end counter)
     go (inl over) = absurd (past over)
     go (inr within) = within
 
--- ---- the stage once the frontier is taken in
+-- ---- the stage once the frontier is handed out
 
 -- it mirrors
-begun_mirrors : (format : Format) (digest : Digest) (worker : ℕ) (stage : Stage) → StageMirrors format digest stage → StageMirrors format digest (begun worker stage)
-begun_mirrors format digest worker stage mirrors = record {
-  shard = record {
-    fits = record { below_root = mirrors.shard.fits.below_root; no_data = mirrors.shard.fits.no_data; kinds = mirrors.shard.fits.kinds };
-    mirrors = subst (Mirrors format digest (begun worker stage).shard) (sym (renewed-keys (key_path format) worker stage.clock stage.places (touched_in stage.places)))
-        (record {
-          kept = mirrors.shard.mirrors.kept;
-          waits = mirrors.shard.mirrors.waits;
-          reached = mirrors.shard.mirrors.reached;
-          hot_waits = mirrors.shard.mirrors.hot_waits;
-          hot_keys = mirrors.shard.mirrors.hot_keys;
-          touched = λ path some. absurd (omega (arith, some));
-        });
-  };
-  blobs = renewed-all (λ found. IsBlob format found.value) (λ number clock found is. is) worker stage.clock stage.places (touched_in stage.places)
-      (touched_all (λ found. IsBlob format found.value) stage.places mirrors.blobs) mirrors.blobs;
-}
-
--- and once it is handed out
 handed_mirrors : (format : Format) (digest : Digest) (worker : ℕ) (stage : Stage) → StageMirrors format digest stage
     → StageMirrors format digest (handed_out worker stage)
 handed_mirrors format digest worker stage mirrors = record {
@@ -110,6 +90,7 @@ handed_mirrors format digest worker stage mirrors = record {
     };
   };
   blobs = mirrors.blobs;
+  in_range = mirrors.in_range;
 }
 
 -- ---- what errands add

@@ -1,5 +1,7 @@
-use Rattle.host_world.proofs.PlannedLemmas.{moved_is_move}
+use Rattle.host_world.proofs.TripLaws.{done_is_move}
 use Rattle.host_world.proofs.laws.what_is_moved_is_a_move.Goals as goal
 
 pub returns : goal.returns
-returns c = record { moved = moved_is_move }
+returns c = record {
+  moved = λ format digest worker threshold stage done digests some mirrors is. done_is_move format digest worker threshold stage digests some mirrors done is;
+}

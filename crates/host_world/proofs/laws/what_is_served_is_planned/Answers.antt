@@ -1,4 +1,4 @@
-use Rattle.host_world.proofs.PlannedLemmas.{served_is_planned}
+use Rattle.host_world.proofs.PlannedLaws.{served_is_planned}
 use Rattle.host_world.proofs.laws.what_is_served_is_planned.Goals as goal
 
 pub returns : goal.returns

@@ -1,4 +1,4 @@
-use Rattle.move_laws.proofs.DeedLemmas.{move_deed, clear_move}
+use Rattle.move_laws.proofs.DeedLaws.{move_deed, clear_move}
 use Rattle.move_laws.proofs.laws.a_move_is_a_deed.Goals as goal
 
 pub returns : goal.returns

@@ -19,8 +19,9 @@ move_by-requires g c =
     let seats = read_shown shown_seats old.shards.items c.args.shard c.index_mut-seats.result.now (unmoved []) there c.index_mut-seats.ensures.value in
     let worker = get_or_read old.workers.items c.args.worker c.index_mut-mover.result.now c.requires.may.there c.index_mut-mover.ensures.value (fresh old.settings.header) in
     record {
-      seats = subst (λ (w : Worker). CanTakeSeats w.clock (contents_of c.index_mut-seats.result.now)) (sym worker)
-          (subst (λ (s : Seats Content). CanTakeSeats (get_or old.workers.items c.args.worker (fresh old.settings.header)).clock s.contents) seats
+      threshold = c.requires.behind.1.behind.settings_fit.hot;
+      seats = subst (λ (w : Worker). CanTakeSeats (g.D.Digests.functions (digests_of old)).digest w.clock (contents_of c.index_mut-seats.result.now)) (sym worker)
+          (subst (λ (s : Seats Content). CanTakeSeats (g.D.Digests.functions (digests_of old)).digest (get_or old.workers.items c.args.worker (fresh old.settings.header)).clock s.contents) seats
           (moves_with (g.D.Digests.functions (digests_of old)) old.settings (requests_of old) (λ text. (g.met.D.Digests.text_digest_shape old.d.now text).size) c.requires.behind.0 (shown_world old) c.requires.behind.1.behind
           c.args.worker c.args.shard c.requires.may));
     }
@@ -45,7 +46,7 @@ returns-then-branch-clause-stepped g c =
     let there : s < length old.shards.items = omega (arith, c.requires.may.shard, length-map old.shards.items shown_seats) in
     let seats = read_shown shown_seats old.shards.items s c.index_mut-seats.result.now (unmoved []) there c.index_mut-seats.ensures.value in
     let worker = get_or_read old.workers.items i c.index_mut-mover.result.now c.requires.may.there c.index_mut-mover.ensures.value (fresh old.settings.header) in
-    let moving = λ (w : Worker) (contents : List Content). move_seats short_keys (g.D.Digests.functions old.d.now).digest i (stage_of w.clock contents) in
+    let moving = λ (w : Worker) (contents : List Content). move_seats short_keys (g.D.Digests.functions old.d.now).digest i old.settings.hot (stage_of w.clock contents) in
     ap (λ (shards : List (Seats Content)). record world { shards = shards; workers = set old.workers.items i c.move_by.new.worker })
     (map-set shown_seats old.shards.items s c.move_by.new.self)
     ∙ ap (λ (moved : Bool). record world { shards = set world.shards s (record { contents = contents_of c.move_by.new.self; moved = moved }); workers = set old.workers.items i c.move_by.new.worker })
@@ -64,7 +65,7 @@ returns-clause-stepped g c =
     let there : s < length old.shards.items = omega (arith, c.requires.may.shard, length-map old.shards.items shown_seats) in
     let seats = read_shown shown_seats old.shards.items s c.index_mut-seats.result.now (unmoved []) there c.index_mut-seats.ensures.value in
     let worker = get_or_read old.workers.items i c.index_mut-mover.result.now c.requires.may.there c.index_mut-mover.ensures.value (fresh old.settings.header) in
-    let moving = λ (w : Worker) (contents : List Content). move_seats short_keys (g.D.Digests.functions old.d.now).digest i (stage_of w.clock contents) in
+    let moving = λ (w : Worker) (contents : List Content). move_seats short_keys (g.D.Digests.functions old.d.now).digest i old.settings.hot (stage_of w.clock contents) in
     let not = λ (ok : c.move_by.result ≡ Ok true). false≢true (sym c.if-branch.false ∙ one_answer c.move_by.result c.in_ok-move_by.field-0 true c.in_ok-move_by.was ok) in
     let stuck = c.get_stuck.ensures.stuck
     ∙ ap (λ (w : Worker). record w { stuck = true })

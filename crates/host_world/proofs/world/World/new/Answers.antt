@@ -38,6 +38,7 @@ returns-clause-behind g c =
       each = length-replicate settings.header.verifiers [] ∙ sym (ap length workers ∙ ap suc (length-replicate (settings.header.verifiers - 1) (fresh settings.header)) ∙ omega (arith, c.requires.settings.header));
       behind = record {
         settings_fit = c.requires.settings;
+        keys = c.requires.keys;
         events = [];
         enabled = tt;
         is = ap (λ (w : World Content). with_logs (replicate settings.header.verifiers []) w) (returns-clause-set_up g c)

@@ -1,5 +1,5 @@
--- What the shipped host does is a plan, and a move.
-use Rattle.std.proofs.Common.{◌≡◌, ℕ, ◌<◌, Bool, true, false, List, [], length, nat_lt, Option, Some, None, is_some, if◌then◌else◌, refl, sym, ◌∙◌, ap, subst, arith}
+-- What the shipped host serves is a plan.
+use Rattle.std.proofs.Common.{◌≡◌, ℕ, Bool, true, false, List, length, nat_lt, Option, Some, None, is_some, if◌then◌else◌, refl, sym, ◌∙◌, ap, subst, arith}
 use Rattle.std.proofs.lemmas.Bool.{false≢true, lt-ltb}
 use Rattle.std.proofs.lemmas.Option.{same_Some}
 use Rattle.lamport_clocks.specs.Reading.{Reading}
@@ -16,13 +16,8 @@ use Rattle.host_shard.specs.Shard.{tree_of}
 use Rattle.host_shard.proofs.ChainLaws.{frontier_kind, last_kind}
 use Rattle.host_plan.specs.Plan.{Owns, AreLinks, clock_after, value_found}
 use Rattle.host_plan.specs.Request.{value_after}
-use Rattle.protection_moves.specs.Stage.{Stage, untouched_in}
-use Rattle.protection_moves.specs.Errand.{clock_needed}
-use Rattle.protection_moves.specs.Move.{begun, moved}
-use Rattle.protection_moves.proofs.ErrandLaws.{none_due, no_due, no_errands}
 use Rattle.host_world.specs.Links.{links_of}
-use Rattle.host_world.specs.Moving.{trips_for, trips_of, done_with, move_due}
-use Rattle.host_world.specs.Planned.{IsPlanned, IsMoved}
+use Rattle.host_world.specs.Planned.{IsPlanned}
 use Rattle.host_world.specs.ShippedHost.{serve_at}
 use Rattle.host_world.proofs.LinkLaws.{shard_links_are}
 use Rattle.host_world.proofs.ServeLemmas.{done_along}
@@ -77,35 +72,4 @@ served_is_planned format digest worker clock content request done own served = g
           is = record { links = links_of format content request.key; way = lead.0; commands = refl; answer = lead.1.1; content = refl; clock = refl };
           logged = refl;
           within = λ past. false≢true (sym open' ∙ lt-ltb clock.end (clock_after content clock).at.counter past);
-        })
-
--- What is moved is a move, where no hot record comes back.
-pub moved_is_move : (format : Format) (digest : Digest) (worker : ℕ) (stage : Stage) (done : Done (List Content))
-    → untouched_in stage.places ≡ [] → move_due format digest worker stage [] ≡ Some done → IsMoved format digest worker stage done
-moved_is_move format digest worker stage done untouched is = go (nat_lt stage.clock.end (clock_needed stage []).at.counter) refl is
-  where
-    none_else : trips_of format digest worker stage [] ≡ []
-    none_else = ap (trips_for format digest worker (begun worker stage)) (no_errands format None stage [] untouched refl (none_due format stage))
-
-    go : (b : Bool) → nat_lt stage.clock.end (clock_needed stage []).at.counter ≡ b
-        → (if b then None else Some (done_with format digest worker stage (trips_of format digest worker stage []))) ≡ Some done
-        → IsMoved format digest worker stage done
-    go true past is' = absurd (false≢true (ap is_some is'))
-    go false open' is' =
-        subst (IsMoved format digest worker stage) (ap (done_with format digest worker stage) (sym none_else) ∙ same_Some _ _ is')
-        (record {
-          new = moved format digest worker stage [];
-          is = record {
-            due = [];
-            are_due = none_due format stage;
-            trips = [];
-            errands = sym (no_errands format None stage [] untouched refl (none_due format stage));
-            ways = tt;
-            commands = refl;
-            after = refl;
-          };
-          after = refl;
-          clock = refl;
-          within = λ past. false≢true (sym open' ∙ lt-ltb stage.clock.end (clock_needed stage []).at.counter
-              (subst (λ (due : List ℕ). stage.clock.end < (clock_needed stage due).at.counter) (no_due format stage None past.due refl past.are_due) past.past));
         })

@@ -11,33 +11,35 @@ use Rattle.lamport_clocks.specs.Reading.{Reading}
 use Rattle.record_text.specs.declared.value.Value.{Value}
 use Rattle.record_text.specs.declared.value.Value.TheVariants as values
 use Rattle.record_text.specs.Format.{Format, path_bits}
+use Rattle.record_text.specs.Value.{IsBlob}
 use Rattle.merkle_records.specs.Merkle.{Digest}
 use Rattle.host_shard.specs.declared.link.Link.{Link}
 use Rattle.host_shard.specs.declared.content.HotRecord.{HotRecord}
 use Rattle.host_shard.specs.Chain.{last_value, closed_records}
 use Rattle.host_shard.specs.Content.{Content, key_path, hot, vacant}
-use Rattle.host_shard.specs.Mirrors.{IsKeyOf}
+use Rattle.host_shard.specs.Mirrors.{IsKeyOf, Mirrors}
 use Rattle.host_plan.specs.Moments.{renewing}
 use Rattle.protection_moves.specs.Stage.{Stage, hot_records, hot_paths, vacancies, replaced, placed, is_touched, touched_in, untouched_in}
 use Rattle.protection_moves.specs.Renewing.{renewed_record, renewed_places}
-use Rattle.protection_moves.specs.Errand.{Errand, demotes, promotes, IsDue, AreDue}
+use Rattle.protection_moves.specs.Errand.{Errand, demotes, promotes, IsDue, AreDue, errands_of}
 use Rattle.protection_moves.specs.Trip.{Trip, with_back, promoted_record, done_by, done_by_each}
 use Rattle.protection_moves.specs.Move.{begun}
 use Rattle.protection_moves.proofs.RenewingLaws.{renewing_each-epoch}
-use Rattle.protection_moves.proofs.TouchedLaws.{all-filter, all-order}
+use Rattle.protection_moves.proofs.TouchedLaws.{all-filter, all-order, touched_all}
 use Rattle.errand_laws.specs.Stages.{StageMirrors, IsOne}
 use Rattle.errand_laws.specs.Errands.{IsFit}
 use Rattle.errand_laws.proofs.PlaceLaws.{HasNone, AreApart, all-are, all-map, all-replaced, one_of-all}
 use Rattle.errand_laws.proofs.VacantLaws.{AreDifferent, among-member, member-among, one-member, member-one, all-images, images-all, one-vacant, vacancies-vacant, vacancies-hot, all-placed, placed-one, vacancies-placed}
 use Rattle.errand_laws.proofs.AboveLaws.{closed_some}
-use Rattle.move_laws.proofs.RenewLemmas.{IsFresh, still_there, renewed-keys, renewed-fresh}
+use Rattle.move_laws.proofs.RenewLaws.{IsFresh, still_there, renewed-keys, renewed-all, renewed-fresh}
 use Rattle.move_laws.proofs.StageLemmas.{all_split, all_untouched, apart_untouched}
-use Rattle.move_laws.proofs.TripLemmas.{AreFit}
+use Rattle.move_laws.proofs.TripLaws.{AreFit, apart_by_number}
 
 -- ---- what is known when an errand's turn comes
 
 -- a key of the shard that isn't hot and has a record, whose touches are forgotten
 pub record IsReady (format : Format) (stage : Stage) (key : ℕ) : Type 0 where
+  pub in_range : key < 2 ^ path_bits format
   pub own : IsKeyOf format stage.shard (key_path format key)
   pub cold : IsAmong (hot_paths format stage.places) (key_path format key) → ⊥
   pub there : IsSome (stage.shard.records (key_path format key))
@@ -89,6 +91,7 @@ module _ (format : Format) (digest : Digest) (worker epoch : ℕ) where
 
       one : (key : ℕ) → IsReady format stage key → IsReady format (done_by format digest worker stage (demotes found) links) key
       one key is = record {
+        in_range = is.in_range;
         own = record { whole = is.own.whole; below = is.own.below };
         cold = λ among. is.cold (was_hot (key_path format key) among);
         there = closed_some format digest false (with_back format stage.shard found).records links (values.Blob found.value) (key_path format key)
@@ -135,6 +138,7 @@ module _ (format : Format) (digest : Digest) (worker epoch : ℕ) where
       one : (more : ℕ) → IsReady format stage more → key_path format key ≢ key_path format more
           → IsReady format (done_by format digest worker stage (promotes key) links) more
       one more is apart = record {
+        in_range = is.in_range;
         own = record { whole = is.own.whole; below = is.own.below };
         cold = λ among. is.cold (was_hot (key_path format more) (λ same. apart (sym same)) among);
         there = subst (λ (b : Bool). IsSome (if b then None else closed (key_path format more)))
@@ -187,6 +191,7 @@ module _ (format : Format) (digest : Digest) (worker epoch : ℕ) where
       record {
         fit = (
           subst (IsFit format stage) (sym one) (record {
+            in_range = are.ready.0.in_range;
             own = are.ready.0.own;
             cold = are.ready.0.cold;
             there = are.ready.0.there;
@@ -359,8 +364,49 @@ begun-ready format digest worker threshold stage due some mirrors apart are = re
         go : (least : Option ℕ) → IfSome least (λ n. 0 < n) → IsDue format stage least key → IsReady format (begun worker stage) key
         go None positive due' = absurd due'
         go (Some least) positive due' = record {
+          in_range = due'.in_range;
           own = record { whole = due'.own.whole; below = due'.own.below };
           cold = λ among. due'.cold (subst (λ (paths : List (List Bool)). IsAmong paths (key_path format key)) same_hot among);
           there = mirrors.shard.mirrors.touched (key_path format key) (omega (arith, positive, due'.often));
           untouched = refl;
         }
+
+-- ---- the stage once the frontier is taken in
+
+-- it mirrors
+pub begun_mirrors : (format : Format) (digest : Digest) (worker : ℕ) (stage : Stage) → StageMirrors format digest stage → StageMirrors format digest (begun worker stage)
+begun_mirrors format digest worker stage mirrors = record {
+  shard = record {
+    fits = record { below_root = mirrors.shard.fits.below_root; no_data = mirrors.shard.fits.no_data; kinds = mirrors.shard.fits.kinds };
+    mirrors = subst (Mirrors format digest (begun worker stage).shard) (sym (renewed-keys (key_path format) worker stage.clock stage.places (touched_in stage.places)))
+        (record {
+          kept = mirrors.shard.mirrors.kept;
+          waits = mirrors.shard.mirrors.waits;
+          reached = mirrors.shard.mirrors.reached;
+          hot_waits = mirrors.shard.mirrors.hot_waits;
+          hot_keys = mirrors.shard.mirrors.hot_keys;
+          touched = λ path some. absurd (omega (arith, some));
+        });
+  };
+  blobs = renewed-all (λ found. IsBlob format found.value) (λ number clock found is. is) worker stage.clock stage.places (touched_in stage.places)
+      (touched_all (λ found. IsBlob format found.value) stage.places mirrors.blobs) mirrors.blobs;
+  in_range = renewed-all (λ found. found.key < 2 ^ path_bits format) (λ number clock found is. is) worker stage.clock stage.places (touched_in stage.places)
+      (touched_all (λ found. found.key < 2 ^ path_bits format) stage.places mirrors.in_range) mirrors.in_range;
+}
+
+-- What is hot behind a move was handed out in it.
+pub move_fresh : (format : Format) (digest : Digest) (worker : ℕ) (threshold : Option ℕ) (stage : Stage) (due : List ℕ) (trips : List Trip)
+    → IfSome threshold (λ least. 0 < least) → StageMirrors format digest stage → AreDue format stage threshold due
+    → map (λ (trip : Trip). trip.errand) trips ≡ errands_of stage due
+    → AllByRecursion (IsFresh worker stage.clock.at.epoch) (hot_records (done_by_each format digest worker (begun worker stage) trips).places)
+move_fresh format digest worker threshold stage due trips some mirrors are is =
+    (all_go format digest worker stage.clock.at.epoch (untouched_in stage.places) (take (vacancies stage.places + length (untouched_in stage.places)) due) trips (begun worker stage)
+    is (begun-ready format digest worker threshold stage due some mirrors (apart_by_number format digest worker stage mirrors) are)).fresh
+
+-- Trips that are the errands of a move can be done, each when its turn comes.
+pub move_fits : (format : Format) (digest : Digest) (worker : ℕ) (threshold : Option ℕ) (stage : Stage) (due : List ℕ) (trips : List Trip)
+    → IfSome threshold (λ least. 0 < least) → StageMirrors format digest stage → AreDue format stage threshold due
+    → map (λ (trip : Trip). trip.errand) trips ≡ errands_of stage due → AreFit format digest worker (begun worker stage) trips
+move_fits format digest worker threshold stage due trips some mirrors are is =
+    (all_go format digest worker stage.clock.at.epoch (untouched_in stage.places) (take (vacancies stage.places + length (untouched_in stage.places)) due) trips (begun worker stage)
+    is (begun-ready format digest worker threshold stage due some mirrors (apart_by_number format digest worker stage mirrors) are)).fit

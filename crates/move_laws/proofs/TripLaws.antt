@@ -77,6 +77,10 @@ by-epoch : (clock : Reading) (errand : Errand) → (clock_by clock errand).at.ep
 by-epoch clock (demotes found) = refl
 by-epoch clock (promotes key) = refl
 
+by-first : (clock : Reading) (errand : Errand) → (clock_by clock errand).first ≡ clock.first
+by-first clock (demotes found) = refl
+by-first clock (promotes key) = refl
+
 by-end : (clock : Reading) (errand : Errand) → (clock_by clock errand).end ≡ clock.end
 by-end clock (demotes found) = refl
 by-end clock (promotes key) = refl
@@ -114,6 +118,12 @@ module _ (format : Format) (digest : Digest) (worker : ℕ) where
   each-epoch stage (trip ∷ trips) =
       each-epoch (next stage trip) trips
       ∙ (ap (λ (clock : Reading). clock.at.epoch) (clock-done format digest worker stage trip.errand trip.links) ∙ by-epoch stage.clock trip.errand)
+
+  pub each-first : (stage : Stage) (trips : List Trip) → (done_by_each format digest worker stage trips).clock.first ≡ stage.clock.first
+  each-first stage [] = refl
+  each-first stage (trip ∷ trips) =
+      each-first (next stage trip) trips
+      ∙ (ap (λ (clock : Reading). clock.first) (clock-done format digest worker stage trip.errand trip.links) ∙ by-first stage.clock trip.errand)
 
   pub each-end : (stage : Stage) (trips : List Trip) → (done_by_each format digest worker stage trips).clock.end ≡ stage.clock.end
   each-end stage [] = refl

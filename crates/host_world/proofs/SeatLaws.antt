@@ -1,0 +1,315 @@
+-- The seats of a shard, behind a request and behind a move.
+use Rattle.std.proofs.Common.{◌≡◌, ℕ, zero, suc, ◌<◌, ◌^◌, Bool, true, false, not, ◌&&◌, List, [], ◌∷◌, length, get_or, set, Option, Some, None, is_some, inl, inr, ◌⊎◌, refl, sym, ◌∙◌, ap, subst, arith}
+use Rattle.std.specs.Prelude.{◌==◌, IfSome}
+use Rattle.std.proofs.lemmas.Bool.{false≢true, and_parts, leb-true, eqb-true}
+use Rattle.std.proofs.lemmas.List.{length-set}
+use Rattle.std.specs.List.{AllByRecursion, list_any}
+use Rattle.tree_keys.specs.Bits.{number_of}
+use Rattle.tree_keys.specs.BitsLaws.{length-bits_of, number_back}
+use Rattle.tree_keys.specs.Path.{side, is_prefix, IsBelow}
+use Rattle.tree_keys.proofs.SideLaws.{prefix_cases}
+use Rattle.lamport_clocks.specs.Reading.{Reading}
+use Rattle.record_text.specs.declared.request.Request.{Request}
+use Rattle.record_text.specs.Format.{Format, path_bits}
+use Rattle.record_text.specs.Value.{IsBlob}
+use Rattle.merkle_records.specs.Merkle.{Digest, GivesDigests}
+use Rattle.host_core.specs.Host.{Done}
+use Rattle.host_shard.specs.declared.link.Link.{Link}
+use Rattle.host_shard.specs.declared.content.HotRecord.{HotRecord}
+use Rattle.host_shard.specs.Shard.{Shard}
+use Rattle.host_shard.specs.Content.{Content, cold, hot, vacant, key_path, pending, pending_hot}
+use Rattle.host_plan.specs.Moments.{renewing}
+use Rattle.host_plan.specs.Plan.{Owns, clock_after, content_after}
+use Rattle.host_laws.specs.Served.{waiting}
+use Rattle.host_mirrors.specs.Mirroring.{IsMirrored, ContentMirrors, IsCold}
+use Rattle.host_mirrors.proofs.MirrorLaws.{plan_mirrors}
+use Rattle.protection_moves.specs.Stage.{Stage, hot_records, hot_paths, is_hot_at, touched_in}
+use Rattle.protection_moves.specs.Renewing.{renewing_each}
+use Rattle.protection_moves.specs.Move.{begun, moved}
+use Rattle.protection_moves.proofs.RenewingLaws.{renewing_each-epoch}
+use Rattle.errand_laws.specs.Stages.{StageMirrors}
+use Rattle.errand_laws.proofs.PlaceLaws.{one_of-all}
+use Rattle.errand_laws.proofs.VacantLaws.{among-member, member-one, images-all}
+use Rattle.move_laws.proofs.FitLaws.{move_fresh}
+use Rattle.move_laws.proofs.MoveLaws.{move_mirrors}
+use Rattle.move_laws.proofs.RenewLaws.{IsFresh}
+use Rattle.move_laws.proofs.TripLaws.{each-first, each-epoch}
+use Rattle.host_world.specs.Moving.{stage_of, move_seats}
+use Rattle.host_world.specs.Planned.{IsPlanned, IsMoved}
+use Rattle.host_world.specs.Seated.{IsHotPlace, SeatsMirror, waiting_at}
+use Rattle.host_world.specs.ShippedHost.{is_blob, serves_key, is_place_of, serve_at}
+use Rattle.host_world.proofs.PlaceLaws.{hot_there, keys-set, records-set, all-set, place_there, key_found, waits-hot, length-moved, hot-moved}
+use Rattle.host_world.proofs.PlannedLaws.{served_is_planned}
+use Rattle.host_world.proofs.TripLaws.{done_is_move}
+
+-- the value fits
+pub blob_fits : (format : Format) (blob : Option (List ℕ)) → is_blob format blob ≡ true → IsBlob format blob
+blob_fits format None is = tt
+blob_fits format (Some bytes) is = leb-true (length bytes) format.longest is
+
+not_so : (b : Bool) → not b ≡ true → b ≡ true → ⊥
+not_so true is also = false≢true is
+not_so false is also = false≢true also
+
+-- ---- who serves a request
+
+-- What is at a seat can serve a request: it owns the key, which isn't hot elsewhere, and mirrors; and the value fits.
+pub record SeatServes (format : Format) (digest : Digest) (hot_keys : List (List Bool)) (content : Content) (request : Request) : Type 0 where
+  pub own : Owns format content request.key
+  pub mirrors : ContentMirrors format digest hot_keys content
+  pub cold_there : IsCold format hot_keys content request.key
+  pub fits : IsBlob format request.value
+
+module _ (format : Format) (digest : Digest) (seats : List Content) (mirrors : SeatsMirror format digest seats) where
+  -- one of the same paths is one of the same keys
+  same_key : (a b : ℕ) → a < 2 ^ path_bits format → b < 2 ^ path_bits format → key_path format a ≡ key_path format b → a ≡ b
+  same_key a b small also same = sym (number_back (path_bits format) a small) ∙ (ap number_of same ∙ number_back (path_bits format) b also)
+
+  -- the shard
+  shard_serves : (request : Request) → request.key < 2 ^ path_bits format → is_place_of format seats 0 request ≡ true
+      → SeatServes format digest (hot_paths format mirrors.places) (cold mirrors.shard) request
+  shard_serves request small owns = record {
+    own = (mirrors.mirrored.fits, record { whole = whole; below = below (prefix_cases mirrors.shard.frontier key parts.0) });
+    mirrors = mirrors.mirrored;
+    cold_there = λ among.
+        let found = member-one (λ r. key_path format r.key) (hot_records mirrors.places) key (among-member _ key among) in
+        let same = same_key request.key found.0.key small (one_of-all (λ r. r.key < 2 ^ path_bits format) (hot_records mirrors.places) found.0 mirrors.in_range found.1) found.2 in
+        not_so (list_any (is_hot_at request.key) (cold mirrors.shard ∷ mirrors.places)) parts.1
+        (ap (λ (k : ℕ). list_any (is_hot_at k) mirrors.places) same ∙ key_found mirrors.places found.0 found.1);
+    fits = blob_fits format request.value place.1;
+  }
+    where
+      key : List Bool
+      key = key_path format request.key
+
+      whole : length key ≡ path_bits format
+      whole = length-bits_of (path_bits format) request.key
+
+      place : (serves_key format (cold mirrors.shard ∷ mirrors.places) request.key (cold mirrors.shard) ≡ true) × (is_blob format request.value ≡ true)
+      place =
+          and_parts (serves_key format (cold mirrors.shard ∷ mirrors.places) request.key (cold mirrors.shard)) (is_blob format request.value)
+          (subst (λ (xs : List Content). is_place_of format xs 0 request ≡ true) mirrors.is owns)
+
+      parts : (is_prefix mirrors.shard.frontier key ≡ true) × (not (list_any (is_hot_at request.key) (cold mirrors.shard ∷ mirrors.places)) ≡ true)
+      parts = and_parts (is_prefix mirrors.shard.frontier key) (not (list_any (is_hot_at request.key) (cold mirrors.shard ∷ mirrors.places))) place.0
+
+      below : (mirrors.shard.frontier ≡ key) ⊎ ((on : Bool) × (side mirrors.shard.frontier key ≡ Some on)) → IsBelow mirrors.shard.frontier key
+      below (inl same) = absurd (omega (arith, mirrors.mirrored.fits.no_data, whole, ap (λ (p : List Bool). length p) same))
+      below (inr under) = ap (λ (o : Option Bool). is_some o) under.1
+
+  -- a hot place
+  hot_serves : (k : ℕ) (content : Content) (request : Request) → get_or mirrors.places k vacant ≡ content
+      → (serves_key format (cold mirrors.shard ∷ mirrors.places) request.key content && is_blob format request.value) ≡ true
+      → SeatServes format digest (hot_paths format mirrors.places) content request
+  hot_serves k (cold other) request is owns = absurd (subst IsHotPlace is (place_there mirrors.places k mirrors.hot_alone))
+  hot_serves k vacant request is owns = absurd (false≢true owns)
+  hot_serves k (hot found) request is owns =
+      let parts = and_parts (found.key == request.key) (is_blob format request.value) owns in
+      record {
+        own = eqb-true found.key request.key parts.0;
+        mirrors = one_of-all (λ r. IsBlob format r.value) (hot_records mirrors.places) found mirrors.blobs (hot_there mirrors.places k found is);
+        cold_there = tt;
+        fits = blob_fits format request.value parts.1;
+      }
+
+  -- What a request's place has can serve it.
+  pub seat_serves : (seat : ℕ) (request : Request) → request.key < 2 ^ path_bits format → is_place_of format seats seat request ≡ true
+      → SeatServes format digest (hot_paths format mirrors.places) (get_or seats seat vacant) request
+  seat_serves zero request small owns =
+      subst (λ (xs : List Content). SeatServes format digest (hot_paths format mirrors.places) (get_or xs 0 vacant) request) (sym mirrors.is)
+      (shard_serves request small owns)
+  seat_serves (suc k) request small owns =
+      subst (λ (xs : List Content). SeatServes format digest (hot_paths format mirrors.places) (get_or xs (suc k) vacant) request) (sym mirrors.is)
+      (hot_serves k (get_or mirrors.places k vacant) request refl
+      (subst (λ (xs : List Content). is_place_of format xs (suc k) request ≡ true) mirrors.is owns))
+
+  -- ---- what it leaves
+
+  -- the same shard or hot record, as another
+  abbrev pub IsSame : Content → Content → Type 0
+  IsSame (cold old) (cold new) = new.frontier ≡ old.frontier
+  IsSame (cold old) (hot new) = ⊥
+  IsSame (cold old) vacant = ⊥
+  IsSame (hot old) (cold new) = ⊥
+  IsSame (hot old) (hot new) = new.key ≡ old.key
+  IsSame (hot old) vacant = ⊥
+  IsSame vacant (cold new) = ⊥
+  IsSame vacant (hot new) = ⊥
+  IsSame vacant vacant = Unit {0}
+
+  shard_after : (new : Content) → IsSame (cold mirrors.shard) new → ContentMirrors format digest (hot_paths format mirrors.places) new
+      → SeatsMirror format digest (set seats 0 new)
+  shard_after (cold new) same mirrored = record {
+    shard = new;
+    places = mirrors.places;
+    is = ap (λ (xs : List Content). set xs 0 (cold new)) mirrors.is;
+    four = mirrors.four;
+    hot_alone = mirrors.hot_alone;
+    mirrored = mirrored;
+    blobs = mirrors.blobs;
+    in_range = mirrors.in_range;
+  }
+  shard_after (hot new) same mirrored = absurd same
+  shard_after vacant same mirrored = absurd same
+
+  hot_after : (k : ℕ) (old new : Content) → get_or mirrors.places k vacant ≡ old → IsSame old new → ContentMirrors format digest (hot_paths format mirrors.places) new
+      → SeatsMirror format digest (set seats (suc k) new)
+  hot_after k (cold old) new is same mirrored = absurd (subst IsHotPlace is (place_there mirrors.places k mirrors.hot_alone))
+  hot_after k (hot old) (cold new) is same mirrored = absurd same
+  hot_after k (hot old) vacant is same mirrored = absurd same
+  hot_after k vacant (cold new) is same mirrored = absurd same
+  hot_after k vacant (hot new) is same mirrored = absurd same
+  hot_after k vacant vacant is same mirrored =
+      subst (SeatsMirror format digest) (sym (ap (λ (xs : List Content). set xs (suc k) vacant) mirrors.is ∙ (ap (λ (xs : List Content). cold mirrors.shard ∷ xs) (unchanged mirrors.places k is) ∙ sym mirrors.is)))
+      mirrors
+    where
+      unchanged : (places : List Content) (i : ℕ) → get_or places i vacant ≡ vacant → set places i vacant ≡ places
+      unchanged [] i there = refl
+      unchanged (content ∷ places) zero there = ap (λ (c : Content). c ∷ places) (sym there)
+      unchanged (content ∷ places) (suc i) there = ap (λ (xs : List Content). content ∷ xs) (unchanged places i there)
+  hot_after k (hot old) (hot new) is same mirrored = record {
+    shard = mirrors.shard;
+    places = set mirrors.places k (hot new);
+    is = ap (λ (xs : List Content). set xs (suc k) (hot new)) mirrors.is;
+    four = length-set mirrors.places k (hot new) ∙ mirrors.four;
+    hot_alone = all-set IsHotPlace mirrors.places k (hot new) tt mirrors.hot_alone;
+    mirrored = subst (IsMirrored format digest mirrors.shard) (sym (keys-set (key_path format) mirrors.places k old new is same)) mirrors.mirrored;
+    blobs = records-set (λ r. IsBlob format r.value) mirrors.places k new mirrored mirrors.blobs;
+    in_range = records-set (λ r. r.key < 2 ^ path_bits format) mirrors.places k new
+        (subst (λ (key : ℕ). key < 2 ^ path_bits format) (sym same)
+        (one_of-all (λ r. r.key < 2 ^ path_bits format) (hot_records mirrors.places) old mirrors.in_range (hot_there mirrors.places k old is))) mirrors.in_range;
+  }
+
+  -- The seats mirror with another content at a seat, which is the same shard or hot record and mirrors.
+  pub seats_after : (seat : ℕ) (new : Content) → IsSame (get_or seats seat vacant) new → ContentMirrors format digest (hot_paths format mirrors.places) new
+      → SeatsMirror format digest (set seats seat new)
+  seats_after zero new same mirrored =
+      shard_after new (subst (λ (xs : List Content). IsSame (get_or xs 0 vacant) new) mirrors.is same) mirrored
+  seats_after (suc k) new same mirrored =
+      hot_after k (get_or mirrors.places k vacant) new refl (subst (λ (xs : List Content). IsSame (get_or xs (suc k) vacant) new) mirrors.is same) mirrored
+
+  -- what a request makes of a content is the same shard or hot record
+  pub content-same : (worker : ℕ) (content : Content) (links : List Link) (request : Request) (clock : Reading)
+      → IsSame content (content_after format digest worker content links request clock)
+  content-same worker (cold shard) links request clock = refl
+  content-same worker (hot found) links request clock = refl
+  content-same worker vacant links request clock = tt
+
+-- and waits with the stamp of the clock behind it
+pub content-waits : (format : Format) (digest : Digest) (worker : ℕ) (content : Content) (links : List Link) (request : Request) (clock : Reading)
+    → AllByRecursion (λ element. (element.verifier ≡ worker) × (element.stamp.epoch ≡ clock.at.epoch))
+    (waiting (pending format (content_after format digest worker content links request clock)))
+content-waits format digest worker (cold shard) links request clock = ((refl, refl), tt)
+content-waits format digest worker (hot found) links request clock = ((refl, refl), tt)
+content-waits format digest worker vacant links request clock = tt
+
+-- the same clock but for its counter
+pub record SameEpoch (old new : Reading) : Type 0 where
+  pub first : new.first ≡ old.first
+  pub epoch : new.at.epoch ≡ old.at.epoch
+
+clock-same : (content : Content) (clock : Reading) → SameEpoch clock (clock_after content clock)
+clock-same (cold shard) clock = record { first = refl; epoch = refl }
+clock-same (hot found) clock = record { first = refl; epoch = refl }
+clock-same vacant clock = record { first = refl; epoch = refl }
+
+-- What is served leaves the seats so, and waits in the clock's epoch.
+pub record ServeKeeps (format : Format) (digest : Digest) (worker : ℕ) (clock : Reading) (seats : List Content) (seat : ℕ) (done : Done Content) : Type 0 where
+  pub mirrors : SeatsMirror format digest (set seats seat done.after)
+  pub waits : AllByRecursion (λ element. (element.verifier ≡ worker) × (element.stamp.epoch ≡ clock.at.epoch)) (waiting (pending format done.after))
+  pub same_epoch : SameEpoch clock done.clock
+
+pub serve_keeps : (format : Format) (digest : Digest) (worker : ℕ) (clock : Reading) (seats : List Content) (seat : ℕ) (request : Request) (done : Done Content)
+    → GivesDigests digest → SeatsMirror format digest seats → request.key < 2 ^ path_bits format → is_place_of format seats seat request ≡ true
+    → serve_at format digest worker clock (get_or seats seat vacant) request ≡ Some done
+    → ServeKeeps format digest worker clock seats seat done
+serve_keeps format digest worker clock seats seat request done digests mirrors small owns served =
+    go (served_is_planned format digest worker clock (get_or seats seat vacant) request done serves.own served)
+  where
+    serves : SeatServes format digest (hot_paths format mirrors.places) (get_or seats seat vacant) request
+    serves = seat_serves format digest seats mirrors seat request small owns
+
+    go : IsPlanned format digest worker clock (get_or seats seat vacant) request done → ServeKeeps format digest worker clock seats seat done
+    go planned = record {
+      mirrors = seats_after format digest seats mirrors seat done.after
+          (subst (λ (c : Content). IsSame format digest seats mirrors (get_or seats seat vacant) c) (sym planned.is.content)
+          (content-same format digest seats mirrors worker (get_or seats seat vacant) planned.is.links request clock))
+          (plan_mirrors format digest worker (hot_paths format mirrors.places) (get_or seats seat vacant) done.after request clock done.clock planned.plan
+          digests serves.fits serves.mirrors serves.own serves.cold_there planned.is);
+      waits = subst (λ (c : Content). AllByRecursion (λ element. (element.verifier ≡ worker) × (element.stamp.epoch ≡ clock.at.epoch)) (waiting (pending format c))) (sym planned.is.content)
+          (content-waits format digest worker (get_or seats seat vacant) planned.is.links request clock);
+      same_epoch = subst (SameEpoch clock) (sym planned.is.clock) (clock-same (get_or seats seat vacant) clock);
+    }
+
+-- ---- a move
+
+-- the seats as a stage
+abbrev pub stage_at : Shard → List Content → Reading → Stage
+stage_at shard places clock = record { shard = shard; places = places; clock = clock }
+
+pub stage_mirrors : (format : Format) (digest : Digest) (seats : List Content) (clock : Reading) → (mirrors : SeatsMirror format digest seats)
+    → StageMirrors format digest (stage_at mirrors.shard mirrors.places clock)
+stage_mirrors format digest seats clock mirrors = record { shard = mirrors.mirrored; blobs = mirrors.blobs; in_range = mirrors.in_range }
+
+renewing_each-first : (clock : Reading) (records : List HotRecord) → (renewing_each clock records).first ≡ clock.first
+renewing_each-first clock [] = refl
+renewing_each-first clock (found ∷ more) = renewing_each-first (renewing clock found.stamp) more
+
+-- What is moved leaves the seats so, and waits in the clock's epoch.
+pub record MoveKeeps (format : Format) (digest : Digest) (worker : ℕ) (clock : Reading) (done : Done (List Content)) : Type 0 where
+  pub mirrors : SeatsMirror format digest done.after
+  pub waits : AllByRecursion (λ element. (element.verifier ≡ worker) × (element.stamp.epoch ≡ clock.at.epoch)) (waiting_at format done.after)
+  pub same_epoch : SameEpoch clock done.clock
+
+moved_keeps : (format : Format) (digest : Digest) (worker : ℕ) (threshold : Option ℕ) (stage : Stage) (done : Done (List Content))
+    → GivesDigests digest → IfSome threshold (λ least. 0 < least) → StageMirrors format digest stage → length stage.places ≡ 4 → AllByRecursion IsHotPlace stage.places
+    → IsMoved format digest worker threshold stage done → MoveKeeps format digest worker stage.clock done
+moved_keeps format digest worker threshold stage done digests some mirrors four alone is = record {
+  mirrors = subst (SeatsMirror format digest) (sym is.after) (record {
+    shard = is.new.shard;
+    places = is.new.places;
+    is = refl;
+    four = subst (λ (s : Stage). length s.places ≡ 4) (sym is.is.after) (length-moved format digest worker stage is.is.trips ∙ four);
+    hot_alone = still_alone;
+    mirrored = again.shard;
+    blobs = again.blobs;
+    in_range = again.in_range;
+  });
+  waits = subst (λ (xs : List Content). AllByRecursion (λ element. (element.verifier ≡ worker) × (element.stamp.epoch ≡ stage.clock.at.epoch)) (waiting_at format xs)) (sym is.after) (
+    subst (λ (s : Stage). (s.shard.evictor ≡ worker) × (s.shard.stamp.epoch ≡ stage.clock.at.epoch)) (sym is.is.after) (refl, epoch),
+    subst (AllByRecursion (λ element. (element.verifier ≡ worker) × (element.stamp.epoch ≡ stage.clock.at.epoch))) (sym (waits-hot format is.new.places still_alone))
+        (images-all (pending_hot format) (λ element. (element.verifier ≡ worker) × (element.stamp.epoch ≡ stage.clock.at.epoch)) (hot_records is.new.places)
+        (subst (λ (s : Stage). AllByRecursion (IsFresh worker stage.clock.at.epoch) (hot_records s.places)) (sym is.is.after)
+        (move_fresh format digest worker threshold stage is.is.due is.is.trips some mirrors is.is.are_due is.is.errands))),
+  );
+  same_epoch = subst (SameEpoch stage.clock) (sym (is.clock ∙ ap (λ (s : Stage). s.clock) is.is.after)) (record {
+    first = each-first format digest worker (begun worker stage) is.is.trips ∙ renewing_each-first stage.clock (touched_in stage.places);
+    epoch = epoch;
+  });
+}
+  where
+    again : StageMirrors format digest is.new
+    again = move_mirrors format digest worker threshold stage is.new done.commands digests some mirrors is.is
+
+    epoch : (moved format digest worker stage is.is.trips).clock.at.epoch ≡ stage.clock.at.epoch
+    epoch = each-epoch format digest worker (begun worker stage) is.is.trips ∙ renewing_each-epoch stage.clock (touched_in stage.places)
+
+    still_alone : AllByRecursion IsHotPlace is.new.places
+    still_alone = subst (λ (s : Stage). AllByRecursion IsHotPlace s.places) (sym is.is.after) (hot-moved format digest worker stage is.is.trips alone)
+
+-- what is done is a move of the stage
+pub seats_moved : (format : Format) (digest : Digest) (worker : ℕ) (threshold : Option ℕ) (clock : Reading) (seats : List Content) (done : Done (List Content))
+    → GivesDigests digest → IfSome threshold (λ least. 0 < least) → (mirrors : SeatsMirror format digest seats)
+    → move_seats format digest worker threshold (stage_of clock seats) ≡ Some done
+    → IsMoved format digest worker threshold (stage_at mirrors.shard mirrors.places clock) done
+seats_moved format digest worker threshold clock seats done digests some mirrors is =
+    done_is_move format digest worker threshold (stage_at mirrors.shard mirrors.places clock) digests some (stage_mirrors format digest seats clock mirrors) done
+    (subst (λ (xs : List Content). move_seats format digest worker threshold (stage_of clock xs) ≡ Some done) mirrors.is is)
+
+pub move_keeps : (format : Format) (digest : Digest) (worker : ℕ) (threshold : Option ℕ) (clock : Reading) (seats : List Content) (done : Done (List Content))
+    → GivesDigests digest → IfSome threshold (λ least. 0 < least) → SeatsMirror format digest seats
+    → move_seats format digest worker threshold (stage_of clock seats) ≡ Some done
+    → MoveKeeps format digest worker clock done
+move_keeps format digest worker threshold clock seats done digests some mirrors is =
+    moved_keeps format digest worker threshold (stage_at mirrors.shard mirrors.places clock) done digests some (stage_mirrors format digest seats clock mirrors) mirrors.four mirrors.hot_alone
+    (seats_moved format digest worker threshold clock seats done digests some mirrors is)
