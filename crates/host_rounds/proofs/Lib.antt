@@ -1,0 +1,1 @@
+-- What the rounds of a host come to, for callers too.
