@@ -1,5 +1,5 @@
 //! The logs of a round, fed to the runs of their verifiers.
-ghost use Rattle.std.specs.Prelude.{◌≡◌, ◌+◌, ◌≤◌, ◌<◌, ◌^◌, ℕ, length, false, OnOk};
+ghost use Rattle.std.specs.Prelude.{◌≡◌, ◌+◌, ◌≤◌, ◌<◌, ◌^◌, ℕ, length, IfOk, OnOk};
 ghost use Rattle.std.specs.List.{AllByRecursion};
 ghost use Rattle.verifier_run.specs.Progress.{weight};
 ghost use Rattle.host_rounds.specs.Feeding.{Takes, AllTake};
@@ -50,7 +50,8 @@ fn feed_one<D: Digests>(
 
 // So many bytes more, if they are not too many.
 fn with_more(bytes: u64, more: usize) -> Result<u64, Memory>
-    ensures sum { OnOk result (bytes + more < 2 ^ 63) }
+    ensures sum { IfOk result (λ all. all ≡ bytes + more) }
+    ensures few { OnOk result (bytes + more < 2 ^ 63) }
 {
     match bytes.checked_add(more as u64) {
         Some(all) if all < MOST_BYTES => Ok(all),

@@ -8,9 +8,11 @@
 
 mod feeding;
 mod framing;
+mod laws;
 mod opening;
 mod rounds;
 mod stops;
 
+pub use laws::rounds_make_a_bundle;
 pub use rounds::{Rounds, write_end};
 pub use stops::RoundStop;

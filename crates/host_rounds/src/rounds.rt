@@ -15,6 +15,7 @@ ghost use Rattle.host_rounds.specs.SoFar.{RunsSoFar, HaveRun, HaveRunSome, Keeps
 
 use crate::feeding::feed_all;
 use crate::framing::write_round;
+use crate::laws::rounds_make_a_bundle;
 use crate::opening::open_runs;
 use crate::stops::RoundStop;
 use bundle_frames::write_header;
@@ -64,6 +65,7 @@ impl Rounds {
         ensures never_falls { V.faults vault.old ≤ V.faults vault.new }
         ensures name { V.name vault.new ≡ V.name vault.old }
     {
+        rounds_make_a_bundle();
         let runs = open_runs(alloc, header)?;
         if write_header(header, vault).is_err() {
             return Err(RoundStop::VaultFault);
@@ -105,6 +107,7 @@ impl Rounds {
         ensures never_falls { V.faults vault.old ≤ V.faults vault.new }
         ensures name { V.name vault.new ≡ V.name vault.old }
     {
+        rounds_make_a_bundle();
         if write_round(logs, vault).is_err() {
             return Err(RoundStop::VaultFault);
         }
