@@ -148,13 +148,13 @@ runs-took functions header number (bytes ∷ round) (old ∷ olds) (new ∷ news
     let rest = pieces_of (suc number) round in
     let run = fed keeps_operations scheme old.run bytes in
     let own : new.run ≡ took scheme number old.run (piece ∷ rest) =
-        takes.0.taken
-        ∙ ap (λ (h : Header). fed keeps_operations (scheme_of functions h) old.run bytes) headers.0
-        ∙ sym (ap (λ (b : Bool). took scheme number (if b then run else old.run) rest) (eq-eqb number number refl)
-        ∙ took-apart scheme number (suc number) run round (omega arith)) in
+    takes.0.taken
+    ∙ ap (λ (h : Header). fed keeps_operations (scheme_of functions h) old.run bytes) headers.0
+    ∙ sym (ap (λ (b : Bool). took scheme number (if b then run else old.run) rest) (eq-eqb number number refl)
+    ∙ took-apart scheme number (suc number) run round (omega arith)) in
     let others : map (λ fed. fed.run) news ≡ runs_behind scheme (suc number) (map (λ fed. fed.run) olds) (piece ∷ rest) =
-        runs-took functions header (suc number) round olds news headers.1 takes.1
-        ∙ sym (runs-skip scheme (suc number) piece (map (λ fed. fed.run) olds) rest (omega arith)) in
+    runs-took functions header (suc number) round olds news headers.1 takes.1
+    ∙ sym (runs-skip scheme (suc number) piece (map (λ fed. fed.run) olds) rest (omega arith)) in
     ap (λ (r : Progress Operation). r ∷ map (λ fed. fed.run) news) own
     ∙ ap (λ (rs : List (Progress Operation)). took scheme number old.run (piece ∷ rest) ∷ rs) others
 

@@ -1,5 +1,5 @@
 //! The rounds of a host, from the header of the bundle to the last line of the report.
-ghost use Rattle.std.specs.Prelude.{◌≡◌, ◌≢◌, ℕ, ◌≤◌, ◌<◌, List, Option, length, OnOk, OnErr, IfOk, Err};
+ghost use Rattle.std.specs.Prelude.{◌≡◌, ◌≢◌, ℕ, ◌≤◌, ◌<◌, ◌^◌, List, Option, length, OnOk, OnErr, IfOk, Err};
 ghost use Rattle.fv_outside.specs.Faults.{Rose};
 ghost use Rattle.fv_outside.specs.Written.{Grows, GrowsByFront};
 ghost use Rattle.lamport_clocks.specs.declared.header.Header.{Header};
@@ -49,11 +49,7 @@ impl Model for Rounds {
 
 impl Rounds {
     /// Before the first round: writes the header of the bundle to the vault.
-    pub fn new<V: Sink>(
-        alloc: Global,
-        header: &Header,
-        vault: &mut V,
-    ) -> Result<Self, RoundStop>
+    pub fn new<V: Sink>(alloc: Global, header: &Header, vault: &mut V) -> Result<Self, RoundStop>
         requires header { IsHeader header.now }
         ensures keeps { (functions : DigestFunctions)
             → IfOk result (λ rounds. Keeps functions header.now (empty_logs header.now.verifiers) rounds (V.held vault.old) (V.held vault.new)) }
@@ -66,6 +62,7 @@ impl Rounds {
         ensures name { V.name vault.new ≡ V.name vault.old }
     {
         rounds_make_a_bundle();
+        fits_32_bits(header.first);
         let runs = open_runs(alloc, header)?;
         if write_header(header, vault).is_err() {
             return Err(RoundStop::VaultFault);
@@ -174,3 +171,8 @@ pub fn write_end<O: Sink>(status: &Status, out: &mut O) -> Result<(), RoundStop>
         Err(_) => Err(RoundStop::WriteFault),
     }
 }
+
+// A first epoch fits the bytes in which a header spells it. It does nothing, and its contract is the fact.
+fn fits_32_bits(first: u32)
+    ensures below { first < 2 ^ 32 }
+{}

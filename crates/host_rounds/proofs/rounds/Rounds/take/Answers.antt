@@ -20,7 +20,7 @@ returns-then-is_err-clause-front g c = λ header before held keeps.
     let functions = g.D.Digests.functions c.args.d.now in
     let round = c.args.logs.now in
     let text = pieces_text (pieces_of 0 round) in
-    let few = omega (arith, c.requires.each, runs-length functions header before c.args.self.now keeps.runs) in
+    let few : length round ≤ header.verifiers = omega (arith, c.requires.each, runs-length functions header before c.args.self.now keeps.runs) in
     record {
       bytes = keeps.vault.bytes ++ text;
       is_bundle = c.rounds_make_a_bundle.ensures.more header before round keeps.vault.bytes keeps.vault.is_bundle few;
@@ -40,7 +40,7 @@ returns-in_err-feed_all-clause-front g c = λ header before held keeps.
     let functions = g.D.Digests.functions c.args.d.now in
     let round = c.args.logs.now in
     let text = pieces_text (pieces_of 0 round) in
-    let few = omega (arith, c.requires.each, runs-length functions header before c.args.self.now keeps.runs) in
+    let few : length round ≤ header.verifiers = omega (arith, c.requires.each, runs-length functions header before c.args.self.now keeps.runs) in
     let p = err_from_is_err_and c.from_residual.result c.from_residual.ensures.1 in
     rw p.1
     (record {
@@ -59,7 +59,7 @@ returns-clause-keeps g c = λ header before held keeps.
     let round = c.args.logs.now in
     let news = c.feed_all.new.runs in
     let text = pieces_text (pieces_of 0 round) in
-    let few = omega (arith, c.requires.each, runs-length functions header before c.args.self.now keeps.runs) in
+    let few : length round ≤ header.verifiers = omega (arith, c.requires.each, runs-length functions header before c.args.self.now keeps.runs) in
     let now : RunsSoFar = record { judged = inside.certifier; runs = inside.runs.items; bytes = inside.bytes } in
     let have : HaveRun functions header before now = subst (HaveRun functions header before) (sym c.self.view_is) keeps.runs in
     let takes = subst (λ (olds : List FedRun). AllTake functions round olds news) c.deref_mut.ensures.value c.in_ok-feed_all.ensures.taken in
@@ -79,4 +79,5 @@ returns-clause-keeps g c = λ header before held keeps.
 
 pub returns-clause-lines : goal.returns-clause-lines
 returns-clause-lines g c = λ functions header before have.
-    lines-stay functions header before c.args.self.now have c.args.logs.now _ (ap (λ (s : RunsSoFar). s.judged) c.self.view_is)
+    let now : RunsSoFar = record { judged = c.self.inside.certifier; runs = c.feed_all.new.runs; bytes = c.feed_all.new.bytes } in
+    lines-stay functions header before c.args.self.now have c.args.logs.now now (ap (λ (s : RunsSoFar). s.judged) c.self.view_is)
