@@ -1,0 +1,6 @@
+mod ToldLemmas
+mod SceneLemmas
+mod StepLemmas
+mod WorkerLemmas
+mod SeatLemmas
+mod EndLemmas
