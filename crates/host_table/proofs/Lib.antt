@@ -4,3 +4,4 @@ mod StepLemmas
 mod WorkerLemmas
 mod SeatLemmas
 mod EndLemmas
+mod HandLemmas

@@ -6,7 +6,8 @@ use native.Mathlib.Decide.{ℕ_discrete}
 use lib.ListN.{get_elem?}
 use lib.Seq.{set-get_or}
 use prog.Atomic.{either}
-use Rattle.lamport_clocks.specs.Reading.{Reading}
+use Rattle.record_text.specs.Format.{short_keys}
+use Rattle.record_text.specs.Value.{IsBlob}
 use Rattle.atomic_table.specs.Table.{State, Act, keeps, takes, gives, Allows, step, stepped, carried_after, Valid}
 use Rattle.atomic_table.proofs.Lists.{set_else, set_here, exchanged}
 use Rattle.host_shard.specs.declared.content.Content.{Content}
@@ -145,6 +146,7 @@ module _ (terms : Terms) (id i p slots : ℕ) (list : List Entry) (losses : List
         let list_is : list ++ e ∷ [] ≡ list' i = ap (λ es. es ++ e ∷ []) is_list ∙ sym (put_here r.scene.list i (r.scene.list i ++ e ∷ [])) in
         let keeps_stop : (q : ℕ) (st : Stop) (es : List Entry) → IsStop terms (r.scene.past st.place) es st → IsStop terms (past' st.place) es st = λ q st es ended. record {
           at = ended.at;
+          value = ended.value;
           clock = ended.clock;
           behind = ended.behind;
           had = dite (ℕ_discrete st.place p)
@@ -234,16 +236,16 @@ module _ (terms : Terms) (id i p slots : ℕ) (list : List Entry) (losses : List
 
   -- a clock's end is noted
   pub ends : (x : Content) (past : List Entry) (stop : Option Stop) (draft : Draft) (carried : List (ℕ × Content))
-      → IsPlaceOf terms p draft.request.key → IsClockOf terms draft.clock → TakesUp list draft.clock → IsPastEnd (shown_content x) draft.clock
+      → IsPlaceOf terms p draft.request.key → IsBlob short_keys draft.request.value → IsClockOf terms draft.clock → TakesUp list draft.clock → IsPastEnd (shown_content x) draft.clock
       → Allows (IsKept terms) slots id (Working (desk_of i (Has p x past) list stop losses), carried) p (λ n. n)
         (stopped draft (step slots p 0 0 none) (Working (desk_of i (Has p x past) list stop losses), carried))
-  ends x past stop draft carried place clock chained past_end s r deep at below =
+  ends x past stop draft carried place value clock chained past_end s r deep at below =
       let st : Stop = stop_of draft p (Working (desk_of i (Has p x past) list stop losses)) in (
         with_stop st (Working (desk_of i (Has p x past) list stop losses)),
         keeps,
         tt,
         subst (λ ws. IsKept terms record { words = ws; homes = s.homes; views = set s.views id (with_stop st (Working (desk_of i (Has p x past) list stop losses))) }) (sym (set-get_or s.words p 0))
-            (ends_one x past stop s r at st record { at = place; clock = clock; behind = chained; had = leads_to_had terms p (first_at terms p) past x (leads x past stop s r at); ends = past_end } refl),
+            (ends_one x past stop s r at st record { at = place; value = value; clock = clock; behind = chained; had = leads_to_had terms p (first_at terms p) past x (leads x past stop s r at); ends = past_end } refl),
         refl,
       )
 

@@ -6,5 +6,6 @@ pub mod Plays
 pub mod Made
 pub mod Phase
 pub mod Hands
+pub mod Table
 pub mod Calls
 pub use Rattle.host_plan.specs

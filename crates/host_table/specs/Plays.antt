@@ -161,3 +161,9 @@ no_draft = record {
   request = record { put = false; key = 0; value = None };
   after = Vacant;
 }
+
+-- the rows that a view keeps
+abbrev pub rows_in : View → List Row
+rows_in (Keeping rack') = rack'.rows
+rows_in (Working desk) = []
+rows_in Spent = []

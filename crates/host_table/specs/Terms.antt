@@ -1,5 +1,6 @@
 -- What a table of records is made with: the contents of its places, and who works on them.
 use Rattle.std.specs.Prelude.{◌≡◌, ℕ, ◌/◌, ◌<◌, ◌≤◌, List, [], ◌∷◌, length, get_or}
+use Rattle.std.specs.Option.{ForSome}
 use Rattle.lamport_clocks.specs.declared.header.Header.{Header}
 use Rattle.lamport_clocks.specs.declared.stamp.Stamp.{Stamp}
 use Rattle.lamport_clocks.specs.Reading.{Reading}
@@ -8,7 +9,7 @@ use Rattle.merkle_records.specs.Merkle.{Digest}
 use Rattle.host_shard.specs.declared.content.Content as code
 use Rattle.host_shard.specs.declared.content.Content.TheVariants.{Cold, Hot, Vacant}
 use Rattle.host_shard.specs.declared.content.HotRecord.{HotRecord}
-use Rattle.host_shard.specs.Content.{Content, cold, hot, vacant}
+use Rattle.host_shard.specs.Content.{Content, pending}
 use Rattle.host_shard.specs.Shown.{shown_content}
 use Rattle.host_plan.specs.Plan.{Owns}
 
@@ -55,21 +56,21 @@ pub record IsClockOf (terms : Terms) (clock : Reading) : Type 0 where
   pub end : clock.end ≡ terms.header.end
   pub epoch : clock.at.epoch ≡ phase_epoch terms
 
--- a stamp of the phase, by a verifier of the bundle
-pub record IsStampOf (terms : Terms) (stamp : Stamp) (evictor : ℕ) : Type 0 where
-  pub verifier : evictor < terms.header.verifiers
-  pub epoch : stamp.epoch ≡ phase_epoch terms
-  pub counter : stamp.counter ≤ terms.header.end
+-- a stamp of the epoch, by a verifier of the bundle
+pub record IsStampOf (header : Header) (epoch : ℕ) (stamp : Stamp) (evictor : ℕ) : Type 0 where
+  pub verifier : evictor < header.verifiers
+  pub epoch_is : stamp.epoch ≡ epoch
+  pub counter : stamp.counter ≤ header.end
 
--- the element with which the content waits is stamped so
-abbrev pub IsStamped : Terms → Content → Type 0
-IsStamped terms (cold shard) = IsStampOf terms shard.stamp shard.evictor
-IsStamped terms (hot record') = IsStampOf terms record'.stamp record'.evictor
-IsStamped terms vacant = Unit {0}
+-- the element with which the content waits, if it waits with one, is stamped so
+abbrev pub IsStamped : Header → ℕ → Content → Type 0
+IsStamped header epoch content = ForSome (pending short_keys content) (λ element. IsStampOf header epoch element.stamp element.verifier)
 
--- What is asked of a making: some workers, no more than the bundle has verifiers, and contents that wait with elements of
--- one epoch, with counters that do not pass their end.
-pub record IsMaking (terms : Terms) : Type 0 where
-  pub some : 0 < terms.workers
-  pub few : terms.workers ≤ terms.header.verifiers
-  pub stamped : (place : ℕ) → place < place_count terms → IsStamped terms (shown_content (first_at terms place))
+-- What is asked of a making: some places and workers, no more workers than the bundle has verifiers, and contents that wait
+-- with elements of one epoch, whose counters do not pass their end.
+pub record IsMaking (header : Header) (workers : ℕ) (contents : List code.Content) : Type 0 where
+  pub places : 0 < length contents
+  pub some : 0 < workers
+  pub few : workers ≤ header.verifiers
+  pub stamped : (place : ℕ) → place < length contents
+      → IsStamped header (epoch_in contents) (shown_content (get_or contents place Vacant))

@@ -3,6 +3,7 @@ use Rattle.std.specs.Prelude.{◌≡◌, ◌⊎◌, ℕ, zero, suc, ◌<◌, Lis
 use Rattle.std.specs.List.{AllByRecursion}
 use Rattle.lamport_clocks.specs.Reading.{Reading}
 use Rattle.record_text.specs.Format.{short_keys}
+use Rattle.record_text.specs.Value.{IsBlob}
 use Rattle.host_shard.specs.declared.content.Content.{Content}
 use Rattle.host_shard.specs.Shown.{shown_content}
 use Rattle.host_plan.specs.Plan.{IsPlan, IsPastEnd}
@@ -18,6 +19,7 @@ IsSame x y = shown_content y ≡ shown_content x
 pub record IsServed (terms : Terms) (entry : Entry) : Type 0 where
   pub by : entry.worker < terms.workers
   pub at : IsPlaceOf terms entry.place entry.request.key
+  pub value : IsBlob short_keys entry.request.value
   pub clock : IsClockOf terms entry.clock
   pub plan : IsPlan short_keys terms.digest entry.worker (shown_content entry.before) entry.request entry.clock
       entry.plan (shown_content entry.after) entry.later
@@ -54,6 +56,7 @@ IsHad x (entry ∷ entries) had = IsSame x had ⊎ IsHad entry.after entries had
 -- A worker's clock ended behind its list, at a request and a content that the request's place has had.
 pub record IsStop (terms : Terms) (past entries : List Entry) (stop : Stop) : Type 0 where
   pub at : IsPlaceOf terms stop.place stop.request.key
+  pub value : IsBlob short_keys stop.request.value
   pub clock : IsClockOf terms stop.clock
   pub behind : TakesUp entries stop.clock
   pub had : IsHad (first_at terms stop.place) past stop.content

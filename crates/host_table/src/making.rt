@@ -8,6 +8,7 @@ use std::alloc::Global;
 use std::snapshot::Snapshot;
 
 /// What the rule is told once: the digests, the bundle's numbers, the contents at the making, and how many workers there are.
+#[derive(Drop)]
 pub struct Making<D> {
     pub digests: Snapshot<D>,
     pub header: Header,

@@ -1,30 +1,20 @@
-//! The table of records, and its calls.
+//! Tables of records.
+ghost use Rattle.std.specs.Prelude.{◌≡◌, ◌≤◌, length, vec_len, vec_capacity};
+ghost use Rattle.host_table.specs.Terms.{IsMaking};
+
 use crate::making::Board;
-use crate::hand::Hand;
 use host_shard::Content;
 use record_hash::Digests;
-use std::thread::{Threads, for_each_mut};
 
-/// The contents of the host's places, for workers that take and give them.
+/// The contents of the host's places, which workers take and give back, each by its hand.
+#[derive(Drop)]
 pub struct Records<D: Digests> {
-    board: Board<D>,
-    room: Vec<Content>,
-}
-
-pub fn all<D: Digests + Sync, R: Threads + Sync>(rt: &R, records: &Records<D>, hands: &mut [Hand]) {
-    for_each_mut(
-        rt,
-        hands,
-        4,
-        &|_: usize, hand: &mut Hand|
-            requires { Unit {0} }
-            ensures { Unit {0} }
-        { look(records, hand) },
-    );
-}
-
-fn look<D: Digests>(records: &Records<D>, hand: &mut Hand) {
-    let _n = hand.worker();
-    let _m = records.board.word_count();
-    let _k = records.room.len();
+    pub(crate) board: Board<D>,
+    /// Where the contents are gathered at the end.
+    pub(crate) room: Vec<Content>,
+    ghost words: { board.shared.table_id.words ≡ length board.shared.key.contents.value.items },
+    ghost slots: { board.shared.table_id.slots ≡ length board.shared.key.contents.value.items },
+    ghost making: { IsMaking board.shared.key.header board.shared.key.workers board.shared.key.contents.value.items },
+    ghost empty: { vec_len room ≡ 0 },
+    ghost roomy: { length board.shared.key.contents.value.items ≤ vec_capacity room },
 }
