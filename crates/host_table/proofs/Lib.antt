@@ -5,3 +5,4 @@ mod WorkerLemmas
 mod SeatLemmas
 mod EndLemmas
 mod HandLemmas
+mod CallLemmas

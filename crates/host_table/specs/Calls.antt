@@ -19,7 +19,7 @@ use Rattle.host_table.specs.declared.answers.Attempt.{Attempt}
 use Rattle.host_table.specs.declared.answers.Attempt.TheVariants as attempt
 use Rattle.host_table.specs.Terms.{Terms, first_at}
 use Rattle.host_table.specs.Told.{IsSame, IsServed, IsStop, IsHad, Leads, TakesUp}
-use Rattle.host_table.specs.Hands.{worker_of, entries, losses, stop, content, history, IsFree, Holds}
+use Rattle.host_table.specs.Hands.{worker_of, entries, losses, stop, content, history, IsFree, Holds, HoldsContent}
 
 -- ---- all hands of a table
 
@@ -53,6 +53,12 @@ pub record Loses (old new : Hand) (place : ℕ) : Type 0 where
   pub found : ℕ
   pub held : found ≢ 0
   pub after : IsAfter old new [] (record { place = place; found = found } ∷ []) (stop old)
+
+-- the place is taken: the hand holds it, with its content and its history
+pub record Wins (terms : Terms) (z : TableId) (old : Hand) (place : ℕ) (new : Hand) : Type 0 where
+  pub after : IsAfter old new [] [] (stop old)
+  pub holds : HoldsContent z new place
+  pub leads : Leads terms place (first_at terms place) (history new) (content new)
 
 -- A try takes the content of the place, with its history, or finds the word held.
 abbrev pub Tries : Terms → TableId → Hand → ℕ → Taking → Hand → Type 0

@@ -65,3 +65,7 @@ IsFree table hand = Sits table hand Idle []
 -- it holds this place
 abbrev pub Holds : TableId → Hand → ℕ → Type 0
 Holds table hand place = Sits table hand (Has place (content hand) (history hand)) ((place, Vacant) ∷ [])
+
+-- the same, with the content still in the slot
+abbrev pub HoldsContent : TableId → Hand → ℕ → Type 0
+HoldsContent table hand place = Sits table hand (Has place (content hand) (history hand)) ((place, content hand) ∷ [])

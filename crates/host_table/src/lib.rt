@@ -8,6 +8,7 @@ mod making;
 mod opening;
 mod plays;
 mod records;
+mod taking;
 mod told;
 mod views;
 
