@@ -1,5 +1,5 @@
 -- How the table opens, and what is known at its end.
-use Rattle.std.proofs.Common.{◌≡◌, ℕ, zero, suc, ◌+◌, ◌<◌, List, [], ◌∷◌, ◌++◌, length, map, get_or, slice_index, replicate, refl, sym, ap, ◌∙◌, subst, Option, Some, None, arith, add-zero, IsPermutation}
+use Rattle.std.proofs.Common.{◌≡◌, ℕ, zero, suc, ◌+◌, ◌<◌, List, [], ◌∷◌, ◌++◌, length, get_or, slice_index, replicate, refl, sym, ap, ◌∙◌, subst, None, arith, add-zero, IsPermutation}
 use Rattle.std.specs.List.{flat_map}
 use Rattle.std.proofs.lemmas.List.{length-replicate}
 use Rattle.std.proofs.lemmas.List.Sorted.{IsPermutation-refl}
@@ -59,9 +59,10 @@ module _ (terms : Terms) where
       ended = λ stop is. absurd (none-some stop is);
     };
     views = λ j v at. let is = only (rack 0 (first_rows terms.workers)) v j at in
-        subst (λ (t : ℕ × View). Knows terms record { now = first_at terms; past = λ _. []; list = λ _. []; stop = λ _. None; view_of = λ _. 0 } words t.0 t.1) (λ k. (sym is.0 k, is.1 k))
-        (let count = length-replicate terms.workers new_row in omega (arith, count),
-            λ i row found. let new = all_new terms.workers i row found in record { here = refl; list = ap (λ (t : Row). t.list) (sym new); stop = ap (λ (t : Row). t.stop) (sym new) });
+        subst (λ (t : ℕ × View). Knows terms record { now = first_at terms; past = λ _. []; list = λ _. []; stop = λ _. None; view_of = λ _. 0 } words t.0 t.1) (λ k. (sym is.0 k, is.1 k)) (
+          let count = length-replicate terms.workers new_row in omega (arith, count),
+          λ i row found. let new = all_new terms.workers i row found in record { here = refl; list = ap (λ (t : Row). t.list) (sym new); stop = ap (λ (t : Row). t.stop) (sym new) },
+        );
     even = subst (λ (t : List Entry × List Entry). IsPermutation t.0 t.1)
         (λ k. (sym (joined_of_none 0 terms.workers) k, sym (joined_of_none 0 (place_count terms)) k)) (IsPermutation-refl []);
   }
@@ -84,11 +85,11 @@ module _ (terms : Terms) where
       let was = r.views id (rack 0 rows) at in
       let count : length rows ≡ terms.workers = omega (arith, was.0) in
       let row_is : (worker : ℕ) → worker < terms.workers → IsRowOf r.scene id worker (row_at rows worker) = λ worker known.
-          subst (λ n. IsRowOf r.scene id n (row_at rows worker)) (let e : 0 + worker ≡ worker = omega arith in e) (was.1 worker (row_at rows worker) (row_there rows worker (omega (arith, count, known)))) in
+      subst (λ n. IsRowOf r.scene id n (row_at rows worker)) (let e : 0 + worker ≡ worker = omega arith in e) (was.1 worker (row_at rows worker) (row_there rows worker (omega (arith, count, known)))) in
       let idle : (place : ℕ) → IsHeldAt terms r.scene s.views place (slice_index s.words place) → ⊥ = λ place held.
-          subst (HoldsPlace held.worker place) (some-injective held.view (rack 0 rows) (sym held.there ∙ (ap (get_elem? s.views) (row_is held.worker held.known).here ∙ at))) held.holds in
+      subst (HoldsPlace held.worker place) (some-injective held.view (rack 0 rows) (sym held.there ∙ (ap (get_elem? s.views) (row_is held.worker held.known).here ∙ at))) held.holds in
       let free : (place : ℕ) → place < place_count terms → slice_index s.words place ≡ 0 = λ place there.
-          dite (ℕ_discrete (slice_index s.words place) 0) (λ z. z) (λ busy. absurd (idle place ((r.places place there).held busy))) in
+      dite (ℕ_discrete (slice_index s.words place) 0) (λ z. z) (λ busy. absurd (idle place ((r.places place there).held busy))) in
       record {
         past = r.scene.past;
         as_many = sym long ∙ r.deep;

@@ -5,4 +5,6 @@ mod WorkerLemmas
 mod SeatLemmas
 mod EndLemmas
 mod HandLemmas
-mod CallLemmas
+mod SatLemmas
+mod ServedLemmas
+mod AttemptLemmas

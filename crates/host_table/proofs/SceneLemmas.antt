@@ -2,7 +2,6 @@
 use Rattle.std.proofs.Common.{◌≡◌, ◌≢◌, ◌⊎◌, ℕ, suc, ◌+◌, ◌<◌, List, [], ◌∷◌, ◌++◌, length, set, slice_index, refl, sym, ap, ◌∙◌, subst, inl, inr, ⊎_elim, arith}
 use mathlib.Core.Logic.{dite}
 use mathlib.Core.Option.{some, some-injective, some-ne-none}
-use mathlib.Core.Option as maybe
 use native.Mathlib.Decide.{ℕ_discrete}
 use lib.ListN.{get_elem?}
 use Rattle.atomic_table.specs.Table.{State}
@@ -52,7 +51,7 @@ pub there_still : (P : View → Type 0) (views : List View) (me : ℕ) (v w : Vi
     → IsThere (set views me w) j P
 there_still P views me v w j u mine at is change = dite (ℕ_discrete j me)
     (λ e. let same : u ≡ v = some-injective u v (sym at ∙ (ap (get_elem? views) e ∙ mine)) in
-        record { view = w; at = ap (get_elem? (set views me w)) e ∙ set_there views me w v mine; is = change (subst P same is) })
+    record { view = w; at = ap (get_elem? (set views me w)) e ∙ set_there views me w v mine; is = change (subst P same is) })
     (λ other. record { view = u; at = set_else views me j w other ∙ at; is = is })
 
 -- ---- the scene

@@ -1,14 +1,10 @@
 -- Seats that are dealt, that come and that are gathered keep the rule; how the table opens, and what is known at its end.
 use Rattle.std.proofs.Common.{◌≡◌, ◌≢◌, ℕ, zero, suc, ◌+◌, ◌<◌, List, [], ◌∷◌, ◌++◌, length, map, get_or, set, slice_index, replicate, refl, sym, ap, ◌∙◌, subst, ⊎_elim, Option, Some, None, arith, add-zero, add-suc}
-use mathlib.Core.Logic.{dite}
 use mathlib.Core.Option.{some, none, some-injective, some-ne-none}
-use native.Mathlib.Decide.{ℕ_discrete}
-use lib.ListN.{get_elem?, length-map}
-use Rattle.std.proofs.lemmas.List.{length-replicate}
-use Rattle.atomic_table.specs.Table.{State, Enters, Splits, Joins, Seen, Final, opening, step}
-use Rattle.atomic_table.proofs.Lists.{set_else, at_longer, at_last, at_index, at_map}
+use lib.ListN.{get_elem?}
+use Rattle.atomic_table.specs.Table.{State, Enters, Splits, Joins, step}
+use Rattle.atomic_table.proofs.Lists.{set_else, at_longer}
 use Rattle.host_shard.specs.declared.content.Content.{Content}
-use Rattle.host_shard.specs.declared.content.Content.TheVariants.{Vacant}
 use Rattle.host_table.specs.declared.told.Entry.{Entry}
 use Rattle.host_table.specs.declared.told.Loss.{Loss}
 use Rattle.host_table.specs.declared.told.Stop.{Stop}
@@ -16,13 +12,12 @@ use Rattle.host_table.specs.declared.views.Held.TheVariants.{Idle}
 use Rattle.host_table.specs.declared.views.Desk.{Desk}
 use Rattle.host_table.specs.declared.views.Row.{Row}
 use Rattle.host_table.specs.declared.views.View.{View}
-use Rattle.host_table.specs.declared.views.View.TheVariants.{Spent, Working, Keeping}
-use Rattle.host_table.specs.Terms.{Terms, place_count, first_at}
-use Rattle.host_table.specs.Rule.{Scene, HoldsPlace, IsHeldAt, IsPlaceKept, IsWorkerKept, IsRowOf, Knows, IsKept}
-use Rattle.host_table.specs.Plays.{rack, row_of, new_desk, entered}
-use Rattle.host_table.specs.Made.{new_row, first_rows}
+use Rattle.host_table.specs.declared.views.View.TheVariants.{Spent, Working}
+use Rattle.host_table.specs.Terms.{Terms, place_count}
+use Rattle.host_table.specs.Rule.{Scene, HoldsPlace, IsPlaceKept, IsRowOf, Knows, IsKept}
+use Rattle.host_table.specs.Plays.{rack, new_desk, entered}
 use Rattle.host_table.proofs.ToldLemmas.{put, put_here, put_else}
-use Rattle.host_table.proofs.SceneLemmas.{set_there, at_end, at_below, views_stay, IsThere, IsAsBefore, knows_still, held_still, place_still}
+use Rattle.host_table.proofs.SceneLemmas.{at_end, views_stay, IsThere, IsAsBefore, knows_still, held_still, place_still}
 
 module _ (terms : Terms) where
   -- the same scene, but for which view is a worker's
@@ -62,18 +57,19 @@ module _ (terms : Terms) where
         deep = r.deep;
         places = places_stay s c c' (set s.views id left ++ right ∷ []) refl refl
             (λ q x v known found holds.
-                let not_id : c.view_of x ≢ id = λ e. subst (HoldsPlace x q) (some-injective v old (sym found ∙ (ap (get_elem? s.views) e ∙ at))) holds in
-                let x_other : x ≢ from = λ e. not_id (ap c.view_of e ∙ own.here) in
-                record { view = v; at = ap (get_elem? (set s.views id left ++ right ∷ [])) (put_else c.view_of from end x x_other) ∙ at_longer (set s.views id left) (right ∷ []) (c.view_of x) v (set_else s.views id (c.view_of x) left not_id ∙ found); is = holds })
+            let not_id : c.view_of x ≢ id = λ e. subst (HoldsPlace x q) (some-injective v old (sym found ∙ (ap (get_elem? s.views) e ∙ at))) holds in
+            let x_other : x ≢ from = λ e. not_id (ap c.view_of e ∙ own.here) in
+            record { view = v; at = ap (get_elem? (set s.views id left ++ right ∷ [])) (put_else c.view_of from end x x_other) ∙ at_longer (set s.views id left) (right ∷ []) (c.view_of x) v (set_else s.views id (c.view_of x) left not_id ∙ found); is = holds })
             r.places;
         workers = λ x known. record { own = (r.workers x known).own; ended = (r.workers x known).ended };
         views = λ j v found. ⊎_elim
-            (views_stay (Knows terms c' s.words) s.views id left
-            (omega (arith, was.0),
-                λ i row' is. let is' = was.1 (suc i) row' is in
-                let number : suc from + i ≡ from + suc i = omega arith in
-                let own' : IsRowOf c id (suc from + i) row' = subst (λ n. IsRowOf c id n row') (sym number) is' in
-                record { here = put_else c.view_of from end (suc from + i) (λ e. absurd (omega arith)) ∙ own'.here; list = own'.list; stop = own'.stop })
+            (views_stay (Knows terms c' s.words) s.views id left (
+              omega (arith, was.0),
+              λ i row' is. let is' = was.1 (suc i) row' is in
+                  let number : suc from + i ≡ from + suc i = omega arith in
+                  let own' : IsRowOf c id (suc from + i) row' = subst (λ n. IsRowOf c id n row') (sym number) is' in
+                  record { here = put_else c.view_of from end (suc from + i) (λ e. absurd (omega arith)) ∙ own'.here; list = own'.list; stop = own'.stop },
+            )
             (λ j' v' other found'. knows_still terms c c' s.words s.words j' (λ x here. as_before s c from end x (λ e. other (sym here ∙ (ap c.view_of e ∙ own.here)))) v' (r.views j' v' found'))
             j v)
             (λ last. subst (λ (t : ℕ × View). Knows terms c' s.words t.0 t.1) (λ k. (sym (last.0 ∙ wide) k, last.1 k))
@@ -106,7 +102,7 @@ module _ (terms : Terms) where
 
   pub gathers : (id other i : ℕ) (rows : List Row) (list : List Entry) (stop : Option Stop) (losses : List Loss)
       → Joins (IsKept terms) id (rack (suc i) rows) other (Working (record { number = i; held = Idle; list = list; stop = stop; losses = losses }))
-        (rack i (record { list = list; stop = stop } ∷ rows)) Spent
+      (rack i (record { list = list; stop = stop } ∷ rows)) Spent
   gathers id other i rows list stop losses s r at apart at' =
       let c : Scene = r.scene in
       let c' : Scene = with_view c i id in
@@ -123,15 +119,15 @@ module _ (terms : Terms) where
         deep = r.deep;
         places = places_stay s c c' (set (set s.views id both) other Spent) refl refl
             (λ q x v known found holds.
-                let not_id : c.view_of x ≢ id = λ e. subst (HoldsPlace x q) (some-injective v old (sym found ∙ (ap (get_elem? s.views) e ∙ at))) holds in
-                let not_other : c.view_of x ≢ other = λ e. (subst (HoldsPlace x q) (some-injective v (Working desk) (sym found ∙ (ap (get_elem? s.views) e ∙ there))) holds).1 in
-                let x_other : x ≢ i = λ e. not_other (ap c.view_of e ∙ gone.1.here) in
-                record {
-                  view = v;
-                  at = ap (get_elem? (set (set s.views id both) other Spent)) (put_else c.view_of i id x x_other)
-                      ∙ (set_else (set s.views id both) other (c.view_of x) Spent not_other ∙ (set_else s.views id (c.view_of x) both not_id ∙ found));
-                  is = holds;
-                })
+            let not_id : c.view_of x ≢ id = λ e. subst (HoldsPlace x q) (some-injective v old (sym found ∙ (ap (get_elem? s.views) e ∙ at))) holds in
+            let not_other : c.view_of x ≢ other = λ e. (subst (HoldsPlace x q) (some-injective v (Working desk) (sym found ∙ (ap (get_elem? s.views) e ∙ there))) holds).1 in
+            let x_other : x ≢ i = λ e. not_other (ap c.view_of e ∙ gone.1.here) in
+            record {
+              view = v;
+              at = ap (get_elem? (set (set s.views id both) other Spent)) (put_else c.view_of i id x x_other)
+                  ∙ (set_else (set s.views id both) other (c.view_of x) Spent not_other ∙ (set_else s.views id (c.view_of x) both not_id ∙ found));
+              is = holds;
+            })
             r.places;
         workers = λ x known. record { own = (r.workers x known).own; ended = (r.workers x known).ended };
         views = views_stay (Knows terms c' s.words) (set s.views id both) other Spent tt

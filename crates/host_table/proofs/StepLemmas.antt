@@ -1,5 +1,5 @@
 -- A step of a worker that touches one place, and its own view.
-use Rattle.std.proofs.Common.{◌≡◌, ◌≢◌, ℕ, suc, ◌<◌, List, length, set, slice_index, refl, sym, ap, ◌∙◌, subst, Option, IsPermutation}
+use Rattle.std.proofs.Common.{◌≡◌, ◌≢◌, ℕ, suc, List, length, set, slice_index, refl, sym, ap, ◌∙◌, subst, Option, IsPermutation}
 use mathlib.Core.Logic.{dite}
 use mathlib.Core.Option.{some}
 use mathlib.Core.Option as maybe
@@ -15,7 +15,7 @@ use Rattle.host_table.specs.declared.views.View.TheVariants.{Working}
 use Rattle.host_table.specs.Terms.{Terms, place_count}
 use Rattle.host_table.specs.Told.{joined_from}
 use Rattle.host_table.specs.Rule.{Scene, IsOf, HoldsPlace, IsPlaceKept, IsWorkerKept, Knows, IsKept}
-use Rattle.host_table.proofs.SceneLemmas.{views_stay, there_still, IsAsBefore, knows_still, held_still, place_still}
+use Rattle.host_table.proofs.SceneLemmas.{views_stay, there_still, knows_still, held_still, place_still}
 
 module _ (terms : Terms) (s : State Content View) (r : IsKept terms s) (id p : ℕ) (old new : Desk) (at : get_elem? s.views id ≡ some (Working old))
     (words' : List ℕ) (homes' : List (maybe.Option Content)) (now' : ℕ → Content) (past' list' : ℕ → List Entry) (stop' : ℕ → Option Stop) where
@@ -51,12 +51,12 @@ module _ (terms : Terms) (s : State Content View) (r : IsKept terms s) (id p : �
     views = views_stay (Knows terms scene_after words') s.views id (Working new) knows
         (λ j v other found. knows_still terms r.scene scene_after s.words words' j
         (λ x here.
-            let x_other : x ≢ old.number = λ e. other (sym here ∙ (ap r.scene.view_of e ∙ (r.views id (Working old) at).1.here)) in record {
-              view = refl;
-              list = list x x_other;
-              stop = stop x x_other;
-              places = λ q held. let q_other : q ≢ p = λ e. apart x x_other (ap (slice_index s.words) (sym e) ∙ held) in (word q q_other ∙ held, now q q_other, past q q_other);
-            })
+        let x_other : x ≢ old.number = λ e. other (sym here ∙ (ap r.scene.view_of e ∙ (r.views id (Working old) at).1.here)) in record {
+          view = refl;
+          list = list x x_other;
+          stop = stop x x_other;
+          places = λ q held. let q_other : q ≢ p = λ e. apart x x_other (ap (slice_index s.words) (sym e) ∙ held) in (word q q_other ∙ held, now q q_other, past q q_other);
+        })
         v (r.views j v found));
     even = even;
   }

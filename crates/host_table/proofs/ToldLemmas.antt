@@ -1,6 +1,6 @@
 -- Histories and lists, with one entry more.
-use Rattle.std.proofs.Common.{◌≡◌, ◌≢◌, ◌⊎◌, ℕ, zero, suc, ◌+◌, ◌<◌, ◌≤◌, eqb, List, [], ◌∷◌, ◌++◌, append_assoc, refl, sym, ap, ◌∙◌, subst, inl, inr, ⊎_elim, cond, eq-eqb, ne_eqb, arith, IsPermutation}
-use Rattle.std.proofs.lemmas.List.Sorted.{IsPermutation-refl, IsPermutation-sym, IsPermutation-trans, IsPermutation-cons, IsPermutation-append_right, IsPermutation-middle}
+use Rattle.std.proofs.Common.{◌≡◌, ◌≢◌, ℕ, zero, suc, ◌+◌, ◌<◌, ◌≤◌, eqb, List, [], ◌∷◌, ◌++◌, append_assoc, refl, sym, ap, ◌∙◌, subst, inl, inr, ⊎_elim, cond, eq-eqb, ne_eqb, arith, IsPermutation}
+use Rattle.std.proofs.lemmas.List.Sorted.{IsPermutation-sym, IsPermutation-trans, IsPermutation-cons, IsPermutation-append_right, IsPermutation-middle}
 use Rattle.std.specs.List.{AllByRecursion}
 use mathlib.Core.Logic.{dite}
 use native.Mathlib.Decide.{ℕ_discrete}
@@ -21,6 +21,14 @@ put_here f i x = ap (λ b. cond b x (f i)) (eq-eqb i i refl)
 pub put_else : {X : Type 0} (f : ℕ → X) (i : ℕ) (x : X) (j : ℕ) → j ≢ i → put f i x j ≡ f j
 unfolding put
 put_else f i x j other = ap (λ b. cond b x (f j)) (ne_eqb j i other)
+
+continues_more : (clock : Reading) (es : List Entry) (e : Entry) → Continues clock es e.clock → Continues clock (es ++ e ∷ []) e.later
+continues_more clock [] e goes = (goes, refl)
+continues_more clock (d ∷ es) e goes = (goes.0, continues_more d.later es e goes.1)
+
+pub takes_more : (es : List Entry) (e : Entry) → TakesUp es e.clock → TakesUp (es ++ e ∷ []) e.later
+takes_more [] e goes = refl
+takes_more (d ∷ es) e goes = continues_more d.later es e goes
 
 module _ (terms : Terms) where
   pub leads_on : (place : ℕ) (x : Content) (entries : List Entry) (y z : Content) → IsSame y z → Leads terms place x entries y → Leads terms place x entries z
@@ -50,14 +58,6 @@ module _ (terms : Terms) where
       all_more P [] e all one = (one, tt)
       all_more P (d ∷ es) e all one = (all.0, all_more P es e all.1 one)
 
-      continues_more : (clock : Reading) (es : List Entry) (e : Entry) → Continues clock es e.clock → Continues clock (es ++ e ∷ []) e.later
-      continues_more clock [] e goes = (goes, refl)
-      continues_more clock (d ∷ es) e goes = (goes.0, continues_more d.later es e goes.1)
-
-      takes_more : (es : List Entry) (e : Entry) → TakesUp es e.clock → TakesUp (es ++ e ∷ []) e.later
-      takes_more [] e goes = refl
-      takes_more (d ∷ es) e goes = continues_more d.later es e goes
-
 pub had_more : (x : Content) (entries : List Entry) (entry : Entry) (had : Content) → IsHad x entries had → IsHad x (entries ++ entry ∷ []) had
 had_more x [] entry had is = inl is
 had_more x (first ∷ entries) entry had is = ⊎_elim (λ h. inl h) (λ h. inr (had_more first.after entries entry had h)) is
@@ -78,14 +78,14 @@ joined_more number (suc count) i f entry from below =
     let first : IsPermutation (entry ∷ (f number ++ rest)) (f number ++ entry ∷ rest) = IsPermutation-sym _ _ (IsPermutation-middle (f number) entry rest) in
     dite (ℕ_discrete number i)
     (λ e.
-        let same : g number ≡ f number ++ entry ∷ [] = ap g e ∙ (put_here f i (f i ++ entry ∷ []) ∙ ap (λ j. f j ++ entry ∷ []) (sym e)) in
-        let others : joined_from (suc number) count g ≡ rest = joined_alike (suc number) count g f (λ j le. put_else f i (f i ++ entry ∷ []) j (λ is. absurd (omega arith))) in
-        let whole : f number ++ entry ∷ rest ≡ g number ++ joined_from (suc number) count g = sym (append_assoc (f number) (entry ∷ []) rest) ∙ (λ k. sym same k ++ sym others k) in
-        subst (IsPermutation (entry ∷ (f number ++ rest))) whole first)
+    let same : g number ≡ f number ++ entry ∷ [] = ap g e ∙ (put_here f i (f i ++ entry ∷ []) ∙ ap (λ j. f j ++ entry ∷ []) (sym e)) in
+    let others : joined_from (suc number) count g ≡ rest = joined_alike (suc number) count g f (λ j le. put_else f i (f i ++ entry ∷ []) j (λ is. absurd (omega arith))) in
+    let whole : f number ++ entry ∷ rest ≡ g number ++ joined_from (suc number) count g = sym (append_assoc (f number) (entry ∷ []) rest) ∙ (λ k. sym same k ++ sym others k) in
+    subst (IsPermutation (entry ∷ (f number ++ rest))) whole first)
     (λ other.
-        subst (λ front. IsPermutation (entry ∷ (f number ++ rest)) (front ++ joined_from (suc number) count g))
-        (sym (put_else f i (f i ++ entry ∷ []) number other))
-        (IsPermutation-trans _ _ _ first (IsPermutation-append_right (f number) _ _ (joined_more (suc number) count i f entry (omega arith) (omega arith)))))
+    subst (λ front. IsPermutation (entry ∷ (f number ++ rest)) (front ++ joined_from (suc number) count g))
+    (sym (put_else f i (f i ++ entry ∷ []) number other))
+    (IsPermutation-trans _ _ _ first (IsPermutation-append_right (f number) _ _ (joined_more (suc number) count i f entry (omega arith) (omega arith)))))
 
 -- one entry more on both sides
 pub even_more : (workers places i p : ℕ) (list past : ℕ → List Entry) (entry : Entry) → i < workers → p < places

@@ -1,5 +1,5 @@
 -- Each kind of step of a worker keeps the rule: a try, an entry noted, a clock's end noted, a word freed.
-use Rattle.std.proofs.Common.{◌≡◌, ◌≢◌, ℕ, suc, ◌+◌, ◌<◌, eqb, List, [], ◌∷◌, ◌++◌, length, set, slice_index, length-set, get_or-set_other, get_or-set_same, refl, sym, ap, ◌∙◌, subst, Option, Some, None, arith}
+use Rattle.std.proofs.Common.{◌≡◌, ◌≢◌, ℕ, suc, ◌<◌, eqb, List, [], ◌∷◌, ◌++◌, length, set, slice_index, length-set, get_or-set_other, get_or-set_same, refl, sym, ap, ◌∙◌, subst, Option, Some, None, arith}
 use mathlib.Core.Logic.{dite}
 use mathlib.Core.Option.{some, none}
 use native.Mathlib.Decide.{ℕ_discrete}
@@ -62,8 +62,14 @@ module _ (terms : Terms) (id i p slots : ℕ) (list : List Entry) (losses : List
         (λ q _. refl) (λ q _. refl) (λ x _. refl) (λ x _. refl) (λ q other h. h)
         record {
           free = λ z. absurd (omega (arith, z, word));
-          held = λ _. record { worker = i; is = word; known = (r.views id (Working idle) at).0; view = Working won;
-            there = ap (get_elem? (set s.views id (Working won))) (r.views id (Working idle) at).1.here ∙ set_there s.views id (Working won) (Working idle) at; holds = (refl, refl) };
+          held = λ _. record {
+            worker = i;
+            is = word;
+            known = (r.views id (Working idle) at).0;
+            view = Working won;
+            there = ap (get_elem? (set s.views id (Working won))) (r.views id (Working idle) at).1.here ∙ set_there s.views id (Working won) (Working idle) at;
+            holds = (refl, refl);
+          };
           leads = (r.places p there).leads;
         }
         (r.workers i (r.views id (Working idle) at).0) (λ x _ kept. kept)
@@ -89,15 +95,25 @@ module _ (terms : Terms) (id i p slots : ℕ) (list : List Entry) (losses : List
   -- the place is taken where its word was 0, and else nothing changes but the losses
   pub tries : (stop : Option Stop) → p < place_count terms
       → Allows (IsKept terms) slots id (Working (desk_of i Idle list stop losses), []) p (λ n. either (eqb n 0) (suc i) n)
-        (tried terms (step slots p 0 (suc i) none) (Working (desk_of i Idle list stop losses), []))
+      (tried terms (step slots p 0 (suc i) none) (Working (desk_of i Idle list stop losses), []))
   tries stop there s r deep at below =
       exchanged (slice_index s.words p) 0 (suc i)
       (λ n. (w : View) × (a : Act Content) × Valid s.homes [] a × IsKept terms (stepped s p n id [] w a)
-          × tried terms (step slots p 0 (suc i) none) (Working (desk_of i Idle list stop losses), []) (slice_index s.words p) (w, carried_after [] a))
-      (λ zero. (Working (won stop there s r at), takes p (r.scene.now p), (r.places p there).free zero, wins stop there s r at zero,
-          ((λ _. (r.scene.now p, r.scene.past p, refl, (r.places p there).leads)), λ busy. absurd (busy zero))))
-      (λ busy. (with_loss p (slice_index s.words p) (Working (desk_of i Idle list stop losses)), keeps, tt, loses stop there s r at busy (losses ++ record { place = p; found = slice_index s.words p } ∷ []),
-          ((λ zero. absurd (busy zero)), λ _. refl)))
+      × tried terms (step slots p 0 (suc i) none) (Working (desk_of i Idle list stop losses), []) (slice_index s.words p) (w, carried_after [] a))
+      (λ zero. (
+        Working (won stop there s r at),
+        takes p (r.scene.now p),
+        (r.places p there).free zero,
+        wins stop there s r at zero,
+        ((λ _. (r.scene.now p, r.scene.past p, refl, (r.places p there).leads, (r.views id (Working (desk_of i Idle list stop losses)) at).0)), λ busy. absurd (busy zero)),
+      ))
+      (λ busy. (
+        with_loss p (slice_index s.words p) (Working (desk_of i Idle list stop losses)),
+        keeps,
+        tt,
+        loses stop there s r at busy (losses ++ record { place = p; found = slice_index s.words p } ∷ []),
+        ((λ zero. absurd (busy zero)), λ _. refl),
+      ))
 
   -- ---- while the place is held
 
@@ -151,7 +167,7 @@ module _ (terms : Terms) (id i p slots : ℕ) (list : List Entry) (losses : List
           behind = ended.behind;
           had = dite (ℕ_discrete st.place p)
               (λ same. subst (λ t. IsHad (first_at terms st.place) t st.content) (ap (λ n. r.scene.past n ++ e ∷ []) same ∙ (sym (put_here r.scene.past p (r.scene.past p ++ e ∷ [])) ∙ ap past' (sym same)))
-                  (had_more (first_at terms st.place) (r.scene.past st.place) e st.content ended.had))
+              (had_more (first_at terms st.place) (r.scene.past st.place) e st.content ended.had))
               (λ other. subst (λ t. IsHad (first_at terms st.place) t st.content) (sym (put_else r.scene.past p (r.scene.past p ++ e ∷ []) st.place other)) ended.had);
           ends = ended.ends;
         } in
@@ -224,7 +240,7 @@ module _ (terms : Terms) (id i p slots : ℕ) (list : List Entry) (losses : List
   pub notes : (x : Content) (past : List Entry) (draft : Draft) (carried : List (ℕ × Content)) (e : Entry)
       → IsDrafted terms draft p (Working (desk_of i (Has p x past) list None losses)) e → TakesUp list e.clock
       → Allows (IsKept terms) slots id (Working (desk_of i (Has p x past) list None losses), carried) p (λ n. n)
-        (noted terms draft (step slots p 0 0 none) (Working (desk_of i (Has p x past) list None losses), carried))
+      (noted terms draft (step slots p 0 0 none) (Working (desk_of i (Has p x past) list None losses), carried))
   notes x past draft carried e drafted chained s r deep at below = (
     with_entry e (Working (desk_of i (Has p x past) list None losses)),
     keeps,
@@ -238,7 +254,7 @@ module _ (terms : Terms) (id i p slots : ℕ) (list : List Entry) (losses : List
   pub ends : (x : Content) (past : List Entry) (stop : Option Stop) (draft : Draft) (carried : List (ℕ × Content))
       → IsPlaceOf terms p draft.request.key → IsBlob short_keys draft.request.value → IsClockOf terms draft.clock → TakesUp list draft.clock → IsPastEnd (shown_content x) draft.clock
       → Allows (IsKept terms) slots id (Working (desk_of i (Has p x past) list stop losses), carried) p (λ n. n)
-        (stopped draft (step slots p 0 0 none) (Working (desk_of i (Has p x past) list stop losses), carried))
+      (stopped draft (step slots p 0 0 none) (Working (desk_of i (Has p x past) list stop losses), carried))
   ends x past stop draft carried place value clock chained past_end s r deep at below =
       let st : Stop = stop_of draft p (Working (desk_of i (Has p x past) list stop losses)) in (
         with_stop st (Working (desk_of i (Has p x past) list stop losses)),
@@ -252,6 +268,6 @@ module _ (terms : Terms) (id i p slots : ℕ) (list : List Entry) (losses : List
   -- the word is freed: what the seat has out goes home
   pub frees : (x : Content) (past : List Entry) (stop : Option Stop) (y : Content) → IsSame x y
       → Allows (IsKept terms) slots id (Working (desk_of i (Has p x past) list stop losses), (p, y) ∷ []) p (λ _. 0)
-        (λ _. freed (step slots p 0 0 none) (Working (desk_of i (Has p x past) list stop losses), (p, y) ∷ []) 0)
+      (λ _. freed (step slots p 0 0 none) (Working (desk_of i (Has p x past) list stop losses), (p, y) ∷ []) 0)
   frees x past stop y same s r deep at below =
       (with_held Idle (Working (desk_of i (Has p x past) list stop losses)), gives, tt, frees_one x past stop s r at y same, refl)

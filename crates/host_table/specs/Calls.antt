@@ -5,8 +5,6 @@ use Rattle.lamport_clocks.specs.Reading.{Reading}
 use Rattle.record_text.specs.declared.request.Request.{Request}
 use Rattle.atomic_table.specs.Seated.{TableId}
 use Rattle.host_shard.specs.declared.content.Content.{Content}
-use Rattle.host_shard.specs.Shown.{shown_content}
-use Rattle.host_plan.specs.Plan.{IsPastEnd}
 use Rattle.host_plan.specs.declared.plans.Plan.{Plan}
 use Rattle.host_table.specs.declared.told.Entry.{Entry}
 use Rattle.host_table.specs.declared.told.Loss.{Loss}
@@ -18,7 +16,7 @@ use Rattle.host_table.specs.declared.answers.Taking.TheVariants as taking
 use Rattle.host_table.specs.declared.answers.Attempt.{Attempt}
 use Rattle.host_table.specs.declared.answers.Attempt.TheVariants as attempt
 use Rattle.host_table.specs.Terms.{Terms, first_at}
-use Rattle.host_table.specs.Told.{IsSame, IsServed, IsStop, IsHad, Leads, TakesUp}
+use Rattle.host_table.specs.Told.{IsSame, IsServed, IsStop, Leads, TakesUp}
 use Rattle.host_table.specs.Hands.{worker_of, entries, losses, stop, content, history, IsFree, Holds, HoldsContent}
 
 -- ---- all hands of a table
@@ -59,11 +57,12 @@ pub record Wins (terms : Terms) (z : TableId) (old : Hand) (place : ℕ) (new : 
   pub after : IsAfter old new [] [] (stop old)
   pub holds : HoldsContent z new place
   pub leads : Leads terms place (first_at terms place) (history new) (content new)
+  pub known : worker_of new < terms.workers
 
 -- A try takes the content of the place, with its history, or finds the word held.
 abbrev pub Tries : Terms → TableId → Hand → ℕ → Taking → Hand → Type 0
 Tries terms z old place (taking.Taken x) new = IsAfter old new [] [] (stop old) × Holds z new place × (content new ≡ x)
-    × Leads terms place (first_at terms place) (history new) x
+    × Leads terms place (first_at terms place) (history new) x × (worker_of new < terms.workers)
 Tries terms z old place taking.Busy new = Loses old new place × IsFree z new
 
 -- ---- to give

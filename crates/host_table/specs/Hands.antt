@@ -1,5 +1,5 @@
 -- What a worker's hand shows.
-use Rattle.std.specs.Prelude.{◌≡◌, ℕ, List, [], ◌∷◌, ◌++◌, Option, None}
+use Rattle.std.specs.Prelude.{◌≡◌, ℕ, List, [], ◌∷◌, Option, None}
 use Rattle.atomic_table.specs.Seated.{TableId}
 use Rattle.host_shard.specs.declared.content.Content.{Content}
 use Rattle.host_shard.specs.declared.content.Content.TheVariants.{Vacant}
@@ -7,7 +7,6 @@ use Rattle.host_table.specs.declared.told.Entry.{Entry}
 use Rattle.host_table.specs.declared.told.Loss.{Loss}
 use Rattle.host_table.specs.declared.told.Stop.{Stop}
 use Rattle.host_table.specs.declared.hand.Hand.{Hand}
-use Rattle.host_table.specs.declared.views.Desk.{Desk}
 use Rattle.host_table.specs.declared.views.Held.{Held}
 use Rattle.host_table.specs.declared.views.Held.TheVariants.{Idle, Has}
 use Rattle.host_table.specs.declared.views.View.{View}

@@ -1,5 +1,5 @@
 -- What each kind of step does to the view of the seat that makes it.
-use Rattle.std.specs.Prelude.{◌≡◌, ◌≢◌, ℕ, suc, false, List, [], ◌∷◌, ◌++◌, Some, None}
+use Rattle.std.specs.Prelude.{◌≡◌, ◌≢◌, ◌<◌, ℕ, suc, false, List, [], ◌∷◌, ◌++◌, Some, None}
 use Rattle.lamport_clocks.specs.Reading.{Reading}
 use Rattle.record_text.specs.declared.request.Request.{Request}
 use Rattle.atomic_table.specs.Table.{Me, Step}
@@ -11,7 +11,6 @@ use Rattle.host_table.specs.declared.views.Held.{Held}
 use Rattle.host_table.specs.declared.views.Held.TheVariants.{Idle, Has}
 use Rattle.host_table.specs.declared.views.Desk.{Desk}
 use Rattle.host_table.specs.declared.views.Row.{Row}
-use Rattle.host_table.specs.declared.views.Rack.{Rack}
 use Rattle.host_table.specs.declared.views.View.{View}
 use Rattle.host_table.specs.declared.views.View.TheVariants.{Spent, Working, Keeping}
 use Rattle.host_table.specs.Terms.{Terms, first_at}
@@ -82,7 +81,7 @@ with_stop stop Spent = Spent
 abbrev pub tried : Terms → Step Content → Sat → ℕ → Sat → Type 0
 tried terms step m found m' =
     (found ≡ 0 → (x : Content) × (past : List Entry) × (m' ≡ (with_held (Has step.word x past) m.0, (step.word, x) ∷ m.1))
-        × Leads terms step.word (first_at terms step.word) past x)
+    × Leads terms step.word (first_at terms step.word) past x × (number_in m.0 < terms.workers))
     × (found ≢ 0 → m' ≡ (with_loss step.word found m.0, m.1))
 
 -- the entry is of this draft, at the place of the word that is read, by the seat's worker, from the content that it holds

@@ -2,6 +2,7 @@
 #![tactic(auto)]
 
 mod answers;
+mod attempting;
 mod closing;
 mod hand;
 mod making;

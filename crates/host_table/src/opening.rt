@@ -70,12 +70,7 @@ impl<D: Digests> Records<D> {
 }
 
 // Deals a hand to each worker, from a seat that keeps the rows of all.
-fn deal<D: Digests>(
-    board: &Board<D>,
-    seat: Place,
-    hands: Vec<Hand>,
-    workers: u16,
-) -> Vec<Hand>
+fn deal<D: Digests>(board: &Board<D>, seat: Place, hands: Vec<Hand>, workers: u16) -> Vec<Hand>
     requires seat { (seat.table_id ≡ board.now.shared.table_id) × (seat.me ≡ (rack 0 (replicate workers new_row), [])) }
     requires words { 0 < board.now.shared.table_id.words }
     requires room { (hands.items ≡ []) × (workers ≤ vec_capacity hands) }

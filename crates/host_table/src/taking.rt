@@ -79,7 +79,7 @@ fn try_word<D: Digests, N: Told>(board: &Board<D>, hand: &mut Hand, place: usize
 }
 
 // Notes an entry: this request was served at the place that is held, from this clock, and made this content.
-fn note<D: Digests, N: Told>(
+pub(crate) fn note<D: Digests, N: Told>(
     board: &Board<D>,
     hand: &mut Hand,
     place: usize,
@@ -108,7 +108,7 @@ fn note<D: Digests, N: Told>(
 }
 
 // Puts a content into the slot of the place that is held, and frees its word.
-fn put_back<D: Digests>(board: &Board<D>, hand: &mut Hand, place: usize, given: Content)
+pub(crate) fn put_back<D: Digests>(board: &Board<D>, hand: &mut Hand, place: usize, given: Content)
     requires word { place < board.now.shared.table_id.words }
     requires holds { Holds board.now.shared.table_id hand.old place }
     requires same { IsSame (content hand.old) given }

@@ -1,4 +1,4 @@
-use Rattle.std.proofs.Common.{◌≡◌, ℕ, ◌<◌, ◌≤◌, false, get_or, take, length, vec_capacity}
+use Rattle.std.proofs.Common.{◌≡◌, ℕ, ◌<◌, ◌≤◌, false, get_or, take, vec_capacity}
 use Rattle.core.specs.Mem.Slots.{slots_items, slots_filled, slots_len}
 use Rattle.core.specs.Mem.Slots.Ownership.{Filled}
 use Rattle.host_table.proofs.closing.hand_out.Given as goal

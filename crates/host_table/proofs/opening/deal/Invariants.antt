@@ -1,4 +1,4 @@
-use Rattle.std.proofs.Common.{◌≡◌, ◌+◌, ◌-◌, ◌≤◌, [], length, vec_capacity, replicate, All}
+use Rattle.std.proofs.Common.{◌≡◌, ◌-◌, ◌≤◌, [], length, vec_capacity, replicate, All}
 use Rattle.host_table.specs.Calls.{IsNew}
 use Rattle.host_table.specs.Hands.{IsFree}
 use Rattle.host_table.specs.Made.{new_row}

@@ -1,10 +1,10 @@
-use Rattle.std.proofs.Common.{ap, sym, subst, ◌∙◌, [], rules}
+use Rattle.std.proofs.Common.{ap, sym, subst, ◌∙◌, []}
 use Rattle.atomic_table.specs.Table.{Splits}
 use Rattle.host_table.specs.declared.views.View.{View}
 use Rattle.host_table.specs.Made.{terms_of}
 use Rattle.host_table.specs.Plays.{kept_row, dealt_row}
 use Rattle.host_table.specs.Rule.{IsKept}
-use Rattle.host_table.proofs.HandLemmas.{deals_one, dealt_is, kept_is}
+use Rattle.host_table.proofs.HandLemmas.{deals_one, kept_is}
 use Rattle.host_table.proofs.opening.deal_one.Goals as goal
 
 pub split_seat-requires : goal.split_seat-requires

@@ -1,4 +1,4 @@
-use Rattle.std.proofs.Common.{◌≡◌, ℕ, List, [], ◌∷◌, ap, sym, subst, ◌∙◌, None, Option}
+use Rattle.std.proofs.Common.{◌≡◌, ℕ, [], ◌∷◌, ap, sym, subst, ◌∙◌, None, Option}
 use mathlib.Core.Option.{none}
 use Rattle.atomic_table.specs.Table.{Allows, step}
 use Rattle.host_shard.specs.declared.content.Content.{Content}
@@ -7,13 +7,13 @@ use Rattle.host_table.specs.declared.told.Entry.{Entry}
 use Rattle.host_table.specs.declared.told.Stop.{Stop}
 use Rattle.host_table.specs.declared.views.Held.TheVariants.{Has}
 use Rattle.host_table.specs.Calls.{clock_at}
-use Rattle.host_table.specs.Hands.{entries, losses, stop, content, history}
+use Rattle.host_table.specs.Hands.{entries, losses, content, history}
 use Rattle.host_table.specs.Made.{terms_of}
 use Rattle.host_table.specs.Plays.{Sat, Draft, noted}
 use Rattle.host_table.specs.Rule.{IsKept}
 use Rattle.host_table.specs.Terms.{Terms}
 use Rattle.host_table.specs.Told.{TakesUp}
-use Rattle.host_table.proofs.CallLemmas.{known}
+use Rattle.host_table.proofs.SatLemmas.{known}
 use Rattle.host_table.proofs.WorkerLemmas.{notes}
 use Rattle.host_table.proofs.taking.note.Goals as goal
 
@@ -31,9 +31,9 @@ load-requires g c =
     let is = c.requires.entry.1 in
     let sat : hand.seat.me ≡ me = c.requires.holds.1 ∙ ap (λ (t : Option Stop). known i (Has p (content hand) (history hand)) (entries hand) t (losses hand) ((p, Vacant) ∷ [])) c.requires.going in
     let lemma : Allows (IsKept terms) slots hand.seat.id me p (λ n. n) (noted terms draft (step {S = Content} slots p 0 0 none) me) =
-        notes terms hand.seat.id i p slots (entries hand) (losses hand) (content hand) (history hand) draft ((p, Vacant) ∷ []) entry
-        record { place_is = is.place_is; worker_is = is.worker_is; before_is = is.before_is; clock_is = is.clock_is; request_is = is.request_is; after_is = is.after_is; served = is.served }
-        (subst (TakesUp (entries hand)) (sym is.clock_is) c.requires.chained) in (
+    notes terms hand.seat.id i p slots (entries hand) (losses hand) (content hand) (history hand) draft ((p, Vacant) ∷ []) entry
+    record { place_is = is.place_is; worker_is = is.worker_is; before_is = is.before_is; clock_is = is.clock_is; request_is = is.request_is; after_is = is.after_is; served = is.served }
+    (subst (TakesUp (entries hand)) (sym is.clock_is) c.requires.chained) in (
       c.requires.holds.0,
       c.requires.word,
       subst (λ (t : Terms × Draft × Sat). Allows (IsKept terms) slots hand.seat.id t.2 p (λ n. n) (noted t.0 t.1 (step {S = Content} slots p 0 0 none) t.2))

@@ -1,15 +1,15 @@
-use Rattle.std.proofs.Common.{◌≡◌, ℕ, suc, ◌+◌, eqb, [], ◌∷◌, ap, sym, subst, ◌∙◌, arith, rules}
+use Rattle.std.proofs.Common.{◌≡◌, ℕ, suc, ◌+◌, eqb, [], sym, subst, arith, rules}
 use mathlib.Core.Option.{none}
 use prog.Atomic.{either}
 use Rattle.atomic_table.specs.Table.{Allows, step}
 use Rattle.host_shard.specs.declared.content.Content.{Content}
-use Rattle.host_table.specs.declared.views.Held.TheVariants.{Idle, Has}
+use Rattle.host_table.specs.declared.views.Held.TheVariants.{Idle}
 use Rattle.host_table.specs.Hands.{entries, losses, stop}
 use Rattle.host_table.specs.Made.{terms_of}
 use Rattle.host_table.specs.Plays.{Sat, tried}
 use Rattle.host_table.specs.Rule.{IsKept}
 use Rattle.host_table.specs.Terms.{Terms}
-use Rattle.host_table.proofs.CallLemmas.{known}
+use Rattle.host_table.proofs.SatLemmas.{known}
 use Rattle.host_table.proofs.WorkerLemmas.{tries}
 use Rattle.host_table.proofs.taking.try_word.Goals as goal
 
@@ -26,8 +26,8 @@ compare_exchange-requires g c =
     let own : suc i ≡ a = omega (arith, read) in
     let me : Sat = known i Idle (entries hand) (stop hand) (losses hand) [] in
     let lemma : Allows (IsKept terms) slots hand.seat.id me p (λ n. either (eqb n 0) a n) (tried terms (step {S = Content} slots p 0 a none) me) =
-        subst (λ (b : ℕ). Allows (IsKept terms) slots hand.seat.id me p (λ n. either (eqb n 0) b n) (tried terms (step {S = Content} slots p 0 b none) me)) own
-        (tries terms hand.seat.id i p slots (entries hand) (losses hand) (stop hand) c.requires.place) in (
+    subst (λ (b : ℕ). Allows (IsKept terms) slots hand.seat.id me p (λ n. either (eqb n 0) b n) (tried terms (step {S = Content} slots p 0 b none) me)) own
+    (tries terms hand.seat.id i p slots (entries hand) (losses hand) (stop hand) c.requires.place) in (
       c.requires.free.0,
       c.requires.word,
       subst (λ (t : Terms × Sat). Allows (IsKept terms) slots hand.seat.id t.1 p (λ n. either (eqb n 0) a n) (tried t.0 (step {S = Content} slots p 0 a none) t.1))

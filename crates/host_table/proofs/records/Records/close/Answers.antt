@@ -2,7 +2,6 @@ use Rattle.std.proofs.Common.{List, map, ap, sym, subst, ◌∙◌}
 use mathlib.Core.Option.{some}
 use Rattle.core.specs.Mem.Slots.{slots_items}
 use Rattle.host_shard.specs.declared.content.Content.{Content}
-use Rattle.host_table.specs.declared.views.View.{View}
 use Rattle.host_table.specs.Calls.{told_by}
 use Rattle.host_table.specs.Phase.{IsPhase}
 use Rattle.host_table.specs.Table.{terms}

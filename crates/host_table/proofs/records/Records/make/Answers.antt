@@ -1,4 +1,4 @@
-use Rattle.std.proofs.Common.{◌≡◌, ℕ, List, length, replicate, ap, sym, subst, ◌∙◌, rules}
+use Rattle.std.proofs.Common.{◌≡◌, List, length, replicate, ap, subst, ◌∙◌, rules}
 use Rattle.atomic_table.specs.Table.{opening}
 use Rattle.host_shard.specs.declared.content.Content.{Content}
 use Rattle.host_table.specs.Made.{terms_of, first_rows}

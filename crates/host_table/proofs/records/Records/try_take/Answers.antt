@@ -1,4 +1,4 @@
-use Rattle.std.proofs.Common.{◌≡◌, ℕ, ◌∷◌, [], ap, sym, ◌∙◌, rules}
+use Rattle.std.proofs.Common.{◌≡◌, ◌∷◌, ap, sym, ◌∙◌, rules}
 use Rattle.atomic_table.specs.Table.{rest}
 use Rattle.host_table.specs.Hands.{content}
 use Rattle.host_table.proofs.records.Records.try_take.Goals as goal
