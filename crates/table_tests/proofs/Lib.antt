@@ -1,1 +1,2 @@
 mod ReadyLemmas
+mod TurnLemmas

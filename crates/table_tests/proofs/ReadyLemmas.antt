@@ -1,5 +1,5 @@
 -- Shards that are added, and the places of keys.
-use Rattle.std.proofs.Common.{◌≡◌, ℕ, suc, ◌+◌, ◌<◌, ◌≤◌, ◌⊎◌, inl, inr, Bool, List, [], ◌∷◌, ◌++◌, length, get_or, length-append, refl, sym, ap, ◌∙◌, subst, ⊎_elim, arith}
+use Rattle.std.proofs.Common.{◌≡◌, ℕ, suc, ◌+◌, ◌<◌, ◌≤◌, ◌%◌, ◌⊎◌, inl, inr, Bool, List, [], ◌∷◌, ◌++◌, length, get_or, length-append, refl, sym, ap, ◌∙◌, subst, ⊎_elim, arith}
 use Rattle.std.proofs.lemmas.Bool.{cases_lt}
 use Rattle.std.proofs.lemmas.List.{get_or_append_left, get_or_past}
 use Rattle.std.proofs.Math.Seq.{get_or-append_seam}
@@ -9,8 +9,12 @@ use Rattle.host_shard.specs.declared.content.Content.TheVariants.{Cold, Hot, Vac
 use Rattle.host_shard.specs.declared.content.HotRecord.{HotRecord}
 use Rattle.host_shard.specs.declared.shard.Shard.{Shard}
 use Rattle.host_shard.specs.Shown.{shown_content}
-use Rattle.host_table.specs.Terms.{Terms, IsPlaceOf, first_at, place_count}
-use Rattle.table_tests.specs.Ready.{AreReady, IsReady, IsOpenBelow}
+use Rattle.host_table.specs.Terms.{Terms, IsMaking, IsPlaceOf, IsStampOf, IsStamped, epoch_in, first_at, place_count}
+use Rattle.std.proofs.lemmas.Option.{same_Some}
+use Rattle.std.proofs.Math.Nat.{mod-lt}
+use Rattle.lamport_clocks.specs.declared.header.Header.{Header}
+use Rattle.record_text.specs.declared.element.Element.{Element}
+use Rattle.table_tests.specs.Ready.{AreReady, AreOwners, IsReady, IsOpenBelow}
 
 -- one more shard
 pub ready_more : (frontiers : List (List Bool)) (contents : List Content) (frontier : List Bool) (content : Content) → AreReady frontiers contents → IsReady frontier content
@@ -19,12 +23,12 @@ ready_more frontiers contents frontier content ready one = record {
   count = omega (arith, ready.count, length-append frontiers (frontier ∷ []), length-append contents (content ∷ []));
   each = λ i f d below. ⊎_elim
       (λ lt. subst (λ (t : List Bool × Content). IsReady t.0 t.1)
-          (λ k. (sym (get_or_append_left frontiers (frontier ∷ []) f i (omega (arith, lt, ready.count))) k, sym (get_or_append_left contents (content ∷ []) d i lt) k)) (ready.each i f d lt))
+      (λ k. (sym (get_or_append_left frontiers (frontier ∷ []) f i (omega (arith, lt, ready.count))) k, sym (get_or_append_left contents (content ∷ []) d i lt) k)) (ready.each i f d lt))
       (λ ge.
-          let same : i ≡ length contents = omega (arith, ge, below, length-append contents (content ∷ [])) in
-          let same' : i ≡ length frontiers = same ∙ sym ready.count in
-          subst (λ (t : List Bool × Content). IsReady t.0 t.1)
-          (λ k. (sym (ap (λ n. get_or (frontiers ++ frontier ∷ []) n f) same' ∙ get_or-append_seam frontiers frontier [] f) k, sym (ap (λ n. get_or (contents ++ content ∷ []) n d) same ∙ get_or-append_seam contents content [] d) k)) one)
+      let same : i ≡ length contents = omega (arith, ge, below, length-append contents (content ∷ [])) in
+      let same' : i ≡ length frontiers = same ∙ sym ready.count in
+      subst (λ (t : List Bool × Content). IsReady t.0 t.1)
+      (λ k. (sym (ap (λ n. get_or (frontiers ++ frontier ∷ []) n f) same' ∙ get_or-append_seam frontiers frontier [] f) k, sym (ap (λ n. get_or (contents ++ content ∷ []) n d) same ∙ get_or-append_seam contents content [] d) k)) one)
       (cases_lt i (length contents));
 }
 
@@ -59,3 +63,37 @@ open_below terms frontiers place f ready there key below = record {
 
     no_vacant : (kept : HotRecord) → Vacant ≡ Hot kept → ⊥
     no_vacant kept e = subst is_vacant e tt
+
+pub below_count : (n count : ℕ) → 0 < count → n % count < count
+below_count n count some = mod-lt n some
+
+-- ---- a table of such shards
+
+pub epoch_is : (frontiers : List (List Bool)) (contents : List Content) → AreReady frontiers contents → 0 < length contents → epoch_in contents ≡ 1
+epoch_is frontiers [] ready some = absurd (omega arith)
+epoch_is frontiers (content ∷ contents) ready some =
+    let one = ready.each 0 [] Vacant some in
+    subst (λ (c : Content). epoch_in (c ∷ contents) ≡ 1) (sym one.is) one.epoch
+
+stamped_so : (header : Header) (content : Content) (frontier : List Bool) → 64 ≤ header.end → 0 < header.verifiers → IsReady frontier content → IsStamped header 1 (shown_content content)
+stamped_so header content frontier end some ready =
+    subst (λ (c : Content). IsStamped header 1 (shown_content c)) (sym ready.is)
+    (λ element found. subst (λ (e : Element). IsStampOf header 1 e.stamp e.verifier) (same_Some _ element found)
+    record {
+      verifier = subst (λ (n : ℕ). n < header.verifiers) (sym ready.evictor) some;
+      epoch_is = ready.epoch;
+      counter = omega (arith, ready.counter, end);
+    })
+
+pub making_of : (header : Header) (workers : ℕ) (frontiers : List (List Bool)) (contents : List Content) → AreReady frontiers contents → 0 < length contents → 0 < workers → workers ≤ header.verifiers
+    → 64 ≤ header.end → IsMaking header workers contents
+making_of header workers frontiers contents ready some some_workers few end = record {
+  places = some;
+  some = some_workers;
+  few = few;
+  stamped = λ place below. subst (λ (n : ℕ). IsStamped header n (shown_content (get_or contents place Vacant))) (sym (epoch_is frontiers contents ready some))
+      (stamped_so header (get_or contents place Vacant) (get_or frontiers place []) end (omega arith) (ready.each place [] Vacant below));
+}
+
+pub owners_of : (frontiers : List (List Bool)) (contents : List Content) → AreReady frontiers contents → AreOwners frontiers contents
+owners_of frontiers contents ready = record { count = ready.count; each = λ i f d below. (ready.each i f d below).owns }

@@ -3,7 +3,9 @@
 //! `shards` has the contents, `turns` a worker in its thread, `replaying` what is compared at the end, and `phases` the tests.
 #![tactic(auto)]
 
-
+#[cfg(test)]
+mod phases;
+#[cfg(test)]
+mod replaying;
 mod shards;
-
 mod turns;
