@@ -1,14 +1,12 @@
 -- Hands that are dealt and gathered, one after another.
-use Rattle.std.proofs.Common.{◌≡◌, ℕ, suc, ◌+◌, ◌-◌, ◌<◌, ◌≤◌, ◌⊎◌, inl, inr, List, [], ◌∷◌, ◌++◌, length, get_or, replicate, length-append, sym, ap, ◌∙◌, subst, arith, All}
+use Rattle.std.proofs.Common.{◌≡◌, ℕ, suc, ◌+◌, ◌-◌, ◌<◌, List, [], ◌∷◌, ◌++◌, length, get_or, replicate, length-append, sym, ap, ◌∙◌, subst, arith, All}
 use Rattle.std.proofs.lemmas.List.{get_or_append_left}
-use Rattle.std.proofs.lemmas.Bool.{cases_lt}
 use Rattle.std.proofs.Math.Seq.{get_or-append_seam}
 use Rattle.atomic_table.specs.Table.{Splits}
 use Rattle.host_table.specs.declared.hand.Hand.{Hand}
-use Rattle.host_table.specs.declared.views.View.TheVariants.{Working}
 use Rattle.host_table.specs.Terms.{Terms}
 use Rattle.host_table.specs.Rule.{IsKept}
-use Rattle.host_table.specs.Plays.{rack, new_desk, kept_row, dealt_row}
+use Rattle.host_table.specs.Plays.{rack, kept_row, dealt_row}
 use Rattle.host_table.specs.Made.{new_row}
 use Rattle.host_table.specs.Hands.{worker_of}
 use Rattle.host_table.proofs.SeatLemmas.{deals}
@@ -18,9 +16,6 @@ use Rattle.host_table.proofs.SeatLemmas.{deals}
 module _ (number workers : ℕ) (left : number < workers) where
   rest_is : replicate (workers - number) new_row ≡ new_row ∷ replicate (workers - (number + 1)) new_row
   rest_is = ap (λ n. replicate n new_row) (let e : workers - number ≡ suc (workers - (number + 1)) = omega arith in e)
-
-  pub dealt_is : dealt_row (rack number (replicate (workers - number) new_row)) ≡ Working (new_desk number new_row)
-  dealt_is = ap (λ rows. dealt_row (rack number rows)) rest_is
 
   pub kept_is : kept_row (rack number (replicate (workers - number) new_row)) ≡ rack (number + 1) (replicate (workers - (number + 1)) new_row)
   kept_is = ap (λ rows. kept_row (rack number rows)) rest_is ∙ ap (λ n. rack n (replicate (workers - (number + 1)) new_row)) (let e : suc number ≡ number + 1 = omega arith in e)
@@ -35,15 +30,6 @@ module _ (number workers : ℕ) (left : number < workers) where
 abbrev pub AreNumbered : List Hand → Type 0
 AreNumbered hands = (i : ℕ) (d : Hand) → i < length hands → worker_of (get_or hands i d) ≡ i
 
-pub numbered_more : (hands : List Hand) (hand : Hand) → AreNumbered hands → worker_of hand ≡ length hands → AreNumbered (hands ++ hand ∷ [])
-numbered_more hands hand each last i d below = go (cases_lt i (length hands))
-  where
-    go : (i < length hands) ⊎ (length hands ≤ i) → worker_of (get_or (hands ++ hand ∷ []) i d) ≡ i
-    go (inl lt) = ap worker_of (get_or_append_left hands (hand ∷ []) d i lt) ∙ each i d lt
-    go (inr ge) =
-        let same : i ≡ length hands = omega (arith, ge, below, length-append hands (hand ∷ [])) in
-        ap (λ n. worker_of (get_or (hands ++ hand ∷ []) n d)) same ∙ (ap worker_of (get_or-append_seam hands hand [] d) ∙ (last ∙ sym same))
-
 pub numbered_front : (hands : List Hand) (hand : Hand) → AreNumbered (hands ++ hand ∷ []) → AreNumbered hands
 numbered_front hands hand each i d below =
     ap worker_of (sym (get_or_append_left hands (hand ∷ []) d i below)) ∙ each i d (omega (arith, below, length-append hands (hand ∷ [])))
@@ -54,6 +40,3 @@ numbered_last hands hand each =
 
 pub all_front : (P : Hand → Type 0) (hands : List Hand) (hand : Hand) → All P (hands ++ hand ∷ []) → All P hands
 all_front P hands hand each k d below = subst P (get_or_append_left hands (hand ∷ []) d k below) (each k d (omega (arith, below, length-append hands (hand ∷ []))))
-
-pub all_last : (P : Hand → Type 0) (hands : List Hand) (hand : Hand) → All P (hands ++ hand ∷ []) → P hand
-all_last P hands hand each = subst P (get_or-append_seam hands hand [] hand) (each (length hands) hand (omega (arith, length-append hands (hand ∷ []))))
