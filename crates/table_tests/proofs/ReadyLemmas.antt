@@ -1,5 +1,5 @@
 -- Shards that are added, and the places of keys.
-use Rattle.std.proofs.Common.{◌≡◌, ℕ, suc, ◌+◌, ◌<◌, ◌≤◌, ◌%◌, ◌⊎◌, inl, inr, Bool, List, [], ◌∷◌, ◌++◌, length, get_or, length-append, refl, sym, ap, ◌∙◌, subst, ⊎_elim, arith}
+use Rattle.std.proofs.Common.{◌≡◌, ℕ, suc, ◌+◌, ◌<◌, ◌≤◌, ◌⊎◌, inl, inr, Bool, List, [], ◌∷◌, ◌++◌, length, get_or, length-append, refl, sym, ap, ◌∙◌, subst, ⊎_elim, arith}
 use Rattle.std.proofs.lemmas.Bool.{cases_lt}
 use Rattle.std.proofs.lemmas.List.{get_or_append_left, get_or_past}
 use Rattle.std.proofs.Math.Seq.{get_or-append_seam}
@@ -11,7 +11,6 @@ use Rattle.host_shard.specs.declared.shard.Shard.{Shard}
 use Rattle.host_shard.specs.Shown.{shown_content}
 use Rattle.host_table.specs.Terms.{Terms, IsMaking, IsPlaceOf, IsStampOf, IsStamped, epoch_in, first_at, place_count}
 use Rattle.std.proofs.lemmas.Option.{same_Some}
-use Rattle.std.proofs.Math.Nat.{mod-lt}
 use Rattle.lamport_clocks.specs.declared.header.Header.{Header}
 use Rattle.record_text.specs.declared.element.Element.{Element}
 use Rattle.table_tests.specs.Ready.{AreReady, AreOwners, IsReady, IsOpenBelow}
@@ -63,9 +62,6 @@ open_below terms frontiers place f ready there key below = record {
 
     no_vacant : (kept : HotRecord) → Vacant ≡ Hot kept → ⊥
     no_vacant kept e = subst is_vacant e tt
-
-pub below_count : (n count : ℕ) → 0 < count → n % count < count
-below_count n count some = mod-lt n some
 
 -- ---- a table of such shards
 

@@ -4,7 +4,7 @@ use Rattle.lamport_clocks.specs.Reading.{Reading}
 use Rattle.merkle_records.specs.Merkle.{Digest}
 use Rattle.atomic_table.specs.Seated.{TableId}
 use Rattle.host_table.specs.declared.hand.Hand.{Hand}
-use Rattle.host_table.specs.Terms.{Terms, IsClockOf}
+use Rattle.host_table.specs.Terms.{Terms, IsClockOf, place_count}
 use Rattle.host_table.specs.Told.{TakesUp}
 use Rattle.host_table.specs.Hands.{worker_of, entries, stop, IsFree}
 use Rattle.table_tests.specs.Ready.{AreReady}
@@ -42,3 +42,8 @@ hand_of turn = turn.hand
 pub record IsAtStart (clock : Reading) (turn : Turn) : Type 0 where
   pub at : turn.clock ≡ clock
   pub going : turn.ended ≡ false
+
+pub record CanPass (terms : Terms) (table : TableId) (places : ℕ) (turn : Turn) : Type 0 where
+  pub some : 0 < places
+  pub few : places ≤ place_count terms
+  pub turn_is : IsTurn terms table turn

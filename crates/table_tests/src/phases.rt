@@ -1,24 +1,18 @@
 //! Phases in which many workers serve at the same places.
-ghost use Rattle.std.specs.Prelude.{◌≡◌, ◌<◌, ◌≤◌, All, IfOk, length, map};
-ghost use Rattle.host_table.specs.Table.{table, terms};
-ghost use Rattle.host_table.specs.Calls.{AreAll, IsNew};
-ghost use Rattle.host_table.specs.Terms.{IsClockOf};
-ghost use Rattle.lamport_clocks.specs.Clock.{opening_reading};
-ghost use Rattle.table_tests.specs.Ready.{AreReady};
-ghost use Rattle.table_tests.specs.Turns.{AreTurns, CanToil, IsAtStart, Toils, hand_of};
+ghost use Rattle.std.specs.Prelude.{◌≡◌, ◌<◌, ◌≤◌, IfOk, map};
+ghost use Rattle.table_tests.specs.Turns.{hand_of};
 
+use crate::crew::{set_up, toiled};
 use crate::replaying::{Entries, number_of, replay};
 use crate::shards::shards;
-use crate::turns::Turn;
+use crate::turns::{Served, Turn};
 use host_shard::Content;
-use host_table::{Hand, Records};
-use lamport_clocks::{Clock, Header};
+use host_table::Hand;
 use record_hash::{Digests, ToyDigests};
 use std::alloc::Global;
 use std::process::Abort;
 use std::test::Fail;
-use std::thread::{Threads, for_each_mut};
-use tree_keys::Path;
+use std::thread::Threads;
 
 /// What workers came to: how many attempts were served, how many found a place held, and how many clocks ended.
 #[derive(Clone, Copy, Debug, PartialEq, Eq)]
@@ -26,18 +20,6 @@ struct Tally {
     served: u64,
     busy: u64,
     ended: u64,
-}
-
-// The numbers of the tests' bundle, whose counters end here.
-fn header(end: u32) -> Header
-    ensures value { result ≡ record { verifiers = 64; cache = 128; first = 1; end = end } }
-{
-    Header {
-        verifiers: 64,
-        cache: 128,
-        first: 1,
-        end,
-    }
 }
 
 // So many workers, each in a thread, try so often at so many shards. What they served is then served again in one order, and
@@ -57,13 +39,8 @@ fn phase<R: Threads + Sync, D: Digests + Sync>(
     requires bits { (0 < bits) × (bits ≤ 6) }
     requires end { 64 ≤ end }
 {
-    let (frontiers, contents) = shards(alloc, places, bits)?;
+    let (records, frontiers, turns) = set_up(alloc, d, workers, bits, places, end)?;
     let (same_frontiers, mut again) = shards(alloc, places, bits)?;
-    let (records, hands) = match Records::make(alloc, d, &header(end), contents, workers) {
-        Ok(made) => made,
-        Err(_) => return Err("no table")?,
-    };
-    let turns = turns_of(alloc, &records, hands, end)?;
     let turns = toiled(
         rt,
         alloc,
@@ -72,6 +49,7 @@ fn phase<R: Threads + Sync, D: Digests + Sync>(
         frontiers.as_slice(),
         bits,
         rounds,
+        1,
         turns,
     );
     let mut entries = Entries::new(alloc);
@@ -86,105 +64,6 @@ fn phase<R: Threads + Sync, D: Digests + Sync>(
     )?;
     compare(closed.as_slice(), again.as_slice())?;
     Ok(tally)
-}
-
-// The workers with these hands, each with a clock at its start.
-fn turns_of<D: Digests>(
-    alloc: Global,
-    records: &Records<D>,
-    hands: Vec<Hand>,
-    end: u32,
-) -> Result<Vec<Turn>, Fail>
-    requires hands { AreAll (table records.now) (terms D.functions records.now).workers hands.items }
-    requires new { All IsNew hands.items }
-    requires clock { IsClockOf (terms D.functions records.now) (opening_reading 1 end) }
-    ensures turns { IfOk result (λ turns. AreTurns (terms D.functions records.now) (table records.now) turns.items
-        × (length turns.items ≡ (terms D.functions records.now).workers)) }
-{
-    let turns = seated(alloc, hands, end)?;
-    Ok(turns)
-}
-
-fn seated(alloc: Global, hands: Vec<Hand>, end: u32) -> Result<Vec<Turn>, Fail>
-    ensures hands { IfOk result (λ turns. map hand_of turns.items ≡ hands.items) }
-    ensures start { IfOk result (λ turns. All (IsAtStart (opening_reading 1 end)) turns.items) }
-{
-    let mut turns = Vec::new(alloc);
-    for hand in hands {
-        turns.push(Turn {
-            hand,
-            clock: Clock::new(1, end),
-            ended: false,
-            log: Vec::new(alloc),
-            busy: 0,
-            wanting: 0,
-        })?;
-    }
-    Ok(turns)
-}
-
-// The workers once all have toiled.
-fn toiled<R: Threads + Sync, D: Digests + Sync>(
-    rt: &R,
-    alloc: Global,
-    d: &D,
-    records: &Records<D>,
-    frontiers: &[Path],
-    bits: u8,
-    rounds: u64,
-    turns: Vec<Turn>,
-) -> Vec<Turn>
-    requires digests { (D.functions d.now).digest ≡ (terms D.functions records.now).digest }
-    requires bits { (0 < bits) × (bits ≤ 6) }
-    requires ready { AreReady frontiers.now (terms D.functions records.now).contents }
-    requires some { 0 < length frontiers.now }
-    requires turns { AreTurns (terms D.functions records.now) (table records.now) turns.items }
-    ensures turns { AreTurns (terms D.functions records.now) (table records.now) result.items }
-    ensures count { length result.items ≡ length turns.items }
-{
-    let mut turns = turns;
-    toil_all(
-        rt,
-        alloc,
-        d,
-        records,
-        frontiers,
-        bits,
-        rounds,
-        turns.as_mut_slice(),
-    );
-    turns
-}
-
-// All workers toil, each in a thread.
-fn toil_all<R: Threads + Sync, D: Digests + Sync>(
-    rt: &R,
-    alloc: Global,
-    d: &D,
-    records: &Records<D>,
-    frontiers: &[Path],
-    bits: u8,
-    rounds: u64,
-    turns: &mut [Turn],
-)
-    requires digests { (D.functions d.now).digest ≡ (terms D.functions records.now).digest }
-    requires bits { (0 < bits) × (bits ≤ 6) }
-    requires ready { AreReady frontiers.now (terms D.functions records.now).contents }
-    requires some { 0 < length frontiers.now }
-    requires turns { AreTurns (terms D.functions records.now) (table records.now) turns.old }
-    ensures turns { AreTurns (terms D.functions records.now) (table records.now) turns.new }
-    ensures count { length turns.new ≡ length turns.old }
-{
-    let threads = turns.len().max(1);
-    for_each_mut(
-        rt,
-        turns,
-        threads,
-        &|_: usize, turn: &mut Turn|
-            requires { CanToil (D.functions d.now).digest (terms D.functions records.now) (table records.now) bits frontiers.now turn.now }
-            ensures { Toils (terms D.functions records.entry.now) (table records.entry.now) turn.entry.now turn.exit.now }
-        { turn.toil(alloc, d, records, frontiers, bits, rounds) },
-    );
 }
 
 // What the workers tell, and their hands again.
@@ -218,7 +97,7 @@ fn tell(alloc: Global, turns: Vec<Turn>, entries: &mut Entries) -> Result<(Tally
     Ok((tally, hands))
 }
 
-fn enter(entries: &mut Entries, log: Vec<crate::turns::Served>) -> Result<(), Fail> {
+fn enter(entries: &mut Entries, log: Vec<Served>) -> Result<(), Fail> {
     for served in log {
         entries.insert(number_of(&served), served)?;
     }

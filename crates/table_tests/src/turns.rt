@@ -1,11 +1,12 @@
 //! A worker in its thread.
 ghost use Rattle.std.specs.Prelude.{◌≡◌, ◌<◌, ◌≤◌, false, length};
 ghost use Rattle.host_table.specs.Table.{table, terms};
+ghost use Rattle.host_table.specs.Terms.{place_count};
 ghost use Rattle.table_tests.specs.Ready.{AreReady, IsOpenBelow};
 
 use crate::shards::request_of;
 use host_plan::Plan;
-use host_table::{Attempt, Hand, Records};
+use host_table::{Attempt, Hand, Records, Taking};
 use lamport_clocks::Clock;
 use record_hash::Digests;
 use record_text::Request;
@@ -14,7 +15,7 @@ use tree_keys::Path;
 
 /// A request that was served, with the clock before it.
 #[derive(Drop)]
-pub(crate) struct Served {
+pub struct Served {
     pub place: usize,
     pub worker: u16,
     pub request: Request,
@@ -26,7 +27,7 @@ pub(crate) struct Served {
 /// A worker: its hand, its clock and whether that ended, what it served, how often it found a place held, and how often it
 /// wanted memory.
 #[derive(Drop)]
-pub(crate) struct Turn {
+pub struct Turn {
     pub hand: Hand,
     pub clock: Clock,
     pub ended: bool,
@@ -36,9 +37,9 @@ pub(crate) struct Turn {
 }
 
 impl Turn {
-    ghost use Rattle.table_tests.specs.Turns.{IsTurn, Toils};
+    ghost use Rattle.table_tests.specs.Turns.{CanPass, IsTurn, Toils};
 
-    /// Tries as often at the shards' places, one after another.
+    /// Tries so often, first at the place of the worker's number, and each time so many places further.
     pub(crate) fn toil<D: Digests>(
         &mut self,
         alloc: Global,
@@ -47,6 +48,7 @@ impl Turn {
         frontiers: &[Path],
         bits: u8,
         rounds: u64,
+        step: u64,
     )
         requires digests { (D.functions d.now).digest ≡ (terms D.functions records.now).digest }
         requires few { (0 < bits) × (bits ≤ 6) }
@@ -60,8 +62,35 @@ impl Turn {
             if self.ended {
                 break;
             }
-            let place = (round as usize % frontiers.len() + first) % frontiers.len();
+            let place = place_of(first, round, step, frontiers.len());
             self.attempt(alloc, d, records, place, &frontiers[place], bits, round);
+        }
+    }
+
+    /// Takes the place of the worker's number so often, and gives it back as it is.
+    pub(crate) fn pass<D: Digests>(&mut self, records: &Records<D>, places: usize, rounds: u64)
+        requires can { CanPass (terms D.functions records.now) (table records.now) places self.old }
+        ensures toils { Toils (terms D.functions records.now) (table records.now) self.old self.new }
+    {
+        if self.ended {
+            return;
+        }
+        let place = usize::from(self.hand.worker()) % places;
+        for _ in 0..rounds {
+            self.pass_once(records, place);
+        }
+    }
+
+    fn pass_once<D: Digests>(&mut self, records: &Records<D>, place: usize)
+        requires place { place < place_count (terms D.functions records.now) }
+        requires turn { IsTurn (terms D.functions records.now) (table records.now) self.old }
+        requires going { self.old.ended ≡ false }
+        ensures toils { Toils (terms D.functions records.now) (table records.now) self.old self.new }
+        ensures going { self.new.ended ≡ false }
+    {
+        match records.try_take(&mut self.hand, place) {
+            Taking::Taken(content) => records.give(&mut self.hand, place, content, None),
+            Taking::Busy => self.busy = self.busy.saturating_add(1),
         }
     }
 
@@ -108,4 +137,12 @@ impl Turn {
             Attempt::Memory => self.wanting = self.wanting.saturating_add(1),
         }
     }
+}
+
+// The place of a round, so many further each time.
+fn place_of(first: usize, round: u64, step: u64, places: usize) -> usize
+    requires some { 0 < places }
+    ensures there { result < places }
+{
+    (round.wrapping_mul(step) as usize).wrapping_add(first) % places
 }

@@ -11,31 +11,9 @@ use Rattle.table_tests.proofs.ReadyLemmas.{epoch_is, making_of, owners_of}
 use Rattle.table_tests.proofs.TurnLemmas.{hands_of}
 use Rattle.table_tests.proofs.phases.phase.Goals as goal
 
-pub make-requires : goal.make-requires
-make-requires g c =
-    let ready = c.in_ok-frontiers.ensures.ready in
-    let verifiers : c.header.result.verifiers ≡ 64 = ap (λ (h : Header). h.verifiers) c.header.ensures.value in
-    let end : c.header.result.end ≡ c.args.end = ap (λ (h : Header). h.end) c.header.ensures.value in
-    let some : 0 < length c.in_ok-frontiers.contents.items = omega (arith, ready.1, c.requires.places.0) in
-    let few : c.args.workers ≤ c.header.result.verifiers = omega (arith, verifiers, c.requires.workers.1) in
-    let late : 64 ≤ c.header.result.end = omega (arith, end, c.requires.end) in
-    record {
-      making = making_of c.header.result c.args.workers c.in_ok-frontiers.frontiers.items c.in_ok-frontiers.contents.items ready.0 some c.requires.workers.0 few late;
-    }
-
-pub turns_of-requires-clause-clock : goal.turns_of-requires-clause-clock
-turns_of-requires-clause-clock g c =
-    let ready = c.in_ok-frontiers.ensures.ready in
-    let some : 0 < length c.in_ok-frontiers.contents.items = omega (arith, ready.1, c.requires.places.0) in
-    subst (λ (t : Terms). IsClockOf t (opening_reading 1 c.args.end)) (sym c.in-Ok.ensures.terms) record {
-      first = sym (ap (λ (h : Header). h.first) c.header.ensures.value);
-      end = sym (ap (λ (h : Header). h.end) c.header.ensures.value);
-      epoch = sym (epoch_is c.in_ok-frontiers.frontiers.items c.in_ok-frontiers.contents.items ready.0 some);
-    }
-
 pub close-closed-requires : goal.close-closed-requires
 close-closed-requires g c =
-    let made = c.in-Ok.made.0 in
+    let made = c.in_ok-records.records in
     let turns : List Turn = c.toiled-turns.result.items in
     let same : c.in_ok-tally.hands.items ≡ map hand_of turns = c.in_ok-tally.ensures.hands in
     let count : length turns ≡ made.board.shared.key.workers = search rules in
