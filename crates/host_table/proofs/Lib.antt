@@ -1,0 +1,10 @@
+mod ToldLemmas
+mod SceneLemmas
+mod StepLemmas
+mod WorkerLemmas
+mod SeatLemmas
+mod EndLemmas
+mod HandLemmas
+mod SatLemmas
+mod ServedLemmas
+mod AttemptLemmas

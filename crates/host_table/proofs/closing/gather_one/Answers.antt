@@ -1,0 +1,26 @@
+use Rattle.std.proofs.Common.{◌≡◌, suc, ◌+◌, ap, sym, subst, ◌∙◌, arith}
+use Rattle.atomic_table.specs.Table.{Joins}
+use Rattle.host_table.specs.declared.views.View.{View}
+use Rattle.host_table.specs.declared.views.View.TheVariants.{Spent}
+use Rattle.host_table.specs.Hands.{entries, losses, stop}
+use Rattle.host_table.specs.Made.{terms_of}
+use Rattle.host_table.specs.Plays.{rack, rows_in, gathered}
+use Rattle.host_table.specs.Rule.{IsKept}
+use Rattle.host_table.proofs.SeatLemmas.{gathers}
+use Rattle.host_table.proofs.closing.gather_one.Goals as goal
+
+pub join_seat-requires : goal.join_seat-requires
+join_seat-requires g c =
+    let terms = terms_of g.D.Digests.functions c.args.board.now.shared.key in
+    let seat = c.args.seat.now in
+    let hand = c.args.hand in
+    let next : suc hand.number ≡ hand.number + 1 = omega arith in
+    let seat_is = sym (ap (λ m. m.0) c.requires.seat.1 ∙ ap (λ n. rack n (rows_in seat.me.0)) (sym next)) in
+    let hand_is = sym (ap (λ m. m.0) c.requires.free.1) in (
+      c.requires.seat.0,
+      c.requires.free.0,
+      ap (λ m. m.1) c.requires.free.1,
+      c.requires.words,
+      subst (λ (t : View × View). Joins (IsKept terms) seat.id t.0 hand.seat.id t.1 (gathered t.0 t.1) Spent) (λ i. (seat_is i, hand_is i))
+          (gathers terms seat.id hand.seat.id hand.number (rows_in seat.me.0) (entries hand) (stop hand) (losses hand)),
+    )

@@ -1,0 +1,3 @@
+-- What the tests of the table know of their contents and workers.
+pub mod Ready
+pub mod Turns
