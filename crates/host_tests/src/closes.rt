@@ -1,5 +1,5 @@
 //! Closes with hot records, beside the rows that `tools/slow_plans.py` prints for the same script.
-ghost use Rattle.std.specs.Prelude.{◌≡◌, ◌<◌, ◌≤◌, IsTrue, OnOk, length, map};
+ghost use Rattle.std.specs.Prelude.{◌≤◌, IsTrue, OnOk, length, map};
 ghost use Rattle.std.specs.List.{AllByRecursion};
 ghost use Rattle.lamport_clocks.specs.Clock.{is_open};
 ghost use Rattle.record_text.specs.Format.{short_keys};
@@ -517,6 +517,16 @@ fn owns(content: &Content, key: u64) -> bool
     }
 }
 
+// Whether a content is the record of this hot key.
+fn is_hot_at(content: &Content, key: u64) -> bool
+    ensures own { IsTrue result → Owns short_keys (shown_content content.now) key }
+{
+    match content {
+        Content::Hot(found) => found.key == key,
+        _ => false,
+    }
+}
+
 // Whether the clock takes a stamp in.
 fn takes(clock: &Clock, stamp: Stamp) -> bool
     ensures open { IsTrue result → IsTrue (is_open clock.now stamp.epoch) }
@@ -628,34 +638,17 @@ impl Seats {
         ensures fit { OnOk result (IsFit (shown_content self.new.cold)) }
     {
         for index in 0..4 {
-            if serve_in(alloc, d, &mut self.hot[index], request, clock, log)? {
+            if is_hot_at(&self.hot[index], request.key) {
+                serve(alloc, d, &mut self.hot[index], request, 0, clock, log)?;
                 return Ok(());
             }
         }
-        if serve_in(alloc, d, &mut self.cold, request, clock, log)? {
-            return Ok(());
+        if !owns(&self.cold, request.key) {
+            return Err("no place of this key")?;
         }
-        Err("no place of this key")?
+        serve(alloc, d, &mut self.cold, request, 0, clock, log)?;
+        Ok(())
     }
-}
-
-// Serves a request if the content is that of its key, and answers that.
-fn serve_in<D: Digests>(
-    alloc: Global,
-    d: &D,
-    content: &mut Content,
-    request: &Request,
-    clock: &mut Clock,
-    log: &mut Vec<u8>,
-) -> Result<bool, Fail>
-    requires fit { IsFit (shown_content content.old) }
-    ensures fit { OnOk result (IsFit (shown_content content.new)) }
-{
-    if !owns(content, request.key) {
-        return Ok(false);
-    }
-    serve(alloc, d, content, request, 0, clock, log)?;
-    Ok(true)
 }
 
 // Serves the requests of these rows on two new shards and closes at each `epoch`, behind what is logged already.
@@ -729,15 +722,17 @@ fn a_verifier_accepts_closes_with_hot_records(rt: HostRuntime) -> Result<(), Fai
 }
 
 // Counts so many touches more of a key that has a record.
-fn touch(seats: &mut Seats, key: u64, touches: u32)
-    requires fit { IsFit (shown_content seats.old.cold) }
-    ensures fit { IsFit (shown_content seats.new.cold) }
+fn touch(shard: &mut Shard, key: u64, touches: u32) -> Result<(), Fail>
+    requires fits { IsShard short_keys (shown shard.old) }
+    ensures fits { IsShard short_keys (shown shard.new) }
 {
-    if let Content::Cold(shard) = &mut seats.cold {
-        for _ in 0..touches {
-            shard.records.touch(&Path::of_key(key));
-        }
+    if shard.records.get(&Path::of_key(key)).is_none() {
+        return Err("no record")?;
     }
+    for _ in 0..touches {
+        shard.touch(key);
+    }
+    Ok(())
 }
 
 #[test]
@@ -748,7 +743,10 @@ fn a_million_touches_make_a_key_hot(rt: HostRuntime) -> Result<(), Fail> {
     let request = request_of(rt.alloc(), "get 5")?;
     low.serve(rt.alloc(), &ToyDigests, &request, &mut clock, &mut log)?;
     for (touches, becomes_hot) in [(999_998, false), (1_000_000, true)] {
-        touch(&mut low, 5, touches);
+        match &mut low.cold {
+            Content::Cold(shard) => touch(shard, 5, touches)?,
+            _ => return Err("no shard")?,
+        }
         if clock.next_epoch().is_err() {
             return Err("no next epoch")?;
         }

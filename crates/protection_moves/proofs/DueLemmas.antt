@@ -1,7 +1,7 @@
 -- Which keys are due, read off records that stand in the order of their paths.
-use Rattle.std.proofs.Common.{◌≡◌, ◌≢◌, ◌⊎◌, ℕ, zero, suc, ◌+◌, ◌-◌, ◌<◌, ◌≤◌, ◌^◌, Bool, true, false, List, [], ◌∷◌, ◌++◌, map, length, take, nat_lt, Option, Some, None, IsSome, IfNone, IfSome, is_none, get_or, if◌then◌else◌, refl, sym, ◌∙◌, ap, subst, inl, inr, arith, append_assoc, append-nil, length-append}
+use Rattle.std.proofs.Common.{◌≡◌, ◌≢◌, ◌⊎◌, ℕ, zero, suc, ◌+◌, ◌-◌, ◌<◌, ◌≤◌, ◌^◌, Bool, true, false, List, [], ◌∷◌, ◌++◌, length, take, nat_lt, Option, Some, None, IsSome, IfNone, IfSome, is_none, if◌then◌else◌, refl, sym, ◌∙◌, ap, subst, inl, inr, arith, append_assoc, append-nil, length-append}
 use Rattle.std.proofs.lemmas.Bool.{false≢true, true≢false, le-ltb, ltb-false, eqb-true, eq-eqb}
-use Rattle.std.specs.Prelude.{◌==◌, ◌||◌, ◌↔◌, slice_index_or, AllPairs}
+use Rattle.std.specs.Prelude.{◌==◌, ◌||◌, slice_index_or, AllPairs}
 use Rattle.std.specs.List.{AllByRecursion, IsAmong}
 use Rattle.std.specs.Map.{lookup}
 use Rattle.std.specs.Option.{option_map_or}
@@ -10,17 +10,15 @@ use Rattle.tree_keys.specs.BitsLaws.{length-bits_of, number_back}
 use Rattle.tree_keys.specs.Path.{side, same_path}
 use Rattle.tree_keys.proofs.BitsLaws.{bits_of-number_of, number_of-lt}
 use Rattle.tree_keys.proofs.PathLaws.{same_path-self, same_path-true, same_path-apart}
-use Rattle.lamport_clocks.specs.Reading.{Reading}
-use Rattle.record_text.specs.Format.{Format, short_keys}
+use Rattle.record_text.specs.Format.{short_keys}
 use Rattle.host_shard.specs.declared.record.Record.{Record}
 use Rattle.host_shard.specs.Content.{Content, cold, hot, vacant, key_path}
 use Rattle.host_shard.specs.Shard.{Shard}
 use Rattle.host_shard.specs.Mirrors.{IsKeyOf}
 use Rattle.host_shard.specs.Records.{Listed, IsBefore, AreInOrder, record_at, touches_in}
 use Rattle.protection_moves.specs.Stage.{Stage, hot_paths}
-use Rattle.protection_moves.specs.Errand.{IsTouchedOften, AreDue}
-use Rattle.protection_moves.specs.Due.{is_hot, due_key, listed_key, due_among}
-use Rattle.protection_moves.specs.Run.{AreRising, AreFirstDue}
+use Rattle.protection_moves.specs.Errand.{AreDue}
+use Rattle.protection_moves.specs.Due.{is_hot, due_key, listed_key, due_among, AreRising}
 
 -- ---- lists and tests
 
@@ -45,13 +43,13 @@ some_of {X} x y is = ap (or x) is
     or d None = d
     or d (Some z) = z
 
-among_head : (x : ℕ) (xs : List ℕ) → IsAmong (x ∷ xs) x
+pub among_head : (x : ℕ) (xs : List ℕ) → IsAmong (x ∷ xs) x
 among_head x xs = (0, (omega arith, refl))
 
-among_tail : (x v : ℕ) (xs : List ℕ) → IsAmong xs v → IsAmong (x ∷ xs) v
+pub among_tail : (x v : ℕ) (xs : List ℕ) → IsAmong xs v → IsAmong (x ∷ xs) v
 among_tail x v xs is = (suc is.0, (omega (arith, is.1.0), is.1.1))
 
-among_cases : (x v : ℕ) (xs : List ℕ) → IsAmong (x ∷ xs) v → (v ≡ x) ⊎ IsAmong xs v
+pub among_cases : (x v : ℕ) (xs : List ℕ) → IsAmong (x ∷ xs) v → (v ≡ x) ⊎ IsAmong xs v
 among_cases x v xs (zero, is) = inl is.1
 among_cases x v xs (suc i, is) = inr (i, (omega (arith, is.0), is.1))
 

@@ -2,10 +2,10 @@
 pub mod RenewingLaws
 pub mod TouchedLaws
 pub mod ErrandLaws
-pub mod CountingLaws
+mod CountingLemmas
 mod PlaceLemmas
 mod SavingLemmas
 mod DueLemmas
 mod TripLemmas
-mod RunLemmas
+mod DoneLemmas
 mod MoveLemmas

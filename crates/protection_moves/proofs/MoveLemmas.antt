@@ -1,7 +1,7 @@
 -- The move of a shard, put together: what is due, the counters, and the run of its errands.
-use Rattle.std.proofs.Common.{◌≡◌, ◌⊎◌, ℕ, zero, suc, ◌+◌, ◌<◌, ◌≤◌, Bool, true, false, not, List, [], ◌∷◌, ◌++◌, map, take, length, Option, Some, None, IsTrue, refl, sym, ◌∙◌, ap, subst, inl, inr, append_assoc, arith}
+use Rattle.std.proofs.Common.{◌≡◌, ◌⊎◌, ℕ, suc, ◌+◌, ◌<◌, Bool, List, [], ◌∷◌, ◌++◌, map, take, length, Option, IsTrue, refl, sym, ◌∙◌, ap, subst, inl, inr, append_assoc, arith}
 use Rattle.std.proofs.Math.Path.{fun_ext}
-use Rattle.std.specs.Prelude.{◌↔◌, slice_index_or, AllPairs}
+use Rattle.std.specs.Prelude.{AllPairs}
 use Rattle.std.specs.List.{AllByRecursion, IsAmong}
 use Rattle.lamport_clocks.specs.declared.stamp.Stamp.{Stamp}
 use Rattle.lamport_clocks.specs.Clock.{is_open}
@@ -14,27 +14,18 @@ use Rattle.host_shard.specs.declared.content.HotRecord.{HotRecord}
 use Rattle.host_shard.specs.Content.{Content}
 use Rattle.host_shard.specs.Shard.{Shard, pending_shard}
 use Rattle.host_plan.specs.Moments.{taking, giving}
-use Rattle.host_plan.specs.Visit.{between}
 use Rattle.protection_moves.specs.Stage.{Stage, vacancies, touched_in, untouched_in}
 use Rattle.protection_moves.specs.Renewing.{renewing_each, renewed_places, renewing_commands}
 use Rattle.protection_moves.specs.Errand.{Errand, demotes, promotes, AreDue, errands_of, clock_by_each, clock_needed}
-use Rattle.protection_moves.specs.Move.{IsMove, IsPastEnd, begun, handed_out, moved, move_commands}
+use Rattle.protection_moves.specs.Move.{IsMove, IsPastEnd, begun, handed_out, moved}
 use Rattle.protection_moves.specs.Trip.{AreTrips, done_by_each, commands_by_each}
-use Rattle.protection_moves.specs.Run.{IsRun, AreRising, AreFirstDue, stage_with, taking_in}
-use Rattle.protection_moves.proofs.CountingLaws.{clock_by_each-up, clock_by_each-open}
+use Rattle.protection_moves.specs.Done.{AreDone, stage_with, taking_in}
+use Rattle.protection_moves.specs.Due.{AreFirstDue}
+use Rattle.protection_moves.proofs.DueLemmas.{among_head, among_tail, among_cases}
+use Rattle.protection_moves.proofs.CountingLemmas.{clock_by_each-up, clock_by_each-open}
 use Rattle.protection_moves.proofs.RenewingLaws.{renewing_each-open}
 
 -- ---- the keys that are due are one list
-
-among_head : (x : ℕ) (xs : List ℕ) → IsAmong (x ∷ xs) x
-among_head x xs = (0, (omega arith, refl))
-
-among_tail : (x v : ℕ) (xs : List ℕ) → IsAmong xs v → IsAmong (x ∷ xs) v
-among_tail x v xs is = (suc is.0, (omega (arith, is.1.0), is.1.1))
-
-among_cases : (x v : ℕ) (xs : List ℕ) → IsAmong (x ∷ xs) v → (v ≡ x) ⊎ IsAmong xs v
-among_cases x v xs (zero, is) = inl is.1
-among_cases x v xs (suc i, is) = inr (i, (omega (arith, is.0), is.1))
 
 -- in a rising list the first is the least
 head_least : (x v : ℕ) (xs : List ℕ) → AllPairs (λ a b. a < b) (x ∷ xs) → IsAmong xs v → x < v
@@ -81,8 +72,7 @@ due_unique format stage threshold xs ys one two =
 -- ---- one stage
 
 module _ (stage : Stage) (threshold : Option ℕ) (back : List HotRecord) (keys : List ℕ) (returning : back ≡ untouched_in stage.places)
-  (first : AreFirstDue short_keys stage threshold (vacancies stage.places + length back) keys) where
-
+    (first : AreFirstDue short_keys stage threshold (vacancies stage.places + length back) keys) where
   abbrev pub errands : List Errand
   errands = map (λ (f : HotRecord). demotes f) back ++ map (λ (k : ℕ). promotes k) keys
 
@@ -124,9 +114,9 @@ module _ (stage : Stage) (threshold : Option ℕ) (back : List HotRecord) (keys 
     pub is_move : (digest : Digest) (worker : ℕ) (mid later : Reading) (start logged : List Command) (left : Shard) (places : List Content) (new : Stage)
         → mid ≡ start_clock → later ≡ giving (clock_by_each mid errands)
         → start ≡ renewing_commands short_keys stage.clock touched ++ taking_in (pending_shard stage.shard) ∷ []
-        → IsRun short_keys digest worker (stage_with stage.shard (λ k. 0) (renewed_places worker stage.clock stage.places touched) mid) errands start
-            (EvictB stage.shard.frontier (giving (clock_by_each mid errands)).at) logged
-            (stage_with left (λ k. 0) places (clock_by_each mid errands))
+        → AreDone short_keys digest worker (stage_with stage.shard (λ k. 0) (renewed_places worker stage.clock stage.places touched) mid) errands start
+        (EvictB stage.shard.frontier (giving (clock_by_each mid errands)).at) logged
+        (stage_with left (λ k. 0) places (clock_by_each mid errands))
         → new ≡ record { shard = record left { touches = λ k. 0; stamp = later.at; evictor = worker }; places = places; clock = later }
         → IsMove short_keys digest worker threshold stage logged new
     is_move digest worker mid later start logged left places new begins ends starts run becomes = record {

@@ -1,10 +1,10 @@
 -- Hot records in the order of their keys, and the place of one of them.
-use Rattle.std.proofs.Common.{◌≡◌, ℕ, zero, suc, ◌<◌, ◌≤◌, Bool, true, false, List, [], ◌∷◌, ◌++◌, map, length, take, drop, cond, nat_lt, get_or, set, if◌then◌else◌, refl, sym, ◌∙◌, ap, arith}
+use Rattle.std.proofs.Common.{◌≡◌, ℕ, zero, suc, ◌<◌, ◌≤◌, Bool, List, [], ◌∷◌, ◌++◌, map, length, take, drop, cond, nat_lt, get_or, set, if◌then◌else◌, refl, sym, ◌∙◌, ap, arith}
 use Rattle.std.proofs.lemmas.Bool.{lt-ltb, le-ltb}
 use Rattle.stamp_order.specs.InOrder.{put_in_order}
 use Rattle.host_shard.specs.declared.content.HotRecord.{HotRecord}
 use Rattle.host_shard.specs.Content.{Content}
-use Rattle.protection_moves.specs.Run.{replaced_at}
+use Rattle.protection_moves.specs.Places.{replaced_at}
 use Rattle.protection_moves.specs.Stage.{is_hot_at, replaced}
 
 -- one record comes before another

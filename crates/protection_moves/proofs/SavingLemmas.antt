@@ -1,5 +1,5 @@
 -- What is kept of a shard, and a shard that is as before again.
-use Rattle.std.proofs.Common.{◌≡◌, ℕ, Bool, true, false, List, [], ◌∷◌, map, Option, Some, None, IsSome, unwrap_or, if◌then◌else◌, refl, sym, ◌∙◌, ap, subst}
+use Rattle.std.proofs.Common.{◌≡◌, ℕ, Bool, true, false, List, [], ◌∷◌, Option, Some, None, IsSome, unwrap_or, if◌then◌else◌, refl, sym, ◌∙◌, ap, subst}
 use Rattle.std.proofs.lemmas.Bool.{false≢true, true≢false}
 use Rattle.std.proofs.Math.Path.{fun_ext}
 use Rattle.std.specs.List.{AllByRecursion}
@@ -14,7 +14,6 @@ use Rattle.host_shard.specs.declared.link.Link.{Link}
 use Rattle.host_shard.specs.Records.{Kept, with_kept, values_in, touches_in}
 use Rattle.host_shard.specs.Tree.{Tree, with_record}
 use Rattle.host_shard.specs.Chain.{closed_value, closed_records}
-use Rattle.host_shard.specs.Shard.{Shard, settled}
 use Rattle.protection_moves.specs.declared.saving.SavedRecord.{SavedRecord}
 use Rattle.protection_moves.specs.Saving.{saved_along, with_value, IsElsewhere, CanRestore}
 
@@ -93,10 +92,6 @@ no_touches kept path none = own (kept path) none
         is_some' (Some v) = true
 
 -- ---- several paths
-
--- where nothing is saved, all is as before
-pub nothing_saved : (was now : Tree) (touches : List Bool → ℕ) → CanRestore was touches [] now → now ≡ was
-nothing_saved was now touches can = fun_ext (λ path. can.others path tt)
 
 -- the first of what was saved can be restored
 pub first_there : (was now : Tree) (touches : List Bool → ℕ) (first : SavedRecord) (rest : List SavedRecord) → CanRestore was touches (first ∷ rest) now

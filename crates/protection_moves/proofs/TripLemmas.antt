@@ -1,20 +1,19 @@
 -- A trip along a chain: its commands are commands, and what it leaves of the shard is a shard.
-use Rattle.std.proofs.Common.{◌≡◌, ◌≢◌, ℕ, suc, ◌<◌, ◌≤◌, ◌^◌, Bool, true, false, List, [], ◌∷◌, ◌++◌, map, length, ◌-◌, Option, Some, None, IsSome, if◌then◌else◌, refl, sym, ◌∙◌, ap, subst, arith}
+use Rattle.std.proofs.Common.{◌≡◌, ℕ, suc, ◌<◌, ◌≤◌, ◌^◌, Bool, true, false, List, [], ◌∷◌, ◌++◌, length, ◌-◌, Option, Some, None, if◌then◌else◌, refl, sym, ◌∙◌, ap, subst, arith}
 use Rattle.std.proofs.lemmas.Bool.{false≢true}
 use Rattle.std.proofs.lemmas.Option.{none-some, same_Some}
 use Rattle.std.proofs.Math.Path.{fun_ext}
 use Rattle.std.specs.Prelude.{slice_get}
 use Rattle.std.specs.List.{AllByRecursion}
-use Rattle.tree_keys.specs.Path.{side, same_path, IsBelow}
-use Rattle.tree_keys.proofs.PathLaws.{same_path-self, same_path-true, same_path-apart}
-use Rattle.tree_keys.proofs.SideLaws.{above_apart}
+use Rattle.tree_keys.specs.Path.{side, same_path}
+use Rattle.tree_keys.proofs.PathLaws.{same_path-true}
 use Rattle.lamport_clocks.specs.declared.stamp.Stamp.{Stamp}
 use Rattle.record_text.specs.declared.element.Element.{Element}
 use Rattle.record_text.specs.declared.value.Pointer.{Pointer}
 use Rattle.record_text.specs.declared.value.Value.{Value}
 use Rattle.record_text.specs.declared.value.Value.TheVariants as values
-use Rattle.record_text.specs.Format.{Format, path_bits}
-use Rattle.record_text.specs.Value.{IsOf, IsSide}
+use Rattle.record_text.specs.Format.{Format, path_bits, short_keys}
+use Rattle.record_text.specs.Value.{IsOf}
 use Rattle.record_text.specs.Element.{IsStamp}
 use Rattle.log_codec.specs.declared.command.Command.{Command}
 use Rattle.log_codec.specs.Command.{IsCommand}
@@ -22,17 +21,19 @@ use Rattle.merkle_records.specs.Merkle.{Digest, GivesDigests, pointer_to, deferr
 use Rattle.merkle_records.proofs.KindLaws.{is_prefix-side, IsOf-with_side}
 use Rattle.host_shard.specs.declared.link.Link.{Link}
 use Rattle.host_shard.specs.declared.content.HotRecord.{HotRecord}
-use Rattle.host_shard.specs.Tree.{Tree, with_record}
-use Rattle.host_shard.specs.Chain.{IsChain, aimed, aimed_on, last_value, closed_pointer, closed_value, closed_records}
+use Rattle.host_shard.specs.Tree.{Tree}
+use Rattle.host_shard.specs.Chain.{IsChain, aimed, aimed_on, last_value, closed_value, closed_records}
 use Rattle.host_shard.specs.Shard.{Shard, tree_of, settled}
 use Rattle.host_shard.specs.Content.{key_path, pending_hot}
 use Rattle.host_shard.specs.Mirrors.{IsShard, IsKeyOf}
+use Rattle.host_shard.proofs.ShardLaws.{settled_is}
 use Rattle.host_shard.proofs.ChainLaws.{AreOf, frontier_kind, next_of}
 use Rattle.protection_moves.specs.declared.saving.Saved.{Saved}
 use Rattle.protection_moves.specs.declared.saving.SavedRecord.{SavedRecord}
 use Rattle.protection_moves.specs.Trip.{visit_but_last, come_back, become_hot, without_record, with_back, shard_without}
+use Rattle.protection_moves.specs.Lending.{IsReturning}
 use Rattle.protection_moves.specs.Turn.{last_path, deferring, IsLent, shard_but}
-use Rattle.protection_moves.specs.Saving.{saved_along, IsElsewhere, CanRestore, IsSavedOf}
+use Rattle.protection_moves.specs.Saving.{saved_along, CanRestore, IsSavedOf}
 use Rattle.protection_moves.proofs.SavingLemmas.{closed_there, closed_elsewhere, saved_was, elsewhere_links}
 
 -- ---- commands
@@ -96,15 +97,6 @@ hot_typed format shard key links stamp before after fits whole chain stamped is 
     (λ from link. become_hot_typed format stamp from link stamped)))
 
 -- ---- a chain whose last record is lent
-
--- a chain to a path below its start has a link
-pub chain_some : (format : Format) (tree : Tree) (key at : List Bool) (value : Value) (links : List Link) → IsBelow at key → IsChain format tree key at value links → 0 < length links
-chain_some format tree key at value [] below ends = absurd (go (side at key) refl below)
-  where
-    go : (s : Option Bool) → side at key ≡ s → IsSome s → ⊥
-    go None is some = false≢true some
-    go (Some on) is some = above_apart at key on is ends
-chain_some format tree key at value (link ∷ links) below chain = omega arith
 
 -- the chain's last path is the key
 last_key : (format : Format) (tree : Tree) (key at : List Bool) (value : Value) (above : List Link) (link : Link)
@@ -281,6 +273,37 @@ but_is format shard path fits = record {
         there None = false
         there (Some v) = true
     go k value false at false is = fits.kinds k value (ap (λ (b' : Bool). if b' then Some shard.value else shard.records k) at ∙ is)
+
+-- ---- a hot record that comes back
+
+-- what the code works out of it
+pub returning_of : (digest : Digest) (found : HotRecord) (old now new : Shard) (along : List Link) (before after : List Command) (element : Element) (blob : Option (List ℕ))
+    → now ≡ with_back short_keys old found → IsChain short_keys (tree_of now) (key_path short_keys found.key) now.frontier now.value along
+    → after ≡ before ++ visit_but_last now.frontier along (come_back element) → element ≡ pending_hot short_keys found
+    → new ≡ settled short_keys digest now along (values.Blob blob) → blob ≡ found.value
+    → IsReturning short_keys digest found old before after new
+returning_of digest found old now new along before after element blob back way logged pending settles same = record {
+  links = along;
+  way = subst (λ (s : Shard). IsChain short_keys (tree_of s) (key_path short_keys found.key) s.frontier s.value along) back way;
+  commands = logged
+      ∙ ap (λ (e : Element). before ++ visit_but_last now.frontier along (come_back e)) pending
+      ∙ ap (λ (s : Shard). before ++ visit_but_last s.frontier along (come_back (pending_hot short_keys found))) back;
+  shard = settles
+      ∙ ap (λ (b : Option (List ℕ)). settled short_keys digest now along (values.Blob b)) same
+      ∙ ap (λ (s : Shard). settled short_keys digest s along (values.Blob found.value)) back;
+}
+
+pub returned_is : (digest : Digest) (found : HotRecord) (now new : Shard) (along : List Link) (element : Element) (blob : Option (List ℕ))
+    → GivesDigests digest → IsShard short_keys now → IsKeyOf short_keys now (key_path short_keys found.key)
+    → IsChain short_keys (tree_of now) (key_path short_keys found.key) now.frontier now.value along
+    → element ≡ pending_hot short_keys found → IsOf short_keys element.path element.value
+    → new ≡ settled short_keys digest now along (values.Blob blob) → blob ≡ found.value → IsShard short_keys new
+returned_is digest found now new along element blob digests fits own way pending kind settles same =
+    subst (IsShard short_keys) (sym settles)
+    (settled_is short_keys digest now (key_path short_keys found.key) along (values.Blob blob) digests fits own
+    (subst (λ (b : Option (List ℕ)). IsOf short_keys (key_path short_keys found.key) (values.Blob b)) (sym same)
+    (subst (λ (e : Element). IsOf short_keys e.path e.value) pending kind))
+    way)
 
 -- ---- what was saved before a trip
 

@@ -1,11 +1,14 @@
 -- The keys that are due, read off the records one by one.
-use Rattle.std.specs.Prelude.{ℕ, ◌==◌, ◌||◌, Bool, true, false, List, [], ◌∷◌, ◌++◌, length, Option, Some, None, is_none, nat_lt, if◌then◌else◌}
+use Rattle.std.specs.Prelude.{◌≡◌, ℕ, ◌<◌, ◌==◌, ◌||◌, Bool, false, List, [], ◌∷◌, ◌++◌, take, length, Option, Some, None, is_none, nat_lt, if◌then◌else◌}
+use Rattle.std.specs.List.{AllByRecursion}
 use Rattle.tree_keys.specs.Bits.{number_of}
 use Rattle.tree_keys.specs.Path.{side, same_path}
-use Rattle.record_text.specs.Format.{short_keys}
+use Rattle.record_text.specs.Format.{Format, short_keys}
 use Rattle.host_shard.specs.declared.record.Record.{Record}
 use Rattle.host_shard.specs.Content.{Content, cold, hot, vacant, key_path}
 use Rattle.host_shard.specs.Records.{Listed}
+use Rattle.protection_moves.specs.Stage.{Stage}
+use Rattle.protection_moves.specs.Errand.{AreDue}
 
 -- the key of this path has a hot place
 abbrev pub is_hot : List Bool → List Content → Bool
@@ -31,3 +34,14 @@ abbrev pub due_among : ℕ → List Bool → List Content → Listed → List �
 due_among least frontier places [] = []
 due_among least frontier places (entry ∷ listed) =
     listed_key (due_key least frontier places entry.0 entry.1) ++ due_among least frontier places listed
+
+-- each key is below those behind it
+abbrev pub AreRising : List ℕ → Type 0
+AreRising [] = Unit {0}
+AreRising (key ∷ keys) = AllByRecursion (λ other. key < other) keys × AreRising keys
+
+-- the first of the keys that are due, at most so many
+pub record AreFirstDue (format : Format) (stage : Stage) (threshold : Option ℕ) (room : ℕ) (keys : List ℕ) : Type 0 where
+  pub due : List ℕ
+  pub are_due : AreDue format stage threshold due
+  pub first : keys ≡ take room due

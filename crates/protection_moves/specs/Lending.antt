@@ -8,7 +8,7 @@ use Rattle.host_shard.specs.declared.link.Link.{Link}
 use Rattle.host_shard.specs.declared.content.HotRecord.{HotRecord}
 use Rattle.host_shard.specs.Chain.{IsChain, last_value}
 use Rattle.host_shard.specs.Shard.{Shard, tree_of, settled}
-use Rattle.host_shard.specs.Content.{key_path, vacant}
+use Rattle.host_shard.specs.Content.{key_path}
 use Rattle.record_text.specs.declared.value.Value.TheVariants as values
 use Rattle.host_shard.specs.Content.{pending_hot}
 use Rattle.protection_moves.specs.Trip.{visit_but_last, come_back, become_hot, data_of, shard_without, with_back}

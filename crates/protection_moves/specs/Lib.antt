@@ -5,8 +5,9 @@ pub mod Errand
 pub mod Trip
 pub mod Move
 pub mod Shown
+pub mod Places
 pub mod Due
-pub mod Run
+pub mod Done
 pub mod Saving
 pub mod Turn
 pub mod Lending

@@ -1,6 +1,5 @@
 -- The end of a trip's chain, and what the code works out along it.
-use Rattle.std.specs.Prelude.{◌≡◌, Bool, List, [], ◌∷◌, ◌++◌, Option, Some, None, if◌then◌else◌}
-use Rattle.tree_keys.specs.Path.{same_path}
+use Rattle.std.specs.Prelude.{◌≡◌, Bool, List, [], ◌∷◌, ◌++◌}
 use Rattle.record_text.specs.declared.value.Value.{Value}
 use Rattle.record_text.specs.Format.{Format}
 use Rattle.log_codec.specs.declared.command.Command.{Command}

@@ -15,7 +15,9 @@ ghost use Rattle.host_shard.specs.Shown.{shown};
 ghost use Rattle.host_plan.specs.Moments.{giving};
 ghost use Rattle.protection_moves.specs.Errand.{demotes, promotes, clock_by_each};
 ghost use Rattle.protection_moves.specs.Lending.{IsReturning};
-ghost use Rattle.protection_moves.specs.Run.{IsRun, AreRising, stage_with, placed_each, vacated};
+ghost use Rattle.protection_moves.specs.Done.{AreDone, stage_with};
+ghost use Rattle.protection_moves.specs.Due.{AreRising};
+ghost use Rattle.protection_moves.specs.Places.{placed_each, vacated};
 ghost use Rattle.protection_moves.specs.Saving.{IsSavedOf};
 ghost use Rattle.protection_moves.specs.Trip.{with_back};
 
@@ -101,8 +103,8 @@ pub(crate) fn demote_each<D: Digests>(
     requires few { length keys.now ≤ 4 }
     requires open { AllByRecursion (λ found. IsTrue (is_open clock.now found.stamp.epoch)) back.now }
     requires within { (giving (clock_by_each clock.now (map demotes back.now ++ map promotes keys.now))).at.counter ≤ clock.now.end }
-    ensures run { IfOk result (λ hot. (touches : List Bool → ℕ) (places : List Content)
-        → IsRun short_keys (D.functions d.now).digest worker (stage_with (shown shard.old) touches places clock.now)
+    ensures done { IfOk result (λ hot. (touches : List Bool → ℕ) (places : List Content)
+        → AreDone short_keys (D.functions d.now).digest worker (stage_with (shown shard.old) touches places clock.now)
         (map demotes back.now ++ map promotes keys.now) commands.old.items
         (EvictB shard.old.frontier (giving (clock_by_each clock.now (map demotes back.now ++ map promotes keys.now))).at) commands.new.items
         (stage_with (shown shard.new) touches (placed_each hot.items (vacated back.now places))

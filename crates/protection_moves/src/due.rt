@@ -7,8 +7,7 @@ ghost use Rattle.record_text.specs.Format.{short_keys};
 ghost use Rattle.host_shard.specs.Content.{key_path};
 ghost use Rattle.host_shard.specs.Mirrors.{IsKeyOf};
 ghost use Rattle.host_shard.specs.Shown.{shown, shown_content};
-ghost use Rattle.protection_moves.specs.Due.{due_key, is_hot};
-ghost use Rattle.protection_moves.specs.Run.{AreFirstDue, AreRising};
+ghost use Rattle.protection_moves.specs.Due.{due_key, is_hot, AreFirstDue, AreRising};
 ghost use Rattle.protection_moves.specs.Shown.{shown_stage};
 
 use crate::hot_places::HOT_PLACES;

@@ -6,7 +6,7 @@ ghost use Rattle.stamp_order.specs.InOrder.{put_in_order};
 ghost use Rattle.host_shard.specs.declared.content.HotRecord.{HotRecord};
 ghost use Rattle.host_shard.specs.Content.{hot};
 ghost use Rattle.host_shard.specs.Shown.{shown_content};
-ghost use Rattle.protection_moves.specs.Run.{content_of, is_vacant, placed_each, replaced_at, vacated};
+ghost use Rattle.protection_moves.specs.Places.{content_of, is_vacant, placed_each, replaced_at, vacated};
 ghost use Rattle.protection_moves.specs.Stage.{is_hot_at, placed, replaced, touched_in, untouched_in, vacancies};
 
 use arrayvec::ArrayVec;

@@ -11,7 +11,9 @@ ghost use Rattle.host_shard.specs.Shown.{shown};
 ghost use Rattle.host_plan.specs.Moments.{giving};
 ghost use Rattle.protection_moves.specs.Errand.{promotes, clock_by_each};
 ghost use Rattle.protection_moves.specs.Lending.{IsLending};
-ghost use Rattle.protection_moves.specs.Run.{IsRun, AreRising, stage_with, placed_each};
+ghost use Rattle.protection_moves.specs.Done.{AreDone, stage_with};
+ghost use Rattle.protection_moves.specs.Due.{AreRising};
+ghost use Rattle.protection_moves.specs.Places.{placed_each};
 ghost use Rattle.protection_moves.specs.Saving.{IsSavedOf};
 ghost use Rattle.protection_moves.specs.Trip.{data_of};
 ghost use Rattle.protection_moves.specs.Turn.{IsLent, last_path, deferring};
@@ -33,7 +35,7 @@ use want_of_memory::Memory;
 
 /// A record that became hot, and what its shard kept before.
 #[derive(Drop)]
-pub struct Promotion {
+pub(crate) struct Promotion {
     pub hot: HotRecord,
     pub saved: Saved,
 }
@@ -145,8 +147,8 @@ pub(crate) fn promote_each<D: Digests>(
     requires rising { AreRising keys.now }
     requires few { length keys.now ≤ 4 }
     requires within { (giving (clock_by_each clock.now (map promotes keys.now))).at.counter ≤ clock.now.end }
-    ensures run { IfOk result (λ hot. (touches : List Bool → ℕ) (places : List Content)
-        → IsRun short_keys (D.functions d.now).digest worker (stage_with (shown shard.old) touches places clock.now)
+    ensures done { IfOk result (λ hot. (touches : List Bool → ℕ) (places : List Content)
+        → AreDone short_keys (D.functions d.now).digest worker (stage_with (shown shard.old) touches places clock.now)
         (map promotes keys.now) commands.old.items
         (EvictB shard.old.frontier (giving (clock_by_each clock.now (map promotes keys.now))).at) commands.new.items
         (stage_with (shown shard.new) touches (placed_each hot.items places) (clock_by_each clock.now (map promotes keys.now)))) }

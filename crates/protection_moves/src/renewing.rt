@@ -9,7 +9,7 @@ ghost use Rattle.log_codec.specs.Command.{IsCommand};
 ghost use Rattle.host_shard.specs.Shown.{shown_content};
 ghost use Rattle.host_plan.specs.Visit.{between};
 ghost use Rattle.protection_moves.specs.Renewing.{renewing_commands, renewing_each, renewed_places};
-ghost use Rattle.protection_moves.specs.Run.{taking_in};
+ghost use Rattle.protection_moves.specs.Done.{taking_in};
 
 use crate::hot_places::replace;
 use host_plan::renewed;

@@ -14,14 +14,14 @@ use want_of_memory::Memory;
 
 /// What a shard kept of a path.
 #[derive(Drop)]
-pub struct SavedRecord {
+pub(crate) struct SavedRecord {
     pub path: Path,
     pub value: Option<Value>,
 }
 
 /// The frontier's value, and what a shard kept of some paths.
 #[derive(Drop)]
-pub struct Saved {
+pub(crate) struct Saved {
     pub value: Value,
     pub records: Vec<SavedRecord>,
 }

@@ -12,7 +12,7 @@ use want_of_memory::Memory;
 
 /// What is done at the end of a trip: a hot record comes back with its element, or one becomes hot with a stamp.
 #[derive(Drop)]
-pub enum Turn {
+pub(crate) enum Turn {
     ComesBack(Element),
     BecomesHot(Stamp),
 }

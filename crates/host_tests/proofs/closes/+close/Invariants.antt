@@ -1,4 +1,3 @@
-
 use Rattle.host_tests.proofs.closes.+close.Given as goal
 
 abbrev pub decreases-close : goal.decreases-close

@@ -1,6 +1,6 @@
 use Rattle.std.proofs.Common.{ℕ, map}
 use Rattle.protection_moves.specs.Errand.{promotes}
-use Rattle.protection_moves.proofs.CountingLaws.{past_by_first_errand}
+use Rattle.protection_moves.proofs.CountingLemmas.{past_by_first_errand}
 use Rattle.protection_moves.proofs.counting.+ended.Goals as goal
 
 pub returns-in-None-clause-past : goal.returns-in-None-clause-past

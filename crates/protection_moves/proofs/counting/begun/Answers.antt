@@ -1,9 +1,8 @@
-use Rattle.std.proofs.Common.{◌≡◌, ℕ, ◌<◌, ◌≤◌, IfSome, IfNone, ◌∙◌, ap, subst, arith}
+use Rattle.std.proofs.Common.{ℕ, ◌<◌, ◌≤◌, IfSome, IfNone, ◌∙◌, ap, subst}
 use Rattle.lamport_clocks.specs.Reading.{Reading}
 use Rattle.lamport_clocks.specs.Clock.{is_open}
 use Rattle.host_plan.specs.Moments.{taking}
 use Rattle.protection_moves.specs.Renewing.{renewing_each}
-use Rattle.protection_moves.proofs.CountingLaws.{taking-up}
 use Rattle.protection_moves.proofs.RenewingLaws.{renewing_each-open, renewing_each-end}
 use Rattle.protection_moves.proofs.counting.begun.Goals as goal
 

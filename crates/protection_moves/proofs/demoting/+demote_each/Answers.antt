@@ -1,24 +1,19 @@
-use Rattle.std.proofs.Common.{rules, ◌≡◌, ℕ, suc, ◌<◌, ◌≤◌, List, Bool, None, [], ◌∷◌, ◌++◌, map, length, IsTrue, refl, sym, subst, ap, ◌∙◌, arith}
+use Rattle.std.proofs.Common.{rules, ◌≡◌, ℕ, List, ◌∷◌, map, sym, subst, ap, ◌∙◌, arith}
 use Rattle.std.specs.List.{AllByRecursion}
-use Rattle.lamport_clocks.specs.Clock.{is_open}
-use Rattle.lamport_clocks.specs.Reading.{Reading}
 use Rattle.record_text.specs.Format.{short_keys}
-use Rattle.record_text.specs.Value.{IsOf}
-use Rattle.record_text.specs.declared.value.Value.TheVariants as values
 use Rattle.host_shard.specs.declared.content.HotRecord.{HotRecord}
 use Rattle.host_shard.specs.Content.{key_path}
 use Rattle.host_shard.specs.Mirrors.{IsKeyOf, IsShard}
 use Rattle.host_shard.specs.Records.{record_at, values_of}
 use Rattle.host_shard.specs.Shard.{Shard}
 use Rattle.host_shard.specs.Shown.{shown}
-use Rattle.host_plan.specs.Moments.{taking}
-use Rattle.protection_moves.specs.Errand.{Errand, promotes}
+use Rattle.protection_moves.specs.Errand.{promotes}
 use Rattle.protection_moves.specs.Saving.{IsSavedOf}
 use Rattle.protection_moves.specs.Trip.{with_back}
-use Rattle.protection_moves.proofs.CountingLaws.{past_by_first_errand}
+use Rattle.protection_moves.proofs.CountingLemmas.{past_by_first_errand}
 use Rattle.protection_moves.proofs.SavingLemmas.{no_touches}
 use Rattle.protection_moves.proofs.TripLemmas.{back_is}
-use Rattle.protection_moves.proofs.RunLemmas.{rest_own, rest_own_back, rest_open, rest_within_back, run_returned}
+use Rattle.protection_moves.proofs.DoneLemmas.{rest_own, rest_own_back, rest_open, rest_within_back, errands_returned}
 use Rattle.protection_moves.proofs.demoting.+demote_each.Goals as goal
 
 pub unreachable-requires : goal.unreachable-requires
@@ -76,13 +71,13 @@ demote_each-requires g t c κs within =
       ),
     )
 
-pub returns-in-Ok-demote_each-clause-run : goal.returns-in-Ok-demote_each-clause-run
-returns-in-Ok-demote_each-clause-run g t c touches places =
+pub returns-in-Ok-demote_each-clause-done : goal.returns-in-Ok-demote_each-clause-done
+returns-in-Ok-demote_each-clause-done g t c touches places =
     let digest = (g.D.Digests.functions c.args.d.now).digest in
-    run_returned digest c.args.worker (shown c.args.shard.now) (shown c.settle_back.new.shard) (shown c.demote_each.new.shard) c.in-Some.parts.0.now c.in-Some.parts.1.now c.args.back.now
+    errands_returned digest c.args.worker (shown c.args.shard.now) (shown c.settle_back.new.shard) (shown c.demote_each.new.shard) c.in-Some.parts.0.now c.in-Some.parts.1.now c.args.back.now
     (map (λ (k : ℕ). promotes k) c.args.keys.now) c.in-Ok-demote_each.hot.items c.args.clock.now c.in-Some-taken.next c.args.commands.now.items c.settle_back.new.commands.items c.demote_each.new.commands.items
     c.in-Some.ensures.cases.0 (c.in-Ok.ensures.back (shown c.args.shard.now) c.in_ok-put_back.ensures.back) c.in-Some-taken.ensures.taken
-    (c.in-Ok.ensures.frontier ∙ ap (λ (s : Shard). s.frontier) c.in_ok-put_back.ensures.back) c.in-Ok-demote_each.ensures.run touches places
+    (c.in-Ok.ensures.frontier ∙ ap (λ (s : Shard). s.frontier) c.in_ok-put_back.ensures.back) c.in-Ok-demote_each.ensures.done touches places
 
 pub returns-clause-as_before : goal.returns-clause-as_before
 returns-clause-as_before g t c =

@@ -1,12 +1,10 @@
-use Rattle.std.proofs.Common.{◌≡◌, ℕ, List, Bool, Option, refl, ap, ◌∙◌}
+use Rattle.std.proofs.Common.{ℕ, List, Bool, Option, refl, ap, ◌∙◌}
 use Rattle.record_text.specs.declared.value.Value.TheVariants as values
 use Rattle.record_text.specs.Format.{short_keys}
-use Rattle.host_shard.specs.Content.{key_path}
-use Rattle.host_shard.specs.Records.{record_at, values_of, touches_of, new_record}
+use Rattle.host_shard.specs.Records.{record_at, touches_of, new_record}
 use Rattle.host_shard.specs.Shard.{Shard}
 use Rattle.host_shard.specs.Shown.{shown}
 use Rattle.host_shard.specs.Tree.{Tree, with_record}
-use Rattle.protection_moves.specs.Trip.{with_back}
 use Rattle.protection_moves.proofs.SavingLemmas.{opened_values, opened_touches}
 use Rattle.protection_moves.proofs.demoting.put_back.Goals as goal
 

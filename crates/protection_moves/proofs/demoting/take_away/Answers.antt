@@ -1,4 +1,4 @@
-use Rattle.std.proofs.Common.{◌≡◌, ℕ, List, Bool, None, IsSome, sym, subst, ap, ◌∙◌}
+use Rattle.std.proofs.Common.{◌≡◌, ℕ, List, Bool, None, IsSome, subst, ap, ◌∙◌}
 use Rattle.record_text.specs.declared.value.Value.TheVariants as values
 use Rattle.record_text.specs.Format.{short_keys}
 use Rattle.host_shard.specs.Content.{key_path}
@@ -7,7 +7,6 @@ use Rattle.host_shard.specs.Shard.{Shard}
 use Rattle.host_shard.specs.Shown.{shown}
 use Rattle.host_shard.specs.Tree.{Tree}
 use Rattle.protection_moves.specs.Saving.{with_value}
-use Rattle.protection_moves.specs.Trip.{with_back}
 use Rattle.protection_moves.proofs.SavingLemmas.{taken_away}
 use Rattle.protection_moves.proofs.demoting.take_away.Goals as goal
 

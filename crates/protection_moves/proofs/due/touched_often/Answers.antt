@@ -1,12 +1,11 @@
-use Rattle.std.proofs.Common.{◌≡◌, ℕ, ◌-◌, ◌≤◌, List, [], ◌∷◌, ◌++◌, map, take, length, Option, Some, None, refl, sym, ◌∙◌, ap, subst, arith, append_assoc}
+use Rattle.std.proofs.Common.{◌≡◌, ℕ, ◌-◌, List, ◌∷◌, ◌++◌, map, take, length, Option, refl, sym, ◌∙◌, ap, subst}
 use Rattle.std.specs.List.{AllByRecursion}
 use Rattle.record_text.specs.Format.{short_keys}
 use Rattle.host_shard.specs.Content.{key_path}
 use Rattle.host_shard.specs.Mirrors.{IsKeyOf}
 use Rattle.host_shard.specs.Records.{Listed}
 use Rattle.host_shard.specs.Shown.{shown, shown_content}
-use Rattle.protection_moves.specs.Due.{due_among, listed_key}
-use Rattle.protection_moves.specs.Run.{AreRising, AreFirstDue}
+use Rattle.protection_moves.specs.Due.{due_among, listed_key, AreRising}
 use Rattle.protection_moves.specs.Shown.{shown_stage}
 use Rattle.protection_moves.proofs.DueLemmas.{are_due, due_rising, due_own, all_front, rising_front, front_full, front_all, front_more}
 use Rattle.protection_moves.proofs.due.touched_often.Goals as goal

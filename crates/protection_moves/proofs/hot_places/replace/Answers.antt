@@ -1,10 +1,10 @@
-use Rattle.std.proofs.Common.{◌≡◌, ℕ, suc, ◌+◌, ◌<◌, List, length, map, sym, ◌∙◌, ap, subst, arith}
+use Rattle.std.proofs.Common.{◌≡◌, ℕ, suc, ◌+◌, ◌<◌, List, length, map, subst, arith}
 use Rattle.std.specs.Prelude.{slice_set}
 use Rattle.std.specs.Option.{option_copied}
 use Rattle.host_shard.specs.Shown.{shown_content}
 use Rattle.host_shard.specs.declared.content.Content.{Content}
 use Rattle.host_shard.specs.Content.{Content as Seen}
-use Rattle.protection_moves.specs.Run.{content_of, replaced_at}
+use Rattle.protection_moves.specs.Places.{content_of}
 use Rattle.protection_moves.proofs.PlaceLemmas.{replaced_front, replaced_step, replaced_end}
 use Rattle.protection_moves.proofs.hot_places.replace.Goals as goal
 

@@ -1,7 +1,7 @@
 use Rattle.std.proofs.Common.{◌≡◌, map}
 use Rattle.std.specs.Option.{option_copied}
 use Rattle.host_shard.specs.Shown.{shown_content}
-use Rattle.protection_moves.specs.Run.{content_of}
+use Rattle.protection_moves.specs.Places.{content_of}
 use Rattle.protection_moves.proofs.PlaceLemmas.{replaced_front}
 use Rattle.protection_moves.proofs.hot_places.replace.Given as goal
 

@@ -1,4 +1,4 @@
-use Rattle.std.proofs.Common.{rules, ◌≡◌, ℕ, ◌+◌, ◌<◌, ◌≤◌, List, Bool, [], ◌∷◌, ◌++◌, map, length, IsTrue, refl, sym, ◌∙◌, ap, subst, arith}
+use Rattle.std.proofs.Common.{rules, ◌≡◌, ℕ, ◌+◌, ◌<◌, List, [], ◌∷◌, ◌++◌, map, length, IsTrue, refl, sym, ◌∙◌, ap, subst, arith}
 use Rattle.std.specs.List.{AllByRecursion}
 use Rattle.lamport_clocks.specs.declared.stamp.Stamp.{Stamp}
 use Rattle.lamport_clocks.specs.Clock.{is_open}
@@ -17,7 +17,9 @@ use Rattle.host_plan.specs.Moments.{giving}
 use Rattle.protection_moves.specs.Errand.{demotes, promotes, clock_by_each}
 use Rattle.protection_moves.specs.Stage.{Stage, touched_in, untouched_in, vacancies}
 use Rattle.protection_moves.specs.Renewing.{renewed_places, renewing_commands}
-use Rattle.protection_moves.specs.Run.{AreFirstDue, IsRun, placed_each, stage_with, taking_in, vacated}
+use Rattle.protection_moves.specs.Done.{taking_in}
+use Rattle.protection_moves.specs.Due.{AreFirstDue}
+use Rattle.protection_moves.specs.Places.{placed_each, vacated}
 use Rattle.protection_moves.specs.Move.{IsMove}
 use Rattle.protection_moves.specs.Shown.{shown_stage}
 use Rattle.protection_moves.proofs.TouchedLaws.{touched_all, untouched_all}
@@ -39,15 +41,15 @@ returns-in-None-clause-clock_end g c =
     let returning : back ≡ untouched_in stage.places = c.as_slice-back.ensures.value ∙ c.untouched_in-returning.ensures.records in
     let staying : touched ≡ touched_in stage.places = c.as_slice-touched.ensures.value ∙ c.touched_in-staying.ensures.records in
     let first : AreFirstDue short_keys stage c.args.threshold (vacancies stage.places + length back) keys =
-        first_keys stage c.args.threshold back c.due_keys-due.result.items keys c.vacancies.result (length back)
-        c.vacancies.ensures.value refl c.as_slice-keys.ensures.value (c.due_keys-due.ensures.first c.args.clock.now) in
+    first_keys stage c.args.threshold back c.due_keys-due.result.items keys c.vacancies.result (length back)
+    c.vacancies.ensures.value refl c.as_slice-keys.ensures.value (c.due_keys-due.ensures.first c.args.clock.now) in
     (λ same. past_at_start stage c.args.threshold back keys returning first touched staying c.in-None.ensures.past, λ past. refl)
 
 pub ended-requires : goal.ended-requires
 ended-requires g c = record {
   «open» = open_between c.args.clock.now c.in-Some.between c.as_slice-touched.result.now c.args.shard.now.stamp c.as_slice-back.result.now c.in-Some.ensures.begun
-    (subst (AllByRecursion (λ (f : HotRecord). IsTrue (is_open c.args.clock.now f.stamp.epoch))) (sym (c.as_slice-back.ensures.value ∙ c.untouched_in-returning.ensures.records))
-    (untouched_all (λ f. IsTrue (is_open c.args.clock.now f.stamp.epoch)) (map shown_content c.args.hot.now) c.requires.hot_open));
+      (subst (AllByRecursion (λ (f : HotRecord). IsTrue (is_open c.args.clock.now f.stamp.epoch))) (sym (c.as_slice-back.ensures.value ∙ c.untouched_in-returning.ensures.records))
+      (untouched_all (λ f. IsTrue (is_open c.args.clock.now f.stamp.epoch)) (map shown_content c.args.hot.now) c.requires.hot_open));
 }
 
 pub returns-in-None-ended-clause-clock_end : goal.returns-in-None-ended-clause-clock_end
@@ -59,9 +61,8 @@ returns-in-None-ended-clause-clock_end g c =
     let returning : back ≡ untouched_in stage.places = c.as_slice-back.ensures.value ∙ c.untouched_in-returning.ensures.records in
     let staying : touched ≡ touched_in stage.places = c.as_slice-touched.ensures.value ∙ c.touched_in-staying.ensures.records in
     let first : AreFirstDue short_keys stage c.args.threshold (vacancies stage.places + length back) keys =
-        first_keys stage c.args.threshold back c.due_keys-due.result.items keys c.vacancies.result (length back)
-        c.vacancies.ensures.value refl c.as_slice-keys.ensures.value (c.due_keys-due.ensures.first c.args.clock.now) in
-    (
+    first_keys stage c.args.threshold back c.due_keys-due.result.items keys c.vacancies.result (length back)
+    c.vacancies.ensures.value refl c.as_slice-keys.ensures.value (c.due_keys-due.ensures.first c.args.clock.now) in (
       λ same. is_past stage c.args.threshold back keys returning first touched staying
           (subst (λ (end : ℕ). end < (end_clock stage c.args.threshold back keys returning first touched staying).at.counter)
           (ap (λ (clock : Reading). clock.end) c.in-Some.ensures.begun ∙ renewing_each-end c.args.clock.now touched)
@@ -88,11 +89,11 @@ returns-in_err-commands-clause-clock_end g c =
     let returning : back ≡ untouched_in stage.places = c.as_slice-back.ensures.value ∙ c.untouched_in-returning.ensures.records in
     let staying : touched ≡ touched_in stage.places = c.as_slice-touched.ensures.value ∙ c.touched_in-staying.ensures.records in
     let first : AreFirstDue short_keys stage c.args.threshold (vacancies stage.places + length back) keys =
-        first_keys stage c.args.threshold back c.due_keys-due.result.items keys c.vacancies.result (length back)
-        c.vacancies.ensures.value refl c.as_slice-keys.ensures.value (c.due_keys-due.ensures.first c.args.clock.now) in
+    first_keys stage c.args.threshold back c.due_keys-due.result.items keys c.vacancies.result (length back)
+    c.vacancies.ensures.value refl c.as_slice-keys.ensures.value (c.due_keys-due.ensures.first c.args.clock.now) in
     let later : c.in-Some-ended.later ≡ end_clock stage c.args.threshold back keys returning first touched staying =
-        c.in-Some-ended.ensures.ended
-        ∙ ap (λ (clock : Reading). giving (clock_by_each clock (map (λ (f : HotRecord). demotes f) back ++ map (λ (k : ℕ). promotes k) keys))) c.in-Some.ensures.begun in (
+    c.in-Some-ended.ensures.ended
+    ∙ ap (λ (clock : Reading). giving (clock_by_each clock (map (λ (f : HotRecord). demotes f) back ++ map (λ (k : ℕ). promotes k) keys))) c.in-Some.ensures.begun in (
       λ fault. search rules,
       λ past. absurd (omega (
         arith,
@@ -128,11 +129,11 @@ returns-in_err-new-clause-clock_end g c =
     let returning : back ≡ untouched_in stage.places = c.as_slice-back.ensures.value ∙ c.untouched_in-returning.ensures.records in
     let staying : touched ≡ touched_in stage.places = c.as_slice-touched.ensures.value ∙ c.touched_in-staying.ensures.records in
     let first : AreFirstDue short_keys stage c.args.threshold (vacancies stage.places + length back) keys =
-        first_keys stage c.args.threshold back c.due_keys-due.result.items keys c.vacancies.result (length back)
-        c.vacancies.ensures.value refl c.as_slice-keys.ensures.value (c.due_keys-due.ensures.first c.args.clock.now) in
+    first_keys stage c.args.threshold back c.due_keys-due.result.items keys c.vacancies.result (length back)
+    c.vacancies.ensures.value refl c.as_slice-keys.ensures.value (c.due_keys-due.ensures.first c.args.clock.now) in
     let later : c.in-Some-ended.later ≡ end_clock stage c.args.threshold back keys returning first touched staying =
-        c.in-Some-ended.ensures.ended
-        ∙ ap (λ (clock : Reading). giving (clock_by_each clock (map (λ (f : HotRecord). demotes f) back ++ map (λ (k : ℕ). promotes k) keys))) c.in-Some.ensures.begun in (
+    c.in-Some-ended.ensures.ended
+    ∙ ap (λ (clock : Reading). giving (clock_by_each clock (map (λ (f : HotRecord). demotes f) back ++ map (λ (k : ℕ). promotes k) keys))) c.in-Some.ensures.begun in (
       λ fault. search rules,
       λ past. absurd (omega (
         arith,
@@ -158,8 +159,8 @@ returns-clause-moved g c =
     let returning : back ≡ untouched_in stage.places = c.as_slice-back.ensures.value ∙ c.untouched_in-returning.ensures.records in
     let staying : touched ≡ touched_in stage.places = c.as_slice-touched.ensures.value ∙ c.touched_in-staying.ensures.records in
     let first : AreFirstDue short_keys stage c.args.threshold (vacancies stage.places + length back) keys =
-        first_keys stage c.args.threshold back c.due_keys-due.result.items keys c.vacancies.result (length back)
-        c.vacancies.ensures.value refl c.as_slice-keys.ensures.value (c.due_keys-due.ensures.first c.args.clock.now) in
+    first_keys stage c.args.threshold back c.due_keys-due.result.items keys c.vacancies.result (length back)
+    c.vacancies.ensures.value refl c.as_slice-keys.ensures.value (c.due_keys-due.ensures.first c.args.clock.now) in
     let digest = (g.D.Digests.functions c.args.d.now).digest in
     let left : Shard = shown c.demote_each.new.shard in
     let renewed : List Content = renewed_places c.args.worker c.args.clock.now stage.places touched in
@@ -171,12 +172,12 @@ returns-clause-moved g c =
     } in
     let forgotten : Shard = record left { touches = λ k. 0 } in
     subst (λ (logged : List Command). IsMove short_keys digest c.args.worker c.args.threshold stage logged
-        (became (shown c.forget_touches.new.self) (map shown_content c.place_each.new.places) c.at-shard.result)) (sym c.of.ensures.commands)
+    (became (shown c.forget_touches.new.self) (map shown_content c.place_each.new.places) c.at-shard.result)) (sym c.of.ensures.commands)
     (is_move stage c.args.threshold back keys returning first touched staying digest c.args.worker c.in-Some.between c.in-Some-ended.later c.in_ok-commands.commands.items c.demote_each.new.commands.items left placed
     (became (shown c.forget_touches.new.self) (map shown_content c.place_each.new.places) c.at-shard.result)
     c.in-Some.ensures.begun c.in-Some-ended.ensures.ended
     (c.in_ok-commands.ensures.logged ∙ ap (λ (element : Element). renewing_commands short_keys c.args.clock.now touched ++ taking_in element ∷ []) c.pending.ensures.value)
-    (c.in_ok-new.ensures.run (λ k. 0) renewed)
+    (c.in_ok-new.ensures.done (λ k. 0) renewed)
     (ap (λ (shard : Shard). became shard (map shown_content c.place_each.new.places) c.at-shard.result) c.forget_touches.ensures.forgotten
     ∙ ap (λ (places : List Content). became forgotten places c.at-shard.result)
     (c.place_each.ensures.placed
@@ -193,11 +194,11 @@ returns-clause-clock_end g c =
     let returning : back ≡ untouched_in stage.places = c.as_slice-back.ensures.value ∙ c.untouched_in-returning.ensures.records in
     let staying : touched ≡ touched_in stage.places = c.as_slice-touched.ensures.value ∙ c.touched_in-staying.ensures.records in
     let first : AreFirstDue short_keys stage c.args.threshold (vacancies stage.places + length back) keys =
-        first_keys stage c.args.threshold back c.due_keys-due.result.items keys c.vacancies.result (length back)
-        c.vacancies.ensures.value refl c.as_slice-keys.ensures.value (c.due_keys-due.ensures.first c.args.clock.now) in
+    first_keys stage c.args.threshold back c.due_keys-due.result.items keys c.vacancies.result (length back)
+    c.vacancies.ensures.value refl c.as_slice-keys.ensures.value (c.due_keys-due.ensures.first c.args.clock.now) in
     let later : c.in-Some-ended.later ≡ end_clock stage c.args.threshold back keys returning first touched staying =
-        c.in-Some-ended.ensures.ended
-        ∙ ap (λ (clock : Reading). giving (clock_by_each clock (map (λ (f : HotRecord). demotes f) back ++ map (λ (k : ℕ). promotes k) keys))) c.in-Some.ensures.begun in (
+    c.in-Some-ended.ensures.ended
+    ∙ ap (λ (clock : Reading). giving (clock_by_each clock (map (λ (f : HotRecord). demotes f) back ++ map (λ (k : ℕ). promotes k) keys))) c.in-Some.ensures.begun in (
       λ fault. search rules,
       λ past. absurd (omega (
         arith,

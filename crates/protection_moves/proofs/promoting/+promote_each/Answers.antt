@@ -1,23 +1,20 @@
-use Rattle.std.proofs.Common.{rules, ◌≡◌, ℕ, ◌<◌, ◌≤◌, List, Bool, [], ◌∷◌, map, suc, length, refl, sym, subst, ap, ◌∙◌, arith}
+use Rattle.std.proofs.Common.{rules, ◌≡◌, ℕ, List, Bool, ◌∷◌, map, suc, length, sym, subst, ap, ◌∙◌, arith}
 use Rattle.std.specs.List.{AllByRecursion}
 use Rattle.record_text.specs.Format.{short_keys}
-use Rattle.host_shard.specs.declared.content.HotRecord.{HotRecord}
 use Rattle.host_shard.specs.Content.{key_path}
 use Rattle.host_shard.specs.Mirrors.{IsKeyOf, IsShard}
 use Rattle.host_shard.specs.Records.{record_at, values_of, touches_of}
 use Rattle.host_shard.specs.Shard.{Shard}
 use Rattle.host_shard.specs.Shown.{shown}
 use Rattle.host_shard.specs.Tree.{Tree}
-use Rattle.protection_moves.specs.declared.saving.Saved.{Saved}
 use Rattle.protection_moves.specs.Errand.{promotes}
-use Rattle.protection_moves.specs.Run.{AreRising}
+use Rattle.protection_moves.specs.Due.{AreRising}
 use Rattle.protection_moves.specs.Saving.{IsSavedOf}
 use Rattle.protection_moves.specs.Trip.{without_record}
-use Rattle.protection_moves.specs.Turn.{shard_but}
-use Rattle.protection_moves.proofs.CountingLaws.{clock_by_each-up}
+use Rattle.protection_moves.proofs.CountingLemmas.{clock_by_each-up}
 use Rattle.protection_moves.proofs.SavingLemmas.{dropped_values}
 use Rattle.protection_moves.proofs.TripLemmas.{but_is}
-use Rattle.protection_moves.proofs.RunLemmas.{all_fit, rest_own, rest_within, run_promoted}
+use Rattle.protection_moves.proofs.DoneLemmas.{all_fit, rest_own, rest_within, errands_promoted}
 use Rattle.protection_moves.proofs.promoting.+promote_each.Goals as goal
 
 pub unreachable-requires : goal.unreachable-requires
@@ -39,19 +36,19 @@ promote_each-requires g t c κs within =
       (within, (c.in_ok-hot.ensures.fits, (owned.1, (rising.1, (omega (arith, shorter, c.requires.few), rest_within c.args.clock.now c.in-Some.next keys rest key is c.in-Some.ensures.given c.requires.within))))),
     )
 
-pub returns-in-Ok-clause-run : goal.returns-in-Ok-clause-run
-returns-in-Ok-clause-run g t c touches places =
+pub returns-in-Ok-clause-done : goal.returns-in-Ok-clause-done
+returns-in-Ok-clause-done g t c touches places =
     let digest = (g.D.Digests.functions c.args.d.now).digest in
     let rest_shard : Shard = shown c.promote_each.new.shard in
     let key : ℕ = c.in-Some-split_first.parts.0.now in
     let values : values_of c.remove.new.self ≡ without_record rest_shard.records (key_path short_keys key) =
     dropped_values (record_at c.promote_each.new.shard.records) (record_at c.remove.new.self) c.of_key.result c.remove.ensures.removed
     ∙ ap (λ (path : List Bool). without_record rest_shard.records path) c.of_key.ensures.bits in
-    run_promoted digest c.args.worker (shown c.args.shard.now) (shown c.promote.new.shard) rest_shard
+    errands_promoted digest c.args.worker (shown c.args.shard.now) (shown c.promote.new.shard) rest_shard
     (record rest_shard { records = values_of c.remove.new.self; touches = touches_of c.remove.new.self }) key c.in-Some-split_first.parts.1.now c.args.keys.now c.in_ok-hot.field-0.hot c.in-Ok.others.items c.insert.new.self.items
     c.args.clock.now c.in-Some.next c.at-2.result c.args.commands.now.items c.promote.new.commands.items c.promote_each.new.commands.items
     c.in-Some-split_first.ensures.cases.0 c.in_ok-hot.ensures.lending c.in-Some.ensures.given c.at-2.ensures.value (all_fit c.args.keys.now c.type_inv.keys) c.requires.rising c.in_ok-hot.ensures.frontier
-    c.in-Ok.ensures.run c.insert.ensures.items
+    c.in-Ok.ensures.done c.insert.ensures.items
     (λ t'. ap (λ (tree : Tree). record rest_shard { records = tree; touches = t' }) values) touches places
 
 pub returns-in-Ok-clause-fits : goal.returns-in-Ok-clause-fits

@@ -1,9 +1,6 @@
-use Rattle.std.proofs.Common.{rules, ◌≡◌, ℕ, List, Bool, Option, sym, subst, ap, ◌∙◌, ◌++◌, ◌∷◌, [], false}
-use Rattle.std.proofs.lemmas.Bool.{false≢true}
+use Rattle.std.proofs.Common.{rules, ◌≡◌, ℕ, List, Bool, Option, sym, subst, ap, ◌∙◌, false}
 use Rattle.std.specs.List.{AllByRecursion}
 use Rattle.tree_keys.specs.Path.{same_path}
-use Rattle.log_codec.specs.declared.command.Command.{Command}
-use Rattle.record_text.specs.declared.value.Value.{Value}
 use Rattle.record_text.specs.Format.{short_keys}
 use Rattle.host_shard.specs.declared.link.Link.{Link}
 use Rattle.host_shard.specs.declared.content.HotRecord.{HotRecord}

@@ -1,4 +1,4 @@
-use Rattle.std.proofs.Common.{◌≡◌, ℕ, List, Bool, subst, sym, ap, ◌∙◌}
+use Rattle.std.proofs.Common.{ℕ, List, Bool, subst, sym, ap, ◌∙◌}
 use Rattle.record_text.specs.declared.value.Value.{Value}
 use Rattle.host_shard.specs.Records.{values_of, touches_of}
 use Rattle.host_shard.specs.Shown.{shown}

@@ -1,6 +1,6 @@
-use Rattle.std.proofs.Common.{◌≡◌, ℕ, List, Bool, Option, Some, None, IsSome, refl, subst, sym, ap, ◌∙◌}
+use Rattle.std.proofs.Common.{Some, IsSome, refl, subst, sym, ap, ◌∙◌}
 use Rattle.record_text.specs.declared.value.Value.{Value}
-use Rattle.host_shard.specs.Records.{record_at, values_of, touches_of}
+use Rattle.host_shard.specs.Records.{record_at, values_of}
 use Rattle.protection_moves.specs.Saving.{with_value}
 use Rattle.protection_moves.proofs.SavingLemmas.{set_values, set_touches, dropped_values, dropped_touches}
 use Rattle.protection_moves.proofs.saving.restore_one.Goals as goal

@@ -3,9 +3,8 @@ use Rattle.std.proofs.Common.{◌≡◌, ◌⊎◌, ℕ, suc, ◌<◌, ◌≤◌
 use Rattle.std.proofs.lemmas.Bool.{false≢true}
 use Rattle.std.proofs.Math.Path.{fun_ext}
 use Rattle.std.specs.List.{AllByRecursion}
-use Rattle.tree_keys.specs.Bits.{bits_of}
-use Rattle.tree_keys.specs.BitsLaws.{length-bits_of, number_back}
-use Rattle.tree_keys.specs.Path.{side, same_path, is_prefix, common, IsBelow}
+use Rattle.tree_keys.specs.BitsLaws.{length-bits_of}
+use Rattle.tree_keys.specs.Path.{side, same_path, is_prefix, IsBelow}
 use Rattle.tree_keys.proofs.BitsLaws.{bits_of-injective}
 use Rattle.tree_keys.proofs.PathLaws.{same_path-self, same_path-true, same_path-apart}
 use Rattle.tree_keys.proofs.SideLaws.{is_prefix-self, prefix_cases}
@@ -15,14 +14,14 @@ use Rattle.lamport_clocks.specs.Reading.{Reading}
 use Rattle.record_text.specs.declared.value.Pointer.{Pointer}
 use Rattle.record_text.specs.declared.value.Value.{Value}
 use Rattle.record_text.specs.declared.value.Value.TheVariants as values
-use Rattle.record_text.specs.Format.{Format, path_bits, short_keys}
+use Rattle.record_text.specs.Format.{Format, short_keys}
 use Rattle.log_codec.specs.declared.command.Command.{Command}
 use Rattle.log_codec.specs.declared.command.Command.TheVariants.{EvictB}
 use Rattle.merkle_records.specs.Merkle.{Digest}
 use Rattle.merkle_records.proofs.KindLaws.{length-side}
 use Rattle.host_shard.specs.declared.content.HotRecord.{HotRecord}
 use Rattle.host_shard.specs.declared.link.Link.{Link}
-use Rattle.host_shard.specs.Chain.{IsNextLink, IsChain, next_link, known_link, fork_link, pointer_toward, last_value, closed_value, closed_records}
+use Rattle.host_shard.specs.Chain.{IsChain, next_link, known_link, fork_link, last_value, closed_value, closed_records}
 use Rattle.host_shard.specs.Content.{Content, key_path, vacant}
 use Rattle.host_shard.specs.Mirrors.{IsKeyOf}
 use Rattle.host_shard.specs.Shard.{Shard, tree_of, settled}
@@ -33,17 +32,19 @@ use Rattle.protection_moves.specs.Stage.{Stage, replaced, placed}
 use Rattle.protection_moves.specs.Errand.{Errand, demotes, promotes, clock_by_each}
 use Rattle.protection_moves.specs.Trip.{Trip, AreLinks, AreTrips, without_record, shard_without, with_back, promoted_record, visit_but_last, become_hot, done_by, done_by_each, commands_by, commands_by_each, data_of}
 use Rattle.protection_moves.specs.Lending.{IsLending, IsReturning}
-use Rattle.protection_moves.specs.Run.{IsRun, AreRising, stage_with, placed_each, vacated}
+use Rattle.protection_moves.specs.Done.{AreDone, stage_with}
+use Rattle.protection_moves.specs.Due.{AreRising}
+use Rattle.protection_moves.specs.Places.{placed_each, vacated}
 use Rattle.protection_moves.specs.Turn.{shard_but}
 use Rattle.protection_moves.proofs.SavingLemmas.{closed_elsewhere}
 
 module _ (format : Format) (digest : Digest) (worker : ℕ) where
   -- one more in front
-  pub run_cons : (old : Stage) (errand : Errand) (links : List Link) (errands : List Errand) (before mid after : List Command) (last : Command) (new : Stage)
+  pub errands_cons : (old : Stage) (errand : Errand) (links : List Link) (errands : List Errand) (before mid after : List Command) (last : Command) (new : Stage)
       → AreLinks format old.shard errand links → mid ≡ before ++ commands_by format old errand links
-      → IsRun format digest worker (done_by format digest worker old errand links) errands mid last after new
-      → IsRun format digest worker old (errand ∷ errands) before last after new
-  run_cons old errand links errands before mid after last new way logged rest = record {
+      → AreDone format digest worker (done_by format digest worker old errand links) errands mid last after new
+      → AreDone format digest worker old (errand ∷ errands) before last after new
+  errands_cons old errand links errands before mid after last new way logged rest = record {
     trips = record { errand = errand; links = links } ∷ rest.trips;
     errands = ap (λ (es : List Errand). errand ∷ es) rest.errands;
     ways = (way, rest.ways);
@@ -55,19 +56,15 @@ module _ (format : Format) (digest : Digest) (worker : ℕ) where
     leaves = rest.leaves;
   }
 
-  -- none
-  pub run_none : (old : Stage) (before after : List Command) (last : Command) → after ≡ before ++ last ∷ [] → IsRun format digest worker old [] before last after old
-  run_none old before after last logged = record { trips = []; errands = refl; ways = tt; logged = logged; leaves = refl }
-
   -- A hot record comes back, and then there are others.
-  pub run_back : (shard mid_shard : Shard) (found : HotRecord) (clock next : Reading) (errands : List Errand) (before mid after : List Command) (last : Command) (new : Stage)
+  pub errands_back : (shard mid_shard : Shard) (found : HotRecord) (clock next : Reading) (errands : List Errand) (before mid after : List Command) (last : Command) (new : Stage)
       (touches : List Bool → ℕ) (places : List Content)
       → IsReturning format digest found shard before mid mid_shard → next ≡ taking clock found.stamp
-      → IsRun format digest worker (stage_with mid_shard touches (replaced found.key vacant places) next) errands mid last after new
-      → IsRun format digest worker (stage_with shard touches places clock) (demotes found ∷ errands) before last after new
-  run_back shard mid_shard found clock next errands before mid after last new touches places back later rest =
-      run_cons (stage_with shard touches places clock) (demotes found) back.links errands before mid after last new back.way back.commands
-      (subst (λ (stage : Stage). IsRun format digest worker stage errands mid last after new)
+      → AreDone format digest worker (stage_with mid_shard touches (replaced found.key vacant places) next) errands mid last after new
+      → AreDone format digest worker (stage_with shard touches places clock) (demotes found ∷ errands) before last after new
+  errands_back shard mid_shard found clock next errands before mid after last new touches places back later rest =
+      errands_cons (stage_with shard touches places clock) (demotes found) back.links errands before mid after last new back.way back.commands
+      (subst (λ (stage : Stage). AreDone format digest worker stage errands mid last after new)
       (ap (λ (s : Shard). stage_with s touches (replaced found.key vacant places) next) back.shard
       ∙ ap (λ (c : Reading). stage_with (settled format digest (with_back format shard found) back.links (values.Blob found.value)) touches (replaced found.key vacant places) c) later)
       rest)
@@ -234,10 +231,10 @@ module _ (format : Format) (digest : Digest) (worker : ℕ) where
   errands_else path (trip ∷ trips) all = (all.0, errands_else path trips all.1)
 
   -- Errands that make other keys hot do the same where a record isn't there.
-  pub run_but : (old new : Stage) (path : List Bool) (errands : List Errand) (before after : List Command) (last : Command) → AllByRecursion (IsElse path) errands
-      → IsRun format digest worker old errands before last after new
-      → IsRun format digest worker (stage_but old path) errands before last after (stage_but new path)
-  run_but old new path errands before after last all run =
+  pub errands_but : (old new : Stage) (path : List Bool) (errands : List Errand) (before after : List Command) (last : Command) → AllByRecursion (IsElse path) errands
+      → AreDone format digest worker old errands before last after new
+      → AreDone format digest worker (stage_but old path) errands before last after (stage_but new path)
+  errands_but old new path errands before after last all run =
       let but = trips_but old path run.trips (errands_else path run.trips (subst (AllByRecursion (IsElse path)) (sym run.errands) all)) run.ways in
       record {
         trips = run.trips;
@@ -248,17 +245,17 @@ module _ (format : Format) (digest : Digest) (worker : ℕ) where
       }
 
   -- A key becomes hot, and then there are others. Its own record is taken away in the end.
-  pub run_hot : (shard mid_shard : Shard) (key : ℕ) (hot : HotRecord) (clock next : Reading) (stamp : Stamp) (errands : List Errand) (before mid after : List Command) (last : Command) (new : Stage)
+  pub errands_hot : (shard mid_shard : Shard) (key : ℕ) (hot : HotRecord) (clock next : Reading) (stamp : Stamp) (errands : List Errand) (before mid after : List Command) (last : Command) (new : Stage)
       (touches : List Bool → ℕ) (places : List Content)
       → IsLending format digest worker stamp key shard before hot mid mid_shard → next ≡ giving clock → stamp ≡ next.at
       → AllByRecursion (IsElse (key_path format key)) errands
-      → IsRun format digest worker (stage_with mid_shard touches (placed hot places) next) errands mid last after new
-      → IsRun format digest worker (stage_with shard touches places clock) (promotes key ∷ errands) before last after (stage_but new (key_path format key))
-  run_hot shard mid_shard key hot clock next stamp errands before mid after last new touches places lending later at all rest =
-      run_cons (stage_with shard touches places clock) (promotes key) links errands before mid after last (stage_but new path) lending.way
+      → AreDone format digest worker (stage_with mid_shard touches (placed hot places) next) errands mid last after new
+      → AreDone format digest worker (stage_with shard touches places clock) (promotes key ∷ errands) before last after (stage_but new (key_path format key))
+  errands_hot shard mid_shard key hot clock next stamp errands before mid after last new touches places lending later at all rest =
+      errands_cons (stage_with shard touches places clock) (promotes key) links errands before mid after last (stage_but new path) lending.way
       (lending.commands ∙ ap (λ (t : Stamp). before ++ visit_but_last shard.frontier links (become_hot t)) moment)
-      (subst (λ (stage : Stage). IsRun format digest worker stage errands mid last after (stage_but new path)) same
-      (run_but (stage_with mid_shard touches (placed hot places) next) new path errands mid after last all rest))
+      (subst (λ (stage : Stage). AreDone format digest worker stage errands mid last after (stage_but new path)) same
+      (errands_but (stage_with mid_shard touches (placed hot places) next) new path errands mid after last all rest))
     where
       path : List Bool
       path = key_path format key
@@ -319,25 +316,25 @@ rest_within clock next keys rest key is later within =
     (subst (λ (ks : List ℕ). (giving (clock_by_each clock (map (λ (k : ℕ). promotes k) ks))).at.counter ≤ clock.end) is within)
 
 -- The run of keys, of which the first becomes hot before the others.
-pub run_promoted : (digest : Digest) (worker : ℕ) (shard mid_shard rest_shard final : Shard) (key : ℕ) (rest keys : List ℕ) (hot : HotRecord) (others all : List HotRecord)
+pub errands_promoted : (digest : Digest) (worker : ℕ) (shard mid_shard rest_shard final : Shard) (key : ℕ) (rest keys : List ℕ) (hot : HotRecord) (others all : List HotRecord)
     (clock next : Reading) (stamp : Stamp) (before mid after : List Command)
     → keys ≡ key ∷ rest → IsLending short_keys digest worker stamp key shard before hot mid mid_shard → next ≡ giving clock → stamp ≡ next.at
     → AllByRecursion (λ k. k < 2 ^ 64) keys → AreRising keys → mid_shard.frontier ≡ shard.frontier
-    → ((touches : List Bool → ℕ) (places : List Content) → IsRun short_keys digest worker (stage_with mid_shard touches places next) (map (λ (k : ℕ). promotes k) rest) mid
+    → ((touches : List Bool → ℕ) (places : List Content) → AreDone short_keys digest worker (stage_with mid_shard touches places next) (map (λ (k : ℕ). promotes k) rest) mid
     (EvictB mid_shard.frontier (giving (clock_by_each next (map (λ (k : ℕ). promotes k) rest))).at) after
     (stage_with rest_shard touches (placed_each others places) (clock_by_each next (map (λ (k : ℕ). promotes k) rest))))
     → all ≡ hot ∷ others → ((touches : List Bool → ℕ) → record final { touches = touches } ≡ record (shard_but rest_shard (key_path short_keys key)) { touches = touches })
-    → (touches : List Bool → ℕ) (places : List Content) → IsRun short_keys digest worker (stage_with shard touches places clock) (map (λ (k : ℕ). promotes k) keys) before
+    → (touches : List Bool → ℕ) (places : List Content) → AreDone short_keys digest worker (stage_with shard touches places clock) (map (λ (k : ℕ). promotes k) keys) before
     (EvictB shard.frontier (giving (clock_by_each clock (map (λ (k : ℕ). promotes k) keys))).at) after
     (stage_with final touches (placed_each all places) (clock_by_each clock (map (λ (k : ℕ). promotes k) keys)))
-run_promoted digest worker shard mid_shard rest_shard final key rest keys hot others all clock next stamp before mid after is lending later at fit rising same run hots left touches places =
-    subst (λ (ks : List ℕ). IsRun short_keys digest worker (stage_with shard touches places clock) (map (λ (k : ℕ). promotes k) ks) before
+errands_promoted digest worker shard mid_shard rest_shard final key rest keys hot others all clock next stamp before mid after is lending later at fit rising same run hots left touches places =
+    subst (λ (ks : List ℕ). AreDone short_keys digest worker (stage_with shard touches places clock) (map (λ (k : ℕ). promotes k) ks) before
     (EvictB shard.frontier (giving (clock_by_each clock (map (λ (k : ℕ). promotes k) ks))).at) after
     (stage_with final touches (placed_each all places) (clock_by_each clock (map (λ (k : ℕ). promotes k) ks)))) (sym is)
-    (subst (λ (new : Stage). IsRun short_keys digest worker (stage_with shard touches places clock) (promotes key ∷ errands) before (EvictB shard.frontier (giving (clock_by_each (giving clock) errands)).at) after new) new
-    (subst (λ (last : Command). IsRun short_keys digest worker (stage_with shard touches places clock) (promotes key ∷ errands) before last after
+    (subst (λ (new : Stage). AreDone short_keys digest worker (stage_with shard touches places clock) (promotes key ∷ errands) before (EvictB shard.frontier (giving (clock_by_each (giving clock) errands)).at) after new) new
+    (subst (λ (last : Command). AreDone short_keys digest worker (stage_with shard touches places clock) (promotes key ∷ errands) before last after
     (stage_but short_keys digest worker (stage_with rest_shard touches (placed_each others (placed hot places)) (clock_by_each next errands)) (key_path short_keys key))) last
-    (run_hot short_keys digest worker shard mid_shard key hot clock next stamp errands before mid after _ _ touches places lending later at
+    (errands_hot short_keys digest worker shard mid_shard key hot clock next stamp errands before mid after _ _ touches places lending later at
     (else_all digest worker key rest fits.0 fits.1 above.0) (run touches (placed hot places)))))
   where
     errands : List Errand
@@ -359,24 +356,24 @@ run_promoted digest worker shard mid_shard rest_shard final key rest keys hot ot
         ∙ ap (λ (c : Reading). stage_with final touches (placed_each all places) (clock_by_each c errands)) later
 
 -- The run of records that come back before other errands.
-pub run_returned : (digest : Digest) (worker : ℕ) (shard mid_shard rest_shard : Shard) (found : HotRecord) (rest back : List HotRecord) (more : List Errand) (hots : List HotRecord)
+pub errands_returned : (digest : Digest) (worker : ℕ) (shard mid_shard rest_shard : Shard) (found : HotRecord) (rest back : List HotRecord) (more : List Errand) (hots : List HotRecord)
     (clock next : Reading) (before mid after : List Command)
     → back ≡ found ∷ rest → IsReturning short_keys digest found shard before mid mid_shard → next ≡ taking clock found.stamp → mid_shard.frontier ≡ shard.frontier
-    → ((touches : List Bool → ℕ) (places : List Content) → IsRun short_keys digest worker (stage_with mid_shard touches places next) (map (λ (f : HotRecord). demotes f) rest ++ more) mid
+    → ((touches : List Bool → ℕ) (places : List Content) → AreDone short_keys digest worker (stage_with mid_shard touches places next) (map (λ (f : HotRecord). demotes f) rest ++ more) mid
     (EvictB mid_shard.frontier (giving (clock_by_each next (map (λ (f : HotRecord). demotes f) rest ++ more))).at) after
     (stage_with rest_shard touches (placed_each hots (vacated rest places)) (clock_by_each next (map (λ (f : HotRecord). demotes f) rest ++ more))))
-    → (touches : List Bool → ℕ) (places : List Content) → IsRun short_keys digest worker (stage_with shard touches places clock) (map (λ (f : HotRecord). demotes f) back ++ more) before
+    → (touches : List Bool → ℕ) (places : List Content) → AreDone short_keys digest worker (stage_with shard touches places clock) (map (λ (f : HotRecord). demotes f) back ++ more) before
     (EvictB shard.frontier (giving (clock_by_each clock (map (λ (f : HotRecord). demotes f) back ++ more))).at) after
     (stage_with rest_shard touches (placed_each hots (vacated back places)) (clock_by_each clock (map (λ (f : HotRecord). demotes f) back ++ more)))
-run_returned digest worker shard mid_shard rest_shard found rest back more hots clock next before mid after is returning later same run touches places =
-    subst (λ (fs : List HotRecord). IsRun short_keys digest worker (stage_with shard touches places clock) (map (λ (f : HotRecord). demotes f) fs ++ more) before
+errands_returned digest worker shard mid_shard rest_shard found rest back more hots clock next before mid after is returning later same run touches places =
+    subst (λ (fs : List HotRecord). AreDone short_keys digest worker (stage_with shard touches places clock) (map (λ (f : HotRecord). demotes f) fs ++ more) before
     (EvictB shard.frontier (giving (clock_by_each clock (map (λ (f : HotRecord). demotes f) fs ++ more))).at) after
     (stage_with rest_shard touches (placed_each hots (vacated fs places)) (clock_by_each clock (map (λ (f : HotRecord). demotes f) fs ++ more)))) (sym is)
-    (run_back short_keys digest worker shard mid_shard found clock next errands before mid after _ _ touches places returning later
-    (subst (λ (c : Reading). IsRun short_keys digest worker (stage_with mid_shard touches (replaced found.key vacant places) next) errands mid
+    (errands_back short_keys digest worker shard mid_shard found clock next errands before mid after _ _ touches places returning later
+    (subst (λ (c : Reading). AreDone short_keys digest worker (stage_with mid_shard touches (replaced found.key vacant places) next) errands mid
     (EvictB shard.frontier (giving (clock_by_each c errands)).at) after
     (stage_with rest_shard touches (placed_each hots (vacated rest (replaced found.key vacant places))) (clock_by_each c errands))) later
-    (subst (λ (f : List Bool). IsRun short_keys digest worker (stage_with mid_shard touches (replaced found.key vacant places) next) errands mid
+    (subst (λ (f : List Bool). AreDone short_keys digest worker (stage_with mid_shard touches (replaced found.key vacant places) next) errands mid
     (EvictB f (giving (clock_by_each next errands)).at) after
     (stage_with rest_shard touches (placed_each hots (vacated rest (replaced found.key vacant places))) (clock_by_each next errands))) same
     (run touches (replaced found.key vacant places)))))

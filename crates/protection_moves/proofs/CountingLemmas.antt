@@ -1,12 +1,12 @@
 -- The clock as errands are done one after another: it doesn't go back, and its epoch and its bounds stay.
-use Rattle.std.proofs.Common.{◌≡◌, ℕ, ◌<◌, ◌≤◌, ◌+◌, List, [], ◌∷◌, if◌then◌else◌, refl, ◌∙◌, sym, subst, ap, arith, map, ◌++◌}
+use Rattle.std.proofs.Common.{◌≡◌, ℕ, ◌<◌, ◌≤◌, ◌+◌, List, [], ◌∷◌, if◌then◌else◌, refl, ◌∙◌, sym, subst, arith, map, ◌++◌}
 use Rattle.std.specs.Prelude.{◌==◌}
 use Rattle.std.proofs.Math.Nat.{le-max_left}
 use Rattle.lamport_clocks.specs.declared.stamp.Stamp.{Stamp}
 use Rattle.lamport_clocks.specs.Reading.{Reading}
 use Rattle.lamport_clocks.specs.Clock.{is_open}
 use Rattle.host_shard.specs.declared.content.HotRecord.{HotRecord}
-use Rattle.host_plan.specs.Moments.{taking, giving}
+use Rattle.host_plan.specs.Moments.{taking}
 use Rattle.protection_moves.specs.Errand.{Errand, demotes, promotes, clock_by, clock_by_each}
 
 pub taking-up : (clock : Reading) (stamp : Stamp) → clock.at.counter ≤ (taking clock stamp).at.counter

@@ -1,0 +1,9 @@
+use Rattle.host_shard.specs.Shown.{shown_content}
+use Rattle.host_tests.specs.Owned.{IsFit}
+use Rattle.host_tests.proofs.closes.play.Given as goal
+
+abbrev pub invariant-loop-row : goal.invariant-loop-row
+invariant-loop-row g l = record {
+  low : IsFit (shown_content l.low.cold);
+  high : IsFit (shown_content l.high.cold);
+}

@@ -1,0 +1,14 @@
+use Rattle.std.proofs.Common.{IsSome, subst, sym}
+use Rattle.record_text.specs.Format.{short_keys}
+use Rattle.host_shard.specs.Content.{key_path}
+use Rattle.host_shard.specs.Mirrors.{IsShard}
+use Rattle.host_shard.specs.Shard.{Shard}
+use Rattle.host_tests.proofs.closes.touch.Goals as goal
+
+pub loop-preserved : goal.loop-preserved
+loop-preserved c =
+    let fits = c.loop.invariant.fits in
+    record {
+      fits = subst (IsShard short_keys) (sym c.touch.ensures.touched) (record { below_root = fits.below_root; no_data = fits.no_data; kinds = fits.kinds });
+      there = subst (λ (shard : Shard). IsSome (shard.records (key_path short_keys c.args.key))) (sym c.touch.ensures.touched) c.loop.invariant.there;
+    }

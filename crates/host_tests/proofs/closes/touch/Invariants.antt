@@ -1,0 +1,12 @@
+use Rattle.std.proofs.Common.{IsSome}
+use Rattle.record_text.specs.Format.{short_keys}
+use Rattle.host_shard.specs.Content.{key_path}
+use Rattle.host_shard.specs.Mirrors.{IsShard}
+use Rattle.host_shard.specs.Shown.{shown}
+use Rattle.host_tests.proofs.closes.touch.Given as goal
+
+abbrev pub invariant-loop : goal.invariant-loop
+invariant-loop l = record {
+  fits : IsShard short_keys (shown l.shard);
+  there : IsSome ((shown l.shard).records (key_path short_keys l.key));
+}
