@@ -552,7 +552,7 @@ fn takes_all(clock: &Clock, places: &[Content]) -> bool
 }
 
 // Whether each record in these places is of a key of the shard.
-fn owns_all(shard: &Shard, places: &[Content]) -> bool
+pub(crate) fn owns_all(shard: &Shard, places: &[Content]) -> bool
     ensures own { IsTrue result → AllByRecursion (λ found. IsKeyOf short_keys (shown shard.now) (key_path short_keys found.key))
         (hot_records (map shown_content places.now)) }
 {

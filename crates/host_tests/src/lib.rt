@@ -1,8 +1,8 @@
 //! Tests of the host's crates, over their public calls.
 //!
 //! A crate with tests is proved twice, so tests have a crate of their own for each layer. `scripts` and `loads` are of
-//! `script_text`, `logs` of `host_log`, `rounds` of `host_rounds`, `chains` of `host_shard`, `plans` and `setups` of
-//! `host_plan`, `moves` and `closes` of `protection_moves`. A table is one text, a row a line, which is read as the test runs: begin at `rows`, and at `shards`
+//! `script_text`, `logs` of `host_log`, `chains` of `host_shard`, `plans` and `setups` of `host_plan`, `moves` and
+//! `closes` of `protection_moves`. A table is one text, a row a line, which is read as the test runs: begin at `rows`, and at `shards`
 //! for a host of two shards.
 #![tactic(auto)]
 
@@ -18,8 +18,6 @@ mod logs;
 mod moves;
 #[cfg(test)]
 mod plans;
-#[cfg(test)]
-mod rounds;
 #[cfg(test)]
 mod rows;
 #[cfg(test)]

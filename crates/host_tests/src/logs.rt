@@ -1,6 +1,7 @@
 //! A host's log: its bytes and its frames.
-use crate::rows::{bytes_of, field, push_rows, same, same_bytes};
+use crate::rows::{bytes_of, field, same, same_bytes};
 use bundle_frames::write_header;
+use bundle_rows::command_of;
 use fv_outside::{Failed, MemorySink};
 use host_log::{LogBuffer, frames};
 use lamport_clocks::Header;
@@ -47,6 +48,15 @@ addB /1 initial 0.2 v0
 evictB /1 1.4
 next
 ";
+
+// Adds the commands of rows.
+fn push_rows(log: &mut LogBuffer, rows: &str) -> Result<(), Fail> {
+    for row in rows.trim().lines() {
+        let command = command_of(row).ok_or("a row of no command")?;
+        log.push(&command)?;
+    }
+    Ok(())
+}
 
 #[test]
 fn the_rounds_of_an_empty_script_are_its_bundle(rt: HostRuntime) -> Result<(), Fail> {

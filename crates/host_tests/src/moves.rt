@@ -6,6 +6,7 @@ ghost use Rattle.host_shard.specs.declared.content.Content.TheVariants.{Hot};
 ghost use Rattle.host_shard.specs.Mirrors.{IsShard};
 ghost use Rattle.host_shard.specs.Shown.{shown};
 
+use crate::closes::owns_all;
 use host_shard::{Content, HotRecord, Shard};
 use lamport_clocks::{Clock, Stamp};
 use log_codec::{Command, write};
@@ -192,6 +193,9 @@ fn touched_hot_records_come_first_by_key(rt: HostRuntime) -> Result<(), Fail> {
         touched(3, value, 4, 0),
         Content::Vacant,
     ];
+    if !owns_all(&low, &hot) {
+        Err("a record of another shard")?;
+    }
     let Ok(commands) = migrate(rt.alloc(), &d, &mut low, &mut hot, None, 2, &mut clock) else {
         return Err("no move")?;
     };

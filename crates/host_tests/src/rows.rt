@@ -1,6 +1,4 @@
 //! Tables as texts: a row is a line, with a bar between its fields. What fields mean more than one file reads.
-use bundle_rows::command_of;
-use host_log::LogBuffer;
 use script_text::{Requests, Task};
 use std::alloc::Global;
 use std::fmt::Debug;
@@ -22,15 +20,6 @@ pub fn bytes_of(alloc: Global, digits: &str) -> Result<Vec<u8>, Fail> {
         bytes.extend_from_slice(&hex::decode(alloc, part)?)?;
     }
     Ok(bytes)
-}
-
-/// Adds the commands of rows of `bundle_rows`.
-pub fn push_rows(log: &mut LogBuffer, rows: &str) -> Result<(), Fail> {
-    for row in rows.trim().lines() {
-        let command = command_of(row).ok_or("a row of no command")?;
-        log.push(&command)?;
-    }
-    Ok(())
 }
 
 /// Phases in short: a task is as in a script, with a comma behind it, and a phase ends with a slash.
