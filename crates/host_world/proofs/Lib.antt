@@ -3,14 +3,14 @@ pub mod LinkLaws
 mod DueLemmas
 pub mod TripLaws
 pub mod PlaceLaws
-mod FrontLaws
+pub mod FrontLaws
 mod ServeLemmas
 pub mod PlannedLaws
 pub mod SeatLaws
 pub mod RangeLaws
 mod OrderlyLemmas
 mod BehindLemmas
-mod FrontierLaws
+pub mod FrontierLaws
 mod WorldLemmas
 mod TakenLemmas
 mod StandingLemmas

@@ -1,0 +1,7 @@
+-- What the rounds of a host come to, for callers too, and what this crate's proofs rest on.
+pub mod RoundLaws
+mod BundleLemmas
+mod FeedingLemmas
+mod FramingLemmas
+mod OpeningLemmas
+mod RunLemmas

@@ -1,0 +1,259 @@
+-- What a round brings to the runs, and what certifying them brings to the report.
+use Rattle.std.proofs.Common.{◌≡◌, ℕ, zero, suc, ◌+◌, ◌-◌, ◌<◌, ◌≤◌, ◌==◌, Bool, false, true, List, [], ◌∷◌, ◌++◌, length, map, take, drop, Option, Result, Ok, Err, OnOk, OnErr, refl, sym, ◌∙◌, ap, subst, append-nil, eq-eqb, if◌then◌else◌, arith}
+use Rattle.std.specs.List.{AllByRecursion}
+use Rattle.std.specs.Result.{is_err}
+use Rattle.std.proofs.lemmas.Bool.{ne_eqb, false≢true}
+use Rattle.std.proofs.lemmas.List.{take_all, drop_all, length-map}
+use Rattle.fv_outside.specs.Written.{Grows, GrowsByFront}
+use Rattle.fv_outside.proofs.WrittenLaws.{Grows-then, GrowsByFront-then}
+use Rattle.record_hash.specs.Functions.{DigestFunctions}
+use Rattle.lamport_clocks.specs.declared.header.Header.{Header}
+use Rattle.merkle_records.specs.Scheme.{Scheme, scheme_of}
+use Rattle.bundle_frames.specs.Bundle.{Frame}
+use Rattle.record_text.specs.declared.operation.Operation.{Operation}
+use Rattle.verifier_run.specs.Course.{Course}
+use Rattle.verifier_run.specs.Kept.{keeps_operations}
+use Rattle.verifier_run.specs.Progress.{Progress, opening_progress, fed, weight}
+use Rattle.verifier_run.proofs.RunLaws.{fed_goes_on}
+use Rattle.bundle_report.specs.declared.judged.Judged.{Judged}
+use Rattle.bundle_report.specs.Logs.{joined_from}
+use Rattle.bundle_report.specs.RunReport.{courses_of}
+use Rattle.bundle_report.specs.Judged.{judged}
+use Rattle.bundle_report.specs.SoFar.{lines_from, left_from, opening_runs, runs_from, took, runs_behind, HaveTaken}
+use Rattle.bundle_report.proofs.LinesLaws.{lines-behind}
+use Rattle.bundle_report.proofs.SoFarLaws.{taken-more, lines-taken, counted-within}
+use Rattle.bundle_report.proofs.DueLaws.{lines-certified, lines-due}
+use Rattle.certified_epochs.specs.declared.fed_run.FedRun.{FedRun}
+use Rattle.certified_epochs.specs.Turn.{AreFed}
+use Rattle.host_rounds.specs.Round.{logs_with, pieces_of}
+use Rattle.host_rounds.specs.Feeding.{AllTake}
+use Rattle.host_rounds.specs.SoFar.{RunsSoFar, HaveRun, HaveRunSome, lines_counted, lines_due}
+use Rattle.host_rounds.proofs.BundleLemmas.{round-joined}
+
+-- ---- results, and what was lent
+
+pub err_holds : {T E : Type 0} (P : Type 0) (r : Result T E) → is_err r ≡ true → OnErr r P → P
+err_holds P (Ok value) is holds = absurd (false≢true is)
+err_holds P (Err error) is holds = holds
+
+pub ok_holds : {T E : Type 0} (P : Type 0) (r : Result T E) → is_err r ≡ false → OnOk r P → P
+ok_holds P (Ok value) is holds = holds
+ok_holds P (Err error) is holds = absurd (false≢true (sym is))
+
+-- a slice that a call wrote, as the vector that lent it
+pub lent_back : {A : Type 0} (n : ℕ) (new old : List A) → n ≡ length old → length new ≡ length old → take n (new ++ drop (length new) old) ≡ new
+lent_back n new old whole same =
+    ap (λ (rest : List _). take n (new ++ rest)) (drop_all (length new) old (omega (arith, same)))
+    ∙ ap (take n) (append-nil new) ∙ take_all n new (omega (arith, whole, same))
+
+-- ---- how many runs there are
+
+length-runs : (scheme : Scheme) (header : Header) (count number : ℕ) (logs : List (List ℕ)) → length (runs_from scheme header count number logs) ≡ length logs
+length-runs scheme header count number [] = refl
+length-runs scheme header count number (log ∷ logs) = ap suc (length-runs scheme header count (suc number) logs)
+
+pub runs-length : (functions : DigestFunctions) (header : Header) (logs : List (List ℕ)) (so_far : RunsSoFar) → HaveRun functions header logs so_far
+    → length so_far.runs ≡ header.verifiers
+runs-length functions header logs so_far have =
+    sym (length-map so_far.runs (λ fed. fed.run)) ∙ ap length have.taken.runs_are
+    ∙ length-runs (scheme_of functions header) header so_far.judged.count 0 logs ∙ have.taken.whole
+
+pub runs-few : (so_far : RunsSoFar) → HaveRunSome so_far → length so_far.runs ≤ 64
+runs-few so_far some = omega (arith, runs-length some.0 some.1 some.2 so_far some.3, some.3.taken.header_good.verifiers)
+
+-- ---- what each run has
+
+all_runs : (P : Progress Operation → Type 0) (feds : List FedRun) → AllByRecursion P (map (λ fed. fed.run) feds) → AllByRecursion (λ fed. P fed.run) feds
+all_runs P [] all = tt
+all_runs P (fed ∷ feds) all = (all.0, all_runs P feds all.1)
+
+all_feds : (P : Progress Operation → Type 0) (feds : List FedRun) → AllByRecursion (λ fed. P fed.run) feds → AllByRecursion P (map (λ fed. fed.run) feds)
+all_feds P [] all = tt
+all_feds P (fed ∷ feds) all = (all.0, all_feds P feds all.1)
+
+-- taking epochs out of a run leaves its header and its weight
+left_header : (first count : ℕ) (run : Progress Operation) → (left_from first count run).course.machine.header ≡ run.course.machine.header
+left_header first zero run = refl
+left_header first (suc count) run = refl
+
+left_weight : (first count : ℕ) (run : Progress Operation) → weight (left_from first count run) ≡ weight run
+left_weight first zero run = refl
+left_weight first (suc count) run = refl
+
+headers_from : (scheme : Scheme) (header : Header) (count number : ℕ) (logs : List (List ℕ))
+    → AllByRecursion (λ run. run.course.machine.header ≡ header) (runs_from scheme header count number logs)
+headers_from scheme header count number [] = tt
+headers_from scheme header count number (log ∷ logs) = (
+  left_header header.first count (fed keeps_operations scheme (opening_progress number header) log) ∙ (fed_goes_on scheme (opening_progress number header) log).header,
+  headers_from scheme header count (suc number) logs,
+)
+
+runs_headers : (functions : DigestFunctions) (header : Header) (logs : List (List ℕ)) (so_far : RunsSoFar)
+    → HaveRun functions header logs so_far → AllByRecursion (λ fed. fed.run.course.machine.header ≡ header) so_far.runs
+runs_headers functions header logs so_far have =
+    all_runs (λ run. run.course.machine.header ≡ header) so_far.runs
+    (subst (AllByRecursion (λ run. run.course.machine.header ≡ header)) (sym have.taken.runs_are)
+    (headers_from (scheme_of functions header) header so_far.judged.count 0 logs))
+
+-- runs that more epochs are taken out of weigh what they did
+weights_from : (scheme : Scheme) (header : Header) (count other number bound : ℕ) (logs : List (List ℕ))
+    → AllByRecursion (λ run. weight run ≤ bound) (runs_from scheme header count number logs)
+    → AllByRecursion (λ run. weight run ≤ bound) (runs_from scheme header other number logs)
+weights_from scheme header count other number bound [] all = tt
+weights_from scheme header count other number bound (log ∷ logs) all =
+    let run = fed keeps_operations scheme (opening_progress number header) log in (
+      omega (arith, all.0, left_weight header.first count run, left_weight header.first other run),
+      weights_from scheme header count other (suc number) bound logs all.1,
+    )
+
+runs_weights : (functions : DigestFunctions) (header : Header) (logs : List (List ℕ)) (so_far now : RunsSoFar) → HaveRun functions header logs so_far
+    → HaveTaken (scheme_of functions header) header logs now.judged (map (λ fed. fed.run) now.runs)
+    → AllByRecursion (λ fed. weight fed.run ≤ so_far.bytes) now.runs
+runs_weights functions header logs so_far now have taken =
+    all_runs (λ run. weight run ≤ so_far.bytes) now.runs
+    (subst (AllByRecursion (λ run. weight run ≤ so_far.bytes)) (sym taken.runs_are)
+    (weights_from (scheme_of functions header) header so_far.judged.count now.judged.count 0 so_far.bytes logs
+    (subst (AllByRecursion (λ run. weight run ≤ so_far.bytes)) have.taken.runs_are (all_feds (λ run. weight run ≤ so_far.bytes) so_far.runs have.few))))
+
+-- ---- a round more
+
+took-apart : (scheme : Scheme) (number first : ℕ) (run : Progress Operation) (round : List (List ℕ)) → number < first
+    → took scheme number run (pieces_of first round) ≡ run
+took-apart scheme number first run [] below = refl
+took-apart scheme number first run (bytes ∷ round) below =
+    ap (λ (own : Bool). took scheme number (if own then fed keeps_operations scheme run bytes else run) (pieces_of (suc first) round))
+    (ne_eqb first number (λ is. omega (arith, below, is)))
+    ∙ took-apart scheme number (suc first) run round (omega (arith, below))
+
+runs-skip : (scheme : Scheme) (number : ℕ) (frame : Frame) (runs : List (Progress Operation)) (frames : List Frame) → frame.verifier < number
+    → runs_behind scheme number runs (frame ∷ frames) ≡ runs_behind scheme number runs frames
+runs-skip scheme number frame [] frames below = refl
+runs-skip scheme number frame (run ∷ runs) frames below =
+    ap (λ (own : Bool). took scheme number (if own then fed keeps_operations scheme run frame.body else run) frames ∷ runs_behind scheme (suc number) runs (frame ∷ frames))
+    (ne_eqb frame.verifier number (λ is. omega (arith, below, is)))
+    ∙ ap (λ (rest : List (Progress Operation)). took scheme number run frames ∷ rest) (runs-skip scheme (suc number) frame runs frames (omega (arith, below)))
+
+-- runs that took the bytes of their verifiers took the pieces
+runs-took : (functions : DigestFunctions) (header : Header) (number : ℕ) (round : List (List ℕ)) (olds news : List FedRun)
+    → AllByRecursion (λ fed. fed.run.course.machine.header ≡ header) olds → AllTake functions round olds news
+    → map (λ fed. fed.run) news ≡ runs_behind (scheme_of functions header) number (map (λ fed. fed.run) olds) (pieces_of number round)
+runs-took functions header number [] [] [] headers takes = refl
+runs-took functions header number [] [] (new ∷ news) headers takes = absurd takes
+runs-took functions header number [] (old ∷ olds) news headers takes = absurd takes
+runs-took functions header number (bytes ∷ round) [] news headers takes = absurd takes
+runs-took functions header number (bytes ∷ round) (old ∷ olds) [] headers takes = absurd takes
+runs-took functions header number (bytes ∷ round) (old ∷ olds) (new ∷ news) headers takes =
+    let scheme = scheme_of functions header in
+    let piece : Frame = record { verifier = number; body = bytes } in
+    let rest = pieces_of (suc number) round in
+    let run = fed keeps_operations scheme old.run bytes in
+    let own : new.run ≡ took scheme number old.run (piece ∷ rest) =
+    takes.0.taken
+    ∙ ap (λ (h : Header). fed keeps_operations (scheme_of functions h) old.run bytes) headers.0
+    ∙ sym (ap (λ (b : Bool). took scheme number (if b then run else old.run) rest) (eq-eqb number number refl)
+    ∙ took-apart scheme number (suc number) run round (omega arith)) in
+    let others : map (λ fed. fed.run) news ≡ runs_behind scheme (suc number) (map (λ fed. fed.run) olds) (piece ∷ rest) =
+    runs-took functions header (suc number) round olds news headers.1 takes.1
+    ∙ sym (runs-skip scheme (suc number) piece (map (λ fed. fed.run) olds) rest (omega arith)) in
+    ap (λ (r : Progress Operation). r ∷ map (λ fed. fed.run) news) own
+    ∙ ap (λ (rs : List (Progress Operation)). took scheme number old.run (piece ∷ rest) ∷ rs) others
+
+all_fed : (functions : DigestFunctions) (round : List (List ℕ)) (olds news : List FedRun) → AllTake functions round olds news → AreFed news
+all_fed functions [] [] [] takes = tt
+all_fed functions [] [] (new ∷ news) takes = absurd takes
+all_fed functions [] (old ∷ olds) news takes = absurd takes
+all_fed functions (bytes ∷ round) [] news takes = absurd takes
+all_fed functions (bytes ∷ round) (old ∷ olds) [] takes = absurd takes
+all_fed functions (bytes ∷ round) (old ∷ olds) (new ∷ news) takes = (takes.0.is_fed, all_fed functions round olds news takes.1)
+
+pub length-take : (functions : DigestFunctions) (round : List (List ℕ)) (olds news : List FedRun) → AllTake functions round olds news → length news ≡ length olds
+length-take functions [] [] [] takes = refl
+length-take functions [] [] (new ∷ news) takes = absurd takes
+length-take functions [] (old ∷ olds) news takes = absurd takes
+length-take functions (bytes ∷ round) [] news takes = absurd takes
+length-take functions (bytes ∷ round) (old ∷ olds) [] takes = absurd takes
+length-take functions (bytes ∷ round) (old ∷ olds) (new ∷ news) takes = ap suc (length-take functions round olds news takes.1)
+
+module _ (functions : DigestFunctions) (header : Header) (logs : List (List ℕ)) (so_far : RunsSoFar) (have : HaveRun functions header logs so_far) where
+  abbrev own_scheme : Scheme
+  own_scheme = scheme_of functions header
+
+  -- the runs took a round
+  pub round-run : (round : List (List ℕ)) (news : List FedRun) (bytes : ℕ) → AllTake functions round so_far.runs news
+      → AllByRecursion (λ fed. weight fed.run ≤ bytes) news
+      → HaveRun functions header (logs_with logs round) (record { judged = so_far.judged; runs = news; bytes = bytes })
+  round-run round news bytes takes few = record {
+    fed = all_fed functions round so_far.runs news takes;
+    taken =
+        subst (λ (all : List (List ℕ)). HaveTaken own_scheme header all so_far.judged (map (λ fed. fed.run) news)) (round-joined 0 logs round)
+        (subst (HaveTaken own_scheme header (joined_from 0 logs (pieces_of 0 round)) so_far.judged)
+        (sym (runs-took functions header 0 round so_far.runs news (runs_headers functions header logs so_far have) takes))
+        (taken-more own_scheme header logs so_far.judged (map (λ fed. fed.run) so_far.runs) (pieces_of 0 round) have.taken));
+    few = few;
+  }
+
+  -- the lines that are counted stay
+  pub lines-stay : (round : List (List ℕ)) (now : RunsSoFar) → now.judged ≡ so_far.judged
+      → lines_counted functions header (logs_with logs round) now ≡ lines_counted functions header logs so_far
+  lines-stay round now same =
+      ap (λ (j : Judged). lines_from (courses_of own_scheme header (logs_with logs round)) header.first j.count) same
+      ∙ ap (λ (all : List (List ℕ)). lines_from (courses_of own_scheme header all) header.first so_far.judged.count) (sym (round-joined 0 logs round))
+      ∙ lines-taken own_scheme header logs so_far.judged (map (λ fed. fed.run) so_far.runs) (pieces_of 0 round) have.taken
+
+  -- ---- certifying
+
+  abbrev courses : List (Course Operation)
+  courses = courses_of own_scheme header logs
+
+  -- what was counted, and the lines behind it up to so many epochs
+  lines_to : (count : ℕ) → so_far.judged.count ≤ count
+      → lines_counted functions header logs so_far ++ lines_from courses (header.first + so_far.judged.count) (count - so_far.judged.count)
+      ≡ lines_from courses header.first count
+  lines_to count within =
+      let sum : so_far.judged.count + (count - so_far.judged.count) ≡ count = omega (arith, within) in
+      sym (lines-behind courses header.first so_far.judged.count (count - so_far.judged.count)) ∙ ap (lines_from courses header.first) sum
+
+  within_all : so_far.judged.count ≤ (judged header.verifiers courses).count
+  within_all = counted-within own_scheme header logs so_far.judged (map (λ fed. fed.run) so_far.runs) have.taken
+
+  -- a front of what is due was written
+  pub front-due : (held before after : Option (List ℕ)) → Grows held before (lines_counted functions header logs so_far)
+      → GrowsByFront before after (lines_from courses (header.first + so_far.judged.count) ((judged header.verifiers courses).count - so_far.judged.count))
+      → GrowsByFront held after (lines_due functions header logs)
+  front-due held before after written front =
+      subst (GrowsByFront held after)
+      (lines_to (judged header.verifiers courses).count within_all ∙ lines-certified own_scheme header logs have.taken.header_good have.taken.whole)
+      (GrowsByFront-then held before after _ _ written front)
+
+  module _ (now : RunsSoFar) (taken : HaveTaken own_scheme header logs now.judged (map (λ fed. fed.run) now.runs)) where
+    pub certified-run : AreFed now.runs → now.bytes ≡ so_far.bytes → HaveRun functions header logs now
+    certified-run fine same = record {
+      fed = fine;
+      taken = taken;
+      few = subst (λ (bytes : ℕ). AllByRecursion (λ fed. weight fed.run ≤ bytes) now.runs) (sym same) (runs_weights functions header logs so_far now have taken);
+    }
+
+    pub counted-due : now.judged ≡ judged header.verifiers courses → lines_counted functions header logs now ≡ lines_due functions header logs
+    counted-due all = lines-due own_scheme header logs now.judged (map (λ fed. fed.run) now.runs) taken all
+
+    -- all that is due was written
+    pub all-due : (held before after : Option (List ℕ)) → now.judged ≡ judged header.verifiers courses
+        → Grows held before (lines_counted functions header logs so_far)
+        → Grows before after (lines_from courses (header.first + so_far.judged.count) (now.judged.count - so_far.judged.count))
+        → Grows held after (lines_due functions header logs)
+    all-due held before after all written more =
+        subst (Grows held after)
+        (lines_to now.judged.count (omega (arith, within_all, ap (λ (j : Judged). j.count) all)) ∙ counted-due all)
+        (Grows-then held before after _ _ written more)
+
+-- ---- the runs before the first round
+
+-- they weigh nothing
+opening_weights : (header : Header) (number count : ℕ) → AllByRecursion (λ run. weight run ≤ 0) (opening_runs header number count)
+opening_weights header number zero = tt
+opening_weights header number (suc count) = (omega arith, opening_weights header (suc number) count)
+
+pub opening-few : (header : Header) (number count : ℕ) (runs : List FedRun) → map (λ fed. fed.run) runs ≡ opening_runs header number count
+    → AllByRecursion (λ fed. weight fed.run ≤ 0) runs
+opening-few header number count runs is =
+    all_runs (λ run. weight run ≤ 0) runs (subst (AllByRecursion (λ run. weight run ≤ 0)) (sym is) (opening_weights header number count))

@@ -1,0 +1,6 @@
+-- What the clauses on the rounds of a host cite, in reading order.
+pub mod Round
+pub mod Feeding
+pub mod Bundle
+pub mod SoFar
+pub mod Stops

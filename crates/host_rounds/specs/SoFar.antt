@@ -1,0 +1,57 @@
+-- What the runs of the verifiers have come to over the rounds so far, and what is due by them.
+use Rattle.std.specs.Prelude.{◌≡◌, ℕ, ◌≤◌, List, map, Option, None}
+use Rattle.std.specs.List.{AllByRecursion}
+use Rattle.fv_outside.specs.Written.{Grows}
+use Rattle.lamport_clocks.specs.declared.header.Header.{Header}
+use Rattle.record_hash.specs.Functions.{DigestFunctions}
+use Rattle.merkle_records.specs.Scheme.{scheme_of}
+use Rattle.log_codec.specs.Log.{read_log}
+use Rattle.record_text.specs.Format.{format_of}
+use Rattle.report_text.specs.declared.ending.BundleEnd.{BundleEnd}
+use Rattle.verifier_run.specs.Progress.{weight}
+use Rattle.bundle_report.specs.declared.judged.Judged.{Judged}
+use Rattle.bundle_report.specs.BundleReport.{certified_lines, histories_at, end_of}
+use Rattle.bundle_report.specs.Judged.{judged}
+use Rattle.bundle_report.specs.RunReport.{courses_of}
+use Rattle.bundle_report.specs.SoFar.{HaveTaken, lines_from}
+use Rattle.certified_epochs.specs.declared.fed_run.FedRun.{FedRun}
+use Rattle.certified_epochs.specs.Turn.{AreFed}
+use Rattle.host_rounds.specs.Bundle.{HasBundle}
+
+-- what is judged, the runs, and how many bytes were fed to them
+pub record RunsSoFar : Type 0 where
+  pub judged : Judged
+  pub runs : List FedRun
+  pub bytes : ℕ
+
+-- The runs have taken these logs, and the epochs that are counted are taken out of them. Memory was wanting for none.
+pub record HaveRun (functions : DigestFunctions) (header : Header) (logs : List (List ℕ)) (so_far : RunsSoFar) : Type 0 where
+  pub fed : AreFed so_far.runs
+  pub taken : HaveTaken (scheme_of functions header) header logs so_far.judged (map (λ fed. fed.run) so_far.runs)
+  pub few : AllByRecursion (λ fed. weight fed.run ≤ so_far.bytes) so_far.runs
+
+-- there are logs that the runs have taken
+abbrev pub HaveRunSome : RunsSoFar → Type 0
+HaveRunSome so_far = (functions : DigestFunctions) × (header : Header) × (logs : List (List ℕ)) × HaveRun functions header logs so_far
+
+-- The rounds so far, of a vault that held this before: it has the bundle of these logs, and the runs have taken them.
+pub record Keeps (functions : DigestFunctions) (header : Header) (logs : List (List ℕ)) (so_far : RunsSoFar) (before now : Option (List ℕ)) : Type 0 where
+  pub vault : HasBundle header logs before now
+  pub runs : HaveRun functions header logs so_far
+
+-- all that these logs certify is counted
+abbrev pub AllCounted : DigestFunctions → Header → List (List ℕ) → RunsSoFar → Type 0
+AllCounted functions header logs so_far = so_far.judged ≡ judged header.verifiers (courses_of (scheme_of functions header) header logs)
+
+-- the lines of the epochs that are counted
+abbrev pub lines_counted : DigestFunctions → Header → List (List ℕ) → RunsSoFar → List ℕ
+lines_counted functions header logs so_far = lines_from (courses_of (scheme_of functions header) header logs) header.first so_far.judged.count
+
+-- the lines of all epochs that logs certify
+abbrev pub lines_due : DigestFunctions → Header → List (List ℕ) → List ℕ
+lines_due functions header logs = certified_lines (scheme_of functions header) header (histories_at (scheme_of functions header) header logs)
+
+-- how the report of logs ends, with nothing bad in their bundle
+abbrev pub end_due : DigestFunctions → Header → List (List ℕ) → BundleEnd
+end_due functions header logs =
+    end_of (scheme_of functions header) header (map (read_log (format_of header)) logs) (histories_at (scheme_of functions header) header logs) None

@@ -1,0 +1,178 @@
+//! The rounds of a host, from the header of the bundle to the last line of the report.
+ghost use Rattle.std.specs.Prelude.{◌≡◌, ◌≢◌, ℕ, ◌≤◌, ◌<◌, ◌^◌, List, Option, length, OnOk, OnErr, IfOk, Err};
+ghost use Rattle.fv_outside.specs.Faults.{Rose};
+ghost use Rattle.fv_outside.specs.Written.{Grows, GrowsByFront};
+ghost use Rattle.lamport_clocks.specs.declared.header.Header.{Header};
+ghost use Rattle.lamport_clocks.specs.Header.{IsHeader};
+ghost use Rattle.record_hash.specs.Functions.{DigestFunctions};
+ghost use Rattle.report_text.specs.Ending.{status_of};
+ghost use Rattle.report_text.specs.Status.{last_line};
+ghost use Rattle.bundle_frames.specs.Bundle.{header_text};
+ghost use Rattle.bundle_report.specs.Logs.{empty_logs};
+ghost use Rattle.host_rounds.specs.Round.{logs_with};
+ghost use Rattle.host_rounds.specs.Bundle.{HasFront};
+ghost use Rattle.host_rounds.specs.SoFar.{RunsSoFar, HaveRun, HaveRunSome, Keeps, AllCounted, lines_counted, lines_due, end_due};
+
+use crate::feeding::feed_all;
+use crate::framing::write_round;
+use crate::laws::rounds_make_a_bundle;
+use crate::opening::open_runs;
+use crate::stops::RoundStop;
+use bundle_frames::write_header;
+use certified_epochs::{Certifier, FedRun};
+use fv_outside::Sink;
+use host_log::LogBuffer;
+use lamport_clocks::Header;
+use record_hash::Digests;
+use report_text::{BundleEnd, Status, write_last};
+use std::alloc::Global;
+use std::marker::Model;
+
+/// What the verifiers' runs have come to over the rounds so far. The vault that has the bundle, and the sink of the
+/// report, are handed in at each call; both only grow. Contracts see what is judged, the runs, and how many bytes were fed.
+///
+/// After an error it is of no more use.
+#[derive(Drop)]
+pub struct Rounds {
+    runs: Vec<FedRun>,
+    certifier: Certifier,
+    bytes: u64,
+}
+
+impl Model for Rounds {
+    ghost use Rattle.host_rounds.specs.SoFar.{RunsSoFar};
+
+    ghost Value = { RunsSoFar };
+
+    ghost view = { λ r. record { judged = r.certifier; runs = r.runs.items; bytes = r.bytes } };
+}
+
+impl Rounds {
+    /// Before the first round: writes the header of the bundle to the vault.
+    pub fn new<V: Sink>(alloc: Global, header: &Header, vault: &mut V) -> Result<Self, RoundStop>
+        requires header { IsHeader header.now }
+        ensures keeps { (functions : DigestFunctions)
+            → IfOk result (λ rounds. Keeps functions header.now (empty_logs header.now.verifiers) rounds (V.held vault.old) (V.held vault.new)) }
+        ensures none { IfOk result (λ rounds. rounds.judged.count ≡ 0) }
+        ensures runs { IfOk result (λ rounds. length rounds.runs ≡ header.now.verifiers) }
+        ensures front { OnErr result (GrowsByFront (V.held vault.old) (V.held vault.new) (header_text header.now)) }
+        ensures stop { result ≢ Err RoundStop.WriteFault }
+        ensures vault_fault { result ≡ Err RoundStop.VaultFault → Rose (V.faults vault.old) (V.faults vault.new) }
+        ensures never_falls { V.faults vault.old ≤ V.faults vault.new }
+        ensures name { V.name vault.new ≡ V.name vault.old }
+    {
+        rounds_make_a_bundle();
+        fits_32_bits(header.first);
+        let runs = open_runs(alloc, header)?;
+        if write_header(header, vault).is_err() {
+            return Err(RoundStop::VaultFault);
+        }
+        Ok(Rounds {
+            runs,
+            certifier: Certifier::new(alloc),
+            bytes: 0,
+        })
+    }
+
+    /// Takes the logs of a round, one of each verifier: writes them to the vault in frames, and feeds them to the runs.
+    /// Of 2^63 bytes or more in all it answers want of memory.
+    pub fn take<D: Digests, V: Sink>(
+        &mut self,
+        d: &D,
+        logs: &[LogBuffer],
+        vault: &mut V,
+    ) -> Result<(), RoundStop>
+        requires each { length logs.now ≡ length self.old.runs }
+        requires runs { HaveRunSome self.old }
+
+        // Whatever logs were taken so far: these are taken behind them. Of epochs no more are counted yet, and their lines
+        // stay what they were.
+        ensures keeps { (header : Header) (before : List (List ℕ)) (held : Option (List ℕ))
+            → Keeps (D.functions d.now) header before self.old held (V.held vault.old)
+            → OnOk result (Keeps (D.functions d.now) header (logs_with before logs.now) self.new held (V.held vault.new)) }
+        ensures counted { OnOk result (self.new.judged ≡ self.old.judged) }
+        ensures lines { (functions : DigestFunctions) (header : Header) (before : List (List ℕ)) → HaveRun functions header before self.old
+            → OnOk result (lines_counted functions header (logs_with before logs.now) self.new ≡ lines_counted functions header before self.old) }
+        ensures runs { OnOk result (length self.new.runs ≡ length self.old.runs) }
+
+        // Where it stops, the vault has a front of their bundle; at want of memory that may be the whole.
+        ensures front { (header : Header) (before : List (List ℕ)) (held : Option (List ℕ))
+            → Keeps (D.functions d.now) header before self.old held (V.held vault.old)
+            → OnErr result (HasFront header (logs_with before logs.now) held (V.held vault.new)) }
+        ensures stop { result ≢ Err RoundStop.WriteFault }
+        ensures vault_fault { result ≡ Err RoundStop.VaultFault → Rose (V.faults vault.old) (V.faults vault.new) }
+        ensures never_falls { V.faults vault.old ≤ V.faults vault.new }
+        ensures name { V.name vault.new ≡ V.name vault.old }
+    {
+        rounds_make_a_bundle();
+        if write_round(logs, vault).is_err() {
+            return Err(RoundStop::VaultFault);
+        }
+        feed_all(d, logs, &mut self.runs, &mut self.bytes)?;
+        Ok(())
+    }
+
+    /// Writes the lines of all epochs that the runs now certify and that are not written yet.
+    pub fn certify<O: Sink>(&mut self, out: &mut O) -> Result<(), RoundStop>
+        requires runs { HaveRunSome self.old }
+        ensures runs { (functions : DigestFunctions) (header : Header) (logs : List (List ℕ)) → HaveRun functions header logs self.old
+            → OnOk result (HaveRun functions header logs self.new) }
+        ensures all { (functions : DigestFunctions) (header : Header) (logs : List (List ℕ)) → HaveRun functions header logs self.old
+            → OnOk result (AllCounted functions header logs self.new) }
+
+        // Of a sink that grew by the lines of the epochs that were counted: it grew by all lines that are due.
+        ensures due { (functions : DigestFunctions) (header : Header) (logs : List (List ℕ)) (held : Option (List ℕ))
+            → HaveRun functions header logs self.old → Grows held (O.held out.old) (lines_counted functions header logs self.old)
+            → OnOk result (Grows held (O.held out.new) (lines_due functions header logs)) }
+        ensures counted { (functions : DigestFunctions) (header : Header) (logs : List (List ℕ)) → HaveRun functions header logs self.old
+            → OnOk result (lines_counted functions header logs self.new ≡ lines_due functions header logs) }
+        ensures len { length self.new.runs ≡ length self.old.runs }
+
+        // Where it stops, by a front of them.
+        ensures front { (functions : DigestFunctions) (header : Header) (logs : List (List ℕ)) (held : Option (List ℕ))
+            → HaveRun functions header logs self.old → Grows held (O.held out.old) (lines_counted functions header logs self.old)
+            → OnErr result (GrowsByFront held (O.held out.new) (lines_due functions header logs)) }
+        ensures stop { result ≢ Err RoundStop.VaultFault }
+        ensures write_fault { result ≡ Err RoundStop.WriteFault → Rose (O.faults out.old) (O.faults out.new) }
+        ensures never_falls { O.faults out.old ≤ O.faults out.new }
+    {
+        self.certifier.certify(&mut self.runs, out)?;
+        Ok(())
+    }
+
+    /// Ends the logs, and writes the last line of the report. All that the runs certify is to be written before.
+    pub fn finish<O: Sink>(&mut self, out: &mut O) -> Result<BundleEnd, RoundStop>
+        requires runs { HaveRunSome self.old }
+        ensures end { (functions : DigestFunctions) (header : Header) (logs : List (List ℕ))
+            → HaveRun functions header logs self.old → AllCounted functions header logs self.old
+            → IfOk result (λ end. end ≡ end_due functions header logs) }
+        ensures line { IfOk result (λ end. Grows (O.held out.old) (O.held out.new) (last_line (status_of end))) }
+        ensures front { (functions : DigestFunctions) (header : Header) (logs : List (List ℕ))
+            → HaveRun functions header logs self.old → AllCounted functions header logs self.old
+            → OnErr result (GrowsByFront (O.held out.old) (O.held out.new) (last_line (status_of (end_due functions header logs)))) }
+        ensures stop { OnErr result (result ≡ Err RoundStop.WriteFault) }
+        ensures write_fault { OnErr result (Rose (O.faults out.old) (O.faults out.new)) }
+        ensures never_falls { O.faults out.old ≤ O.faults out.new }
+    {
+        Ok(self.certifier.finish(&mut self.runs, None, out)?)
+    }
+}
+
+/// Writes the last line of a report that ends otherwise than its bundle says, as where a clock came to its end.
+pub fn write_end<O: Sink>(status: &Status, out: &mut O) -> Result<(), RoundStop>
+    ensures line { OnOk result (Grows (O.held out.old) (O.held out.new) (last_line status.now)) }
+    ensures front { OnErr result (GrowsByFront (O.held out.old) (O.held out.new) (last_line status.now)) }
+    ensures stop { OnErr result (result ≡ Err RoundStop.WriteFault) }
+    ensures write_fault { OnErr result (Rose (O.faults out.old) (O.faults out.new)) }
+    ensures never_falls { O.faults out.old ≤ O.faults out.new }
+{
+    match write_last(status, out) {
+        Ok(()) => Ok(()),
+        Err(_) => Err(RoundStop::WriteFault),
+    }
+}
+
+// A first epoch fits the bytes in which a header spells it. It does nothing, and its contract is the fact.
+fn fits_32_bits(first: u32)
+    ensures below { first < 2 ^ 32 }
+{}

@@ -1,0 +1,2 @@
+-- How the laws of serving a script are proved, in reading order.
+pub mod LeadingLaws

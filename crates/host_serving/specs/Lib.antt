@@ -1,0 +1,4 @@
+-- How a host serves a script, in reading order.
+pub mod Leading
+pub mod Standing
+pub use Rattle.host_world.specs

@@ -1,0 +1,52 @@
+-- How a world stands while its script is served: within a phase, and at its end.
+use Rattle.std.specs.Prelude.{◌≡◌, ◌⊎◌, ℕ, suc, ◌+◌, ◌<◌, ◌≤◌, true, false, List, [], length, take, get_or, None}
+use Rattle.host_core.specs.Host.{Host, asked_in, asked_from}
+use Rattle.host_core.specs.World.{Worker, World, worker_at}
+use Rattle.host_core.specs.WorldEvent.{IsPhaseOver, HasAdvanced}
+
+-- what a phase asks, each request with its worker
+abbrev pub turns_of : {C R : Type 0} → Host C R → ℕ → List (ℕ × R)
+turns_of host phase = get_or host.script phase []
+
+-- how many requests a worker is asked in so many phases, and in so many turns of the next
+abbrev pub asked_by : {C R : Type 0} → Host C R → ℕ → ℕ → ℕ → ℕ
+asked_by host i phase turns =
+    length (asked_from i 0 (take phase host.script)) + length (asked_in i phase (take turns (turns_of host phase)))
+
+-- The worker holds nothing, and its clock ended in this phase or it has served so many requests.
+pub record HasServedUpTo (worker : Worker) (count : ℕ) : Type 0 where
+  pub idle : worker.holds ≡ None
+  pub going : worker.stuck ≡ false
+  pub served : (worker.stopped ≡ true) ⊎ ((worker.stopped ≡ false) × (worker.served ≡ count))
+
+module _ {C R : Type 0} (host : Host C R) (world : World C) where
+  -- so many turns of the phase are served, each by its worker or not because its clock ended
+  pub record IsServedUpTo (turns : ℕ) : Type 0 where
+    pub going : world.over ≡ false
+    pub phase : world.closing ≡ false
+    pub within : world.phase < length host.script
+    pub each : (i : ℕ) → i < length world.workers → HasServedUpTo (worker_at host world i) (asked_by host i world.phase turns)
+
+  -- all turns of the phase are served so, and no worker has more to do in it
+  pub record IsServedOut : Type 0 where
+    pub served : IsServedUpTo (length (turns_of host world.phase))
+    pub over : IsPhaseOver host world
+
+  -- no worker's clock ended in this phase
+  abbrev pub NoneStopped : Type 0
+  NoneStopped = (i : ℕ) → i < length world.workers → (worker_at host world i).stopped ≡ false
+
+  -- a worker's clock did
+  abbrev pub SomeStopped : Type 0
+  SomeStopped = (i : ℕ) × (i < length world.workers) × ((worker_at host world i).stopped ≡ true)
+
+  -- The last close is whole: all workers have advanced twice, and what they served before stands.
+  pub record IsClosed : Type 0 where
+    pub over : IsPhaseOver host world
+    pub advanced : (i : ℕ) → i < length world.workers → HasAdvanced host world i 2
+
+  -- The script is served: its last phase is closed, and no clock ended.
+  pub record IsAllServed : Type 0 where
+    pub last : length host.script ≤ suc world.phase
+    pub closed : IsClosed
+    pub running : NoneStopped
