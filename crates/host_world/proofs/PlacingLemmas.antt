@@ -14,18 +14,24 @@ use Rattle.record_hash.specs.Functions.{DigestFunctions}
 use Rattle.record_text.specs.declared.request.Request.{Request}
 use Rattle.record_text.specs.Format.{short_keys}
 use Rattle.merkle_records.specs.Merkle.{Digest, GivesDigests}
+use Rattle.log_codec.specs.declared.command.Command.{Command}
 use Rattle.host_core.specs.World.{Place, Seats, World, unmoved, shard_at}
+use Rattle.host_core.specs.WorldEvent.{IsPlace}
 use Rattle.host_shard.specs.Content.{Content, cold, hot, vacant, key_path}
+use Rattle.host_shard.specs.Shown.{shown_content}
 use Rattle.host_plan.specs.Setup.{IsShardCount, child, paths_below}
 use Rattle.script_text.specs.declared.task.Task.{Task}
 use Rattle.protection_moves.specs.Stage.{is_hot_at}
 use Rattle.host_world.specs.declared.settings.Settings.{Settings}
-use Rattle.host_world.specs.Behind.{IsBehindSetup}
+use Rattle.host_world.specs.declared.seats.Seats as code_seats
+use Rattle.host_world.specs.declared.world.World as code
+use Rattle.host_world.specs.Behind.{IsBehindSetup, StandsWith, with_logs}
 use Rattle.host_world.specs.Places.{place_of}
 use Rattle.host_world.specs.Seated.{SeatsMirror}
 use Rattle.host_world.specs.Settings.{frontier_bits}
 use Rattle.host_world.specs.ShippedHost.{serves_key, is_blob, is_place_of}
-use Rattle.host_world.proofs.BehindLemmas.{shards_are, frontier_bits_are}
+use Rattle.host_world.specs.Shown.{contents_of, shown_seats, shown_world, requests_of}
+use Rattle.host_world.proofs.BehindLemmas.{behind_orderly, shards_are, frontier_bits_are}
 use Rattle.host_world.proofs.FrontierLaws.{frontier_in, frontiers_behind}
 use Rattle.host_world.proofs.WorldLemmas.{read_shown}
 
@@ -191,8 +197,63 @@ seat_owns digest vacant places mirrors zero request below blob hot_there none_th
     no_shard : vacant ∷ places ≡ cold mirrors.shard ∷ mirrors.places → ⊥
     no_shard is = cc
 
+-- ---- a world of the code
+
 -- the number of a place
-pub place_back : (number s seat : ℕ) → number ≡ s * 5 + seat → seat < 5 → place_of number ≡ record { shard = s; seat = seat }
+place_back : (number s seat : ℕ) → number ≡ s * 5 + seat → seat < 5 → place_of number ≡ record { shard = s; seat = seat }
 place_back number s seat is few =
     ap (λ (n : ℕ). record { shard = n; seat = number % 5 }) (omega (arith, is, few))
     ∙ ap (λ (n : ℕ). record { shard = s; seat = n }) (omega (arith, is, few))
+
+module _ {D : Type 0} (functions : DigestFunctions) (digests : GivesDigests functions.digest) (world : code.World D) (logs : List (List Command))
+    (stands : StandsWith functions world logs) where
+  -- how many shards it has, and how many that can be
+  pub shards_in : length world.shards.items ≡ world.settings.shards
+  shards_in =
+      sym (length-map world.shards.items shown_seats)
+      ∙ shards_there functions world.settings (requests_of world) digests (with_logs logs (shown_world world)) stands.behind
+
+  pub few_shards : world.settings.shards ≤ 1024
+  few_shards =
+      let count = stands.behind.settings_fit.shards in
+      let most : 2 ^ count.bits ≤ 2 ^ 10 = pow-le-pow_right {n = 2} (omega arith) {i = count.bits} {j = 10} count.most in
+      omega (arith, count.power, most)
+
+  module _ (s : ℕ) (there : s < world.settings.shards) (seats : code_seats.Seats) (read : seats ≡ get_or world.shards.items s seats) where
+    -- the seats of a shard, as they were read
+    seats_read : shard_at (shown_world world) s ≡ shown_seats seats
+    seats_read = read_shown shown_seats world.shards.items s seats (unmoved []) (omega (arith, there, shards_in)) read
+
+    seats_mirror : SeatsMirror short_keys functions.digest (contents_of seats)
+    seats_mirror =
+        let whole = behind_orderly functions world.settings (requests_of world) digests (with_logs logs (shown_world world)) stands.behind in
+        subst (λ (found : Seats Content). SeatsMirror short_keys functions.digest found.contents) seats_read
+        (whole.shards s (omega (arith, there, shards_in, length-map world.shards.items shown_seats))).mirrors
+
+    pub five_seats : length (contents_of seats) ≡ 5
+    five_seats = ap (λ (xs : List Content). length xs) seats_mirror.is ∙ ap (λ (n : ℕ). suc n) seats_mirror.four
+
+    module _ (number seat : ℕ) (is : number ≡ s * 5 + seat) (among : seat < length (contents_of seats)) where
+      at_place : (P : Place → Type 0) → P (record { shard = s; seat = seat }) → P (place_of number)
+      at_place P holds = subst P (sym (place_back number s seat is (omega (arith, among, five_seats)))) holds
+
+      -- The seat's number is that of a place.
+      pub place_there : IsPlace (shown_world world) (place_of number)
+      place_there =
+          at_place (λ (place : Place). IsPlace (shown_world world) place) (
+            omega (arith, there, shards_in, length-map world.shards.items shown_seats),
+            subst (λ (found : Seats Content). seat < length found.contents) (sym seats_read) among,
+          )
+
+      -- And it is the place of a request whose key's first bits spell the shard's number, if the seat is the key's.
+      pub place_owns : (request : Request) → s ≡ number_of (take (frontier_bits world.settings.shards) (key_path short_keys request.key)) → is_blob short_keys request.value ≡ true
+          → (seat ≢ 0 → is_hot_at request.key (get_or (contents_of seats) seat vacant) ≡ true)
+          → (seat ≡ 0 → list_any (is_hot_at request.key) (map shown_content seats.hot.items) ≡ false)
+          → is_place_of short_keys (shard_at (shown_world world) (place_of number).shard).contents (place_of number).seat request ≡ true
+      place_owns request first blob hot_there none_there =
+          at_place (λ (place : Place). is_place_of short_keys (shard_at (shown_world world) place.shard).contents place.seat request ≡ true)
+          (subst (λ (found : Seats Content). is_place_of short_keys found.contents seat request ≡ true) (sym seats_read)
+          (seat_owns functions.digest (shown_content seats.first) (map shown_content seats.hot.items) seats_mirror seat request
+          (subst (λ (found : Seats Content). is_prefix (frontier_in found.contents) (key_path short_keys request.key) ≡ true) seats_read
+          (lies_below functions world.settings (requests_of world) digests (with_logs logs (shown_world world)) stands.behind request.key s first there))
+          blob hot_there none_there))
