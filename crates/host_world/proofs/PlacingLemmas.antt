@@ -49,8 +49,12 @@ exponent n r bits is low high = go (cases_lt r bits) (cases_lt bits r)
     go (inr least) (inr most) = omega (arith, least, most)
 
 -- how many bits a frontier has, as a logarithm
-pub log_is : (shards r : ℕ) (count : IsShardCount shards) → 2 ^ r ≤ shards → shards < 2 * 2 ^ r → r ≡ count.bits
+log_is : (shards r : ℕ) (count : IsShardCount shards) → 2 ^ r ≤ shards → shards < 2 * 2 ^ r → r ≡ count.bits
 log_is shards r count low high = exponent shards r count.bits count.power low high
+
+-- so many bits fewer than a key has are fewer
+pub shift_below : (shards r : ℕ) → IsShardCount shards → 2 ^ r ≤ shards → shards < 2 * 2 ^ r → 64 - r < 64
+shift_below shards r count low high = omega (arith, log_is shards r count low high, count.some)
 
 -- so many first bits of a key spell what is left of it above the others
 number_of-first : (key bits : ℕ) → key < 2 ^ 64 → bits ≤ 64 → number_of (take bits (key_path short_keys key)) ≡ key / 2 ^ (64 - bits)

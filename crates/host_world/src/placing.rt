@@ -39,7 +39,8 @@ fn shard_of(key: u64, shards: u32) -> u32
     ensures first_bits { result ≡ number_of (take (frontier_bits shards) (key_path short_keys key)) }
     ensures there { result < shards }
 {
-    (key >> (u64::BITS - shards.ilog2())) as u32
+    let bits = shards.ilog2();
+    (key >> (u64::BITS - bits)) as u32
 }
 
 // Whether a content is the record of this hot key.
