@@ -6,15 +6,17 @@ pub overflow_shr-result : goal.overflow_shr-result
 overflow_shr-result c =
     shift_below c.args.shards c.ilog2-bits.result c.requires.shards c.ilog2-bits.ensures.power_le c.ilog2-bits.ensures.next_power_gt
 
-pub returns-clause-there : goal.returns-clause-there
-returns-clause-there c =
-    shard_below c.args.key c.args.shards c.ilog2-bits.result c.ranges.key.fits c.requires.shards c.ilog2-bits.ensures.power_le c.ilog2-bits.ensures.next_power_gt
-
 pub overflow_cast-result-2 : goal.overflow_cast-result-2
 overflow_cast-result-2 c =
     let below = shard_below c.args.key c.args.shards c.ilog2-bits.result c.ranges.key.fits c.requires.shards c.ilog2-bits.ensures.power_le c.ilog2-bits.ensures.next_power_gt in
-    omega (arith, below, c.ranges.shards.fits)
+    grind (arith, below, c.ranges.shards.fits)
 
 pub returns-clause-first_bits : goal.returns-clause-first_bits
 returns-clause-first_bits c =
-    shard_is c.args.key c.args.shards c.ilog2-bits.result c.ranges.key.fits c.requires.shards c.ilog2-bits.ensures.power_le c.ilog2-bits.ensures.next_power_gt
+    let is = shard_is c.args.key c.args.shards c.ilog2-bits.result c.ranges.key.fits c.requires.shards c.ilog2-bits.ensures.power_le c.ilog2-bits.ensures.next_power_gt in
+    grind (arith, is)
+
+pub returns-clause-there : goal.returns-clause-there
+returns-clause-there c =
+    let below = shard_below c.args.key c.args.shards c.ilog2-bits.result c.ranges.key.fits c.requires.shards c.ilog2-bits.ensures.power_le c.ilog2-bits.ensures.next_power_gt in
+    grind (arith, below)

@@ -1,4 +1,4 @@
-use Rattle.std.proofs.Common.{◌≡◌, ◌<◌, ◌+◌, ◌∙◌, suc, List, length, get_or, ap, sym, subst, arith}
+use Rattle.std.proofs.Common.{◌≡◌, ◌<◌, ◌∙◌, List, length, get_or, ap, sym, subst, arith}
 use Rattle.host_shard.specs.declared.content.Content as place
 use Rattle.host_shard.specs.Content.{vacant}
 use Rattle.host_shard.specs.Shown.{shown_content}
@@ -23,6 +23,5 @@ returns-then-is_hot_at-clause-hot c some =
     let item = c.content-item.result in
     let there : at < length xs = subst (λ (ys : List place.Content). at < length ys) c.deref-content-items.ensures.value c.loop-at-test.true in
     let is : item ≡ get_or xs at item = c.content-item.is ∙ ap (λ (ys : List place.Content). get_or ys at item) c.deref-content-items.ensures.value in
-    let next : suc at ≡ at + 1 = omega arith in
-    ap (is_hot_at c.args.key) (hot_read shown_content (shown_content c.args.self.now.first) xs at (at + 1) item vacant next there is)
+    ap (is_hot_at c.args.key) (hot_read shown_content (shown_content c.args.self.now.first) xs at _ item vacant (omega arith) there is)
     ∙ sym c.is_hot_at.ensures.value ∙ c.if-is_hot_at.true
