@@ -70,6 +70,7 @@ shard_is key shards r small count low high =
     ap (λ (n : ℕ). key / 2 ^ (64 - n)) bits
     ∙ sym (number_of-first key (frontier_bits shards) small (omega (arith, frontier_bits_are shards count, count.most)))
 
+-- It is one of them.
 pub shard_below : (key shards r : ℕ) → key < 2 ^ 64 → IsShardCount shards → 2 ^ r ≤ shards → shards < 2 * 2 ^ r → key / 2 ^ (64 - r) < shards
 shard_below key shards r small count low high =
     let bits = log_is shards r count low high in
@@ -83,6 +84,7 @@ prefix-take (suc n) [] = refl
 prefix-take (suc n) (true ∷ bits) = prefix-take n bits
 prefix-take (suc n) (false ∷ bits) = prefix-take n bits
 
+-- and as many as they are
 length-first : (n : ℕ) (bits : List Bool) → n ≤ length bits → length (take n bits) ≡ n
 length-first zero bits within = refl
 length-first (suc n) [] within = absurd (omega (arith, within))
@@ -90,6 +92,7 @@ length-first (suc n) (bit ∷ bits) within = ap (λ (k : ℕ). suc k) (length-fi
 
 -- ---- the frontiers by their numbers
 
+-- how many paths there are
 count_below : (levels : ℕ) (path : List Bool) → length (paths_below levels path) ≡ 2 ^ levels
 count_below zero path = refl
 count_below (suc levels) path =
@@ -138,7 +141,7 @@ path_at (suc levels) path n small = go (cases_lt n (2 ^ levels)) (path_at levels
 module _ (functions : DigestFunctions) (settings : Settings) (script : List (List Task)) (digests : GivesDigests functions.digest) (world : World Content)
     (behind : IsBehindSetup functions settings script world) where
   -- It has as many shards as its settings say.
-  pub shards_there : length world.shards ≡ settings.shards
+  shards_there : length world.shards ≡ settings.shards
   shards_there =
       sym (length-map world.shards (λ (seats : Seats Content). frontier_in seats.contents))
       ∙ ap (λ (paths : List (List Bool)). length paths) (frontiers_behind functions settings script digests world behind)
@@ -153,7 +156,7 @@ module _ (functions : DigestFunctions) (settings : Settings) (script : List (Lis
       ∙ path_at (frontier_bits settings.shards) [] s (omega (arith, there, shards_are settings.shards behind.settings_fit.shards))
 
   -- A key lies below the frontier of the shard whose number its first bits spell.
-  pub lies_below : (key s : ℕ) → s ≡ number_of (take (frontier_bits settings.shards) (key_path short_keys key)) → s < settings.shards
+  lies_below : (key s : ℕ) → s ≡ number_of (take (frontier_bits settings.shards) (key_path short_keys key)) → s < settings.shards
       → is_prefix (frontier_in (shard_at world s).contents) (key_path short_keys key) ≡ true
   lies_below key s is there =
       let bits : ℕ = frontier_bits settings.shards in
@@ -181,7 +184,7 @@ hot_serves seats key (hot found) is = is
 hot_serves seats key vacant is = absurd (false≢true is)
 
 -- A hot place that has a request's key is its place; and where none has, the shard's own is, if the key lies below its frontier.
-pub seat_owns : (digest : Digest) (first : Content) (places : List Content) → SeatsMirror short_keys digest (first ∷ places) → (seat : ℕ) (request : Request)
+seat_owns : (digest : Digest) (first : Content) (places : List Content) → SeatsMirror short_keys digest (first ∷ places) → (seat : ℕ) (request : Request)
     → is_prefix (frontier_in (first ∷ places)) (key_path short_keys request.key) ≡ true → is_blob short_keys request.value ≡ true
     → (seat ≢ 0 → is_hot_at request.key (get_or (first ∷ places) seat vacant) ≡ true)
     → (seat ≡ 0 → list_any (is_hot_at request.key) places ≡ false)

@@ -78,6 +78,7 @@ impl<'a, D: Digests> World<'a, D> {
         ensures owns { (host_of (D.functions (digests_of self.now)) self.now).owns (place_of result).shard
             (shard_at (shown_world self.now) (place_of result).shard).contents (place_of result).seat request.now ≡ true }
     {
+        // A place takes a request only with a value that a key may have.
         prove!(fits(&request.value));
         let shard = shard_of(request.key, self.settings.shards);
         let seat = self.shards[shard as usize].seat_of(request.key);
