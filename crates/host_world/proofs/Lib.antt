@@ -10,7 +10,7 @@ pub mod SeatLaws
 pub mod RangeLaws
 mod OrderlyLemmas
 mod BehindLemmas
-pub mod FrontierLaws
+mod FrontierLaws
 mod WorldLemmas
 mod TakenLemmas
 mod StandingLemmas
