@@ -1,16 +1,14 @@
 -- Typed commands that a verifier accepts have texts: each path stands in its cache, and each value there is of its path's kind.
-use Rattle.std.proofs.Common.{◌≡◌, ℕ, suc, ◌+◌, ◌<◌, ◌≤◌, ◌^◌, ◌==◌, ◌||◌, nat_le, Bool, true, false, not, List, [], ◌∷◌, ◌++◌, length, Option, Some, None, is_some, Result, Ok, Err, refl, sym, ◌∙◌, ap, subst, if◌then◌else◌, arith}
+use Rattle.std.proofs.Common.{◌≡◌, ℕ, suc, ◌<◌, ◌≤◌, ◌^◌, ◌||◌, nat_le, Bool, true, false, not, List, [], ◌∷◌, length, Option, Some, None, is_some, Ok, Err, refl, sym, ap, subst, if◌then◌else◌, arith}
 use Rattle.std.specs.List.{AllByRecursion}
 use Rattle.std.proofs.lemmas.Bool.{not-false, cond_both}
 use Rattle.std.proofs.lemmas.Bool.Decides.{nat_tests}
 use Rattle.std.proofs.lemmas.Option.{none-some, same_Some}
 use Rattle.std.proofs.lemmas.Result.{IfOk-at_ok}
 use Rattle.tree_keys.specs.Path.{side, same_path}
-use Rattle.lamport_clocks.specs.declared.header.Header.{Header}
 use Rattle.lamport_clocks.specs.declared.stamp.Stamp.{Stamp}
 use Rattle.lamport_clocks.specs.Clock.{received, sent, advanced}
 use Rattle.step_words.proofs.StepLaws.{test-ok}
-use Rattle.record_text.specs.declared.refusal.Refusal.{Refusal}
 use Rattle.record_text.specs.declared.value.Value.{Value}
 use Rattle.record_text.specs.declared.value.Value.TheVariants as values
 use Rattle.record_text.specs.Format.{Format, path_bits}
@@ -23,7 +21,7 @@ use Rattle.log_codec.specs.declared.command.Command.TheVariants.{AddM, EvictM, A
 use Rattle.log_codec.specs.Command.{IsCommand}
 use Rattle.merkle_records.specs.declared.cases.AddCase.{AddCase}
 use Rattle.merkle_records.specs.declared.cases.AddCase.TheVariants as cases
-use Rattle.merkle_records.specs.Merkle.{Digest, GivesDigests, case_of, Added, after_add, after_evict, after_defer}
+use Rattle.merkle_records.specs.Merkle.{Digest, GivesDigests, case_of, Added, after_add}
 use Rattle.merkle_records.proofs.KindLaws.{AddedIsOf, IsOf-after_add, IsOf-after_evict, IsOf-after_defer}
 use Rattle.stamp_order.proofs.InOrderLaws.{every-append}
 use Rattle.verifier_cache.specs.declared.entry.Entry.{Entry}
@@ -35,7 +33,7 @@ use Rattle.verifier_commands.specs.declared.changes.Parent.{Parent}
 use Rattle.verifier_commands.specs.declared.changes.Family.{Family}
 use Rattle.verifier_commands.specs.declared.state.State.{State}
 use Rattle.verifier_commands.specs.Change.{Change}
-use Rattle.verifier_commands.specs.Changes.{node_of, above_on, above, leads_to, is_deferred, has_digest, leads_below, holds_wrong, is_by_digest, is_by_stamp, set_kid_on, family_of, left_by, add_by, add_under, evict_under, defer_under}
+use Rattle.verifier_commands.specs.Changes.{node_of, above_on, above, leads_to, is_deferred, has_digest, leads_below, holds_wrong, is_by_digest, is_by_stamp, set_kid_on, family_of, add_by, add_under, evict_under, defer_under}
 use Rattle.verifier_commands.specs.Transition.{Rules, Step, is_root, is_data, is_full, transition, add_m, evict_m, add_b, evict_b, evict_bm, get, put}
 use Rattle.verifier_commands.proofs.InvertLaws.{need-ok, and_then-ok, timed-ok}
 use Rattle.verifier_commands.proofs.TickLaws.{ticks_step}
@@ -207,8 +205,8 @@ module _ (rules : Rules) (digests : GivesDigests rules.scheme.digest) (few : rul
         let holder = need-ok (entry_of parent xs) _ _ done child.2 in
         let after = and_then-ok (evict_under format digest holder.0 child.0) _ done holder.2 in
         let kind = evict_kind format digest digests holder.0 child.0 after.0
-            (found_has (IsKind format) parent xs holder.0 good.kinds holder.1)
-            (found_has (IsKind format) path xs child.0 good.kinds child.1) after.1 in
+        (found_has (IsKind format) parent xs holder.0 good.kinds holder.1)
+        (found_has (IsKind format) path xs child.0 good.kinds child.1) after.1 in
         IfOk-at_ok (Fits format (EvictM path parent)) after.2 (record {
           spelled = λ stamps. (short path child.0 child.1, short parent holder.0 holder.1);
           kinds = every-without (IsKind format) path (replaced after.0 xs)
@@ -253,7 +251,7 @@ module _ (rules : Rules) (digests : GivesDigests rules.scheme.digest) (few : rul
         let after = and_then-ok (defer_under holder.0 child.0) _ done holder.2 in
         let clock = timed-ok (sent state.clock stamp) _ done after.2 in
         let kind = defer_kind format digest digests holder.0 child.0 after.0
-            (found_has (IsKind format) parent xs holder.0 good.kinds holder.1) after.1 in
+        (found_has (IsKind format) parent xs holder.0 good.kinds holder.1) after.1 in
         IfOk-at_ok (Fits format (EvictBM path parent stamp)) clock.2 (record {
           spelled = λ stamps. (
             short path child.0 child.1,

@@ -3,4 +3,4 @@
 mod StampLemmas
 mod CommandLemmas
 mod TextLemmas
-pub mod ReportLaws
+mod ReportLemmas

@@ -1,6 +1,6 @@
 -- The stamps of what is evicted are in their ranges, and so are those of what is added, which was evicted before.
-use Rattle.std.proofs.Common.{◌≡◌, ℕ, suc, ◌+◌, ◌<◌, ◌≤◌, ◌^◌, Bool, true, false, List, [], ◌∷◌, ◌++◌, Ok, refl, sym, ◌∙◌, ap, subst, if◌then◌else◌, arith}
-use Rattle.std.specs.List.{flat_map, AllByRecursion}
+use Rattle.std.proofs.Common.{◌≡◌, ℕ, suc, ◌+◌, ◌<◌, ◌≤◌, ◌^◌, Bool, true, false, List, [], ◌∷◌, ◌++◌, Ok, refl, sym, subst, if◌then◌else◌, arith}
+use Rattle.std.specs.List.{AllByRecursion}
 use Rattle.std.proofs.lemmas.Bool.{eqb-false}
 use Rattle.std.proofs.lemmas.Grind.{flat_map-append}
 use Rattle.lamport_clocks.specs.declared.header.Header.{Header}
@@ -17,7 +17,7 @@ use Rattle.verifier_commands.specs.State.{opening}
 use Rattle.verifier_commands.specs.Change.{Change, did_add_m, did_evict_m, did_add_b, did_evict_b, did_evict_bm, did_get, did_put, did_next_epoch}
 use Rattle.verifier_commands.proofs.TickLaws.{Ticks}
 use Rattle.soundness.specs.History.{Event, log_events, histories_from}
-use Rattle.soundness.specs.Certified.{all_events, added_by, evicted_by}
+use Rattle.soundness.specs.Certified.{all_events, evicted_by}
 use Rattle.soundness.specs.Timed.{added_among, evicted_among}
 use Rattle.soundness.specs.Permutation.{same_element, count_of, is_permutation}
 use Rattle.soundness.proofs.PermutationLaws.{same_element-true, same_element-self, count_permuted}

@@ -1,5 +1,5 @@
 -- Logs whose commands have texts are read back, and none of them is refused.
-use Rattle.std.proofs.Common.{◌≡◌, ℕ, zero, suc, ◌+◌, ◌<◌, false, List, [], ◌∷◌, ◌++◌, map, length, replicate, get_or, min, Option, Some, None, refl, sym, ◌∙◌, ap, subst, nat_lt, if◌then◌else◌, arith}
+use Rattle.std.proofs.Common.{◌≡◌, ℕ, zero, suc, ◌+◌, ◌<◌, false, List, [], ◌∷◌, map, length, replicate, get_or, min, Option, None, refl, sym, ◌∙◌, ap, subst, nat_lt, if◌then◌else◌, arith}
 use Rattle.step_words.specs.Traced.{traced}
 use Rattle.std.specs.List.{flat_map, AllByRecursion}
 use Rattle.std.specs.Option.{option_map, option_or}
@@ -11,7 +11,7 @@ use Rattle.record_text.specs.Format.{short_keys, format_of}
 use Rattle.record_text.proofs.FieldLaws.{wide64}
 use Rattle.log_codec.specs.declared.command.Command.{Command}
 use Rattle.log_codec.specs.Command.{IsCommand}
-use Rattle.log_codec.specs.Log.{Log, whole, log_text, read_log}
+use Rattle.log_codec.specs.Log.{Log, whole, read_log}
 use Rattle.log_codec.proofs.LogLaws.{read_log-text, read_log-empty}
 use Rattle.merkle_records.specs.Scheme.{Scheme, scheme_of}
 use Rattle.report_text.specs.declared.ending.BundleEnd.{BundleEnd}
@@ -19,7 +19,7 @@ use Rattle.report_text.specs.declared.ending.BundleEnd.TheVariants.{Done}
 use Rattle.verifier_run.specs.LogCourse.{refusal_by}
 use Rattle.soundness.specs.History.{Event, log_events, log_refusal, histories_from}
 use Rattle.soundness.specs.Certified.{order_of, sealed_by_all, balanced_from, certified_count, certified_operations, epochs_from}
-use Rattle.bundle_report.specs.BundleReport.{refused_in, refused_end, refused_among, unbalanced_end, done_or_bad, end_or, end_of, histories_in, histories_at, epoch_lines}
+use Rattle.bundle_report.specs.BundleReport.{refused_end, refused_among, unbalanced_end, done_or_bad, end_or, end_of, histories_in, histories_at, epoch_lines}
 use Rattle.host_rounds.specs.SoFar.{end_due, lines_due}
 use Rattle.run_reports.specs.Runs.{texts_of}
 

@@ -19,11 +19,10 @@ abbrev pub texts_of : List (List Command) → List (List ℕ)
 texts_of logs = map (log_text short_keys) logs
 
 -- P holds of whatever shipped host can run, and of the world behind every list of events that are enabled from its setup
--- on. The first epoch has 32 bits: a log has no more for it.
+-- on. The first epoch has 32 bits, as many as a log spells.
 abbrev pub HoldsOfRuns : (Host Content Request → World Content → Type 0) → Type 0
 HoldsOfRuns P =
     (functions : DigestFunctions) (settings : Settings) (script : List (List Task)) (events : List (WorldEvent Request))
     → CanRun functions settings script → settings.header.first < 2 ^ 32
-    → AreEnabled (shipped_host functions settings script) (set_up (shipped_host functions settings script)) events
-    → P (shipped_host functions settings script)
-    (run_events (shipped_host functions settings script) (set_up (shipped_host functions settings script)) events)
+    → let host = shipped_host functions settings script in
+    AreEnabled host (set_up host) events → P host (run_events host (set_up host) events)

@@ -9,6 +9,7 @@
 mod laws;
 
 pub use laws::{
-    a_check_finds_nothing_to_show, a_check_finds_what_the_script_asks, a_check_of_the_logs_ends_as_the_host_promises,
-    a_check_reads_what_the_host_logged, logs_of_no_bytes_certify_nothing,
+    a_check_finds_nothing_to_show, a_check_finds_what_the_script_asks,
+    a_check_of_the_logs_ends_as_the_host_promises, a_check_reads_what_the_host_logged,
+    logs_of_no_bytes_certify_nothing,
 };

@@ -1,4 +1,4 @@
-use Rattle.run_reports.proofs.ReportLaws.{shows_nothing, certifies_serial}
+use Rattle.run_reports.proofs.ReportLemmas.{shows_nothing, certifies_serial}
 use Rattle.run_reports.proofs.laws.a_check_finds_nothing_to_show.Goals as goal
 
 pub returns : goal.returns

@@ -1,4 +1,4 @@
-use Rattle.run_reports.proofs.ReportLaws.{finds_answers, finds_all_answers}
+use Rattle.run_reports.proofs.ReportLemmas.{finds_answers, finds_all_answers}
 use Rattle.run_reports.proofs.laws.a_check_finds_what_the_script_asks.Goals as goal
 
 pub returns : goal.returns

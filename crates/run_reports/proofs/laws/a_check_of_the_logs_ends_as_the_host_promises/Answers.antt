@@ -1,4 +1,4 @@
-use Rattle.run_reports.proofs.ReportLaws.{comes_to_end, comes_to_whole}
+use Rattle.run_reports.proofs.ReportLemmas.{comes_to_end, comes_to_whole}
 use Rattle.run_reports.proofs.laws.a_check_of_the_logs_ends_as_the_host_promises.Goals as goal
 
 pub returns : goal.returns

@@ -1,4 +1,4 @@
-use Rattle.run_reports.proofs.ReportLaws.{reads, refuses_none}
+use Rattle.run_reports.proofs.ReportLemmas.{reads, refuses_none}
 use Rattle.run_reports.proofs.laws.a_check_reads_what_the_host_logged.Goals as goal
 
 pub returns : goal.returns

@@ -1,5 +1,5 @@
 -- What a check makes of the logs of the shipped host.
-use Rattle.std.proofs.Common.{◌≡◌, ℕ, zero, suc, ◌+◌, ◌<◌, ◌≤◌, ◌^◌, ◌==◌, Bool, false, List, [], ◌∷◌, ◌++◌, map, length, get_or, take, Some, None, refl, sym, ◌∙◌, ap, subst, arith}
+use Rattle.std.proofs.Common.{◌≡◌, ℕ, zero, suc, ◌+◌, ◌<◌, ◌≤◌, ◌^◌, ◌==◌, false, List, [], ◌∷◌, ◌++◌, map, length, get_or, take, Some, None, refl, sym, ◌∙◌, ap, subst, arith}
 use Rattle.std.specs.List.{AllByRecursion}
 use Rattle.std.proofs.lemmas.Bool.{cond_both}
 use Rattle.std.proofs.lemmas.Grind.{flat_map-append}
@@ -9,14 +9,12 @@ use Rattle.record_hash.specs.Functions.{DigestFunctions}
 use Rattle.record_text.specs.declared.exhibit.Exhibit.TheVariants.{Clean}
 use Rattle.record_text.specs.declared.request.Request.{Request}
 use Rattle.record_text.specs.Format.{short_keys, format_of}
-use Rattle.log_codec.specs.declared.command.Command.{Command}
 use Rattle.log_codec.specs.Command.{IsCommand}
 use Rattle.log_codec.specs.Log.{read_log}
 use Rattle.merkle_records.specs.Merkle.{GivesDigests}
 use Rattle.report_text.specs.declared.ending.BundleEnd.TheVariants.{Done}
 use Rattle.script_text.specs.declared.task.Task.{Task}
 use Rattle.stamp_order.specs.Serial.{IsSerial}
-use Rattle.verifier_cache.specs.declared.entry.Entry.{Entry}
 use Rattle.verifier_commands.specs.State.{opening, root_entry}
 use Rattle.soundness.specs.History.{Event, log_events, log_refusal, histories_from}
 use Rattle.soundness.specs.StateHistory.{rules_under}
@@ -33,7 +31,7 @@ use Rattle.host_core.specs.Host.{Host, scheme, machinery, script_of}
 use Rattle.host_core.specs.World.{Worker, World, fresh, worker_at, logs_of, set_up}
 use Rattle.host_core.specs.WorldEvent.{WorldEvent, HasAdvanced, IsPhaseOver, AreEnabled, run_events}
 use Rattle.host_core.specs.Deeds.{answers_in}
-use Rattle.host_core.specs.Core.{histories, pending_in, AreAccepted, IsEven}
+use Rattle.host_core.specs.Core.{histories, pending_in, AreAccepted}
 use Rattle.host_world.specs.declared.settings.Settings.{Settings}
 use Rattle.host_world.specs.ShippedHost.{shipped_host}
 use Rattle.host_fits.specs.Promise.{CanRun, IsPromised}
@@ -41,7 +39,7 @@ use Rattle.host_fits.proofs.TypedLaws.{logs_typed}
 use Rattle.run_reports.specs.Runs.{texts_of, HoldsOfRuns}
 use Rattle.run_reports.proofs.StampLemmas.{IsStamped, opening_narrow, logs_evict, logs_add, every-first, every-second}
 use Rattle.run_reports.proofs.CommandLemmas.{IsKind, IsGood, accepted_spelled}
-use Rattle.run_reports.proofs.TextLemmas.{whole_log, read_texts, histories_read_back, none_among, end_done}
+use Rattle.run_reports.proofs.TextLemmas.{read_texts, histories_read_back, none_among, end_done}
 
 module _ {C R : Type 0} (host : Host C R) where
   -- a verifier begins with nothing, or with the root
