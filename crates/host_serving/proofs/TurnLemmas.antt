@@ -36,7 +36,7 @@ module _ {R : Type 0} where
   own-turn i phase k [] request is = absurd (none-some (i, request) is)
   own-turn i phase zero (turn ∷ turns) request is =
       ap (λ (t : ℕ × R). length (asked_in i phase (t ∷ []))) (same_Some turn (i, request) is)
-      ∙ ap (λ (b : Bool). length {A = ℕ × R} (map (λ turn. (phase, turn.1)) (if b then (i, request) ∷ [] else []))) (eq-eqb i i refl)
+      ∙ ap (λ (b : Bool). length {A = ℕ × R} (map (λ (turn : ℕ × R). (phase, turn.1)) (if b then (i, request) ∷ [] else []))) (eq-eqb i i refl)
   own-turn i phase (suc k) (turn ∷ turns) request is = go (turn.0 == i) (own-turn i phase k turns request is)
     where
       go : (b : Bool) → length (asked_in i phase (take (suc k) turns)) ≡ suc (length (asked_in i phase (take k turns)))
@@ -51,7 +51,7 @@ module _ {R : Type 0} where
   other-turn j phase k [] turn is other = absurd (none-some turn is)
   other-turn j phase zero (first ∷ turns) turn is other =
       ap (λ (t : ℕ × R). length (asked_in j phase (t ∷ []))) (same_Some first turn is)
-      ∙ ap (λ (b : Bool). length {A = ℕ × R} (map (λ turn. (phase, turn.1)) (if b then turn ∷ [] else []))) (ne_eqb turn.0 j other)
+      ∙ ap (λ (b : Bool). length {A = ℕ × R} (map (λ (turn : ℕ × R). (phase, turn.1)) (if b then turn ∷ [] else []))) (ne_eqb turn.0 j other)
   other-turn j phase (suc k) (first ∷ turns) turn is other = go (first.0 == j) (other-turn j phase k turns turn is other)
     where
       go : (b : Bool) → length (asked_in j phase (take (suc k) turns)) ≡ length (asked_in j phase (take k turns))
