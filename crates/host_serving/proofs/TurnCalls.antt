@@ -4,15 +4,21 @@ use Rattle.std.specs.List.{AllByRecursion}
 use Rattle.std.specs.Option.{option_map}
 use Rattle.std.proofs.lemmas.List.{length-map, get_or-map}
 use Rattle.std.proofs.lemmas.Option.{none-some, same_Some, slice_get-map, slice_get_read, get_or_from_slice_get}
+use Rattle.record_hash.specs.Functions.{DigestFunctions}
 use Rattle.record_text.specs.declared.request.Request.{Request}
 use Rattle.script_text.specs.declared.task.Task.{Task}
 use Rattle.host_core.specs.Host.{Host}
 use Rattle.host_core.specs.World.{Worker, World}
 use Rattle.host_core.specs.WorldEvent.{WorldEvent, AreEnabled, run_events}
+use Rattle.host_shard.specs.Content.{Content}
 use Rattle.host_world.specs.declared.fault.ClockEnd.{ClockEnd}
-use Rattle.host_world.specs.ShippedHost.{turn_of}
-use Rattle.host_serving.specs.Leading.{Leads, first_end}
-use Rattle.host_serving.specs.Standing.{NoneStopped, SomeStopped}
+use Rattle.host_world.specs.declared.settings.Settings.{Settings}
+use Rattle.host_world.specs.declared.world.World as code
+use Rattle.host_world.specs.ShippedHost.{turn_of, shipped_host}
+use Rattle.host_world.specs.Shown.{digests_of, requests_of}
+use Rattle.host_world.specs.Behind.{host_of, AreOfOneHost}
+use Rattle.host_serving.specs.Leading.{Leads, first_of, first_end}
+use Rattle.host_serving.specs.Standing.{turns_of, NoneStopped, SomeStopped}
 
 -- ---- what is read
 
@@ -98,3 +104,33 @@ module _ {C R E : Type 0} (host : Host C R) (world later : World C) (events : Li
           subst (λ (w : World C). IfSome end (λ _. SomeStopped host w)) (sym run)
           (subst (λ (e : Option ClockEnd). IfSome e (λ _. SomeStopped host (run_events host world events))) (sym ended) stopped)
       go (Err fault) run ended = tt
+
+-- ---- two ends
+
+-- neither is there
+pub none_of_two : (first later : Option ClockEnd) → first_of first later ≡ None → (first ≡ None) × (later ≡ None)
+none_of_two None later is = (refl, is)
+none_of_two (Some end) later is = absurd (none-some end (sym is))
+
+-- either is there
+pub some_of_two : (first later : Option ClockEnd) (P Q : Type 0) → IfSome first (λ _. P) → (P → Q) → IfSome later (λ _. Q) → IfSome (first_of first later) (λ _. Q)
+some_of_two None later P Q one stays two = two
+some_of_two (Some end) later P Q one stays two = stays one
+
+-- ---- worlds of one host
+
+-- are also the next
+pub hosts_then : {D : Type 0} (old now later : code.World D) → AreOfOneHost old now → AreOfOneHost now later → AreOfOneHost old later
+hosts_then old now later first second = record {
+  settings = second.settings ∙ first.settings;
+  requests = second.requests ∙ first.requests;
+  digests = second.digests ∙ first.digests;
+}
+
+module _ {D : Type 0} (functions : D → DigestFunctions) (old now : code.World D) (same : AreOfOneHost old now) where
+  -- and have the same host
+  pub host_kept : host_of (functions (digests_of now)) now ≡ host_of (functions (digests_of old)) old
+  host_kept =
+      ap (λ d. shipped_host (functions d) now.settings (requests_of now)) same.digests
+      ∙ ap (λ (settings : Settings). shipped_host (functions (digests_of old)) settings (requests_of now)) same.settings
+      ∙ ap (λ (script : List (List Task)). shipped_host (functions (digests_of old)) old.settings script) same.requests
