@@ -5,6 +5,5 @@
 #![tactic(auto)]
 
 mod phases;
-mod standin;
 
 pub use phases::serve_phase;

@@ -10,7 +10,6 @@ ghost use Rattle.host_serving.specs.Leading.{Leads, first_end, first_of};
 ghost use Rattle.host_serving.specs.Standing.{turns_of, IsServedUpTo, IsServedOut, NoneStopped, SomeStopped};
 ghost use Rattle.host_serving.specs.Turn.{turn_at};
 
-use crate::standin::place_for;
 use fv_outside::Gate;
 use host_world::{ClockEnd, Event, World};
 use record_hash::Digests;
@@ -82,7 +81,7 @@ fn serve_turn<D: Digests, G: Gate>(
         return Ok(None);
     }
     gate.enter(task.worker, server.served());
-    let place = place_for(world, &task.request);
+    let place = world.place_for(&task.request);
     serve_at(world, task.worker, place, &task.request)
 }
 

@@ -30,7 +30,7 @@ loop-number-preserved g c =
       behind = c.serve_turn.ensures.behind;
       goes_on = λ logs stands. c.serve_turn.ensures.goes_on logs (so_far.goes_on logs stands);
       leads =
-          subst (Leads host (shown_world old) (shown_world later)) (sym is)
+          subst (Leads host (shown_world old) (shown_world later)) {x = first_of first end} (sym is)
           (leads-then host (shown_world old) (shown_world now) (shown_world later) first end so_far.leads
           (subst (λ (h : Host Content Request). Leads h (shown_world now) (shown_world later) end) kept turn.leads));
       served = subst (λ (h : Host Content Request). IsServedUpTo h (shown_world later) (c.loop-number.number + 1)) kept turn.served;
@@ -42,7 +42,7 @@ loop-number-preserved g c =
           (c.serve_turn.ensures.running (c.in_ok-end.was ∙ ap (λ (e : Option ClockEnd). Ok e) nones.1)
           (subst (λ (h : Host Content Request). NoneStopped h (shown_world now)) (sym kept) (so_far.running nones.0 before)));
       stopped =
-          subst (λ (e : Option ClockEnd). IfSome e (λ _. SomeStopped host (shown_world later))) (sym is)
+          subst (λ (e : Option ClockEnd). IfSome e (λ _. SomeStopped host (shown_world later))) {x = first_of first end} (sym is)
           (some_of_two first end (SomeStopped host (shown_world now)) (SomeStopped host (shown_world later)) so_far.stopped
           (subst (λ (h : Host Content Request). SomeStopped h (shown_world now) → SomeStopped h (shown_world later)) kept turn.stays)
           (subst (λ (h : Host Content Request). IfSome end (λ _. SomeStopped h (shown_world later))) kept turn.stopped));
