@@ -77,7 +77,8 @@ fn serve_turn<D: Digests, G: Gate>(
 {
     let task = &world.requests().phase(world.phase())[number];
     let server = &world.workers()[usize::from(task.worker)];
-    if server.is_stopped() {
+    let stopped = server.is_stopped();
+    if stopped {
         return Ok(None);
     }
     gate.enter(task.worker, server.served());

@@ -1,4 +1,4 @@
-use Rattle.std.proofs.Common.{◌≡◌, ℕ, suc, ◌+◌, ◌<◌, false, length, slice_get, Some, sym, ◌∙◌, ap, arith}
+use Rattle.std.proofs.Common.{◌≡◌, ℕ, suc, ◌+◌, ◌<◌, true, false, length, slice_get, Some, sym, ◌∙◌, ap, arith}
 use Rattle.host_core.specs.World.{World, Worker, fresh, worker_at}
 use Rattle.host_shard.specs.Content.{Content}
 use Rattle.host_world.specs.Places.{place_of}
@@ -23,8 +23,8 @@ bounds-workers-from g c =
         all-found (λ turn. turn.0 < length world.workers.items) (turns_of host world.phase) c.args.number (task.worker, task.request) c.requires.workers turn in
     omega (arith, there, ap length c.workers.ensures.value, c.from.ensures)
 
-pub returns-then-is_stopped-clause-served : goal.returns-then-is_stopped-clause-served
-returns-then-is_stopped-clause-served g c =
+pub returns-then-stopped-clause-served : goal.returns-then-stopped-clause-served
+returns-then-stopped-clause-served g c =
     let world = c.args.world.now in
     let host = host_of (g.D.Digests.functions (digests_of world)) world in
     let task = c.index-phase-number.result in
@@ -35,8 +35,9 @@ returns-then-is_stopped-clause-served g c =
     let next : c.args.number + 1 ≡ suc c.args.number = omega arith in
     let server = worker_read world.workers.items c.workers.result.now task.worker c.from.result c.index-workers-from.result (fresh world.settings.header)
         c.workers.ensures.value c.from.ensures there c.index-workers-from.is in
+    let seen : c.index-workers-from.result.stopped ≡ true = cc in
     turn_passed host (shown_world world) c.args.number (c.args.number + 1) c.requires.so_far next task.worker task.request turn
-    (ap (λ (w : Worker). w.stopped) server ∙ sym c.is_stopped.ensures.value ∙ c.if-is_stopped.true)
+    (ap (λ (w : Worker). w.stopped) server ∙ seen)
 
 pub serve_at-requires-clause-enabled : goal.serve_at-requires-clause-enabled
 serve_at-requires-clause-enabled g c =
@@ -50,7 +51,8 @@ serve_at-requires-clause-enabled g c =
     let next : c.args.number + 1 ≡ suc c.args.number = omega arith in
     let server = worker_read world.workers.items c.workers.result.now task.worker c.from.result c.index-workers-from.result (fresh world.settings.header)
         c.workers.ensures.value c.from.ensures there c.index-workers-from.is in
-    let running = ap (λ (w : Worker). w.stopped) server ∙ sym c.is_stopped.ensures.value ∙ c.if-is_stopped.false in
+    let seen : c.index-workers-from.result.stopped ≡ false = cc in
+    let running = ap (λ (w : Worker). w.stopped) server ∙ seen in
     turn_enabled host (shown_world world) task.worker c.args.number (c.args.number + 1) (place_of c.place_for-place.result) task.request
     c.requires.so_far next turn there running c.place_for-place.ensures.there c.place_for-place.ensures.owns
 
@@ -76,10 +78,11 @@ running : (g : Over) (c : goal.After-serve_at g)
     c.index-phase-number.result.worker).stopped ≡ false
 running g c =
     let world = c.args.world.now in
+    let seen : c.index-workers-from.result.stopped ≡ false = cc in
     ap (λ (w : Worker). w.stopped)
     (worker_read world.workers.items c.workers.result.now c.index-phase-number.result.worker c.from.result c.index-workers-from.result
     (fresh world.settings.header) c.workers.ensures.value c.from.ensures (there g c) c.index-workers-from.is)
-    ∙ sym c.is_stopped.ensures.value ∙ c.if-is_stopped.false
+    ∙ seen
 
 next : (n : ℕ) → n + 1 ≡ suc n
 next n = omega arith
