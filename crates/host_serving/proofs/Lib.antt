@@ -1,2 +1,5 @@
 -- How the laws of serving a script are proved, in reading order.
 pub mod LeadingLaws
+mod TurnLemmas
+mod PhaseLemmas
+mod TurnCalls
