@@ -1,4 +1,5 @@
 -- How a host serves a script, in reading order.
 pub mod Leading
 pub mod Standing
+pub mod Closing
 pub use Rattle.host_world.specs
