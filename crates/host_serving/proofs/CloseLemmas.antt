@@ -5,9 +5,10 @@ use Rattle.std.proofs.lemmas.List.{length-map, get_or-map}
 use Rattle.host_core.specs.Host.{Host, asked_in, asked_from}
 use Rattle.host_core.specs.World.{Worker, Seats, World, unmoved, worker_at, shard_at, epoch_of}
 use Rattle.host_core.specs.WorldEvent.{WorldEvent, takes, loses, serves, gives, advances, moves, opens, step, IsEnabled, IsPhaseOver, IsLast, AllMoved, HasAdvanced, MayOpen}
+use Rattle.host_world.specs.declared.fault.ClockEnd.{ClockEnd}
 use Rattle.host_serving.specs.Leading.{CanDoNoMore}
 use Rattle.host_serving.specs.Standing.{turns_of, asked_by, HasServedUpTo, IsServedUpTo, IsServedOut, IsClosed, NoneStopped}
-use Rattle.host_serving.specs.Closing.{advanced, IsKept, IsThroughMoves, IsStuckInMoves, IsBeforeMoves, CanAllAdvance, HaveTurned, CanMoveAll, HaveAdvanced, HaveAllMoved, HaveSomeStuck, ShardsAreClosed}
+use Rattle.host_serving.specs.Closing.{advanced, IsKept, IsThroughMoves, IsStuckInMoves, IsBeforeMoves, CanAllAdvance, HaveTurned, CanMoveAll, HaveAdvanced, HaveAllMoved, HaveSomeStuck, EndsMoves, ShardsAreClosed, EndsShards}
 use Rattle.host_serving.proofs.AdvanceLemmas.{over_still, advance_keeps}
 use Rattle.host_serving.proofs.MoveLemmas.{kept-then, turned_still}
 
@@ -173,6 +174,11 @@ module _ {C R : Type 0} (host : Host C R) where
         -- where a clock ended
         pub shards_stuck : HaveSomeStuck host middle later → CanDoNoMore host later
         shards_stuck stuck = stuck_rests middle later (turned_still host middle later stuck.keeps moves_begin.all) stuck.keeps.workers stuck
+
+        -- either way
+        pub ends_shards : (end : Option ClockEnd) → EndsMoves host middle later end → EndsShards host world later end
+        ends_shards None moved = shards_closed moved
+        ends_shards (Some end) stuck = shards_stuck stuck
 
   -- ---- the second half
 
