@@ -1,5 +1,5 @@
 -- Worlds of the code in a close: they are of one host, stand behind its setup, and have its numbers of workers and shards.
-use Rattle.std.proofs.Common.{◌≡◌, ℕ, zero, suc, ◌+◌, ◌-◌, ◌^◌, ◌<◌, ◌≤◌, Bool, true, false, List, [], ◌∷◌, ◌++◌, length, map, replicate, nat_le, Option, Some, None, Result, Ok, Err, IfOk, if◌then◌else◌, refl, sym, ◌∙◌, ap, subst, inl, inr, ◌⊎◌, length-append, pow-suc, arith}
+use Rattle.std.proofs.Common.{◌≡◌, ℕ, zero, suc, ◌+◌, ◌-◌, ◌^◌, ◌<◌, ◌≤◌, Bool, true, false, List, [], ◌∷◌, ◌++◌, length, map, replicate, nat_le, Option, Some, None, Result, Ok, Err, OnOk, IfOk, if◌then◌else◌, refl, sym, ◌∙◌, ap, subst, inl, inr, ◌⊎◌, length-append, pow-suc, arith}
 use Rattle.std.proofs.lemmas.Bool.{cases_eq, le-leb, leb-true}
 use Rattle.std.proofs.lemmas.Nat.{pow_below}
 use Rattle.std.proofs.lemmas.List.{length-map, length-replicate}
@@ -75,6 +75,16 @@ module _ {D : Type 0} (functions : D → DigestFunctions) (first now : code.Worl
         leads-then (host_of (functions (digests_of first)) first) (shown_world first) (shown_world now) (shown_world new) None end way
         (leads-one (host_of (functions (digests_of first)) first) (shown_world now) (shown_world new) event end may (stepped_first event is) (ended_first event end ends))
 
+    -- the same of a step's answer
+    pub leads_answered : {E : Type 0} (r : Result (Option ClockEnd) E) (event : WorldEvent Request)
+        → IsEnabled (host_of (functions (digests_of first)) first) (shown_world now) event
+        → OnOk r (shown_world new ≡ step (host_of (functions (digests_of now)) now) (shown_world now) event)
+        → IfOk r (λ end. end ≡ end_of (host_of (functions (digests_of now)) now) (shown_world now) event)
+        → Leads (host_of (functions (digests_of first)) first) (shown_world first) (shown_world now) None
+        → IfOk r (λ end. Leads (host_of (functions (digests_of first)) first) (shown_world first) (shown_world new) end)
+    leads_answered (Ok end) event may is ends way = leads_next event end may is ends way
+    leads_answered (Err fault) event may is ends way = tt
+
 -- the first of two ends, as it is written in code
 pub first_of-or : (one two : Option ClockEnd) → first_of one two ≡ option_or one two
 first_of-or None two = refl
@@ -84,11 +94,6 @@ first_of-or (Some end) two = refl
 pub if_ok_then : {T E : Type 0} (P Q : T → Type 0) (r : Result T E) → ((x : T) → P x → Q x) → IfOk r P → IfOk r Q
 if_ok_then P Q (Ok x) f p = f x p
 if_ok_then P Q (Err e) f p = tt
-
--- an end that is none
-pub none_of : {X : Type 0} (end : Option X) → ((x : X) → end ≡ Some x → ⊥) → end ≡ None
-none_of None not = refl
-none_of (Some x) not = absurd (not x refl)
 
 -- ---- how many workers and shards there are
 

@@ -9,7 +9,7 @@ use Rattle.host_serving.specs.Closing.{HaveAdvanced}
 use Rattle.host_serving.proofs.AdvanceLemmas.{may_advance, goes_next, Goes}
 use Rattle.host_serving.proofs.MoveLemmas.{all_next}
 use Rattle.host_serving.proofs.CloseLemmas.{again}
-use Rattle.host_serving.proofs.CloseWorldLemmas.{one_host, enabled_now, stepped_first, ended_first, leads_next, none_of, workers_are}
+use Rattle.host_serving.proofs.CloseWorldLemmas.{one_host, enabled_now, stepped_first, ended_first, leads_next, workers_are}
 use Rattle.host_serving.proofs.closes.advance_all.Goals as goal
 
 pub step-requires-clause-behind : goal.step-requires-clause-behind
@@ -52,7 +52,7 @@ loop-worker-preserved g c =
     let have = c.loop-worker.invariant.advanced in
     let may = may_advance host (shown_world old) c.requires.may (shown_world now) c.loop-worker.worker have there in
     let next : suc c.loop-worker.worker ≡ c.loop-worker.worker + 1 = omega arith in
-    let ended : c.in_ok-end.field-0 ≡ None = none_of c.in_ok-end.field-0 c.in_default.not-Some in
+    let ended : c.in_ok-end.field-0 ≡ None = c.in_default.is in
     record {
       host = one_host old now new c.loop-worker.invariant.host c.step.ensures.host;
       goes_on = λ logs stands. c.step.ensures.goes_on logs (c.loop-worker.invariant.goes_on logs stands);

@@ -11,7 +11,7 @@ use Rattle.host_world.specs.Shown.{shown_world, digests_of, requests_of}
 use Rattle.host_serving.specs.Leading.{Leads}
 use Rattle.host_serving.specs.Closing.{CanMoveAll, HaveAdvanced, EndsAdvance, EndsMoves, EndsShards}
 use Rattle.host_serving.proofs.CloseLemmas.{begins, moves_begin, ends_shards}
-use Rattle.host_serving.proofs.CloseWorldLemmas.{host_same, leads_on, if_ok_then, none_of, workers_are, clocks_stand, none_is_moved}
+use Rattle.host_serving.proofs.CloseWorldLemmas.{host_same, leads_on, if_ok_then, workers_are, clocks_stand, none_is_moved}
 use Rattle.host_serving.proofs.closes.close_shards.Goals as goal
 
 pub advance_all-requires-clause-may : goal.advance_all-requires-clause-may
@@ -37,7 +37,7 @@ move_all-requires-clause-may g c =
     let orderly = c.worlds_are_orderly.ensures.orderly functions old.settings (requests_of old) (with_logs logs (shown_world old)) digests stands.behind in
     let phase : old.closing ≡ false = c.requires.served.served.phase in
     let some : 0 < length old.workers.items = omega (arith, workers_are functions old logs stands, stands.behind.settings_fit.header.some_verifiers) in
-    let ended : c.in_ok-end.field-0 ≡ None = none_of c.in_ok-end.field-0 c.in_default.not-Some in
+    let ended : c.in_ok-end.field-0 ≡ None = c.in_default.is in
     let have : HaveAdvanced host (shown_world old) (shown_world middle) (length old.workers.items) =
     subst (EndsAdvance host (shown_world old) (shown_world middle)) ended c.in_ok-end.ensures.ended in
     subst (λ (h : Host Content Request). CanMoveAll h (shown_world middle)) (sym (host_same g.D.Digests.functions old middle c.advance_all.ensures.host))
@@ -50,7 +50,7 @@ returns-clause-leads g c =
     let middle = c.advance_all.new.world in
     let later = c.move_all.new.world in
     let host = host_of (g.D.Digests.functions (digests_of old)) old in
-    let ended : c.in_ok-end.field-0 ≡ None = none_of c.in_ok-end.field-0 c.in_default.not-Some in
+    let ended : c.in_ok-end.field-0 ≡ None = c.in_default.is in
     let way : Leads host (shown_world old) (shown_world middle) None = subst (Leads host (shown_world old) (shown_world middle)) ended c.in_ok-end.ensures.leads in
     if_ok_then (Leads (host_of (g.D.Digests.functions (digests_of middle)) middle) (shown_world middle) (shown_world later)) (Leads host (shown_world old) (shown_world later)) c.move_all.result
     (λ end more. leads_on g.D.Digests.functions old middle c.advance_all.ensures.host later None end way more) c.move_all.ensures.leads
@@ -68,7 +68,7 @@ returns-clause-ended g c =
     let orderly = c.worlds_are_orderly.ensures.orderly functions old.settings (requests_of old) (with_logs logs (shown_world old)) digests stands.behind in
     let phase : old.closing ≡ false = c.requires.served.served.phase in
     let some : 0 < length old.workers.items = omega (arith, workers_are functions old logs stands, stands.behind.settings_fit.header.some_verifiers) in
-    let ended : c.in_ok-end.field-0 ≡ None = none_of c.in_ok-end.field-0 c.in_default.not-Some in
+    let ended : c.in_ok-end.field-0 ≡ None = c.in_default.is in
     let have : HaveAdvanced host (shown_world old) (shown_world middle) (length old.workers.items) =
     subst (EndsAdvance host (shown_world old) (shown_world middle)) ended c.in_ok-end.ensures.ended in
     if_ok_then (EndsMoves (host_of (g.D.Digests.functions (digests_of middle)) middle) (shown_world middle) (shown_world later)) (EndsShards host (shown_world old) (shown_world later)) c.move_all.result

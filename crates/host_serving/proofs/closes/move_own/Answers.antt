@@ -7,7 +7,7 @@ use Rattle.host_world.specs.Behind.{host_of}
 use Rattle.host_world.specs.Shown.{shown_world, digests_of, requests_of}
 use Rattle.host_serving.specs.Leading.{Leads}
 use Rattle.host_serving.proofs.MoveLemmas.{OwnBelow, own_through, may_move, goes_next, Goes}
-use Rattle.host_serving.proofs.CloseWorldLemmas.{one_host, enabled_now, stepped_first, ended_first, leads_next, none_of, workers_are, shard_count}
+use Rattle.host_serving.proofs.CloseWorldLemmas.{one_host, enabled_now, stepped_first, ended_first, leads_next, workers_are, shard_count}
 use Rattle.host_serving.proofs.closes.move_own.Goals as goal
 
 pub step-requires-clause-behind : goal.step-requires-clause-behind
@@ -77,7 +77,7 @@ loop-shard-preserved g c =
     omega (arith, c.loop-shard-test.true, count, shard_count (functions (digests_of old)) old c.requires.behind.0 c.requires.behind.1 digests) in
     let keep = c.the_shipped_host_is_steady.ensures.close (functions (digests_of old)) old.settings (requests_of old) in
     let may = may_move host keep (shown_world old) c.args.worker c.requires.may (shown_world now) c.loop-shard.shard c.loop-shard.invariant.below there in
-    let ended : c.in_ok-end.field-0 ≡ None = none_of c.in_ok-end.field-0 c.in_default.not-Some in
+    let ended : c.in_ok-end.field-0 ≡ None = c.in_default.is in
     let next : c.loop-shard.shard + length old.workers.items ≡ c.loop-shard.shard + c.from-workers.result =
     omega (arith, c.from-workers.ensures, numbers, workers_are (functions (digests_of old)) old c.requires.behind.0 c.requires.behind.1) in
     record {
