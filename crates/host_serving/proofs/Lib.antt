@@ -3,3 +3,7 @@ pub mod LeadingLaws
 mod TurnLemmas
 mod PhaseLemmas
 mod TurnCalls
+mod AdvanceLemmas
+mod MoveLemmas
+mod CloseLemmas
+mod CloseWorldLemmas

@@ -2,4 +2,5 @@
 pub mod Leading
 pub mod Standing
 pub mod Turn
+pub mod Closing
 pub use Rattle.host_world.specs

@@ -4,6 +4,8 @@
 //! `serve_phase` in `phases.rt` and `close_phase` in `closes.rt`, beside `specs/Leading.antt` and `specs/Standing.antt`.
 #![tactic(auto)]
 
+mod closes;
 mod phases;
 
+pub use closes::close_phase;
 pub use phases::serve_phase;
