@@ -99,7 +99,7 @@ module _ {C : Type 0} where
   end-some worker place None end = refl
   end-some worker place (Some done) end = tt
 
--- ---- where nobody holds anything
+-- ---- one turn
 
 module _ {C R : Type 0} (host : Host C R) (world later : World C) (i k next : ℕ) (request : R) (worker : Worker)
     (so_far : IsServedUpTo host world k) (is_next : next ≡ suc k) (turn : slice_get (turns_of host world.phase) k ≡ Some (i, request)) where
@@ -136,8 +136,7 @@ module _ {C R : Type 0} (host : Host C R) (world : World C) (i k next : ℕ) (pl
       go (inl stopped) = absurd (true≢false (sym stopped ∙ running))
       go (inr served) = served.1
 
-  -- ---- the worlds within the turn
-
+  -- the worlds within the turn, and how its worker stands there
   abbrev holding : Worker
   holding = record (worker_at host world i) { holds = Some (record { place = place; used = false }) }
 

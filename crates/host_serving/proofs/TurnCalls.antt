@@ -118,7 +118,7 @@ some_of_two (Some end) later P Q one stays two = stays one
 
 -- ---- worlds of one host
 
--- are also the next
+-- Worlds of one host are so in turn,
 pub hosts_then : {D : Type 0} (old now later : code.World D) → AreOfOneHost old now → AreOfOneHost now later → AreOfOneHost old later
 hosts_then old now later first second = record {
   settings = second.settings ∙ first.settings;
@@ -127,7 +127,7 @@ hosts_then old now later first second = record {
 }
 
 module _ {D : Type 0} (functions : D → DigestFunctions) (old now : code.World D) (same : AreOfOneHost old now) where
-  -- and have the same host
+  -- and have one host.
   pub host_kept : host_of (functions (digests_of now)) now ≡ host_of (functions (digests_of old)) old
   host_kept =
       ap (λ d. shipped_host (functions d) now.settings (requests_of now)) same.digests

@@ -28,9 +28,11 @@ pub fn serve_phase<D: Digests, G: Gate>(
         (turns_of (host_of (D.functions (digests_of world.old)) world.old) (shown_world world.old).phase) }
     ensures leads { IfOk result (λ end. Leads (host_of (D.functions (digests_of world.old)) world.old)
         (shown_world world.old) (shown_world world.new) end) }
-    ensures served { OnOk result (IsServedOut (host_of (D.functions (digests_of world.old)) world.old) (shown_world world.new)) }
+    ensures served { OnOk result (IsServedOut (host_of (D.functions (digests_of world.old)) world.old)
+        (shown_world world.new)) }
     ensures phase { OnOk result ((shown_world world.new).phase ≡ (shown_world world.old).phase) }
-    ensures running { result ≡ Ok None → NoneStopped (host_of (D.functions (digests_of world.old)) world.old) (shown_world world.old)
+    ensures running { result ≡ Ok None
+        → NoneStopped (host_of (D.functions (digests_of world.old)) world.old) (shown_world world.old)
         → NoneStopped (host_of (D.functions (digests_of world.old)) world.old) (shown_world world.new) }
     ensures stopped { IfOk result (λ end. IfSome end
         (λ _. SomeStopped (host_of (D.functions (digests_of world.old)) world.old) (shown_world world.new))) }
@@ -49,26 +51,33 @@ pub fn serve_phase<D: Digests, G: Gate>(
 }
 
 // Serves one request of the world's phase, unless its worker's clock ended in this phase. It answers where the clock ends.
+// Who is stopped stays so.
 fn serve_turn<D: Digests, G: Gate>(
     world: &mut World<'_, D>,
     gate: &G,
     number: usize,
 ) -> Result<Option<ClockEnd>, Memory>
     requires behind { StandsBehind (D.functions (digests_of world.old)) world.old }
-    requires so_far { IsServedUpTo (host_of (D.functions (digests_of world.old)) world.old) (shown_world world.old) number }
-    requires there { number < length (turns_of (host_of (D.functions (digests_of world.old)) world.old) (shown_world world.old).phase) }
+    requires so_far { IsServedUpTo (host_of (D.functions (digests_of world.old)) world.old) (shown_world world.old)
+        number }
+    requires there { number < length (turns_of (host_of (D.functions (digests_of world.old)) world.old)
+        (shown_world world.old).phase) }
     requires workers { AllByRecursion (λ turn. turn.0 < length (shown_world world.old).workers)
         (turns_of (host_of (D.functions (digests_of world.old)) world.old) (shown_world world.old).phase) }
     ensures leads { IfOk result (λ end. Leads (host_of (D.functions (digests_of world.old)) world.old)
         (shown_world world.old) (shown_world world.new) end) }
-    ensures served { OnOk result (IsServedUpTo (host_of (D.functions (digests_of world.old)) world.old) (shown_world world.new) (number + 1)) }
+    ensures served { OnOk result (IsServedUpTo (host_of (D.functions (digests_of world.old)) world.old)
+        (shown_world world.new) (number + 1)) }
     ensures phase { OnOk result ((shown_world world.new).phase ≡ (shown_world world.old).phase) }
-    ensures count { OnOk result (length (shown_world world.new).workers ≡ length (shown_world world.old).workers) }
-    ensures running { result ≡ Ok None → NoneStopped (host_of (D.functions (digests_of world.old)) world.old) (shown_world world.old)
+    ensures count { OnOk result (length (shown_world world.new).workers
+        ≡ length (shown_world world.old).workers) }
+    ensures running { result ≡ Ok None
+        → NoneStopped (host_of (D.functions (digests_of world.old)) world.old) (shown_world world.old)
         → NoneStopped (host_of (D.functions (digests_of world.old)) world.old) (shown_world world.new) }
     ensures stopped { IfOk result (λ end. IfSome end
         (λ _. SomeStopped (host_of (D.functions (digests_of world.old)) world.old) (shown_world world.new))) }
-    ensures stays { OnOk result (SomeStopped (host_of (D.functions (digests_of world.old)) world.old) (shown_world world.old)
+    ensures stays { OnOk result (
+        SomeStopped (host_of (D.functions (digests_of world.old)) world.old) (shown_world world.old)
         → SomeStopped (host_of (D.functions (digests_of world.old)) world.old) (shown_world world.new)) }
     ensures host { AreOfOneHost world.old world.new }
     ensures behind { StandsBehind (D.functions (digests_of world.new)) world.new }
