@@ -114,8 +114,8 @@ fn move_all<D: Digests>(world: &mut World<'_, D>) -> Result<Option<ClockEnd>, Me
         → StandsWith (D.functions (digests_of world.new)) world.new logs }
 {
     let mut first = None;
-    for worker in 0..world.settings().header.verifiers {
-        let end = move_own(world, worker)?;
+    for mover in 0..world.settings().header.verifiers {
+        let end = move_own(world, mover)?;
         first = first.or(end);
     }
     Ok(first)
