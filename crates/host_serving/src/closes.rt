@@ -122,10 +122,7 @@ fn move_all<D: Digests>(world: &mut World<'_, D>) -> Result<Option<ClockEnd>, Me
 }
 
 // A worker moves its shards in order, until its clock ends.
-fn move_own<D: Digests>(
-    world: &mut World<'_, D>,
-    worker: u16,
-) -> Result<Option<ClockEnd>, Memory>
+fn move_own<D: Digests>(world: &mut World<'_, D>, worker: u16) -> Result<Option<ClockEnd>, Memory>
     requires behind { StandsBehind (D.functions (digests_of world.old)) world.old }
     requires may { CanMoveOwn (host_of (D.functions (digests_of world.old)) world.old) (shown_world world.old) worker }
     ensures leads { IfOk result (λ end. Leads (host_of (D.functions (digests_of world.old)) world.old)

@@ -117,7 +117,8 @@ returns-else-last-clause-opened g c = λ answered not_last.
     let stepped : shown_world new ≡ step (host_of (g.D.Digests.functions (digests_of now)) now) (shown_world now) opens =
     subst (λ (r : Result (Option ClockEnd) _). OnOk r (shown_world new ≡ step (host_of (g.D.Digests.functions (digests_of now)) now) (shown_world now) opens)) answered c.step.ensures.stepped in
     let is = stepped_first g.D.Digests.functions old now c.close_shards.ensures.host new opens stepped in
-    subst (λ (w : World Content). IsServedUpTo host w 0 × (w.phase ≡ suc (shown_world old).phase) × NoneStopped host w) (sym is)
-    (opened_served host (shown_world old) (shown_world now) closed c.requires.served more,
-    opened_phase host (shown_world old) (shown_world now) closed c.requires.served more,
-    opened_running host (shown_world old) (shown_world now) closed c.requires.served more)
+    subst (λ (w : World Content). IsServedUpTo host w 0 × (w.phase ≡ suc (shown_world old).phase) × NoneStopped host w) (sym is) (
+      opened_served host (shown_world old) (shown_world now) closed c.requires.served more,
+      opened_phase host (shown_world old) (shown_world now) closed c.requires.served more,
+      opened_running host (shown_world old) (shown_world now) closed c.requires.served more,
+    )
