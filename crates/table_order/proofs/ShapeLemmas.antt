@@ -43,7 +43,9 @@ module _ (past : ℕ → List Entry) where
       ∙ sym (map-append serving_of (past place) (joined_from (suc place) count past))
 
   from_joined : (place shards count : ℕ) → count ≡ shards * places_each → joined_pasts (pasts_from place shards past) ≡ servings_of (joined_from place count past)
-  from_joined place zero count is = ap (λ (n : ℕ). servings_of (joined_from place n past)) (omega (arith, is))
+  from_joined place zero count is =
+      let nothing : 0 ≡ count = omega (arith, is) in
+      ap (λ (n : ℕ). servings_of (joined_from place n past)) nothing
   from_joined place (suc shards) count is =
       let rest : ℕ = shards * places_each in
       (λ k. at_joined place places_each k ++ from_joined (place + places_each) shards rest refl k)
