@@ -1,6 +1,6 @@
 -- The past of a place: each entry there is what the shipped host does, since the content that it finds mirrors.
-use Rattle.std.proofs.Common.{◌≡◌, ◌⊎◌, ℕ, ◌^◌, ◌/◌, ◌%◌, ◌<◌, ◌≤◌, Bool, false, List, [], ◌∷◌, length, get_or, Some, refl, sym, ◌∙◌, ap, subst, inl, inr, arith}
-use Rattle.std.specs.List.{AllByRecursion, IsAmong}
+use Rattle.std.proofs.Common.{◌≡◌, ◌⊎◌, ℕ, ◌^◌, ◌/◌, ◌%◌, ◌<◌, ◌≤◌, Bool, false, List, [], ◌∷◌, length, refl, sym, ◌∙◌, ap, subst, inl, inr}
+use Rattle.std.specs.List.{AllByRecursion}
 use Rattle.std.proofs.lemmas.Bool.{cases_lt}
 use Rattle.lamport_clocks.specs.Reading.{Reading}
 use Rattle.record_hash.specs.Functions.{DigestFunctions}
@@ -125,7 +125,6 @@ module _ (functions : DigestFunctions) (settings : Settings) (script : List (Lis
     (orderly : IsOrderly functions settings script world) (terms : Terms) (made : AreTermsOf (shipped_host functions settings script) world terms)
     (digests : GivesDigests functions.digest) (does : DoesPlans functions settings script)
     (running : (worker : ℕ) → worker < length world.workers → (worker_at (shipped_host functions settings script) world worker).stopped ≡ false) where
-
   -- An entry is what the host does, where it can be served at the content that it finds.
   entry_served : (entry : Entry) → told.IsServed terms entry → CanServe short_keys functions.digest (shown_content entry.before) entry.request.key
       → IsServed (shipped_host functions settings script) world (serving_of entry)

@@ -1,5 +1,5 @@
 -- The places of a table are the places of the world, by their numbers; and the place of a key owns its request.
-use Rattle.std.proofs.Common.{◌≡◌, ◌⊎◌, ℕ, zero, suc, ◌+◌, ◌*◌, ◌/◌, ◌%◌, ◌<◌, ◌≤◌, Bool, true, false, not, ◌&&◌, ◌||◌, List, [], ◌∷◌, length, get_or, Option, Some, None, IsSome, eq-eqb, refl, sym, ◌∙◌, ap, subst, inl, inr, arith}
+use Rattle.std.proofs.Common.{◌≡◌, ℕ, suc, ◌+◌, ◌*◌, ◌/◌, ◌%◌, ◌<◌, Bool, true, false, not, ◌||◌, List, [], ◌∷◌, length, get_or, Option, Some, None, IsSome, eq-eqb, refl, sym, ◌∙◌, ap, subst, arith}
 use Rattle.std.specs.Prelude.{◌==◌}
 use Rattle.std.specs.List.{list_any}
 use Rattle.std.proofs.lemmas.Bool.{false≢true, and_from, le-leb, eqb-true}
@@ -19,14 +19,14 @@ use Rattle.host_shard.specs.declared.content.Content.TheVariants.{Cold, Hot, Vac
 use Rattle.host_shard.specs.declared.content.HotRecord.{HotRecord}
 use Rattle.host_shard.specs.Shard.{Shard}
 use Rattle.host_shard.specs.Content.{Content, cold, hot, vacant, key_path}
-use Rattle.host_shard.specs.Shown.{shown, shown_content}
+use Rattle.host_shard.specs.Shown.{shown_content}
 use Rattle.host_plan.specs.Plan.{Owns}
 use Rattle.protection_moves.specs.Stage.{is_hot_at}
 use Rattle.host_table.specs.Terms.{Terms, place_count, first_at, IsPlaceOf}
 use Rattle.host_world.specs.declared.settings.Settings.{Settings}
 use Rattle.host_world.specs.Orderly.{IsOrderly}
-use Rattle.host_world.specs.Places.{places_each, place_of}
-use Rattle.host_world.specs.ShippedHost.{is_blob, serves_key, is_place_of, shipped_host}
+use Rattle.host_world.specs.Places.{place_of}
+use Rattle.host_world.specs.ShippedHost.{is_blob, serves_key, shipped_host}
 use Rattle.table_order.specs.Phases.{AreTermsOf}
 
 -- the place of a number that is made of a shard and a seat

@@ -1,5 +1,5 @@
 -- What a table tells of a phase of the shipped host is what `host_order` asks.
-use Rattle.std.proofs.Common.{◌≡◌, ◌⊎◌, ℕ, zero, suc, ◌+◌, ◌*◌, ◌<◌, ◌≤◌, false, List, [], ◌∷◌, length, get_or, slice_get, map, Option, Some, None, refl, sym, ◌∙◌, ap, subst, inl, inr, arith, IsPermutation}
+use Rattle.std.proofs.Common.{◌≡◌, ◌⊎◌, ℕ, suc, ◌+◌, ◌<◌, ◌≤◌, false, List, [], ◌∷◌, ◌++◌, length, get_or, slice_get, Option, Some, None, refl, sym, ◌∙◌, ap, subst, inl, inr, arith, IsPermutation}
 use Rattle.std.specs.List.{AllByRecursion}
 use Rattle.std.specs.Option.{ForSome}
 use Rattle.std.proofs.lemmas.Bool.{cases_lt}
@@ -10,11 +10,11 @@ use Rattle.record_hash.specs.Functions.{DigestFunctions}
 use Rattle.record_text.specs.declared.request.Request.{Request}
 use Rattle.script_text.specs.declared.task.Task.{Task}
 use Rattle.host_core.specs.Host.{Host, asked}
-use Rattle.host_core.specs.World.{Place, World, worker_at}
-use Rattle.host_core.specs.WorldEvent.{run_events}
+use Rattle.host_core.specs.World.{Place, World, worker_at, set_up}
+use Rattle.host_core.specs.WorldEvent.{AreEnabled, run_events}
+use Rattle.host_core.proofs.EventLaws.{enabled-append, run-append}
 use Rattle.host_order.specs.Serving.{Serving, IsPlaceChain, IsWorkerChain, content_at, content_behind, clock_behind, IsHad}
 use Rattle.host_order.specs.Steady.{IsSteady}
-use Rattle.host_order.specs.Told as order
 use Rattle.host_order.specs.Told.{joined, joined_pasts, list_of, past_of, IsServed, AreTold, IsNoted, AreOfOthers, phase_events, HasOneOrder, OrdersPhase}
 use Rattle.host_shard.specs.declared.content.Content as code
 use Rattle.host_shard.specs.declared.content.Content.TheVariants.{Vacant}
@@ -29,6 +29,7 @@ use Rattle.host_table.specs.Terms.{Terms, place_count, first_at}
 use Rattle.host_table.specs.Told as told
 use Rattle.host_table.specs.Told.{joined_from}
 use Rattle.host_world.specs.declared.settings.Settings.{Settings}
+use Rattle.host_world.specs.Behind.{IsBehindSetup}
 use Rattle.host_world.specs.Orderly.{IsOrderly}
 use Rattle.host_world.specs.Places.{places_each, place_of}
 use Rattle.host_world.specs.ShippedHost.{shipped_host}
@@ -249,3 +250,16 @@ module _ (functions : DigestFunctions) (settings : Settings) (script : List (Lis
   pub one_end : EndsClocks functions settings script → IsSteady host → OrdersPhase host → (number : ℕ) → number < place_count terms
       → content_at host (run_events host world (phase_events lists (stops_of rows))) (place_of number) ≡ shown_content (get_or after number Vacant)
   one_end ends steady orders number there = (one_order ends steady orders).ends.contents (place_of number) ∙ past_leaves number there
+
+  -- That world stands behind the setup, as the one before.
+  pub one_behind : EndsClocks functions settings script → IsSteady host → OrdersPhase host
+      → IsBehindSetup functions settings script (run_events host world (phase_events lists (stops_of rows)))
+  one_behind ends steady orders = record {
+    settings_fit = is.behind.settings_fit;
+    keys = is.behind.keys;
+    events = is.behind.events ++ phase_events lists (stops_of rows);
+    enabled = enabled-append host (set_up host) is.behind.events (phase_events lists (stops_of rows)) is.behind.enabled
+        (subst (λ (w : World Content). AreEnabled host w (phase_events lists (stops_of rows))) is.behind.is (one_order ends steady orders).enabled);
+    is = ap (λ (w : World Content). run_events host w (phase_events lists (stops_of rows))) is.behind.is
+        ∙ sym (run-append host (set_up host) is.behind.events (phase_events lists (stops_of rows)));
+  }

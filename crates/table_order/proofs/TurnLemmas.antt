@@ -1,5 +1,5 @@
 -- The turns of a worker: its list is a chain from its clock, and its stop stands behind it.
-use Rattle.std.proofs.Common.{◌≡◌, ◌≢◌, ℕ, zero, suc, ◌+◌, ◌^◌, ◌<◌, ◌≤◌, List, [], ◌∷◌, ◌++◌, length, map, get_or, slice_get, Option, Some, None, refl, sym, ◌∙◌, ap, subst, arith}
+use Rattle.std.proofs.Common.{◌≡◌, ◌≢◌, ℕ, suc, ◌+◌, ◌<◌, List, [], ◌∷◌, ◌++◌, length, Option, Some, None, refl, sym, subst, arith}
 use Rattle.std.specs.List.{AllByRecursion}
 use Rattle.std.specs.Option.{ForSome}
 use Rattle.stamp_order.proofs.InOrderLaws.{every-append}
@@ -14,14 +14,13 @@ use Rattle.host_order.specs.Told as order
 use Rattle.host_table.specs.declared.told.Entry.{Entry}
 use Rattle.host_table.specs.declared.told.Stop.{Stop}
 use Rattle.host_table.specs.declared.views.Row.{Row}
-use Rattle.host_table.specs.Made.{new_row}
 use Rattle.host_table.specs.Phase.{row_at}
 use Rattle.host_table.specs.Told.{Continues, TakesUp}
 use Rattle.host_world.specs.declared.settings.Settings.{Settings}
 use Rattle.host_world.specs.Behind.{AreInRange}
-use Rattle.host_world.specs.ShippedHost.{turn_of, shipped_host}
+use Rattle.host_world.specs.ShippedHost.{shipped_host}
 use Rattle.host_world.proofs.RangeLaws.{InRange, in_phases}
-use Rattle.table_order.specs.Servings.{serving_of, servings_of, stop_of, stops_from}
+use Rattle.table_order.specs.Servings.{servings_of, stop_of, stops_from}
 use Rattle.table_order.specs.Phases.{first_clock, AreNext}
 use Rattle.table_order.proofs.ListLemmas.{all-got}
 use Rattle.table_order.proofs.PastLemmas.{IsSmall}

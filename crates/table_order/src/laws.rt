@@ -15,6 +15,7 @@ ghost use Rattle.host_table.specs.declared.views.Row.{Row};
 ghost use Rattle.host_table.specs.Phase.{IsPhase, row_at};
 ghost use Rattle.host_table.specs.Terms.{Terms, place_count};
 ghost use Rattle.host_world.specs.declared.settings.Settings.{Settings};
+ghost use Rattle.host_world.specs.Behind.{IsBehindSetup};
 ghost use Rattle.host_world.specs.Places.{place_of};
 ghost use Rattle.host_world.specs.ShippedHost.{shipped_host};
 ghost use Rattle.table_order.specs.Servings.{serving_of, lists_of, pasts_of, stops_of};
@@ -54,13 +55,18 @@ pub fn tables_tell_of_a_phase()
 }
 
 /// What a table tells of a phase was one list of events: the served requests by the stamps of their evicts, and then the stops.
-/// They were enabled, each worker logged its plans' commands, and the world that they lead to has the contents that the table
-/// gives.
+/// They were enabled, each worker logged its plans' commands, and the world that they lead to stands behind the setup and has
+/// the contents that the table gives.
 pub fn a_phase_of_a_table_has_one_order()
     ensures order { (functions : DigestFunctions) (settings : Settings) (script : List (List Task)) (world : World Content)
         (terms : Terms) (after : List code.Content) (rows : List Row)
         → IsTableOf functions settings script world terms rows → (phase : IsPhase terms after rows)
         → HasOneOrder (shipped_host functions settings script) world (lists_of rows) (pasts_of (length world.shards) phase.past) (stops_of rows) }
+    ensures behind { (functions : DigestFunctions) (settings : Settings) (script : List (List Task)) (world : World Content)
+        (terms : Terms) (after : List code.Content) (rows : List Row)
+        → IsTableOf functions settings script world terms rows → IsPhase terms after rows
+        → let host = shipped_host functions settings script in
+        IsBehindSetup functions settings script (run_events host world (phase_events (lists_of rows) (stops_of rows))) }
     ensures contents { (functions : DigestFunctions) (settings : Settings) (script : List (List Task)) (world : World Content)
         (terms : Terms) (after : List code.Content) (rows : List Row)
         → IsTableOf functions settings script world terms rows → IsPhase terms after rows
