@@ -42,17 +42,6 @@ module _ {C R : Type 0} (host : Host C R) where
         go (inl less) = subst (IsKept (worker_at host world i)) (sym (have.before i less)) (record { holds = refl; served = refl; stopped = refl })
         go (inr above) = subst (IsKept (worker_at host world i)) (sym (have.behind i above)) (record { holds = refl; served = refl; stopped = refl })
 
-    pub none_advanced : CanAllAdvance host world → HaveAdvanced host world world 0
-    none_advanced can = record {
-      before = λ i less. absurd (omega (arith, less));
-      behind = λ i above. refl;
-      shards = refl;
-      phase = refl;
-      going = can.going;
-      workers = refl;
-      closing = λ some. absurd (omega (arith, some));
-    }
-
     -- ---- the next worker
 
     module _ (can : CanAllAdvance host world) (later : World C) (j : ℕ) (have : HaveAdvanced host world later j) (there : j < length world.workers) where

@@ -38,6 +38,9 @@ returns-in-Some-clause-leads g c =
     (leads_next functions old c.loop-worker.world c.loop-worker.invariant.host c.step.new.self (advances c.loop-worker.worker) c.in_ok-end.field-0 may
     c.in_ok-end.ensures.stepped c.in_ok-end.ensures.ended c.loop-worker.invariant.leads)
 
+pub returns-in-Some-clause-goes_on : goal.returns-in-Some-clause-goes_on
+returns-in-Some-clause-goes_on g c = λ logs stands. c.step.ensures.goes_on logs (c.loop-worker.invariant.goes_on logs stands)
+
 pub loop-worker-preserved : goal.loop-worker-preserved
 loop-worker-preserved g c =
     let old = c.args.world.now in

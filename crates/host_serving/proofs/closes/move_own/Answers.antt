@@ -62,6 +62,9 @@ returns-in-Some-clause-ended g c =
     (stepped_first functions old now c.loop-shard.invariant.host new event c.in_ok-end.ensures.stepped)
     (ended_first functions old now c.loop-shard.invariant.host new event c.in_ok-end.field-0 c.in_ok-end.ensures.ended))
 
+pub returns-in-Some-clause-goes_on : goal.returns-in-Some-clause-goes_on
+returns-in-Some-clause-goes_on g c = λ logs stands. c.step.ensures.goes_on logs (c.loop-shard.invariant.goes_on logs stands)
+
 pub loop-shard-preserved : goal.loop-shard-preserved
 loop-shard-preserved g c =
     let old = c.args.world.now in
