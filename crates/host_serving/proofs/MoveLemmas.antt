@@ -1,16 +1,16 @@
 -- A worker moves its shards, one after another, until its clock ends; and so does each.
-use Rattle.std.proofs.Common.{◌≡◌, ◌≢◌, ◌⊎◌, ℕ, zero, suc, ◌+◌, ◌*◌, ◌/◌, ◌%◌, ◌<◌, ◌≤◌, Bool, true, false, List, [], ◌∷◌, length, get_or, set, Option, Some, None, is_none, refl, sym, ◌∙◌, ap, subst, inl, inr, if◌then◌else◌, mod-eq_of_lt, mul-le-mul_right, div-add-mod', arith}
+use Rattle.std.proofs.Common.{◌≡◌, ◌≢◌, ◌⊎◌, ℕ, zero, suc, ◌+◌, ◌/◌, ◌%◌, ◌<◌, ◌≤◌, true, false, List, [], ◌∷◌, length, get_or, set, Option, Some, None, is_none, refl, sym, ◌∙◌, ap, subst, inl, inr, if◌then◌else◌, mul-le-mul_right, div-add-mod', arith}
 use Rattle.std.proofs.Math.Nat.{add-mod_right}
 use Rattle.std.proofs.lemmas.Bool.{cases_eq, cases_lt, false≢true}
 use Rattle.std.proofs.lemmas.List.{length-set, get_or-set_same, get_or-set_other}
 use Rattle.host_core.specs.Host.{Host, Done}
 use Rattle.host_core.specs.World.{Worker, Seats, World, unmoved, fresh, worker_at, shard_at}
-use Rattle.host_core.specs.WorldEvent.{moves, after_move, logging, step, HasAdvanced, MayMove}
+use Rattle.host_core.specs.WorldEvent.{moves, after_move, logging, step, MayMove}
 use Rattle.host_order.specs.Close.{MovesKeepEpoch}
 use Rattle.host_world.specs.declared.fault.ClockEnd.{ClockEnd}
 use Rattle.host_world.specs.Ending.{end_of, end_at}
 use Rattle.host_serving.specs.Leading.{first_of}
-use Rattle.host_serving.specs.Closing.{IsKept, IsThroughMoves, IsStuckInMoves, IsBeforeMoves, HaveTurned, CanMoveOwn, CanMoveAll, KeepsTurned, OnlyMoves, EndsOwn, HaveAllMoved, HaveSomeStuck, EndsMoves}
+use Rattle.host_serving.specs.Closing.{IsKept, IsThroughMoves, IsStuckInMoves, IsBeforeMoves, HaveTurned, CanMoveOwn, CanMoveAll, KeepsTurned, OnlyMoves, EndsOwn, EndsMoves}
 
 -- ---- lists and numbers
 

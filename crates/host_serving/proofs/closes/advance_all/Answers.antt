@@ -1,4 +1,4 @@
-use Rattle.std.proofs.Common.{◌≡◌, suc, ◌+◌, ◌<◌, ◌≤◌, length, Option, None, Some, ap, sym, subst, ◌∙◌, arith}
+use Rattle.std.proofs.Common.{◌≡◌, suc, ◌+◌, ◌<◌, length, None, ap, subst, arith}
 use Rattle.record_text.specs.declared.request.Request.{Request}
 use Rattle.host_core.specs.WorldEvent.{WorldEvent, advances}
 use Rattle.host_world.specs.declared.settings.Settings.{Settings}
@@ -7,8 +7,6 @@ use Rattle.host_world.specs.Shown.{shown_world, digests_of}
 use Rattle.host_serving.specs.Leading.{Leads}
 use Rattle.host_serving.specs.Closing.{HaveAdvanced}
 use Rattle.host_serving.proofs.AdvanceLemmas.{may_advance, goes_next, Goes}
-use Rattle.host_serving.proofs.MoveLemmas.{all_next}
-use Rattle.host_serving.proofs.CloseLemmas.{again}
 use Rattle.host_serving.proofs.CloseWorldLemmas.{one_host, enabled_now, stepped_first, ended_first, leads_next, workers_are}
 use Rattle.host_serving.proofs.closes.advance_all.Goals as goal
 
