@@ -1,10 +1,10 @@
 -- All workers advance, one after another, or there is no epoch to come.
-use Rattle.std.proofs.Common.{◌≡◌, ◌⊎◌, ℕ, suc, ◌+◌, ◌<◌, ◌≤◌, ◌==◌, Bool, true, false, List, [], ◌∷◌, length, get_or, slice_get, Option, Some, None, refl, sym, ◌∙◌, ap, subst, inl, inr, if◌then◌else◌, arith}
+use Rattle.std.proofs.Common.{◌≡◌, ◌⊎◌, ℕ, suc, ◌+◌, ◌<◌, ◌≤◌, ◌==◌, Bool, true, false, List, [], length, get_or, slice_get, Option, Some, None, refl, sym, ◌∙◌, ap, subst, inl, inr, if◌then◌else◌, arith}
 use Rattle.std.proofs.lemmas.Bool.{cases_eq, cases_lt}
 use Rattle.std.proofs.lemmas.List.{length-set, get_or-set_same, get_or-set_other}
 use Rattle.lamport_clocks.specs.Clock.{last_epoch}
 use Rattle.host_core.specs.Host.{Host, asked}
-use Rattle.host_core.specs.World.{Worker, Seats, World, unmoved, fresh, worker_at, shard_at, epoch_of}
+use Rattle.host_core.specs.World.{Worker, Seats, World, unmoved, fresh, worker_at}
 use Rattle.host_core.specs.WorldEvent.{advances, with_worker, step, IsNext, IsPhaseOver, IsLast, AllMoved, HasAdvanced, MayAdvance}
 use Rattle.host_world.specs.declared.fault.ClockEnd.{ClockEnd}
 use Rattle.host_world.specs.Ending.{end_of, end_at}
@@ -41,17 +41,6 @@ module _ {C R : Type 0} (host : Host C R) where
         go : (i < count) ⊎ (count ≤ i) → IsKept (worker_at host world i) (worker_at host later i)
         go (inl less) = subst (IsKept (worker_at host world i)) (sym (have.before i less)) (record { holds = refl; served = refl; stopped = refl })
         go (inr above) = subst (IsKept (worker_at host world i)) (sym (have.behind i above)) (record { holds = refl; served = refl; stopped = refl })
-
-    pub none_advanced : CanAllAdvance host world → HaveAdvanced host world world 0
-    none_advanced can = record {
-      before = λ i less. absurd (omega (arith, less));
-      behind = λ i above. refl;
-      shards = refl;
-      phase = refl;
-      going = can.going;
-      workers = refl;
-      closing = λ some. absurd (omega (arith, some));
-    }
 
     -- ---- the next worker
 

@@ -1,14 +1,14 @@
 -- What a close comes to: the next phase is open, or nothing can follow.
-use Rattle.std.proofs.Common.{◌≡◌, ◌⊎◌, ℕ, zero, suc, ◌+◌, ◌<◌, ◌≤◌, ◌==◌, ◌%◌, Bool, true, false, List, [], ◌∷◌, ◌++◌, length, get_or, map, filter, take, Option, Some, None, IfSome, refl, sym, ◌∙◌, ap, subst, inl, inr, length-append, mod-lt, arith}
+use Rattle.std.proofs.Common.{◌≡◌, ◌⊎◌, ℕ, zero, suc, ◌+◌, ◌<◌, ◌≤◌, ◌==◌, ◌%◌, true, false, List, [], ◌∷◌, length, get_or, filter, take, Option, Some, None, IfSome, refl, sym, ◌∙◌, ap, subst, inl, inr, length-append, mod-lt, arith}
 use Rattle.std.proofs.lemmas.Bool.{cases_lt, false≢true}
-use Rattle.std.proofs.lemmas.List.{length-map, get_or-map}
+use Rattle.std.proofs.lemmas.List.{length-map}
 use Rattle.host_core.specs.Host.{Host, asked_in, asked_from}
 use Rattle.host_core.specs.World.{Worker, Seats, World, unmoved, worker_at, shard_at, epoch_of}
-use Rattle.host_core.specs.WorldEvent.{WorldEvent, takes, loses, serves, gives, advances, moves, opens, step, IsEnabled, IsPhaseOver, IsLast, AllMoved, HasAdvanced, MayOpen}
+use Rattle.host_core.specs.WorldEvent.{WorldEvent, takes, loses, serves, gives, advances, moves, opens, step, IsEnabled, IsLast, AllMoved, HasAdvanced, MayOpen}
 use Rattle.host_world.specs.declared.fault.ClockEnd.{ClockEnd}
 use Rattle.host_serving.specs.Leading.{CanDoNoMore}
-use Rattle.host_serving.specs.Standing.{turns_of, asked_by, HasServedUpTo, IsServedUpTo, IsServedOut, IsClosed, NoneStopped}
-use Rattle.host_serving.specs.Closing.{advanced, IsKept, IsThroughMoves, IsStuckInMoves, IsBeforeMoves, CanAllAdvance, HaveTurned, CanMoveAll, HaveAdvanced, EndsAdvance, HaveAllMoved, HaveSomeStuck, EndsMoves, ShardsAreClosed, EndsShards}
+use Rattle.host_serving.specs.Standing.{turns_of, asked_by, IsServedUpTo, IsServedOut, IsClosed, NoneStopped}
+use Rattle.host_serving.specs.Closing.{IsKept, IsThroughMoves, IsStuckInMoves, CanAllAdvance, HaveTurned, CanMoveAll, HaveAdvanced, EndsAdvance, HaveAllMoved, HaveSomeStuck, EndsMoves, ShardsAreClosed, EndsShards}
 use Rattle.host_serving.proofs.AdvanceLemmas.{over_still, advance_keeps}
 use Rattle.host_serving.proofs.MoveLemmas.{kept-then, turned_still}
 

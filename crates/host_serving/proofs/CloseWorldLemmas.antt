@@ -1,5 +1,5 @@
 -- Worlds of the code in a close: they are of one host, stand behind its setup, and have its numbers of workers and shards.
-use Rattle.std.proofs.Common.{◌≡◌, ℕ, zero, suc, ◌+◌, ◌-◌, ◌^◌, ◌<◌, ◌≤◌, Bool, true, false, List, [], ◌∷◌, ◌++◌, length, map, replicate, nat_le, Option, Some, None, Result, Ok, Err, OnOk, IfOk, if◌then◌else◌, refl, sym, ◌∙◌, ap, subst, inl, inr, ◌⊎◌, length-append, pow-suc, arith}
+use Rattle.std.proofs.Common.{◌≡◌, ℕ, zero, suc, ◌-◌, ◌^◌, ◌<◌, ◌≤◌, Bool, true, false, List, [], ◌∷◌, length, nat_le, Option, Some, None, Result, Ok, Err, OnOk, IfOk, if◌then◌else◌, refl, sym, ◌∙◌, ap, subst, inl, inr, ◌⊎◌, length-append, pow-suc, arith}
 use Rattle.std.proofs.lemmas.Bool.{cases_eq, le-leb, leb-true}
 use Rattle.std.proofs.lemmas.Nat.{pow_below}
 use Rattle.std.proofs.lemmas.List.{length-map, length-replicate}
@@ -9,7 +9,7 @@ use Rattle.record_text.specs.declared.request.Request.{Request}
 use Rattle.log_codec.specs.declared.command.Command.{Command}
 use Rattle.merkle_records.specs.Merkle.{GivesDigests}
 use Rattle.host_core.specs.Host.{Host}
-use Rattle.host_core.specs.World.{Worker, Seats, World, fresh, worker_at, shard_at, set_up}
+use Rattle.host_core.specs.World.{Seats, World, fresh, shard_at, set_up}
 use Rattle.host_core.specs.WorldEvent.{WorldEvent, step, run_events, IsEnabled, HasAdvanced}
 use Rattle.host_plan.specs.Setup.{IsShardCount, child, paths_below}
 use Rattle.host_shard.specs.Content.{Content}
@@ -22,9 +22,9 @@ use Rattle.host_world.specs.Settings.{bits_within, frontier_bits}
 use Rattle.host_world.specs.ShippedHost.{shipped_host}
 use Rattle.host_world.specs.Shown.{shown_world, digests_of, requests_of}
 use Rattle.host_world.specs.Orderly.{IsOrderly}
-use Rattle.host_world.specs.Behind.{IsBehindSetup, host_of, with_logs, StandsWith, AreOfOneHost}
+use Rattle.host_world.specs.Behind.{host_of, with_logs, StandsWith, AreOfOneHost}
 use Rattle.host_world.proofs.FrontLaws.{length-before_each, clock_with, length-step}
-use Rattle.host_world.proofs.FrontierLaws.{frontiers, frontier_in, frontiers_behind}
+use Rattle.host_world.proofs.FrontierLaws.{frontier_in, frontiers_behind}
 use Rattle.host_serving.specs.Leading.{first_of, Leads}
 use Rattle.host_serving.proofs.LeadingLaws.{leads-one, leads-then}
 

@@ -1,16 +1,16 @@
 -- A worker moves its shards, one after another, until its clock ends; and so does each.
-use Rattle.std.proofs.Common.{◌≡◌, ◌≢◌, ◌⊎◌, ℕ, zero, suc, ◌+◌, ◌*◌, ◌/◌, ◌%◌, ◌<◌, ◌≤◌, Bool, true, false, List, [], ◌∷◌, length, get_or, set, Option, Some, None, is_none, refl, sym, ◌∙◌, ap, subst, inl, inr, if◌then◌else◌, mod-eq_of_lt, mul-le-mul_right, div-add-mod', arith}
+use Rattle.std.proofs.Common.{◌≡◌, ◌≢◌, ◌⊎◌, ℕ, zero, suc, ◌+◌, ◌/◌, ◌%◌, ◌<◌, ◌≤◌, true, false, List, [], ◌∷◌, length, get_or, set, Option, Some, None, is_none, refl, sym, ◌∙◌, ap, subst, inl, inr, if◌then◌else◌, mul-le-mul_right, div-add-mod', arith}
 use Rattle.std.proofs.Math.Nat.{add-mod_right}
 use Rattle.std.proofs.lemmas.Bool.{cases_eq, cases_lt, false≢true}
 use Rattle.std.proofs.lemmas.List.{length-set, get_or-set_same, get_or-set_other}
 use Rattle.host_core.specs.Host.{Host, Done}
 use Rattle.host_core.specs.World.{Worker, Seats, World, unmoved, fresh, worker_at, shard_at}
-use Rattle.host_core.specs.WorldEvent.{moves, after_move, logging, step, HasAdvanced, MayMove}
+use Rattle.host_core.specs.WorldEvent.{moves, after_move, logging, step, MayMove}
 use Rattle.host_order.specs.Close.{MovesKeepEpoch}
 use Rattle.host_world.specs.declared.fault.ClockEnd.{ClockEnd}
 use Rattle.host_world.specs.Ending.{end_of, end_at}
 use Rattle.host_serving.specs.Leading.{first_of}
-use Rattle.host_serving.specs.Closing.{IsKept, IsThroughMoves, IsStuckInMoves, IsBeforeMoves, HaveTurned, CanMoveOwn, CanMoveAll, KeepsTurned, OnlyMoves, EndsOwn, HaveAllMoved, HaveSomeStuck, EndsMoves}
+use Rattle.host_serving.specs.Closing.{IsKept, IsThroughMoves, IsStuckInMoves, IsBeforeMoves, HaveTurned, CanMoveOwn, CanMoveAll, KeepsTurned, OnlyMoves, EndsOwn, EndsMoves}
 
 -- ---- lists and numbers
 
@@ -32,12 +32,6 @@ next_own s t n i own own' above below = go (cases_lt (s / n) (t / n))
         let more : suc (s / n) ≤ t / n = omega (arith, less) in
         absurd (omega (arith, own, own', below, div-add-mod' s n, div-add-mod' t n, mul-le-mul_right n more))
     go (inr least) = omega (arith, own, own', above, div-add-mod' s n, div-add-mod' t n, mul-le-mul_right n least)
-
--- before its first there is none
-pub none_before : (t n i : ℕ) → t < i → i < n → t % n ≡ i → ⊥
-none_before t n i less within own =
-    let small : t < n = omega (arith, less, within) in
-    omega (arith, less, own, mod-eq_of_lt small)
 
 module _ {C R : Type 0} (host : Host C R) where
   -- ---- what moves leave
@@ -70,9 +64,6 @@ module _ {C R : Type 0} (host : Host C R) where
     kept = λ i. kept-then (worker_at host world i) (worker_at host middle i) (worker_at host later i) (one.kept i) (two.kept i);
     epochs = λ i. two.epochs i ∙ one.epochs i;
   }
-
-  only_moves-none : (world : World C) (i : ℕ) → OnlyMoves host world i world
-  only_moves-none world i = record { keeps = keeps_turned-none world; others = λ j apart. refl; foreign = λ s apart. refl }
 
   only_moves-then : (world middle later : World C) (i : ℕ) → OnlyMoves host world i middle → OnlyMoves host middle i later → OnlyMoves host world i later
   only_moves-then world middle later i one two = record {
@@ -141,7 +132,7 @@ module _ {C R : Type 0} (host : Host C R) where
 
   -- ---- one worker's moves
 
-  -- Its shards below one are moved, and its clock has not ended.
+  -- A worker's shards below one are moved, and its clock has not ended.
   pub record OwnBelow (world : World C) (i : ℕ) (later : World C) (s : ℕ) : Type 0 where
     pub only : OnlyMoves host world i later
     pub own : s % length world.workers ≡ i
@@ -150,15 +141,6 @@ module _ {C R : Type 0} (host : Host C R) where
     pub behind : (t : ℕ) → s ≤ t → t < length world.shards → t % length world.workers ≡ i → (shard_at later t).moved ≡ false
 
   module _ (keep_epoch : MovesKeepEpoch host) (world : World C) (i : ℕ) (can : CanMoveOwn host world i) where
-    pub own_first : OwnBelow world i world i
-    own_first = record {
-      only = only_moves-none world i;
-      own = mod-eq_of_lt can.there;
-      running = can.before.running;
-      before = λ t below within own. absurd (none_before t (length world.workers) i below can.there own);
-      behind = λ t above within own. can.before.still t within own;
-    }
-
     -- Once no shard is left, it is through.
     pub own_through : (later : World C) (s : ℕ) → OwnBelow world i later s → length world.shards ≤ s → EndsOwn host world i later None
     own_through later s below past = (

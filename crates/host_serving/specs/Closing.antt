@@ -1,5 +1,5 @@
 -- The steps of a close: all workers advance, and each moves its shards.
-use Rattle.std.specs.Prelude.{◌≡◌, ◌≢◌, ◌⊎◌, ℕ, ◌+◌, ◌<◌, ◌≤◌, ◌%◌, true, false, length, Option, Some, None, ◌∷◌, []}
+use Rattle.std.specs.Prelude.{◌≡◌, ◌≢◌, ◌⊎◌, ℕ, ◌<◌, ◌≤◌, ◌%◌, true, false, length, Option, Some, None, ◌∷◌, []}
 use Rattle.log_codec.specs.declared.command.Command.TheVariants.{NextEpoch}
 use Rattle.host_core.specs.Host.{Host}
 use Rattle.host_core.specs.World.{Worker, World, worker_at, shard_at}
@@ -99,16 +99,18 @@ abbrev pub EndsOwn : {C R : Type 0} → Host C R → World C → ℕ → World C
 EndsOwn host world i later None = OnlyMoves host world i later × IsThroughMoves host later i
 EndsOwn host world i later (Some end) = OnlyMoves host world i later × IsStuckInMoves host later i
 
--- Each worker moved its shards, or its clock ended; and where one's did, an end is told.
+-- Each worker moved its shards.
 pub record HaveAllMoved {C R : Type 0} (host : Host C R) (world later : World C) : Type 0 where
   pub keeps : KeepsTurned host world later
   pub each : (i : ℕ) → i < length world.workers → IsThroughMoves host later i
 
+-- Each worker moved its shards, or its clock ended; and some worker's did.
 pub record HaveSomeStuck {C R : Type 0} (host : Host C R) (world later : World C) : Type 0 where
   pub keeps : KeepsTurned host world later
   pub each : (i : ℕ) → i < length world.workers → IsThroughMoves host later i ⊎ IsStuckInMoves host later i
   pub some : (i : ℕ) × (i < length world.workers) × IsStuckInMoves host later i
 
+-- It is so, the first where no end is told and the second where one is.
 abbrev pub EndsMoves : {C R : Type 0} → Host C R → World C → World C → Option ClockEnd → Type 0
 EndsMoves host world later None = HaveAllMoved host world later
 EndsMoves host world later (Some end) = HaveSomeStuck host world later

@@ -1,4 +1,4 @@
-use Rattle.std.proofs.Common.{◌≡◌, suc, ◌+◌, ◌<◌, ◌≤◌, length, Option, None, Some, ap, sym, subst, ◌∙◌, arith}
+use Rattle.std.proofs.Common.{◌≡◌, suc, ◌+◌, ◌<◌, length, None, ap, subst, arith}
 use Rattle.record_text.specs.declared.request.Request.{Request}
 use Rattle.host_core.specs.WorldEvent.{WorldEvent, advances}
 use Rattle.host_world.specs.declared.settings.Settings.{Settings}
@@ -7,8 +7,6 @@ use Rattle.host_world.specs.Shown.{shown_world, digests_of}
 use Rattle.host_serving.specs.Leading.{Leads}
 use Rattle.host_serving.specs.Closing.{HaveAdvanced}
 use Rattle.host_serving.proofs.AdvanceLemmas.{may_advance, goes_next, Goes}
-use Rattle.host_serving.proofs.MoveLemmas.{all_next}
-use Rattle.host_serving.proofs.CloseLemmas.{again}
 use Rattle.host_serving.proofs.CloseWorldLemmas.{one_host, enabled_now, stepped_first, ended_first, leads_next, workers_are}
 use Rattle.host_serving.proofs.closes.advance_all.Goals as goal
 
@@ -37,6 +35,9 @@ returns-in-Some-clause-leads g c =
     subst (Leads host (shown_world old) (shown_world c.step.new.self)) c.in-Some.is
     (leads_next functions old c.loop-worker.world c.loop-worker.invariant.host c.step.new.self (advances c.loop-worker.worker) c.in_ok-end.field-0 may
     c.in_ok-end.ensures.stepped c.in_ok-end.ensures.ended c.loop-worker.invariant.leads)
+
+pub returns-in-Some-clause-goes_on : goal.returns-in-Some-clause-goes_on
+returns-in-Some-clause-goes_on g c = λ logs stands. c.step.ensures.goes_on logs (c.loop-worker.invariant.goes_on logs stands)
 
 pub loop-worker-preserved : goal.loop-worker-preserved
 loop-worker-preserved g c =

@@ -1,4 +1,4 @@
-use Rattle.std.proofs.Common.{◌≡◌, ℕ, suc, ◌<◌, false, length, Option, None, Ok, Result, OnOk, IfOk, IfSome, sym, subst, ◌∙◌, arith}
+use Rattle.std.proofs.Common.{◌≡◌, suc, ◌<◌, length, Option, None, Result, OnOk, IfOk, IfSome, sym, subst, ◌∙◌, arith}
 use Rattle.std.proofs.lemmas.Bool.{false≢true}
 use Rattle.want_of_memory.specs.declared.memory.Memory.{Memory}
 use Rattle.record_text.specs.declared.request.Request.{Request}

@@ -1,4 +1,4 @@
-use Rattle.std.proofs.Common.{◌≡◌, suc, ◌+◌, ◌<◌, ◌≤◌, length, Option, None, Some, refl, ap, sym, subst, ◌∙◌, arith}
+use Rattle.std.proofs.Common.{◌≡◌, suc, ◌+◌, ◌<◌, ◌≤◌, length, Option, refl, ap, sym, subst, ◌∙◌, arith}
 use Rattle.record_text.specs.declared.request.Request.{Request}
 use Rattle.host_core.specs.Host.{Host}
 use Rattle.host_shard.specs.Content.{Content}

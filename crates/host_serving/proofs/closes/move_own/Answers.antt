@@ -1,4 +1,4 @@
-use Rattle.std.proofs.Common.{◌≡◌, suc, ◌+◌, ◌<◌, ◌≤◌, length, Option, None, Some, ap, sym, subst, ◌∙◌, arith}
+use Rattle.std.proofs.Common.{◌≡◌, ◌+◌, ◌<◌, ◌≤◌, length, None, ap, subst, arith}
 use Rattle.merkle_records.specs.Merkle.{GivesDigests}
 use Rattle.record_text.specs.declared.request.Request.{Request}
 use Rattle.host_core.specs.WorldEvent.{WorldEvent, moves}
@@ -61,6 +61,9 @@ returns-in-Some-clause-ended g c =
     (goes_next host keep (shown_world old) c.args.worker c.requires.may (shown_world now) c.loop-shard.shard c.loop-shard.invariant.below there (shown_world new) c.in_ok-end.field-0
     (stepped_first functions old now c.loop-shard.invariant.host new event c.in_ok-end.ensures.stepped)
     (ended_first functions old now c.loop-shard.invariant.host new event c.in_ok-end.field-0 c.in_ok-end.ensures.ended))
+
+pub returns-in-Some-clause-goes_on : goal.returns-in-Some-clause-goes_on
+returns-in-Some-clause-goes_on g c = λ logs stands. c.step.ensures.goes_on logs (c.loop-shard.invariant.goes_on logs stands)
 
 pub loop-shard-preserved : goal.loop-shard-preserved
 loop-shard-preserved g c =
