@@ -1,3 +1,6 @@
 -- How what the program answers is what its words ask for.
 mod AuditLemmas
+mod ReadLemmas
+mod RunLemmas
+mod SettingLemmas
 mod AnswerLemmas
