@@ -9,15 +9,17 @@ ghost use Rattle.fastver_top.specs.Answers.{IsRunStatus};
 ghost use Rattle.fastver_top.specs.Running.{IsBeforeRun, IsNamedFor, IsUntouched, RunsTo, run_stopped, settings_for};
 
 use crate::scripts::read_script;
-use crate::stand_in::{served_scripts_are_certified, serve_script};
+use crate::stand_in::serve_script;
 use bundle_report::digests_have_32_bytes;
 use fv_outside::{Failed, Gate, Sink, Source, Vault};
+use host_fits::scripts_ask_for_keys_in_range;
 use host_rounds::RoundStop;
 use host_world::Settings;
 use lamport_clocks::Header;
 use program_words::{HostNumbers, RunWords};
 use record_hash::Digests;
 use report_text::Status;
+use run_reports::a_check_of_the_logs_ends_as_the_host_promises;
 use script_text::Requests;
 use std::alloc::Global;
 use verifier_threads::RunEnd;
@@ -53,7 +55,8 @@ pub fn run_script<D: Digests, S: Source, O: Sink, V: Vault, G: Gate>(
     ensures vault { IsBeforeRun result → vault.new ≡ vault.old }
 {
     digests_have_32_bytes(d);
-    served_scripts_are_certified();
+    scripts_ask_for_keys_in_range();
+    a_check_of_the_logs_ends_as_the_host_promises();
     let requests = match read_script(alloc, limit, run.numbers.verifiers, source) {
         Ok(requests) => requests,
         Err(stop) => return stop.status(limit),

@@ -1,5 +1,5 @@
 //! A script, read from a source.
-ghost use Rattle.std.specs.Prelude.{◌≡◌, ◌^◌, ◌≤◌, IfOk};
+ghost use Rattle.std.specs.Prelude.{◌≡◌, ◌^◌, ◌<◌, ◌≤◌, length, IfOk};
 ghost use Rattle.script_text.specs.Text.{AreTasks};
 ghost use Rattle.fastver_top.specs.Running.{ReadsScript, script_stopped};
 
@@ -44,6 +44,7 @@ pub fn read_script<S: Source>(
 ) -> Result<Requests, ScriptStop>
     requires limit { limit ≤ 2 ^ 40 }
     ensures tasks { IfOk result (AreTasks verifiers) }
+    ensures some { IfOk result (λ script. 0 < length script) }
     ensures reads { ReadsScript verifiers limit result
         (record { left = S.left source.old; left_after = S.left source.new; faults = S.faults source.old; faults_after = S.faults source.new }) }
 {

@@ -1,16 +1,9 @@
-//! What stands for a function and a law of other crates, until these are there.
-ghost use Rattle.std.specs.Prelude.{◌≡◌, ◌^◌, ◌<◌, ◌≤◌, List, None, Err, length};
+//! What stands for a function of another crate, until it is there.
+ghost use Rattle.std.specs.Prelude.{◌≡◌, ◌≤◌, Err};
 ghost use Rattle.fv_outside.specs.Faults.{Rose};
-ghost use Rattle.record_hash.specs.Functions.{DigestFunctions};
-ghost use Rattle.merkle_records.specs.Merkle.{GivesDigests};
-ghost use Rattle.log_codec.specs.declared.command.Command.{Command};
-ghost use Rattle.report_text.specs.declared.ending.BundleEnd.TheVariants.{Done};
 ghost use Rattle.script_text.specs.Text.{AreTasks};
-ghost use Rattle.script_text.specs.declared.task.Task.{Task};
 ghost use Rattle.host_world.specs.Settings.{IsSettings};
-ghost use Rattle.host_world.specs.declared.settings.Settings.{Settings};
-ghost use Rattle.host_rounds.specs.SoFar.{end_due};
-ghost use Rattle.verifier_threads.specs.Serving.{AreOfRun, ServesTo, texts_of};
+ghost use Rattle.verifier_threads.specs.Serving.{ServesTo};
 
 use fv_outside::{Gate, Sink};
 use host_rounds::RoundStop;
@@ -41,9 +34,3 @@ pub fn serve_script<D: Digests, V: Sink, O: Sink, G: Gate>(
 {
     Err(RoundStop::Memory)
 }
-
-pub fn served_scripts_are_certified()
-    ensures done { (functions : DigestFunctions) (settings : Settings) (script : List (List Task)) (logs : List (List Command))
-        → IsSettings settings → settings.header.first < 2 ^ 32 → AreTasks settings.header.verifiers script → GivesDigests functions.digest
-        → AreOfRun functions settings script logs None → end_due functions settings.header (texts_of logs) ≡ Done (length script) }
-{}

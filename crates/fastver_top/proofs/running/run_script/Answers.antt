@@ -3,6 +3,7 @@ use Rattle.report_text.specs.declared.status.Status.{Status}
 use Rattle.report_text.specs.Answer.{Reading, Writing}
 use Rattle.fastver_top.specs.Running.{Keeping, RunsTo, settings_for}
 use Rattle.fastver_top.proofs.RunLemmas.{runs-unread, runs-served}
+use Rattle.fastver_top.proofs.ServedLemmas.{run-end}
 use Rattle.fastver_top.proofs.SettingLemmas.{settings_in_range}
 use Rattle.fastver_top.proofs.running.run_script.Goals as goal
 
@@ -56,6 +57,7 @@ returns-in-Ok-serve-clause-runs g c =
     let numbers = c.args.run.now.numbers in
     subst (λ (status : Status). RunsTo functions c.args.run.now c.args.limit status read wrote kept) (sym c.status-in-Ok-serve.ensures.value)
     (runs-served functions c.args.run.now c.args.limit read wrote kept c.in-Ok.requests c.in-Ok.ensures.reads
-    (λ logs of_run. c.served_scripts_are_certified.ensures.done functions (settings_for numbers) c.in-Ok.requests logs
-    (settings_in_range numbers c.requires.numbers) c.requires.numbers.first c.in-Ok.ensures.tasks (λ text. (c.digests_have_32_bytes.ensures.digests text).size) of_run)
+    (λ logs. run-end functions (settings_for numbers) c.in-Ok.requests logs c.a_check_of_the_logs_ends_as_the_host_promises.ensures.whole
+    (settings_in_range numbers c.requires.numbers) (c.scripts_ask_for_keys_in_range.ensures.keys numbers.verifiers c.in-Ok.requests c.in-Ok.ensures.tasks)
+    (λ text. (c.digests_have_32_bytes.ensures.digests text).size) c.requires.numbers.first c.in-Ok.ensures.some)
     c.in-Ok-serve.end c.in-Ok-serve.ensures.serves (c.in-Ok-serve.ensures.named (λ is. cc)))
