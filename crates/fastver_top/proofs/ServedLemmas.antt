@@ -1,5 +1,6 @@
 -- Where a script is served to its end, a check of the logs ends with the number of its phases.
-use Rattle.std.proofs.Common.{◌≡◌, ◌⊎◌, ℕ, suc, ◌<◌, ◌≤◌, ◌^◌, ◌==◌, Bool, true, false, List, [], ◌∷◌, length, map, Option, Some, None, Result, Ok, Err, if◌then◌else◌, inl, inr, refl, sym, ◌∙◌, ap, subst, arith, ⊎_elim, length-map}
+use Rattle.std.proofs.Common.{◌≡◌, ◌⊎◌, ℕ, suc, ◌<◌, ◌≤◌, ◌^◌, ◌==◌, Bool, true, false, List, [], ◌∷◌, length, map, Option, Some, None, Result, Ok, Err, if◌then◌else◌, inl, inr, refl, sym, ◌∙◌, ap, subst, arith, ⊎_elim}
+use Rattle.std.proofs.lemmas.List.{length-map}
 use Rattle.std.proofs.lemmas.Bool.{cases_lt}
 use Rattle.std.specs.List.{onto_first}
 use Rattle.step_words.specs.Steps.{and_then}
@@ -13,9 +14,10 @@ use Rattle.script_text.specs.declared.task.Line.TheVariants as said
 use Rattle.script_text.specs.Lines.{lines_of}
 use Rattle.script_text.specs.Script.{BadLine, lines_say, phases_of, script_of, with_line}
 use Rattle.script_text.specs.Text.{AreTasks}
-use Rattle.host_core.specs.Host.{Host}
-use Rattle.host_core.specs.World.{World, set_up, logs_of, shard_at, worker_at}
-use Rattle.host_core.specs.WorldEvent.{WorldEvent, takes, loses, serves, gives, advances, moves, opens, step, IsEnabled, AreEnabled, run_events, HasAdvanced, Done as Deed, Worker, Seats, Place, after_serve, after_move, after_advance, last_epoch}
+use Rattle.lamport_clocks.specs.Clock.{last_epoch}
+use Rattle.host_core.specs.Host.{Host, Done as Deed}
+use Rattle.host_core.specs.World.{Place, Worker, Seats, World, set_up, logs_of, worker_at}
+use Rattle.host_core.specs.WorldEvent.{WorldEvent, takes, loses, serves, gives, advances, moves, opens, step, IsEnabled, AreEnabled, run_events, HasAdvanced, after_serve, after_move, after_advance}
 use Rattle.host_world.specs.Behind.{AreInRange}
 use Rattle.host_world.specs.Settings.{IsSettings}
 use Rattle.host_world.specs.ShippedHost.{shipped_host, turn_of}
@@ -70,10 +72,10 @@ module _ {C R : Type 0} (host : Host C R) where
   step-there world (takes i place) may there = there
   step-there world (loses i place) may there = there
   step-there world (serves i place request) may there =
-      subst (λ (p : ℕ). p < length host.script) (sym (serve-phase world i _ place _ _)) there
+      subst (λ (p : ℕ). p < length host.script) (sym (serve-phase world i (worker_at host world i) place _ _)) there
   step-there world (gives i place) may there = there
-  step-there world (advances i) may there = subst (λ (p : ℕ). p < length host.script) (sym (advance-phase world i _)) there
-  step-there world (moves i s) may there = subst (λ (p : ℕ). p < length host.script) (sym (move-phase world i _ s _)) there
+  step-there world (advances i) may there = subst (λ (p : ℕ). p < length host.script) (sym (advance-phase world i (worker_at host world i))) there
+  step-there world (moves i s) may there = subst (λ (p : ℕ). p < length host.script) (sym (move-phase world i (worker_at host world i) s _)) there
   step-there world opens may there =
       ⊎_elim (λ below. below) (λ last. absurd (may.more (inl last))) (cases_lt (suc world.phase) (length host.script))
 
@@ -86,7 +88,7 @@ module _ {C R : Type 0} (host : Host C R) where
 -- ---- how a check ends
 
 -- what a check promises, for whatever runs
-abbrev pub EndsWithPhases : Type 1
+abbrev pub EndsWithPhases : Type 0
 EndsWithPhases = HoldsOfRuns (λ host world.
     ((i : ℕ) → i < length world.workers → HasAdvanced host world i 2)
     → end_due host.functions host.header (texts_of (logs_of world)) ≡ Done (suc world.phase))
