@@ -1,8 +1,17 @@
 -- What was asked is what the words ask for, and the headline of whatever a source has.
-use Rattle.std.proofs.Common.{◌≡◌, ℕ, List, Option, Some, None, IfSome, sym, ◌∙◌, ap}
+use Rattle.std.proofs.Common.{◌≡◌, ℕ, List, Option, Some, None, IfSome, refl, sym, ◌∙◌, ap, inr, arith}
+use Rattle.fv_outside.specs.Consumed.{TookAtMost}
+use Rattle.record_hash.specs.ShaDigests.{sha_under}
+use Rattle.program_words.specs.declared.words.Asked.TheVariants.{Check, Audit, Run}
+use Rattle.report_text.specs.declared.status.Status.TheVariants.{Memory}
+use Rattle.report_text.proofs.AnsweringLaws.{answers-none}
+use Rattle.bundle_frames.specs.Extent.{reading_end}
+use Rattle.bundle_report.specs.Answer.{sha_check_answer}
 use Rattle.program_words.specs.declared.words.Asked.{Asked}
 use Rattle.bundle_report.proofs.HeadlineLaws.{sha_headline, of_left}
-use Rattle.fastver_top.specs.Answers.{asked_key, IsSoundFor}
+use Rattle.fastver_top.specs.Auditing.{sha_audit_answer}
+use Rattle.fastver_top.specs.Answers.{asked_key, AnswersFor, bundle_for, IsSoundFor}
+use Rattle.fastver_top.proofs.RunLemmas.{cut-none, runs-memory}
 
 abbrev inside : Asked → Option Asked → Asked
 inside other None = other
@@ -12,6 +21,22 @@ inside other (Some asked) = asked
 pub asked_is : (o : Option Asked) (asked own found : Asked) → o ≡ Some asked → o ≡ Some found → found ≡ own → own ≡ asked
 asked_is o asked own found known was is = sym is ∙ ap (inside found) (sym was ∙ known)
 
--- the headline holds of what a source has, if it tells it, however the program ends
-pub left_is_sound : (asked : Asked) (left : Option (List ℕ)) → IfSome left (IsSoundFor asked)
-left_is_sound asked left = of_left (IsSoundFor asked) left (sha_headline (asked_key asked))
+-- the headline holds of the bundle that it is about, if it is told, however the program ends
+pub left_is_sound : (asked : Asked) (left held : Option (List ℕ)) → IfSome (bundle_for asked left held) (IsSoundFor asked)
+left_is_sound asked left held = of_left (IsSoundFor asked) (bundle_for asked left held) (sha_headline (asked_key asked))
+
+took_none : (most : ℕ) (left : Option (List ℕ)) → TookAtMost most left left
+took_none most None = tt
+took_none most (Some bytes) = omega arith
+
+-- memory was wanting before anything was read
+pub answers-nothing : (asked : Asked) (most : ℕ) (left held vault : Option (List ℕ)) (name : Option (Option (List ℕ))) (r r' w w' v v' : ℕ)
+    → AnswersFor asked most Memory (record { left = left; left_after = left; faults = r; faults_after = r' })
+    (record { held = held; held_after = held; faults = w; faults_after = w' })
+    (record { held = vault; held_after = vault; name = name; name_after = name; faults = v; faults_after = v' })
+answers-nothing (Check key) most left held vault name r r' w w' v v' = answers-none (sha_check_answer key) reading_end most left held r r' w w'
+answers-nothing (Audit key) most left held vault name r r' w w' v v' = answers-none (sha_audit_answer key) reading_end most left held r r' w w'
+answers-nothing (Run run) most left held vault name r r' w w' v v' =
+    runs-memory (sha_under run.key) run most _ _ _ (took_none most left)
+    (cut-none (sha_under run.key) (record { vault = vault; vault_after = vault; out = held; out_after = held }) refl refl)
+    (inr (record { unnamed = refl; vault = refl; out = refl }))

@@ -1,3 +1,7 @@
 -- How what the program answers is what its words ask for.
 mod AuditLemmas
+mod ReadLemmas
+mod ServedLemmas
+mod RunLemmas
+mod SettingLemmas
 mod AnswerLemmas

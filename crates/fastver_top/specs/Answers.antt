@@ -1,38 +1,68 @@
 -- What the program answers to what it was asked.
-use Rattle.std.specs.Prelude.{ℕ, List, ◌⊎◌, ◌≡◌}
+use Rattle.std.specs.Prelude.{◌≡◌, ◌⊎◌, ℕ, List, Option}
 use Rattle.record_hash.specs.ShaDigests.{sha_under}
 use Rattle.program_words.specs.declared.words.Asked.{Asked}
-use Rattle.program_words.specs.declared.words.Asked.TheVariants.{Check, Audit}
+use Rattle.program_words.specs.declared.words.Asked.TheVariants.{Check, Audit, Run}
 use Rattle.report_text.specs.declared.status.Status.{Status}
 use Rattle.report_text.specs.declared.status.Status.TheVariants as statuses
-use Rattle.report_text.specs.Answer.{Answer}
+use Rattle.report_text.specs.Answer.{Reading, Writing, AnswersTo}
+use Rattle.bundle_frames.specs.Extent.{reading_end}
 use Rattle.check_core.specs.Outcomes.{IsCheckStatus}
 use Rattle.bundle_report.specs.Answer.{sha_check_answer}
 use Rattle.bundle_report.specs.Headline.{IsShaSound}
 use Rattle.fastver_top.specs.Auditing.{sha_audit_answer, ExhibitCollides}
+use Rattle.fastver_top.specs.Running.{Keeping, RunsTo}
 
 -- the key that was given
 abbrev pub asked_key : Asked → List ℕ
 asked_key (Check key) = key
 asked_key (Audit key) = key
+asked_key (Run run) = run.key
 
--- the text and the status that the program answers, by what was asked and the source's bytes
-abbrev pub answer_to : Asked → List ℕ → Answer
-answer_to (Check key) = λ bytes. sha_check_answer key bytes
-answer_to (Audit key) = λ bytes. sha_audit_answer key bytes
+-- What the program does, by what was asked, where it reads no more than so many bytes: the text and the status that a check
+-- or an audit answers to the source's bytes, and how a run serves them as a script.
+abbrev pub AnswersFor : Asked → ℕ → Status → Reading → Writing → Keeping → Type 0
+AnswersFor (Check key) most result reading writing keeping = AnswersTo (sha_check_answer key) reading_end most result reading writing
+AnswersFor (Audit key) most result reading writing keeping = AnswersTo (sha_audit_answer key) reading_end most result reading writing
+AnswersFor (Run run) most result reading writing keeping = RunsTo (sha_under run.key) run most result reading writing keeping
 
 -- a status that an audit can end with
 abbrev pub IsAuditStatus : Status → Type 0
 IsAuditStatus status = IsCheckStatus status ⊎ status ≡ statuses.Exhibit
 
+-- a status that a run can end with
+abbrev pub IsRunStatus : Status → Type 0
+IsRunStatus (statuses.Done epochs) = Unit {0}
+IsRunStatus statuses.Usage = ⊥
+IsRunStatus statuses.Memory = Unit {0}
+IsRunStatus statuses.ReadFault = Unit {0}
+IsRunStatus statuses.WriteFault = Unit {0}
+IsRunStatus statuses.VaultFault = Unit {0}
+IsRunStatus (statuses.BadScript line cause) = Unit {0}
+IsRunStatus (statuses.BadBundle offset) = ⊥
+IsRunStatus (statuses.Refused verifier index refusal) = ⊥
+IsRunStatus (statuses.Unbalanced epoch added evicted) = ⊥
+IsRunStatus (statuses.ClockEnd worker at) = Unit {0}
+IsRunStatus statuses.NotTagged = ⊥
+IsRunStatus statuses.NotCertified = ⊥
+IsRunStatus statuses.Exhibit = ⊥
+IsRunStatus (statuses.InputLimit taken) = Unit {0}
+
 -- a status that the program can end with
 abbrev pub IsProgramStatus : Status → Type 0
-IsProgramStatus status = IsAuditStatus status ⊎ status ≡ statuses.Usage
+IsProgramStatus status = IsAuditStatus status ⊎ (IsRunStatus status ⊎ status ≡ statuses.Usage)
 
 -- a status that the program can end with, by what was asked
 abbrev pub IsStatusOf : Asked → Status → Type 0
 IsStatusOf (Check key) status = IsCheckStatus status
 IsStatusOf (Audit key) status = IsAuditStatus status
+IsStatusOf (Run run) status = IsRunStatus status
+
+-- the bundle that it is about: what the source has, and of a run what the vault then holds
+abbrev pub bundle_for : Asked → Option (List ℕ) → Option (List ℕ) → Option (List ℕ)
+bundle_for (Check key) left held = left
+bundle_for (Audit key) left held = left
+bundle_for (Run run) left held = held
 
 -- the headline, under the key that was given
 abbrev pub IsSoundFor : Asked → List ℕ → Type 0

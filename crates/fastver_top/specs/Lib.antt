@@ -1,4 +1,5 @@
 -- What the clauses of the top call cite, in reading order.
 pub mod Auditing
+pub mod Running
 pub mod Answers
 pub use Rattle.check_core.specs

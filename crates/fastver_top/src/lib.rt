@@ -1,17 +1,25 @@
 //! The top call: the program's words, what it reads and what it writes.
 //!
 //! `fastver` in `top.rt` is what the program runs: `program_words` reads its words, a check is `check_core`'s,
-//! and an audit is `audit_text` in `auditing.rt`, which asks `collision_exhibit` for what there is to exhibit.
+//! and an audit is `audit_text` in `auditing.rt`, which asks `collision_exhibit` for what there is to exhibit. A run is
+//! `run_script` in `running.rt`: a script is read whole by `scripts.rt`, and `verifier_threads` serves it.
 //! The crate stands on these, and on the objects of `fv_outside`. Begin with `fastver`, beside
 //! `specs/Answers.antt`.
 #![tactic(auto)]
 
 mod audit_end;
 mod auditing;
+mod reading;
+mod running;
+mod scripts;
+mod stand_in;
 mod top;
 
 pub use audit_end::AuditEnd;
 pub use auditing::audit_text;
+pub use reading::read_all;
 pub use record_text::{Exhibit, Refusal};
 pub use report_text::Status;
+pub use running::run_script;
+pub use scripts::{ScriptStop, read_script};
 pub use top::{INPUT_LIMIT, fastver};

@@ -3,12 +3,14 @@ ghost use Rattle.std.specs.Prelude.{◌≡◌, ◌≢◌, ◌^◌, ℕ, List, ma
 ghost use Rattle.record_hash.specs.Hmac.{key_block};
 ghost use Rattle.program_words.specs.Words.{asked_of};
 ghost use Rattle.program_words.specs.declared.words.Asked.{Asked};
-ghost use Rattle.bundle_frames.specs.Extent.{reading_end};
+ghost use Rattle.program_words.specs.declared.host_words.RunWords.{RunWords};
 ghost use Rattle.fv_outside.specs.Consumed.{TookAtMost};
-ghost use Rattle.report_text.specs.Answer.{IsEnd, AnswersTo};
-ghost use Rattle.fastver_top.specs.Answers.{answer_to, IsProgramStatus, IsStatusOf, IsSoundFor, CollidesFor};
+ghost use Rattle.report_text.specs.Answer.{IsEnd};
+ghost use Rattle.fastver_top.specs.Answers.{AnswersFor, bundle_for, CollidesFor, IsProgramStatus, IsSoundFor, IsStatusOf};
+ghost use Rattle.fastver_top.specs.Running.{IsBeforeRun};
 
 use crate::auditing::audit_text;
+use crate::running::run_script;
 use check_core::check;
 use fv_outside::{Gate, Sink, Source, Vault};
 use program_words::{Asked, Key, WordsFault, read_words};
@@ -25,7 +27,9 @@ pub const INPUT_LIMIT: u64 = 1 << 40;
 ///
 /// `fastver check --key HEX` reads a bundle from the source and writes its report to the sink: a line for
 /// each certified epoch and each certified operation, and a last line. `fastver audit --key HEX` writes what
-/// there is to exhibit of the certified epochs, and the same last line. The vault is left as it is.
+/// there is to exhibit of the certified epochs, and the same last line. The vault is left as it is. `fastver run` with a
+/// key and the numbers of a host reads a script, serves it, writes the bundle of its logs to the vault, and to the sink the
+/// report of that bundle.
 #[tactic(auto, using(crate::proofs::AnswerLemmas::left_is_sound))]
 pub fn fastver<R: Threads + Wait + Sync, S: Source, O: Sink, V: Vault, G: Gate + Sync>(
     rt: &R,
@@ -34,7 +38,7 @@ pub fn fastver<R: Threads + Wait + Sync, S: Source, O: Sink, V: Vault, G: Gate +
     source: &mut S,
     out: &mut O,
     vault: &mut V,
-    _gate: &G,
+    gate: &G,
 ) -> Status
     requires fresh { V.fresh vault.old }
 
@@ -44,12 +48,13 @@ pub fn fastver<R: Threads + Wait + Sync, S: Source, O: Sink, V: Vault, G: Gate +
     ensures usage { result ≡ Status.Usage → asked_of (map (λ word. word.now) words.now) ≡ None }
     ensures refused { asked_of (map (λ word. word.now) words.now) ≡ None → result ≡ Status.Usage ⊎ result ≡ Status.Memory }
 
-    // Where they ask for something: what is written, the status, what was taken of the source, and the faults. The
-    // answer is to the source's bytes under the key of the words.
+    // Where they ask for something: what is written, the status, what was taken of the source, and the faults. A check and an
+    // audit answer to the source's bytes, and a run serves them as a script, under the key of the words.
     ensures answers { (asked : Asked) → asked_of (map (λ word. word.now) words.now) ≡ Some asked
-        → AnswersTo (answer_to asked) reading_end (2 ^ 40) result
+        → AnswersFor asked (2 ^ 40) result
         (record { left = S.left source.old; left_after = S.left source.new; faults = S.faults source.old; faults_after = S.faults source.new })
-        (record { held = O.held out.old; held_after = O.held out.new; faults = O.faults out.old; faults_after = O.faults out.new }) }
+        (record { held = O.held out.old; held_after = O.held out.new; faults = O.faults out.old; faults_after = O.faults out.new })
+        (record { held = V.held vault.old; held_after = V.held vault.new; name = V.name vault.old; name_after = V.name vault.new; faults = V.faults vault.old; faults_after = V.faults vault.new }) }
 
     // An audit writes nothing before all is read, and takes no more than the limit but where the input is longer.
     ensures audit_unwritten { (key : List ℕ) → asked_of (map (λ word. word.now) words.now) ≡ Some (Asked.Audit key)
@@ -57,23 +62,34 @@ pub fn fastver<R: Threads + Wait + Sync, S: Source, O: Sink, V: Vault, G: Gate +
     ensures audit_within { (key : List ℕ) → asked_of (map (λ word. word.now) words.now) ≡ Some (Asked.Audit key)
         → result ≢ Status.InputLimit (2 ^ 40) → TookAtMost (2 ^ 40) (S.left source.old) (S.left source.new) }
 
-    // Where they ask for nothing, nothing is read and nothing written, whatever the answer. The vault is never named or
-    // written.
+    // A run writes nothing and names no vault before a whole and good script is read.
+    ensures run_unwritten { (run : RunWords) → asked_of (map (λ word. word.now) words.now) ≡ Some (Asked.Run run)
+        → IsBeforeRun result → out.new ≡ out.old }
+    ensures run_unnamed { (run : RunWords) → asked_of (map (λ word. word.now) words.now) ≡ Some (Asked.Run run)
+        → IsBeforeRun result → vault.new ≡ vault.old }
+
+    // Where they ask for nothing, nothing is read and nothing written, whatever the answer. But by a run the vault is never
+    // named or written.
     ensures unread { asked_of (map (λ word. word.now) words.now) ≡ None → source.new ≡ source.old }
     ensures unwritten { asked_of (map (λ word. word.now) words.now) ≡ None → out.new ≡ out.old }
-    ensures vault { vault.new ≡ vault.old }
+    ensures vault { ((run : RunWords) → asked_of (map (λ word. word.now) words.now) ≢ Some (Asked.Run run)) → vault.new ≡ vault.old }
 
-    // The headline, of any bytes and with nothing premised of who made them: the answer lines of a check are all the
-    // operations of the certified epochs, in an order that keeps each verifier's; there is nothing to exhibit and each
+    // The headline, of any bytes and with nothing premised of who made them: the answer lines of a check, of the source's
+    // bytes or of those that a run wrote to its vault, are all the operations of the certified epochs, in an order that keeps each verifier's; there is nothing to exhibit and each
     // get answers the last put to its key, or the exhibit is a real collision: two different strings with one digest,
     // or two different multisets with one sum. What an audit exhibits is such a collision.
-    ensures headline { (asked : Asked) → asked_of (map (λ word. word.now) words.now) ≡ Some asked → IfSome (S.left source.old) (IsSoundFor asked) }
+    ensures headline { (asked : Asked) → asked_of (map (λ word. word.now) words.now) ≡ Some asked
+        → IfSome (bundle_for asked (S.left source.old) (V.held vault.new)) (IsSoundFor asked) }
     ensures collides { (asked : Asked) → asked_of (map (λ word. word.now) words.now) ≡ Some asked → result ≡ Status.Exhibit
         → IfSome (S.left source.old) (CollidesFor asked) }
 {
     match read_words(alloc, words) {
         Ok(Asked::Check(key)) => check(rt, alloc, &digests_under(&key), INPUT_LIMIT, source, out),
         Ok(Asked::Audit(key)) => audit_text(alloc, &digests_under(&key), INPUT_LIMIT, source, out),
+        Ok(Asked::Run(run)) => {
+            let d = digests_under(&run.key);
+            run_script(alloc, &d, &run, INPUT_LIMIT, source, out, vault, gate)
+        }
         Err(WordsFault::Usage) => Status::Usage,
         Err(WordsFault::Memory) => Status::Memory,
     }

@@ -1,2 +1,4 @@
+mod NumberLemmas
+mod RangeLemmas
 mod WordsLemmas
 mod WordsFacts

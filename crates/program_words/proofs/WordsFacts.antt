@@ -1,10 +1,12 @@
 -- What some words ask for, computed from the definitions.
-use Rattle.std.proofs.Common.{◌≡◌, ℕ, List, [], ◌∷◌, Some, None, refl}
+use Rattle.std.proofs.Common.{◌≡◌, ℕ, List, [], ◌∷◌, ◌++◌, Some, None, refl}
 use Rattle.std.specs.Prelude.{codes}
 use Rattle.clap.proofs.OnLiterals.{clap_on_literals}
 use Rattle.hex.proofs.OnLiterals.{hex_on_literals}
+use Rattle.program_words.specs.Numbers.{number_between}
 use Rattle.program_words.specs.Words.{asked_of}
-use Rattle.program_words.specs.declared.words.Asked.TheVariants.{Check, Audit}
+use Rattle.program_words.specs.declared.words.Asked.TheVariants.{Check, Audit, Run}
+use Rattle.program_words.specs.declared.host_words.HostNumbers.{HostNumbers}
 
 abbrev key : List ℕ
 key = 0 ∷ 17 ∷ 34 ∷ 51 ∷ 68 ∷ 85 ∷ 102 ∷ 119 ∷ 136 ∷ 153 ∷ 170 ∷ 187 ∷ 204 ∷ 221 ∷ 238 ∷ 255 ∷ []
@@ -40,3 +42,31 @@ two_keys = refl
 short_key : asked_of (codes "fastver" ∷ codes "check" ∷ codes "--key=00112233445566778899aabbccddee" ∷ []) ≡ None
 unfolding clap_on_literals hex_on_literals
 short_key = refl
+
+-- ---- run
+
+abbrev numbers : HostNumbers
+numbers = record { verifiers = 1; shards = 2; hot = None; first = 0; counter = 16777215 }
+
+abbrev host_words : List (List ℕ)
+host_words = codes "fastver" ∷ codes "run" ∷ codes "--key=00112233445566778899aabbccddeeff" ∷ codes "--verifiers" ∷ codes "1" ∷ codes "--shards" ∷ codes "2" ∷ []
+
+-- nothing but what is needed
+plain_run : asked_of host_words ≡ Some (Run (record { key = key; numbers = numbers; logs = None }))
+unfolding clap_on_literals hex_on_literals number_between
+plain_run = refl
+
+-- where the logs go, and where the clocks begin and end
+whole_run : asked_of (host_words ++ codes "--logs" ∷ codes "x" ∷ codes "--first=7" ∷ codes "--counter" ∷ codes "4" ∷ [])
+    ≡ Some (Run (record { key = key; numbers = record numbers { first = 7; counter = 4 }; logs = Some (codes "x") }))
+unfolding clap_on_literals hex_on_literals number_between
+whole_run = refl
+
+-- a number past its range, and one that begins with a zero
+no_counter : asked_of (host_words ++ codes "--counter=16777216" ∷ []) ≡ None
+unfolding clap_on_literals hex_on_literals number_between
+no_counter = refl
+
+first_zero : asked_of (host_words ++ codes "--first=01" ∷ []) ≡ None
+unfolding clap_on_literals hex_on_literals number_between
+first_zero = refl

@@ -1,8 +1,11 @@
 -- From what clap promises of a parse to what the words ask for.
-use Rattle.std.proofs.Common.{◌≡◌, List, true, [], ◌∷◌, Option, Some, None, option_and_then, inl, inr, refl, sym, ◌∙◌, ap, subst}
+use Rattle.std.proofs.Common.{◌≡◌, Bool, ◌||◌, false, List, true, [], ◌∷◌, Option, Some, None, option_and_then, inl, inr, refl, sym, ◌∙◌, ap, subst}
 use Rattle.std.specs.Prelude.{IfOk, Result, Ok, Err, ok_or}
 use Rattle.clap.specs.Walk.{Text}
-use Rattle.clap.specs.Words.{App, HasKind, HasMatchesOf, Kinds, fault_of, is_simple, is_simple_and_free, kind_of, subcommand_of, subcommand_rows_of}
+use Rattle.clap.specs.Words.{AddsArg, App, HasKind, HasMatchesOf, Kinds, fault_of, is_simple, is_simple_and_free, kind_of, subcommand_of, subcommand_rows_of}
+use Rattle.clap.specs.declared.builder.arg.Arg.{Arg}
+use Rattle.clap.specs.declared.builder.command.Command.{Command}
+use Rattle.clap.specs.declared.builder.command.Command.TheViews.{out-Command as fields_of}
 use Rattle.clap.specs.declared.error.Error.{Error}
 use Rattle.clap.specs.declared.error.kind.ErrorKind.TheVariants as kind
 use Rattle.clap.specs.declared.parser.matches.ArgMatches.{ArgMatches}
@@ -55,3 +58,9 @@ fault_in other (Err fault) = fault
 -- equal answers have equal faults
 pub same_fault : (one other : WordsFault) → ◌≡◌ {A = Result Asked WordsFault} (Err one) (Err other) → one ≡ other
 same_fault one other e = ap (fault_in one) e
+
+-- a command with an option more has a global one only where it had one
+pub local_with : {E : Type 0} (made : Result Command E) (old : Command) (arg : Arg) → arg.global ≡ false → IfOk made (λ command. AddsArg old arg command)
+    → IfOk made (λ command. (fields_of old).has_globals ≡ false → (fields_of command).has_globals ≡ false)
+local_with (Ok command) old arg local adds = λ had. adds.globals ∙ ap (λ (had' : Bool). had' || arg.global) had ∙ local
+local_with (Err e) old arg local adds = tt

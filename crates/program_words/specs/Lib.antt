@@ -1,3 +1,5 @@
 -- What the clauses on the program's words cite, in reading order.
 pub mod Key
+pub mod Numbers
+pub mod HostWords
 pub mod Words

@@ -1,11 +1,14 @@
-//! The words of the program: which command they ask for, and with which key.
+//! The words of the program: which command they ask for, with which key, and with which numbers.
 //!
 //! `read_words` in `words.rt` reads them by the kit's `clap`, and is proved against clap's own rules: what they
-//! ask for is defined in `specs/Words.antt`. A key is read from its digits in `key.rt` by the kit's `hex`.
+//! ask for is defined in `specs/Words.antt`. A key is read from its digits in `key.rt` by the kit's `hex`, and the
+//! numbers of a host in `host_words.rt`.
 #![tactic(auto)]
 
+mod host_words;
 mod key;
 mod words;
 
+pub use host_words::{HostNumbers, PathWord, RunWords};
 pub use key::{Key, LONGEST_KEY, SHORTEST_KEY};
 pub use words::{Asked, WordsFault, read_words};

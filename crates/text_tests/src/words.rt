@@ -1,6 +1,6 @@
 //! Words that were judged by hand, as they stand on a command line.
 use crate::rows::{bytes_of, field, same, same_bytes};
-use program_words::{Asked, WordsFault, read_words};
+use program_words::{Asked, HostNumbers, WordsFault, read_words};
 use std::alloc::Global;
 use std::test::Fail;
 
@@ -18,6 +18,7 @@ fn told(answer: &Result<Asked, WordsFault>) -> (&str, &[u8]) {
     match answer {
         Ok(Asked::Check(key)) => ("check", key.as_slice()),
         Ok(Asked::Audit(key)) => ("audit", key.as_slice()),
+        Ok(Asked::Run(run)) => ("run", run.key.as_slice()),
         Err(WordsFault::Usage) => ("usage", b""),
         Err(WordsFault::Memory) => ("memory", b""),
     }
@@ -34,6 +35,8 @@ fastver audit --key 00112233445566778899AABBCCDDEEFF | audit | 00112233445566778
 fastver check --key 303132333435363738393a3b3c3d3e3f404142434445464748494a4b4c4d4e4f505152535455565758595a5b5c5d5e5f606162636465666768696a6b6c6d6e6f | check | most
 fastver audit --key 303132333435363738393a3b3c3d3e3f404142434445464748494a4b4c4d4e4f505152535455565758595a5b5c5d5e5f606162636465666768696a6b6c6d6e6f | audit | most
 /bin/other check --key 00112233445566778899aabbccddeeff | check | 00112233445566778899aabbccddeeff
+fastver run --key 00112233445566778899aabbccddeeff --verifiers 1 --shards 2 | run | 00112233445566778899aabbccddeeff
+fastver run --shards=2 --verifiers=1 --key=00112233445566778899AABBCCDDEEFF | run | 00112233445566778899aabbccddeeff
 ";
 
 const MOST_BYTES: &str = "0123456789:;<=>?@ABCDEFGHIJKLMNOPQRSTUVWXYZ[\\]^_`abcdefghijklmno";
@@ -77,6 +80,29 @@ fastver check --key 00112233445566778899aabbccddeeff more | a word more
 fastver --key 00112233445566778899aabbccddeeff check | the key first
 fastver check --receipts --key 00112233445566778899aabbccddeeff | another option
 check --key 00112233445566778899aabbccddeeff | no name
+fastver check --key 00112233445566778899aabbccddeeff --shards 2 | an option of a run
+fastver run --verifiers 1 --shards 2 | a run with no key
+fastver run --key 00112233445566778899aabbccddeeff --shards 2 | no verifiers
+fastver run --key 00112233445566778899aabbccddeeff --verifiers 1 | no shards
+fastver run --key 00112233445566778899aabbccddee --verifiers 1 --shards 2 | 30 digits for a run
+fastver run --key 00112233445566778899aabbccddeeff --verifiers 0 --shards 2 | none of them
+fastver run --key 00112233445566778899aabbccddeeff --verifiers 65 --shards 2 | too many of them
+fastver run --key 00112233445566778899aabbccddeeff --verifiers 1 --shards 1 | one shard
+fastver run --key 00112233445566778899aabbccddeeff --verifiers 1 --shards 3 | no power of two
+fastver run --key 00112233445566778899aabbccddeeff --verifiers 1 --shards 2048 | too many shards
+fastver run --key 00112233445566778899aabbccddeeff --verifiers 1 --shards 2 --first 4294967296 | an epoch past 32 bits
+fastver run --key 00112233445566778899aabbccddeeff --verifiers 1 --shards 2 --first 01 | a leading zero
+fastver run --key 00112233445566778899aabbccddeeff --verifiers 1 --shards 2 --first +1 | a plus sign
+fastver run --key 00112233445566778899aabbccddeeff --verifiers 1 --shards 2 --first=-1 | a minus sign
+fastver run --key 00112233445566778899aabbccddeeff --verifiers 1 --shards 2 --first= | no digit
+fastver run --key 00112233445566778899aabbccddeeff --verifiers 1 --shards 2 --counter 0 | a counter that never moves
+fastver run --key 00112233445566778899aabbccddeeff --verifiers 1 --shards 2 --counter 16777216 | a counter past 24 bits
+fastver run --key 00112233445566778899aabbccddeeff --verifiers 1 --shards 2 --counter 2 --counter 2 | two counters
+fastver run --key 00112233445566778899aabbccddeeff --verifiers 1 --shards 2 --hot 0 | no touch
+fastver run --key 00112233445566778899aabbccddeeff --verifiers 1 --shards 2 --hot 1000001 | too many touches
+fastver run --key 00112233445566778899aabbccddeeff --verifiers 1 --shards 2 --receipts | receipts
+fastver run --key 00112233445566778899aabbccddeeff --verifiers 1 --shards 2 --logs | no path
+fastver run --key 00112233445566778899aabbccddeeff --verifiers 1 --shards 2 more | a word more for a run
 ";
 
 #[test]
@@ -86,6 +112,53 @@ fn words_that_are_refused(rt: HostRuntime) -> Result<(), Fail> {
         let why = field(row, 1)?;
         let answer = asked_by(rt.alloc(), line)?;
         same(&rt, why, &told(&answer), &("usage", b"".as_slice()));
+    }
+    Ok(())
+}
+
+// What stands behind `fastver run` and its key, the verifiers, shards, first epoch, last counter and threshold that it asks
+// for, and the path of its logs.
+const RUNNING: &str = "
+--verifiers 1 --shards 2 | 1 2 0 16777215 | none | none
+--verifiers 1 --shards 1024 --first 4294967295 --counter 1 | 1 1024 4294967295 1 | none | none
+--counter=16777215 --shards=4 --logs=a/b --verifiers=1 --first=0 | 1 4 0 16777215 | none | a/b
+--hot 1000000 --logs x --verifiers 1 --shards 512 | 1 512 0 16777215 | 1000000 | x
+";
+
+// The numbers of a row.
+fn numbers_in(row: &str) -> Result<HostNumbers, Fail> {
+    let mut words = field(row, 1)?.split_whitespace();
+    let hot = field(row, 2)?;
+    Ok(HostNumbers {
+        verifiers: words.next().ok_or("no verifiers")?.parse()?,
+        shards: words.next().ok_or("no shards")?.parse()?,
+        first: words.next().ok_or("no first epoch")?.parse()?,
+        counter: words.next().ok_or("no last counter")?.parse()?,
+        hot: if hot == "none" {
+            None
+        } else {
+            Some(hot.parse()?)
+        },
+    })
+}
+
+#[test]
+fn what_a_run_asks_for(rt: HostRuntime) -> Result<(), Fail> {
+    for row in RUNNING.trim().lines() {
+        let mut line = String::from_str(
+            rt.alloc(),
+            "fastver run --key 00112233445566778899aabbccddeeff ",
+        )?;
+        line.push_str(field(row, 0)?)?;
+        let Ok(Asked::Run(run)) = asked_by(rt.alloc(), &line)? else {
+            return Err("no run is asked for")?;
+        };
+        same(&rt, row, &run.numbers, &numbers_in(row)?);
+        let logs = match &run.logs {
+            Some(path) => path.as_str(),
+            None => "none",
+        };
+        same(&rt, row, &logs, &field(row, 3)?);
     }
     Ok(())
 }

@@ -1,4 +1,4 @@
 -- How a script is served, up to its report, in reading order.
 pub mod Serving
 pub use Rattle.host_serving.specs
-pub use Rattle.host_rounds.specs
+pub use Rattle.host_rounds.specs as host_rounds_specs

@@ -1,14 +1,14 @@
 use Rattle.std.proofs.Common.{◌^◌, ℕ, List, subst}
 use Rattle.record_hash.specs.ShaDigests.{sha_functions}
 use Rattle.program_words.specs.declared.words.Asked.{Asked}
-use Rattle.program_words.specs.declared.words.Asked.TheVariants.{Check, Audit}
+use Rattle.program_words.specs.declared.words.Asked.TheVariants.{Check, Audit, Run}
 use Rattle.bundle_frames.specs.Extent.{reading_end}
 use Rattle.report_text.specs.Answer.{Reading, Writing, AnswersTo}
-use Rattle.report_text.proofs.AnsweringLaws.{answers-none}
 use Rattle.bundle_report.specs.Answer.{check_answer}
 use Rattle.fastver_top.specs.Auditing.{audit_answer}
-use Rattle.fastver_top.specs.Answers.{answer_to}
-use Rattle.fastver_top.proofs.AnswerLemmas.{asked_is}
+use Rattle.fastver_top.specs.Answers.{AnswersFor}
+use Rattle.fastver_top.specs.Running.{Keeping, RunsTo}
+use Rattle.fastver_top.proofs.AnswerLemmas.{answers-nothing, asked_is}
 use Rattle.fastver_top.proofs.top.fastver.Goals as goal
 
 -- ---- the answer
@@ -27,8 +27,16 @@ returns-in-Ok-Check-clause-answers g c = λ asked known.
       faults = g.O.Sink.faults c.args.out.now;
       faults_after = g.O.Sink.faults c.check.new.out;
     } in
+    let kept : Keeping = record {
+      held = g.V.Sink.held c.args.vault.now;
+      held_after = g.V.Sink.held c.args.vault.now;
+      name = g.V.Sink.name c.args.vault.now;
+      name_after = g.V.Sink.name c.args.vault.now;
+      faults = g.V.Sink.faults c.args.vault.now;
+      faults_after = g.V.Sink.faults c.args.vault.now;
+    } in
     let own = asked_is _ asked (Check c.in-Ok-Check.key) c.in-Ok-Check.field-0 known c.in-Ok-Check.ensures.asked c.in-Ok-Check.field-0-is in
-    subst (λ (a : Asked). AnswersTo (answer_to a) reading_end (2 ^ 40) c.check.result read wrote) own
+    subst (λ (a : Asked). AnswersFor a (2 ^ 40) c.check.result read wrote kept) own
     (subst (λ (block : List ℕ). AnswersTo (check_answer (sha_functions block)) reading_end (2 ^ 40) c.check.result read wrote)
     c.digests_under.ensures.value c.check.ensures.answers)
 
@@ -46,11 +54,47 @@ returns-in-Ok-Audit-clause-answers g c = λ asked known.
       faults = g.O.Sink.faults c.args.out.now;
       faults_after = g.O.Sink.faults c.audit_text.new.out;
     } in
+    let kept : Keeping = record {
+      held = g.V.Sink.held c.args.vault.now;
+      held_after = g.V.Sink.held c.args.vault.now;
+      name = g.V.Sink.name c.args.vault.now;
+      name_after = g.V.Sink.name c.args.vault.now;
+      faults = g.V.Sink.faults c.args.vault.now;
+      faults_after = g.V.Sink.faults c.args.vault.now;
+    } in
     let own = asked_is _ asked (Audit c.in-Ok-Audit.key) c.in-Ok-Audit.field-0 known c.in-Ok-Audit.ensures.asked c.in-Ok-Audit.field-0-is in
-    subst (λ (a : Asked). AnswersTo (answer_to a) reading_end (2 ^ 40) c.audit_text.result read wrote) own
+    subst (λ (a : Asked). AnswersFor a (2 ^ 40) c.audit_text.result read wrote kept) own
     (subst (λ (block : List ℕ). AnswersTo (audit_answer (sha_functions block)) reading_end (2 ^ 40) c.audit_text.result read wrote)
     c.digests_under-in-Ok-Audit.ensures.value c.audit_text.ensures.answers)
 
+pub returns-in-Ok-Run-clause-answers : goal.returns-in-Ok-Run-clause-answers
+returns-in-Ok-Run-clause-answers g c = λ asked known.
+    let read : Reading = record {
+      left = g.S.Source.left c.args.source.now;
+      left_after = g.S.Source.left c.run_script.new.source;
+      faults = g.S.Source.faults c.args.source.now;
+      faults_after = g.S.Source.faults c.run_script.new.source;
+    } in
+    let wrote : Writing = record {
+      held = g.O.Sink.held c.args.out.now;
+      held_after = g.O.Sink.held c.run_script.new.out;
+      faults = g.O.Sink.faults c.args.out.now;
+      faults_after = g.O.Sink.faults c.run_script.new.out;
+    } in
+    let kept : Keeping = record {
+      held = g.V.Sink.held c.args.vault.now;
+      held_after = g.V.Sink.held c.run_script.new.vault;
+      name = g.V.Sink.name c.args.vault.now;
+      name_after = g.V.Sink.name c.run_script.new.vault;
+      faults = g.V.Sink.faults c.args.vault.now;
+      faults_after = g.V.Sink.faults c.run_script.new.vault;
+    } in
+    let run = c.in-Ok-Run.run' in
+    let own = asked_is _ asked (Run run) c.in-Ok-Run.field-0 known c.in-Ok-Run.ensures.asked c.in-Ok-Run.field-0-is in
+    subst (λ (a : Asked). AnswersFor a (2 ^ 40) c.run_script.result read wrote kept) own
+    (subst (λ (block : List ℕ). RunsTo (sha_functions block) run (2 ^ 40) c.run_script.result read wrote kept)
+    c.digests_under-d.ensures.value c.run_script.ensures.runs)
+
 pub returns-in-Err-Memory-clause-answers : goal.returns-in-Err-Memory-clause-answers
 returns-in-Err-Memory-clause-answers g c = λ asked known.
-    answers-none (answer_to asked) reading_end (2 ^ 40) (g.S.Source.left c.args.source.now) (g.O.Sink.held c.args.out.now) _ _ _ _
+    answers-nothing asked (2 ^ 40) (g.S.Source.left c.args.source.now) (g.O.Sink.held c.args.out.now) (g.V.Sink.held c.args.vault.now) (g.V.Sink.name c.args.vault.now) _ _ _ _ _ _

@@ -1,0 +1,63 @@
+use Rattle.std.proofs.Common.{refl, sym, subst, inr, arith}
+use Rattle.report_text.specs.declared.status.Status.{Status}
+use Rattle.report_text.specs.Answer.{Reading, Writing}
+use Rattle.fastver_top.specs.Running.{Keeping, RunsTo, settings_for}
+use Rattle.fastver_top.proofs.RunLemmas.{runs-unread, runs-served}
+use Rattle.fastver_top.proofs.ServedLemmas.{run-end}
+use Rattle.fastver_top.proofs.SettingLemmas.{settings_in_range}
+use Rattle.fastver_top.proofs.running.run_script.Goals as goal
+
+pub returns-in-Err-clause-runs : goal.returns-in-Err-clause-runs
+returns-in-Err-clause-runs g c =
+    let functions = g.D.Digests.functions c.args.d.now in
+    let read : Reading = record {
+      left = g.S.Source.left c.args.source.now;
+      left_after = g.S.Source.left c.read_script.new.source;
+      faults = g.S.Source.faults c.args.source.now;
+      faults_after = g.S.Source.faults c.read_script.new.source;
+    } in
+    let held = g.O.Sink.held c.args.out.now in
+    let faults = g.O.Sink.faults c.args.out.now in
+    let wrote : Writing = record { held = held; held_after = held; faults = faults; faults_after = faults } in
+    let kept : Keeping = record {
+      held = g.V.Sink.held c.args.vault.now;
+      held_after = g.V.Sink.held c.args.vault.now;
+      name = g.V.Sink.name c.args.vault.now;
+      name_after = g.V.Sink.name c.args.vault.now;
+      faults = g.V.Sink.faults c.args.vault.now;
+      faults_after = g.V.Sink.faults c.args.vault.now;
+    } in
+    subst (λ (status : Status). RunsTo functions c.args.run.now c.args.limit status read wrote kept) (sym c.status.ensures.value)
+    (runs-unread functions c.args.run.now c.args.limit read wrote kept c.in-Err.stop c.in-Err.ensures.reads
+    (record { unnamed = refl; vault = refl; out = refl }))
+
+pub returns-in-Ok-serve-clause-runs : goal.returns-in-Ok-serve-clause-runs
+returns-in-Ok-serve-clause-runs g c =
+    let functions = g.D.Digests.functions c.args.d.now in
+    let read : Reading = record {
+      left = g.S.Source.left c.args.source.now;
+      left_after = g.S.Source.left c.read_script.new.source;
+      faults = g.S.Source.faults c.args.source.now;
+      faults_after = g.S.Source.faults c.read_script.new.source;
+    } in
+    let wrote : Writing = record {
+      held = g.O.Sink.held c.args.out.now;
+      held_after = g.O.Sink.held c.serve.new.out;
+      faults = g.O.Sink.faults c.args.out.now;
+      faults_after = g.O.Sink.faults c.serve.new.out;
+    } in
+    let kept : Keeping = record {
+      held = g.V.Sink.held c.args.vault.now;
+      held_after = g.V.Sink.held c.serve.new.vault;
+      name = g.V.Sink.name c.args.vault.now;
+      name_after = g.V.Sink.name c.serve.new.vault;
+      faults = g.V.Sink.faults c.args.vault.now;
+      faults_after = g.V.Sink.faults c.serve.new.vault;
+    } in
+    let numbers = c.args.run.now.numbers in
+    subst (λ (status : Status). RunsTo functions c.args.run.now c.args.limit status read wrote kept) (sym c.status-in-Ok-serve.ensures.value)
+    (runs-served functions c.args.run.now c.args.limit read wrote kept c.in-Ok.requests c.in-Ok.ensures.reads
+    (λ logs. run-end functions (settings_for numbers) c.in-Ok.requests logs c.a_check_of_the_logs_ends_as_the_host_promises.ensures.whole
+    (settings_in_range numbers c.requires.numbers) (c.scripts_ask_for_keys_in_range.ensures.keys numbers.verifiers c.in-Ok.requests c.in-Ok.ensures.tasks)
+    (λ text. (c.digests_have_32_bytes.ensures.digests text).size) c.requires.numbers.first c.in-Ok.ensures.some)
+    c.in-Ok-serve.end c.in-Ok-serve.ensures.serves (c.in-Ok-serve.ensures.named (λ is. cc)))

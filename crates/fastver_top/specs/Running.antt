@@ -1,0 +1,193 @@
+-- What a run of a script does: what it reads, how it serves it, and what stands in the vault and the sink then.
+use Rattle.std.specs.Prelude.{◌≡◌, ◌⊎◌, ◌≢◌, ℕ, ◌+◌, List, ◌++◌, Option, None, Some, IfSome, Result, Ok, Err, IfOk}
+use Rattle.std.specs.Io.KnownBytes.{IsAtEnd}
+use Rattle.fv_outside.specs.Consumed.{TookAtMost, TookJust}
+use Rattle.fv_outside.specs.Faults.{Rose}
+use Rattle.fv_outside.specs.Written.{Grows, IsNamed}
+use Rattle.lamport_clocks.specs.declared.header.Header.{Header}
+use Rattle.record_hash.specs.Functions.{DigestFunctions}
+use Rattle.record_text.specs.declared.cause.Cause.{Cause}
+use Rattle.program_words.specs.declared.host_words.HostNumbers.{HostNumbers}
+use Rattle.program_words.specs.declared.host_words.RunWords.{RunWords}
+use Rattle.report_text.specs.declared.status.Status.{Status}
+use Rattle.report_text.specs.declared.status.Status.TheVariants as statuses
+use Rattle.report_text.specs.Answer.{IsEnd, Reading, Writing}
+use Rattle.report_text.specs.Status.{last_line}
+use Rattle.check_core.specs.declared.stops.ReadStop.{ReadStop}
+use Rattle.check_core.specs.declared.stops.ReadStop.TheVariants as reads
+use Rattle.check_core.specs.Stops.{reading_stopped}
+use Rattle.bundle_report.specs.Answer.{check_answer}
+use Rattle.script_text.specs.declared.fault.ScriptFault.{ScriptFault}
+use Rattle.script_text.specs.declared.fault.ScriptFault.TheVariants as faults
+use Rattle.script_text.specs.declared.task.Task.{Task}
+use Rattle.script_text.specs.Script.{script_of}
+use Rattle.host_world.specs.declared.settings.Settings.{Settings}
+use Rattle.host_world.specs.Settings.{shipped_cache}
+use Rattle.host_rounds.specs.declared.stops.RoundStop.{RoundStop}
+use Rattle.host_rounds.specs.declared.stops.RoundStop.TheVariants as rounds
+use Rattle.verifier_threads.specs.declared.ending.RunEnd.{RunEnd}
+use Rattle.verifier_threads.specs.Serving.{Outputs, IsServed, IsCutOff, IsCutAtEnd, status_at}
+use Rattle.fastver_top.specs.declared.scripts.ScriptStop.{ScriptStop}
+use Rattle.fastver_top.specs.declared.scripts.ScriptStop.TheVariants as scripts
+
+-- ---- statuses
+
+-- the status of a run that reads no script
+abbrev pub script_stopped : ℕ → ScriptStop → Status
+script_stopped limit (scripts.Reading stop) = reading_stopped limit stop
+script_stopped limit (scripts.Script faults.Memory) = statuses.Memory
+script_stopped limit (scripts.Script (faults.BadScript line cause)) = statuses.BadScript line cause
+
+-- the status of a run that stops while it serves
+abbrev pub run_stopped : RoundStop → Status
+run_stopped rounds.Memory = statuses.Memory
+run_stopped rounds.VaultFault = statuses.VaultFault
+run_stopped rounds.WriteFault = statuses.WriteFault
+
+-- a status that comes only where no whole and good script was read
+abbrev pub IsBeforeRun : Status → Type 0
+IsBeforeRun (statuses.Done epochs) = ⊥
+IsBeforeRun statuses.Usage = ⊥
+IsBeforeRun statuses.Memory = ⊥
+IsBeforeRun statuses.ReadFault = Unit {0}
+IsBeforeRun statuses.WriteFault = ⊥
+IsBeforeRun statuses.VaultFault = ⊥
+IsBeforeRun (statuses.BadScript line cause) = Unit {0}
+IsBeforeRun (statuses.BadBundle offset) = ⊥
+IsBeforeRun (statuses.Refused verifier index refusal) = ⊥
+IsBeforeRun (statuses.Unbalanced epoch added evicted) = ⊥
+IsBeforeRun (statuses.ClockEnd worker at) = ⊥
+IsBeforeRun statuses.NotTagged = ⊥
+IsBeforeRun statuses.NotCertified = ⊥
+IsBeforeRun statuses.Exhibit = ⊥
+IsBeforeRun (statuses.InputLimit taken) = Unit {0}
+
+-- a status that comes only behind a whole and good script
+abbrev pub IsBehindScript : Status → Type 0
+IsBehindScript (statuses.Done epochs) = Unit {0}
+IsBehindScript statuses.Usage = ⊥
+IsBehindScript statuses.Memory = ⊥
+IsBehindScript statuses.ReadFault = ⊥
+IsBehindScript statuses.WriteFault = Unit {0}
+IsBehindScript statuses.VaultFault = Unit {0}
+IsBehindScript (statuses.BadScript line cause) = ⊥
+IsBehindScript (statuses.BadBundle offset) = ⊥
+IsBehindScript (statuses.Refused verifier index refusal) = ⊥
+IsBehindScript (statuses.Unbalanced epoch added evicted) = ⊥
+IsBehindScript (statuses.ClockEnd worker at) = Unit {0}
+IsBehindScript statuses.NotTagged = ⊥
+IsBehindScript statuses.NotCertified = ⊥
+IsBehindScript statuses.Exhibit = ⊥
+IsBehindScript (statuses.InputLimit taken) = ⊥
+
+-- ---- what is read
+
+-- the whole of a source is this script for so many workers
+pub record HasScript (verifiers : ℕ) (reading : Reading) (script : List (List Task)) : Type 0 where
+  pub good : IfSome reading.left (λ bytes. script_of verifiers bytes ≡ Ok script)
+  pub all : IsAtEnd reading.left_after
+
+-- the whole of a source is no script: this line is the first outside the grammar, for this cause
+pub record HasBadLine (verifiers : ℕ) (reading : Reading) (line : ℕ) (cause : Cause) : Type 0 where
+  pub bad : IfSome reading.left (λ bytes. script_of verifiers bytes ≡ Err (record { line = line; cause = cause }))
+  pub all : IsAtEnd reading.left_after
+
+-- A script is read of a source that has no more than so many bytes, or there is a cause why not.
+pub record ReadsScript (verifiers most : ℕ) (result : Result (List (List Task)) ScriptStop) (reading : Reading) : Type 0 where
+  pub script : IfOk result (HasScript verifiers reading)
+  pub bad : (line : ℕ) (cause : Cause) → result ≡ Err (scripts.Script (faults.BadScript line cause)) → HasBadLine verifiers reading line cause
+  pub limit : result ≡ Err (scripts.Reading reads.InputLimit) → TookJust (most + 1) reading.left reading.left_after
+  pub within : result ≢ Err (scripts.Reading reads.InputLimit) → TookAtMost most reading.left reading.left_after
+  pub fault : result ≡ Err (scripts.Reading reads.ReadFault) → Rose reading.faults reading.faults_after
+
+-- ---- what is served
+
+-- what a host of these numbers is set to
+abbrev pub settings_for : HostNumbers → Settings
+settings_for numbers = record {
+  header = record { verifiers = numbers.verifiers; cache = shipped_cache; first = numbers.first; end = numbers.counter };
+  shards = numbers.shards;
+  hot = numbers.hot;
+}
+
+-- What a call did to a vault: the bytes held and the name, where it tells them, and its count of faults, before and after.
+pub record Keeping : Type 0 where
+  pub held : Option (List ℕ)
+  pub held_after : Option (List ℕ)
+  pub name : Option (Option (List ℕ))
+  pub name_after : Option (Option (List ℕ))
+  pub faults : ℕ
+  pub faults_after : ℕ
+
+-- what vault and sink held and hold
+abbrev pub outputs_of : Writing → Keeping → Outputs
+outputs_of writing keeping = record { vault = keeping.held; vault_after = keeping.held_after; out = writing.held; out_after = writing.held_after }
+
+module _ (functions : DigestFunctions) (run : RunWords) (result : Status) (reading : Reading) (outputs : Outputs) where
+  -- The script is served, and the status says how that ended.
+  pub record EndsServed : Type 0 where
+    pub script : List (List Task)
+    pub read : HasScript run.numbers.verifiers reading script
+    pub end : RunEnd
+    pub is : result ≡ status_at end
+    pub served : IsServed functions (settings_for run.numbers) script end outputs
+
+  -- The sink failed: it took a front of the lines that the vault's bytes certify, or at the last line of the report.
+  pub record EndsCut : Type 0 where
+    pub script : List (List Task)
+    pub read : HasScript run.numbers.verifiers reading script
+    pub cut : IsCutOff functions outputs ⊎ IsCutAtEnd functions (settings_for run.numbers) script outputs
+
+-- A check of what the vault took is due to write the same lines.
+pub record IsDueByCheck (functions : DigestFunctions) (result : Status) (outputs : Outputs) : Type 0 where
+  pub bytes : List ℕ
+  pub vault : Grows outputs.vault outputs.vault_after bytes
+  pub out : Grows outputs.out outputs.out_after ((check_answer functions bytes).due ++ last_line result)
+
+-- A check of what the vault took answers the same: its text and its status.
+pub record IsAnswerOfCheck (functions : DigestFunctions) (result : Status) (outputs : Outputs) : Type 0 where
+  pub bytes : List ℕ
+  pub vault : Grows outputs.vault outputs.vault_after bytes
+  pub out : Grows outputs.out outputs.out_after (check_answer functions bytes).text
+  pub status : (check_answer functions bytes).status ≡ result
+
+-- ---- how the vault is named
+
+-- it has the name that the words say, and without one it is named as before
+abbrev pub IsNamedFor : Option (List ℕ) → Option (Option (List ℕ)) → Option (Option (List ℕ)) → Type 0
+IsNamedFor None name name_after = name_after ≡ name
+IsNamedFor (Some path) name name_after = IsNamed name name_after path
+
+-- the vault is not named, and nothing was written to it or to the sink
+pub record IsUntouched (name name_after : Option (Option (List ℕ))) (outputs : Outputs) : Type 0 where
+  pub unnamed : name_after ≡ name
+  pub vault : outputs.vault_after ≡ outputs.vault
+  pub out : outputs.out_after ≡ outputs.out
+
+-- ---- the whole
+
+-- A run of a script under these words, of a source with no more than so many bytes.
+pub record RunsTo (functions : DigestFunctions) (run : RunWords) (most : ℕ) (result : Status) (reading : Reading) (writing : Writing)
+    (keeping : Keeping) : Type 0 where
+  -- where it ends it served the script that the source has: the vault took the bundle of the logs, and the sink its report
+  pub served : IsEnd result → EndsServed functions run result reading (outputs_of writing keeping)
+  -- so a check of what the vault took writes these lines, and where all is done it answers just the same
+  pub due : IsEnd result → IsDueByCheck functions result (outputs_of writing keeping)
+  pub checked : (epochs : ℕ) → result ≡ statuses.Done epochs → IsAnswerOfCheck functions result (outputs_of writing keeping)
+  -- where memory was wanting or the vault failed, the sink has a front of the lines that the vault's bytes certify
+  pub cut : (result ≡ statuses.Memory) ⊎ (result ≡ statuses.VaultFault) → IsCutOff functions (outputs_of writing keeping)
+  -- where the sink failed too, or it has a front of the report
+  pub cut_report : result ≡ statuses.WriteFault → EndsCut functions run result reading (outputs_of writing keeping)
+  -- a script is bad where the first line outside the grammar is this one
+  pub bad : (line : ℕ) (cause : Cause) → result ≡ statuses.BadScript line cause → HasBadLine run.numbers.verifiers reading line cause
+  pub good : IsBehindScript result → (script : List (List Task)) × HasScript run.numbers.verifiers reading script
+  -- the input is too long where the source gave just a byte more than the limit, and else it gave no more
+  pub limit : (taken : ℕ) → result ≡ statuses.InputLimit taken → (taken ≡ most) × TookJust (most + 1) reading.left reading.left_after
+  pub within : result ≢ statuses.InputLimit most → TookAtMost most reading.left reading.left_after
+  -- the vault is named before anything is written, if the words give it a name, and else it is not named
+  pub named : IsNamedFor run.logs keeping.name keeping.name_after ⊎ IsUntouched keeping.name keeping.name_after (outputs_of writing keeping)
+  pub named_at_end : IsEnd result ⊎ (result ≡ statuses.WriteFault) → IsNamedFor run.logs keeping.name keeping.name_after
+  -- a fault comes only where the object's own count of faults rose
+  pub read_fault : result ≡ statuses.ReadFault → Rose reading.faults reading.faults_after
+  pub write_fault : result ≡ statuses.WriteFault → Rose writing.faults writing.faults_after
+  pub vault_fault : result ≡ statuses.VaultFault → Rose keeping.faults keeping.faults_after

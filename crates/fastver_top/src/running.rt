@@ -1,0 +1,140 @@
+//! A script that is served: what is read, how it is served, and with which status that ends.
+ghost use Rattle.std.specs.Prelude.{◌≡◌, ◌≢◌, ◌⊎◌, ◌^◌, ◌≤◌, OnOk, OnErr, Err};
+ghost use Rattle.fv_outside.specs.Faults.{Counts, Rose};
+ghost use Rattle.host_world.specs.Settings.{IsSettings};
+ghost use Rattle.program_words.specs.HostWords.{AreHostNumbers};
+ghost use Rattle.script_text.specs.Text.{AreTasks};
+ghost use Rattle.verifier_threads.specs.Serving.{ServesTo};
+ghost use Rattle.fastver_top.specs.Answers.{IsRunStatus};
+ghost use Rattle.fastver_top.specs.Running.{IsBeforeRun, IsNamedFor, IsUntouched, RunsTo, run_stopped, settings_for};
+
+use crate::scripts::read_script;
+use crate::stand_in::serve_script;
+use bundle_report::digests_have_32_bytes;
+use fv_outside::{Failed, Gate, Sink, Source, Vault};
+use host_fits::scripts_ask_for_keys_in_range;
+use host_rounds::RoundStop;
+use host_world::Settings;
+use lamport_clocks::Header;
+use program_words::{HostNumbers, RunWords};
+use record_hash::Digests;
+use report_text::Status;
+use run_reports::a_check_of_the_logs_ends_as_the_host_promises;
+use script_text::Requests;
+use std::alloc::Global;
+use verifier_threads::RunEnd;
+
+// How many entries a verifier of the host may cache.
+const HOST_CACHE: u32 = 128;
+
+/// Reads a script of no more than so many bytes to its end, names the vault if the words say so, and serves the script: the
+/// vault takes the bundle of the logs, and the sink its report.
+pub fn run_script<D: Digests, S: Source, O: Sink, V: Vault, G: Gate>(
+    alloc: Global,
+    d: &D,
+    run: &RunWords,
+    limit: u64,
+    source: &mut S,
+    out: &mut O,
+    vault: &mut V,
+    gate: &G,
+) -> Status
+    requires limit { limit ≤ 2 ^ 40 }
+    requires numbers { AreHostNumbers run.now.numbers }
+    requires fresh { V.fresh vault.old }
+    ensures outcomes { IsRunStatus result }
+
+    // What was read, how it was served, what stands in vault and sink, and the faults.
+    ensures runs { RunsTo (D.functions d.now) run.now limit result
+        (record { left = S.left source.old; left_after = S.left source.new; faults = S.faults source.old; faults_after = S.faults source.new })
+        (record { held = O.held out.old; held_after = O.held out.new; faults = O.faults out.old; faults_after = O.faults out.new })
+        (record { held = V.held vault.old; held_after = V.held vault.new; name = V.name vault.old; name_after = V.name vault.new; faults = V.faults vault.old; faults_after = V.faults vault.new }) }
+
+    // Where no whole and good script is read, nothing is written, and the vault is not named.
+    ensures unwritten { IsBeforeRun result → out.new ≡ out.old }
+    ensures vault { IsBeforeRun result → vault.new ≡ vault.old }
+{
+    digests_have_32_bytes(d);
+    scripts_ask_for_keys_in_range();
+    a_check_of_the_logs_ends_as_the_host_promises();
+    let requests = match read_script(alloc, limit, run.numbers.verifiers, source) {
+        Ok(requests) => requests,
+        Err(stop) => return stop.status(limit),
+    };
+    match serve(alloc, d, run, &requests, gate, vault, out) {
+        Ok(end) => end.status(),
+        Err(stop) => status_of(stop),
+    }
+}
+
+// Names the vault if the words say so, and serves a script.
+fn serve<D: Digests, V: Vault, O: Sink, G: Gate>(
+    alloc: Global,
+    d: &D,
+    run: &RunWords,
+    requests: &Requests,
+    gate: &G,
+    vault: &mut V,
+    out: &mut O,
+) -> Result<RunEnd, RoundStop>
+    requires numbers { AreHostNumbers run.now.numbers }
+    requires tasks { AreTasks run.now.numbers.verifiers requests.now }
+    requires fresh { V.fresh vault.old }
+    ensures serves { ServesTo (D.functions d.now) (settings_for run.now.numbers) requests.now result
+        (record { vault = V.held vault.old; vault_after = V.held vault.new; out = O.held out.old; out_after = O.held out.new }) }
+    ensures named { result ≢ Err RoundStop.VaultFault → IsNamedFor run.now.logs (V.name vault.old) (V.name vault.new) }
+    ensures named_first { IsNamedFor run.now.logs (V.name vault.old) (V.name vault.new) ⊎ IsUntouched (V.name vault.old) (V.name vault.new)
+        (record { vault = V.held vault.old; vault_after = V.held vault.new; out = O.held out.old; out_after = O.held out.new }) }
+    ensures vault_fault { result ≡ Err RoundStop.VaultFault → Rose (V.faults vault.old) (V.faults vault.new) }
+    ensures write_fault { result ≡ Err RoundStop.WriteFault → Rose (O.faults out.old) (O.faults out.new) }
+{
+    match name_vault(run, vault) {
+        Ok(()) => {
+            let settings = settings_for(&run.numbers);
+            serve_script(alloc, d, &settings, requests, gate, vault, out)
+        }
+        Err(_) => Err(RoundStop::VaultFault),
+    }
+}
+
+// Names the vault, if the words say so.
+fn name_vault<V: Vault>(run: &RunWords, vault: &mut V) -> Result<(), Failed>
+    requires fresh { V.fresh vault.old }
+    ensures named { OnOk result (IsNamedFor run.now.logs (V.name vault.old) (V.name vault.new)) }
+    ensures unnamed { OnErr result (V.name vault.new ≡ V.name vault.old) }
+    ensures bytes { V.held vault.new ≡ V.held vault.old }
+    ensures counts { Counts (V.faults vault.old) (V.faults vault.new) result }
+{
+    match &run.logs {
+        Some(path) => vault.name(path.as_str()),
+        None => Ok(()),
+    }
+}
+
+// What a host of these numbers is set to.
+fn settings_for(numbers: &HostNumbers) -> Settings
+    ensures value { result ≡ settings_for numbers.now }
+    ensures in_range { AreHostNumbers numbers.now → IsSettings result }
+{
+    Settings {
+        header: Header {
+            verifiers: numbers.verifiers,
+            cache: HOST_CACHE,
+            first: numbers.first,
+            end: numbers.counter,
+        },
+        shards: numbers.shards,
+        hot: numbers.hot,
+    }
+}
+
+// The status of a run that stops so.
+fn status_of(stop: RoundStop) -> Status
+    ensures value { result ≡ run_stopped stop }
+{
+    match stop {
+        RoundStop::Memory => Status::Memory,
+        RoundStop::VaultFault => Status::VaultFault,
+        RoundStop::WriteFault => Status::WriteFault,
+    }
+}

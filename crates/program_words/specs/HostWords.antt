@@ -1,0 +1,69 @@
+-- What the words behind `run` say: the numbers of a host, and where its logs go.
+use Rattle.std.specs.Prelude.{◌≡◌, ℕ, ◌-◌, ◌^◌, ◌<◌, ◌≤◌, IfSome, List, Option, Some, None, codes, option_and_then, unwrap_or, if◌then◌else◌}
+use Rattle.std.specs.Option.{option_map}
+use Rattle.clap.specs.Walk.{Row, Text, first_of}
+use Rattle.program_words.specs.Numbers.{number_between, is_shard_count}
+use Rattle.program_words.specs.declared.host_words.HostNumbers.{HostNumbers}
+
+-- the most verifiers of a host
+abbrev pub most_verifiers : ℕ
+most_verifiers = 1
+
+-- the greatest threshold of touches at which a key becomes hot
+abbrev pub most_touches : ℕ
+most_touches = 1000000
+
+-- the greatest value at which the counters of an epoch may end, which is taken where none is given
+abbrev pub greatest_end : ℕ
+greatest_end = 16777215
+
+-- the number of an option that is to be given, if it is in this range
+abbrev pub needed_in : ℕ → ℕ → Option Text → Option ℕ
+needed_in least most word = option_and_then (number_between least most) word
+
+-- the number of an option that may be given, if it is; where it is given and out of this range there is no answer
+abbrev pub optional_in : ℕ → ℕ → Option Text → Option (Option ℕ)
+optional_in least most None = Some None
+optional_in least most (Some word) = option_map Some (number_between least most word)
+
+-- how many shards there are to be
+abbrev pub shards_in : Option Text → Option ℕ
+shards_in word = option_and_then (λ shards. if is_shard_count shards then Some shards else None) (needed_in 2 1024 word)
+
+-- the same as `option_and_then`, read from left to right
+abbrev pub given : {A B : Type 0} → Option A → (A → Option B) → Option B
+given None behind = None
+given (Some value) behind = behind value
+
+-- the numbers of a host in what was found of a command's options, if each that is needed is there and each is in its range
+abbrev pub numbers_in : List Row → Option HostNumbers
+numbers_in rows =
+    given (needed_in 1 most_verifiers (first_of (codes "verifiers") rows)) (λ verifiers.
+    given (shards_in (first_of (codes "shards") rows)) (λ shards.
+    given (optional_in 1 most_touches (first_of (codes "hot") rows)) (λ hot.
+    given (optional_in 0 (2 ^ 32 - 1) (first_of (codes "first") rows)) (λ first.
+    given (optional_in 1 greatest_end (first_of (codes "counter") rows)) (λ counter.
+    Some (record {
+      verifiers = verifiers;
+      shards = shards;
+      hot = hot;
+      first = unwrap_or first 0;
+      counter = unwrap_or counter greatest_end;
+    }))))))
+
+-- a power of two from 2 to 1,024
+pub record IsPower (shards : ℕ) : Type 0 where
+  pub bits : ℕ
+  pub some : 0 < bits
+  pub most : bits ≤ 10
+  pub power : shards ≡ 2 ^ bits
+
+-- each number of a host is in its range
+pub record AreHostNumbers (numbers : HostNumbers) : Type 0 where
+  pub some_verifiers : 1 ≤ numbers.verifiers
+  pub verifiers : numbers.verifiers ≤ most_verifiers
+  pub shards : IsPower numbers.shards
+  pub hot : IfSome numbers.hot (λ least. (1 ≤ least) × (least ≤ most_touches))
+  pub first : numbers.first < 2 ^ 32
+  pub some_end : 1 ≤ numbers.counter
+  pub end : numbers.counter ≤ greatest_end

@@ -1,0 +1,189 @@
+//! What the words behind `run` say: the numbers of a host, and where its logs go.
+ghost use Rattle.std.specs.Prelude.{◌≡◌, ◌≤◌, ◌==◌, Some, None, IfOk, IfSome, codes, option_and_then, true, length};
+ghost use Rattle.std.specs.Char.{is_ascii_digit};
+ghost use Rattle.std.specs.List.{list_all};
+ghost use Rattle.std.specs.Option.{option_map};
+ghost use Rattle.clap.specs.Words.{first_of, found_of, rows_of};
+ghost use Rattle.program_words.specs.Numbers.{begins_well, is_numeral, number_between, is_shard_count};
+ghost use Rattle.program_words.specs.HostWords.{needed_in, optional_in, shards_in, numbers_in};
+
+use crate::key::Key;
+use clap::ArgMatches;
+use std::alloc::{AllocError, Global};
+use std::marker::Model;
+
+// The most verifiers of a host.
+const MOST_VERIFIERS: u32 = 1;
+
+// The greatest threshold of touches at which a key becomes hot.
+const MOST_TOUCHES: u32 = 1_000_000;
+
+// The greatest value at which the counters of an epoch may end. It is also the one that is taken where none is given.
+const GREATEST_END: u32 = 16_777_215;
+
+/// The numbers of a host, as words give them.
+#[derive(Clone, Copy, Debug, PartialEq, Eq)]
+pub struct HostNumbers {
+    /// How many verifiers it has.
+    pub verifiers: u16,
+    /// How many shards it has.
+    pub shards: u32,
+    /// How often a key is touched in an epoch, at least, so that it becomes hot. Without it no key does.
+    pub hot: Option<u32>,
+    /// The first epoch.
+    pub first: u32,
+    /// The last value of the counter in an epoch.
+    pub counter: u32,
+}
+
+/// A path, as a word gives it. Contracts see its bytes.
+#[derive(Drop)]
+pub struct PathWord {
+    text: String,
+}
+
+impl Model for PathWord {
+    ghost use Rattle.std.specs.Prelude.{ℕ, List, string_bytes};
+
+    ghost Value = { List ℕ };
+
+    ghost view = { λ p. string_bytes p.text };
+}
+
+impl PathWord {
+    /// A path of this text.
+    pub fn new(alloc: Global, text: &str) -> Result<PathWord, AllocError>
+        ensures value { IfOk result (λ path. path ≡ text.now) }
+    {
+        Ok(PathWord {
+            text: String::from_str(alloc, text)?,
+        })
+    }
+
+    /// Its text.
+    pub fn as_str(&self) -> &str
+        ensures value { result.now ≡ self.now }
+    {
+        self.text.as_str()
+    }
+}
+
+/// What a script is to be served with.
+#[derive(Drop)]
+pub struct RunWords {
+    /// The key of the verifiers.
+    pub key: Key,
+    pub numbers: HostNumbers,
+    /// What the vault is to be named, if it is.
+    pub logs: Option<PathWord>,
+}
+
+// The numbers in what was found of a command's options, if each that is needed is there and each is in its range.
+pub(crate) fn numbers_of(found: &ArgMatches<'_>) -> Option<HostNumbers>
+    ensures value { result ≡ numbers_in (rows_of (found_of found.now)) }
+{
+    let verifiers = needed(found, "verifiers", 1, MOST_VERIFIERS)?;
+    let shards = shards_of(found)?;
+    let hot = optional(found, "hot", 1, MOST_TOUCHES)?;
+    let first = optional(found, "first", 0, u32::MAX)?;
+    let counter = optional(found, "counter", 1, GREATEST_END)?;
+    Some(HostNumbers {
+        verifiers: verifiers as u16,
+        shards,
+        hot,
+        first: first.unwrap_or(0),
+        counter: counter.unwrap_or(GREATEST_END),
+    })
+}
+
+// The path that names the vault, if one was given.
+pub(crate) fn logs_of(alloc: Global, found: &ArgMatches<'_>) -> Result<Option<PathWord>, AllocError>
+    ensures value { IfOk result (λ logs. logs ≡ first_of (codes "logs") (rows_of (found_of found.now))) }
+{
+    match word_of(found, "logs") {
+        Some(text) => Ok(Some(PathWord::new(alloc, text)?)),
+        None => Ok(None),
+    }
+}
+
+// The word that was given for the option of this name, if one was.
+pub(crate) fn word_of<'a>(found: &ArgMatches<'a>, name: &str) -> Option<&'a str>
+    ensures value { option_map (λ word. word.now) result ≡ first_of name.now (rows_of (found_of found.now)) }
+{
+    found.get_str(name)
+}
+
+// The number of an option that is to be given.
+fn needed(found: &ArgMatches<'_>, name: &str, least: u32, most: u32) -> Option<u32>
+    ensures value { result ≡ needed_in least most (first_of name.now (rows_of (found_of found.now))) }
+{
+    match word_of(found, name) {
+        Some(word) => number_between(word, least, most),
+        None => None,
+    }
+}
+
+// The number of an option that may be given, if it is. Where it is given and out of its range there is no answer.
+fn optional(found: &ArgMatches<'_>, name: &str, least: u32, most: u32) -> Option<Option<u32>>
+    ensures value { result ≡ optional_in least most (first_of name.now (rows_of (found_of found.now))) }
+{
+    match word_of(found, name) {
+        Some(word) => number_between(word, least, most).map(Some),
+        None => Some(None),
+    }
+}
+
+// How many shards there are to be.
+fn shards_of(found: &ArgMatches<'_>) -> Option<u32>
+    ensures value { result ≡ shards_in (first_of (codes "shards") (rows_of (found_of found.now))) }
+{
+    match needed(found, "shards", 2, 1024) {
+        Some(shards) if is_shard_count(shards) => Some(shards),
+        _ => None,
+    }
+}
+
+// Whether there can be so many shards.
+fn is_shard_count(shards: u32) -> bool
+    ensures value { result ≡ is_shard_count shards }
+{
+    matches!(shards, 2 | 4 | 8 | 16 | 32 | 64 | 128 | 256 | 512 | 1024)
+}
+
+// The number that a word spells in decimal, if it is in this range.
+fn number_between(word: &str, least: u32, most: u32) -> Option<u32>
+    ensures value { result ≡ number_between least most word.now }
+{
+    if !is_numeral(word.as_bytes()) {
+        return None;
+    }
+    match word.parse::<u32>() {
+        Ok(number) if least <= number && number <= most => Some(number),
+        _ => None,
+    }
+}
+
+// Whether these are digits, one or more, of which the first is no zero where others follow it.
+fn is_numeral(word: &[u8]) -> bool
+    ensures value { result ≡ is_numeral word.now }
+{
+    begins_well(word) && are_digits(word)
+}
+
+// Whether all of these are digits.
+fn are_digits(word: &[u8]) -> bool
+    ensures value { result ≡ list_all is_ascii_digit word.now }
+{
+    word.iter().all(|digit| digit.is_ascii_digit())
+}
+
+// Whether there is a first digit, and it is no zero where others follow it.
+fn begins_well(word: &[u8]) -> bool
+    ensures value { result ≡ begins_well word.now }
+{
+    match word {
+        [] => false,
+        [_] => true,
+        [first, ..] => *first != b'0',
+    }
+}

@@ -1,0 +1,130 @@
+//! Objects that fail, one call after the other, and objects that never do.
+use crate::serving::{Objects, REPORT, SCRIPT, assert_front, checked, line_of, objects, program, served};
+use fastver_top::{Status, fastver};
+use fv_outside::{FreeGate, SureSink, SureSource, SureVault};
+use std::alloc::Global;
+use std::sync::Wait;
+use std::test::Fail;
+use std::thread::Threads;
+
+// A run of the script by bytes, whose calls of these numbers fail: of the source, the sink and the vault.
+fn failing<R: Threads + Wait + Sync>(
+    rt: &R,
+    alloc: Global,
+    more: &str,
+    fails: (&[u64], &[u64], &[u64]),
+) -> Result<(Objects, Status), Fail> {
+    let line = line_of(alloc, more)?;
+    let mut objects = objects(alloc, SCRIPT.as_bytes(), 1, fails)?;
+    let status = program(rt, alloc, &line, &mut objects)?;
+    Ok((objects, status))
+}
+
+#[test]
+fn where_a_read_fails_nothing_is_written(rt: HostRuntime) -> Result<(), Fail> {
+    // One read for each byte, and one at the end.
+    for k in 0..SCRIPT.len() as u64 + 1 {
+        let (objects, status) = failing(&rt, rt.alloc(), "2 --logs x", (&[k], &[], &[]))?;
+        assert_eq!(rt; status, Status::ReadFault, "{k}");
+        assert_eq!(rt; objects.source.faults(), 1, "{k}");
+        assert!(rt; objects.out.bytes().is_empty(), "{k}");
+        assert!(rt; objects.vault.bytes().is_empty(), "{k}");
+        assert!(rt; objects.vault.name_taken().is_none(), "{k}");
+    }
+    Ok(())
+}
+
+#[test]
+fn where_a_write_fails_a_front_of_the_report_stands(rt: HostRuntime) -> Result<(), Fail> {
+    for k in 0..REPORT.len() {
+        let (objects, status) = failing(&rt, rt.alloc(), "2 --logs x", (&[], &[k as u64], &[]))?;
+        assert_eq!(rt; status, Status::WriteFault, "{k}");
+        assert_eq!(rt; objects.out.bytes(), &REPORT.as_bytes()[..k], "{k}");
+        assert_eq!(rt; objects.vault.name_taken(), Some("x"), "{k}");
+        // The vault has the frames of what was written.
+        let (again, _status) = checked(&rt, rt.alloc(), objects.vault.bytes())?;
+        assert_front(&rt, "the vault's lines", objects.out.bytes(), again.out.bytes());
+    }
+    Ok(())
+}
+
+#[test]
+fn a_second_write_that_fails_leaves_the_first(rt: HostRuntime) -> Result<(), Fail> {
+    let line = line_of(rt.alloc(), "2")?;
+    for piece in [7, 30, 1000] {
+        let mut objects = objects(rt.alloc(), SCRIPT.as_bytes(), piece, (&[], &[1], &[]))?;
+        let status = program(&rt, rt.alloc(), &line, &mut objects)?;
+        assert_eq!(rt; status, Status::WriteFault, "{piece}");
+        assert!(rt; !objects.out.bytes().is_empty(), "{piece}");
+        assert_front(&rt, "the report", objects.out.bytes(), REPORT.as_bytes());
+    }
+    Ok(())
+}
+
+#[test]
+fn where_the_vault_fails_a_front_of_the_bundle_stands(rt: HostRuntime) -> Result<(), Fail> {
+    let line = line_of(rt.alloc(), "2")?;
+    let (whole, _status) = served(&rt, rt.alloc(), &line, SCRIPT, 1)?;
+    let bundle = whole.vault.bytes();
+    for k in 0..bundle.len() {
+        let (objects, status) = failing(&rt, rt.alloc(), "2", (&[], &[], &[k as u64]))?;
+        assert_eq!(rt; status, Status::VaultFault, "{k}");
+        assert_eq!(rt; objects.vault.bytes(), &bundle[..k], "{k}");
+        assert!(rt; objects.vault.name_taken().is_none(), "{k}");
+        // The one round's lines wait until the vault has its frames.
+        assert!(rt; objects.out.bytes().is_empty(), "{k}");
+    }
+    Ok(())
+}
+
+#[test]
+fn a_vault_that_can_not_be_named_takes_nothing(rt: HostRuntime) -> Result<(), Fail> {
+    // Naming is the vault's first call.
+    let (objects, status) = failing(&rt, rt.alloc(), "2 --logs x", (&[], &[], &[0]))?;
+    assert_eq!(rt; status, Status::VaultFault);
+    assert!(rt; objects.out.bytes().is_empty());
+    assert!(rt; objects.vault.bytes().is_empty());
+    assert!(rt; objects.vault.name_taken().is_none());
+    // Behind it comes the first byte of the header.
+    let (objects, status) = failing(&rt, rt.alloc(), "2 --logs x", (&[], &[], &[1]))?;
+    assert_eq!(rt; status, Status::VaultFault);
+    assert!(rt; objects.vault.bytes().is_empty());
+    assert_eq!(rt; objects.vault.name_taken(), Some("x"));
+    Ok(())
+}
+
+#[test]
+fn objects_that_never_fail(rt: HostRuntime) -> Result<(), Fail> {
+    let words = [
+        "fastver",
+        "run",
+        "--key",
+        "00000000000000000000000000000000",
+        "--verifiers",
+        "1",
+        "--shards",
+        "2",
+        "--logs",
+        "x",
+    ];
+    let mut source = SureSource::new(rt.alloc(), SCRIPT.as_bytes(), 3)?;
+    let mut out = SureSink::new(rt.alloc(), 1000, 3)?;
+    let mut vault = SureVault::new(rt.alloc(), 10_000, 3)?;
+    let status = fastver(
+        &rt,
+        rt.alloc(),
+        &words,
+        &mut source,
+        &mut out,
+        &mut vault,
+        &FreeGate,
+    );
+    assert_eq!(rt; status, Status::Done { epochs: 1 });
+    assert_eq!(rt; out.bytes(), Some(REPORT.as_bytes()));
+    assert!(rt; vault.is_named());
+    let bundle = vault.bytes().ok_or("a vault that tells no bytes")?;
+    let (again, status) = checked(&rt, rt.alloc(), bundle)?;
+    assert_eq!(rt; again.out.bytes(), REPORT.as_bytes());
+    assert_eq!(rt; status, Status::Done { epochs: 1 });
+    Ok(())
+}

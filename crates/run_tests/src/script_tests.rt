@@ -1,0 +1,227 @@
+//! Scripts that are served, scripts that are bad, and clocks that end.
+use crate::serving::{checked, line_of, served};
+use bundle_rows::{Case, bundle_of, cases_of};
+use fastver_top::Status;
+use std::alloc::Global;
+use std::process::Abort;
+use std::sync::Wait;
+use std::test::Fail;
+use std::thread::Threads;
+
+// Each case is a script behind the number of shards and further words, with its status and report.
+const SERVED: &str = "\
+== 2
+0 put 5 6162
+0 get 5
+-> 0
+epoch 0 certified 2
+0.3 v0 put 5 6162
+0.5 v0 get 5 6162
+done 1
+== 2
+-> 0
+epoch 0 certified 0
+done 1
+== 4
+0 put 5 61
+-> 0
+epoch 0 certified 1
+0.5 v0 put 5 61
+done 1
+== 2
+0 put 5 .
+0 get 5
+0 del 5
+0 get 5
+-> 0
+epoch 0 certified 4
+0.3 v0 put 5 .
+0.5 v0 get 5 .
+0.7 v0 put 5 none
+0.9 v0 get 5 none
+done 1
+== 2
+0 put 0 61
+0 put 1 62
+0 put 18446744073709551615 63
+0 get 0
+-> 0
+epoch 0 certified 4
+0.3 v0 put 0 61
+0.5 v0 put 1 62
+0.7 v0 put 18446744073709551615 63
+0.9 v0 get 0 61
+done 1
+== 2 --counter 4
+0 put 5 6162
+0 get 5
+-> 10
+epoch 0 certified 1
+0.3 v0 put 5 6162
+clock end worker 0 at 0.4
+== 2 --first 4294967295
+0 put 5 6162
+0 get 5
+-> 10
+clock end worker 0 at 4294967295.6
+== 2 --counter 3
+-> 10
+clock end worker 0 at 1.2
+== 2 --counter 1
+-> 10
+clock end worker 0 at 0.0
+";
+
+// The report of a script, and its status, whether all goes by bytes or as a whole. Where all is done, a check of what the
+// vault holds writes the same.
+fn assert_served<R: Threads + Wait + Sync + Abort>(
+    rt: &R,
+    alloc: Global,
+    case: &Case<'_>,
+) -> Result<(), Fail> {
+    let line = line_of(alloc, case.label)?;
+    for piece in [1, 100_000] {
+        let (objects, status) = served(rt, alloc, &line, case.rows, piece)?;
+        assert_eq!(rt; objects.out.bytes(), case.report.as_bytes(), "{line}");
+        assert_eq!(rt; status.number(), case.status, "{line}");
+        assert!(rt; objects.vault.name_taken().is_none(), "{line}");
+        if case.status == 0 {
+            let (again, status) = checked(rt, alloc, objects.vault.bytes())?;
+            assert_eq!(rt; again.out.bytes(), case.report.as_bytes(), "{line}");
+            assert_eq!(rt; status.number(), 0, "{line}");
+        }
+    }
+    Ok(())
+}
+
+#[test]
+fn scripts_are_served(rt: HostRuntime) -> Result<(), Fail> {
+    let cases = cases_of(rt.alloc(), SERVED)?;
+    assert_eq!(rt; cases.len(), 9);
+    for case in &cases {
+        assert_served(&rt, rt.alloc(), case)?;
+    }
+    Ok(())
+}
+
+// What the vault holds of an empty script.
+const EMPTY: &str = "\
+cache 128
+frames 96
+addM /0 empty root
+evictBM /0 root 0.1
+addM /1 empty root
+evictBM /1 root 0.2
+next
+addB /0 empty 0.1 v0
+evictB /0 1.2
+addB /1 empty 0.2 v0
+evictB /1 1.4
+next
+";
+
+#[test]
+fn the_vault_holds_the_bundle_of_an_empty_script(rt: HostRuntime) -> Result<(), Fail> {
+    let bundle = bundle_of(rt.alloc(), EMPTY)?;
+    assert_eq!(rt; bundle.len(), 208);
+    let line = line_of(rt.alloc(), "2 --logs x")?;
+    let (objects, status) = served(&rt, rt.alloc(), &line, "", 10)?;
+    assert_eq!(rt; objects.vault.bytes(), bundle.as_slice());
+    assert_eq!(rt; objects.vault.name_taken(), Some("x"));
+    assert_eq!(rt; status, Status::Done { epochs: 1 });
+    Ok(())
+}
+
+#[test]
+fn where_counters_do_not_suffice_for_the_setup_the_vault_holds_a_header(
+    rt: HostRuntime,
+) -> Result<(), Fail> {
+    let header = bundle_of(rt.alloc(), "cache 128 end 1\n")?;
+    assert_eq!(rt; header.len(), 18);
+    let line = line_of(rt.alloc(), "2 --counter 1 --logs x")?;
+    let (objects, status) = served(&rt, rt.alloc(), &line, "0 get 5\n", 10)?;
+    assert_eq!(rt; objects.vault.bytes(), header.as_slice());
+    assert_eq!(rt; objects.vault.name_taken(), Some("x"));
+    assert_eq!(rt; objects.out.bytes(), b"clock end worker 0 at 0.0\n".as_slice());
+    assert_eq!(rt; status.number(), 10);
+    Ok(())
+}
+
+// Bad scripts, each with what the program then says.
+const BAD: &str = "\
+== third line
+0 put 5 61
+0 get 5
+0 put 05 61
+-> 6
+bad script line 3 Key
+== another worker
+1 get 5
+-> 6
+bad script line 1 Worker
+== an odd digit
+0 put 5 6
+-> 6
+bad script line 1 Hex
+== an empty line
+0 get 5
+
+0 get 5
+-> 6
+bad script line 2 Shape
+== a blank too much
+0 get  5
+-> 6
+bad script line 1 Shape
+== a key past 64 bits
+0 get 18446744073709551616
+-> 6
+bad script line 1 Key
+== the first of two
+epoch
+0 get x
+nothing
+-> 6
+bad script line 2 Key
+";
+
+#[test]
+fn bad_scripts_are_refused_before_anything_is_written(rt: HostRuntime) -> Result<(), Fail> {
+    let line = line_of(rt.alloc(), "2 --logs x")?;
+    let cases = cases_of(rt.alloc(), BAD)?;
+    assert_eq!(rt; cases.len(), 7);
+    for case in &cases {
+        let label = case.label;
+        let (objects, status) = served(&rt, rt.alloc(), &line, case.rows, 10)?;
+        assert_eq!(rt; status.number(), case.status, "{label}");
+        assert_eq!(rt; status.line().as_slice(), case.report.trim().as_bytes(), "{label}");
+        assert!(rt; objects.out.bytes().is_empty(), "{label}");
+        assert!(rt; objects.vault.bytes().is_empty(), "{label}");
+        assert!(rt; objects.vault.name_taken().is_none(), "{label}");
+    }
+    Ok(())
+}
+
+// A put of a value of so many bytes.
+fn long_put(alloc: Global, bytes: usize) -> Result<String, Fail> {
+    let mut script = String::from_str(alloc, "0 put 5 ")?;
+    for _ in 0..bytes {
+        script.push_str("7a")?;
+    }
+    script.push_str("\n")?;
+    Ok(script)
+}
+
+#[test]
+fn a_value_has_64_bytes_at_most(rt: HostRuntime) -> Result<(), Fail> {
+    let line = line_of(rt.alloc(), "2")?;
+    let longest = long_put(rt.alloc(), 64)?;
+    let (objects, status) = served(&rt, rt.alloc(), &line, &longest, 10)?;
+    assert_eq!(rt; status, Status::Done { epochs: 1 });
+    assert_eq!(rt; objects.out.bytes().len(), 20 + 13 + 128 + 1 + 7);
+    let longer = long_put(rt.alloc(), 65)?;
+    let (objects, status) = served(&rt, rt.alloc(), &line, &longer, 10)?;
+    assert_eq!(rt; status.line().as_slice(), b"bad script line 1 Hex".as_slice());
+    assert!(rt; objects.out.bytes().is_empty());
+    Ok(())
+}
