@@ -74,8 +74,11 @@ module _ {C R : Type 0} (host : Host C R) where
           go : HasAdvanced host world j 0 ⊎ (HasAdvanced host world j 1 × IsLast host world × AllMoved world)
               → HasAdvanced host later j 0 ⊎ (HasAdvanced host later j 1 × IsLast host later × AllMoved later)
           go (inl once) = inl (has 0 once)
-          go (inr twice) = inr (has 1 twice.0, last_still world later have.phase have.workers (advance_keeps later j have) twice.1,
-              subst (λ (shards : List (Seats C)). (s : ℕ) → s < length shards → (get_or shards s (unmoved [])).moved ≡ true) (sym have.shards) twice.2)
+          go (inr twice) = inr (
+            has 1 twice.0,
+            last_still world later have.phase have.workers (advance_keeps later j have) twice.1,
+            subst (λ (shards : List (Seats C)). (s : ℕ) → s < length shards → (get_or shards s (unmoved [])).moved ≡ true) (sym have.shards) twice.2,
+          )
 
       -- what comes of it
       abbrev pub Goes : World C → Option ClockEnd → Type 0

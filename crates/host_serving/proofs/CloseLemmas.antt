@@ -1,5 +1,5 @@
 -- What a close comes to: the next phase is open, or nothing can follow.
-use Rattle.std.proofs.Common.{◌≡◌, ◌⊎◌, ℕ, zero, suc, ◌+◌, ◌<◌, ◌≤◌, ◌==◌, ◌%◌, Bool, true, false, List, [], ◌∷◌, ◌++◌, length, get_or, map, filter, take, Option, Some, None, refl, sym, ◌∙◌, ap, subst, inl, inr, length-append, mod-lt, arith}
+use Rattle.std.proofs.Common.{◌≡◌, ◌⊎◌, ℕ, zero, suc, ◌+◌, ◌<◌, ◌≤◌, ◌==◌, ◌%◌, Bool, true, false, List, [], ◌∷◌, ◌++◌, length, get_or, map, filter, take, Option, Some, None, IfSome, refl, sym, ◌∙◌, ap, subst, inl, inr, length-append, mod-lt, arith}
 use Rattle.std.proofs.lemmas.Bool.{cases_lt, false≢true}
 use Rattle.std.proofs.lemmas.List.{length-map, get_or-map}
 use Rattle.host_core.specs.Host.{Host, asked_in, asked_from}
@@ -8,7 +8,7 @@ use Rattle.host_core.specs.WorldEvent.{WorldEvent, takes, loses, serves, gives, 
 use Rattle.host_world.specs.declared.fault.ClockEnd.{ClockEnd}
 use Rattle.host_serving.specs.Leading.{CanDoNoMore}
 use Rattle.host_serving.specs.Standing.{turns_of, asked_by, HasServedUpTo, IsServedUpTo, IsServedOut, IsClosed, NoneStopped}
-use Rattle.host_serving.specs.Closing.{advanced, IsKept, IsThroughMoves, IsStuckInMoves, IsBeforeMoves, CanAllAdvance, HaveTurned, CanMoveAll, HaveAdvanced, HaveAllMoved, HaveSomeStuck, EndsMoves, ShardsAreClosed, EndsShards}
+use Rattle.host_serving.specs.Closing.{advanced, IsKept, IsThroughMoves, IsStuckInMoves, IsBeforeMoves, CanAllAdvance, HaveTurned, CanMoveAll, HaveAdvanced, EndsAdvance, HaveAllMoved, HaveSomeStuck, EndsMoves, ShardsAreClosed, EndsShards}
 use Rattle.host_serving.proofs.AdvanceLemmas.{over_still, advance_keeps}
 use Rattle.host_serving.proofs.MoveLemmas.{kept-then, turned_still}
 
@@ -60,6 +60,11 @@ module _ {C R : Type 0} (host : Host C R) where
       going (advances i) may = may.going
       going (moves i s) may = may.going
       going opens may = may.going
+
+  -- so it is where an advance came to an end
+  pub advance_rests : (world later : World C) (end : Option ClockEnd) → EndsAdvance host world later end → IfSome end (λ _. CanDoNoMore host later)
+  advance_rests world later None ends = tt
+  advance_rests world later (Some end) over = over_rests later over
 
   -- where a worker's clock ended in the close, and the others have moved their shards
   pub stuck_rests : (world later : World C) → HaveTurned host later → length later.workers ≡ length world.workers → HaveSomeStuck host world later → CanDoNoMore host later

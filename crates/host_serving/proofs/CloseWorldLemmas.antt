@@ -104,8 +104,13 @@ count_run host world (event ∷ events) = count_run host (step host world event)
 count_paths : (levels : ℕ) (path : List Bool) → length (paths_below levels path) ≡ 2 ^ levels
 count_paths zero path = refl
 count_paths (suc levels) path =
-    omega (arith, length-append (paths_below levels (child path false)) (paths_below levels (child path true)),
-    count_paths levels (child path false), count_paths levels (child path true), pow-suc 2 levels)
+    omega (
+      arith,
+      length-append (paths_below levels (child path false)) (paths_below levels (child path true)),
+      count_paths levels (child path false),
+      count_paths levels (child path true),
+      pow-suc 2 levels,
+    )
 
 bits_are : (most bits : ℕ) → bits ≤ most → bits_within most (2 ^ bits) ≡ bits
 bits_are zero bits few = omega (arith, few)

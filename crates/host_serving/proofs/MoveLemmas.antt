@@ -161,12 +161,15 @@ module _ {C R : Type 0} (host : Host C R) where
 
     -- Once no shard is left, it is through.
     pub own_through : (later : World C) (s : ℕ) → OwnBelow world i later s → length world.shards ≤ s → EndsOwn host world i later None
-    own_through later s below past = (below.only, record {
-      running = below.running;
-      moved = λ t within own.
-          let there = subst (λ (n : ℕ). t < n) below.only.keeps.shards within in
-          below.before t (omega (arith, there, past)) there (subst (λ (n : ℕ). t % n ≡ i) below.only.keeps.workers own);
-    })
+    own_through later s below past = (
+      below.only,
+      record {
+        running = below.running;
+        moved = λ t within own.
+            let there = subst (λ (n : ℕ). t < n) below.only.keeps.shards within in
+            below.before t (omega (arith, there, past)) there (subst (λ (n : ℕ). t % n ≡ i) below.only.keeps.workers own);
+      },
+    )
 
     module _ (later : World C) (s : ℕ) (below : OwnBelow world i later s) (shard : s < length world.shards) where
       own_later : s % length later.workers ≡ i
@@ -206,8 +209,12 @@ module _ {C R : Type 0} (host : Host C R) where
             only_moves-then world later new i below.only only,
             record {
               stuck = ap (λ (w : Worker). w.stuck) (get_or-set_same later.workers i now (fresh host.header) there);
-              left = (s, subst (λ (n : ℕ). s < n) (sym below.only.keeps.shards) shard,
-                  subst (λ (n : ℕ). s % n ≡ i) (sym only.keeps.workers) own_later, below.behind s (omega arith) shard below.own);
+              left = (
+                s,
+                subst (λ (n : ℕ). s < n) (sym below.only.keeps.shards) shard,
+                subst (λ (n : ℕ). s % n ≡ i) (sym only.keeps.workers) own_later,
+                below.behind s (omega arith) shard below.own,
+              );
             },
           )
       made (Some done) is =
@@ -315,8 +322,12 @@ module _ {C R : Type 0} (host : Host C R) where
           let own : stuck.left.0 % length new.workers ≡ j = subst (λ (n : ℕ). stuck.left.0 % n ≡ j) (sym only.keeps.workers) stuck.left.2 in
           record {
             stuck = only.others j apart ∙ stuck.stuck;
-            left = (stuck.left.0, subst (λ (n : ℕ). stuck.left.0 < n) (sym only.keeps.shards) stuck.left.1, own,
-                shard_back j stuck.left.0 apart own ∙ stuck.left.3);
+            left = (
+              stuck.left.0,
+              subst (λ (n : ℕ). stuck.left.0 < n) (sym only.keeps.shards) stuck.left.1,
+              own,
+              shard_back j stuck.left.0 apart own ∙ stuck.left.3,
+            );
           }
 
       either_on : (j : ℕ) → j ≢ i → IsThroughMoves host later j ⊎ IsStuckInMoves host later j → IsThroughMoves host new j ⊎ IsStuckInMoves host new j

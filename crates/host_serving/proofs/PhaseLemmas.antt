@@ -1,13 +1,13 @@
 -- One turn of a phase: its worker takes a place, serves there, and gives the place back.
-use Rattle.std.proofs.Common.{◌≡◌, ◌⊎◌, ℕ, suc, ◌+◌, ◌<◌, Bool, true, false, List, [], ◌∷◌, length, get_or, set, slice_get, Option, Some, None, is_none, IfSome, inl, inr, if◌then◌else◌, refl, sym, ◌∙◌, ap, subst, true≢false, arith}
+use Rattle.std.proofs.Common.{◌≡◌, ◌⊎◌, ℕ, suc, ◌<◌, Bool, true, false, List, length, get_or, set, slice_get, Option, Some, None, is_none, IfSome, inl, inr, if◌then◌else◌, refl, sym, ◌∙◌, ap, subst, true≢false, arith}
 use Rattle.std.proofs.lemmas.Bool.{cases_eq}
 use Rattle.std.proofs.lemmas.List.{length-set, get_or-set_same, get_or-set_other}
 use Rattle.std.proofs.lemmas.Option.{none-some}
 use Rattle.host_core.specs.Host.{Host, Done, asked}
 use Rattle.host_core.specs.World.{Place, Worker, Seats, World, fresh, worker_at, shard_at}
-use Rattle.host_core.specs.WorldEvent.{WorldEvent, takes, serves, gives, step, run_events, IsEnabled, AreEnabled, IsPlace, IsServing, IsThrough, IsPhaseOver, with_worker, after_serve, having_served, logging}
+use Rattle.host_core.specs.WorldEvent.{takes, serves, step, run_events, AreEnabled, IsPlace, after_serve, having_served, logging}
 use Rattle.host_world.specs.declared.fault.ClockEnd.{ClockEnd}
-use Rattle.host_world.specs.Ending.{end_at, end_of}
+use Rattle.host_world.specs.Ending.{end_at}
 use Rattle.host_serving.specs.Leading.{first_of, first_end}
 use Rattle.host_serving.specs.Standing.{turns_of, asked_by, HasServedUpTo, IsServedUpTo, IsServedOut, NoneStopped, SomeStopped}
 use Rattle.host_serving.specs.Turn.{turn_at}
@@ -99,7 +99,7 @@ module _ {C : Type 0} where
   end-some worker place None end = refl
   end-some worker place (Some done) end = tt
 
--- ---- where nobody holds anything
+-- ---- one turn
 
 module _ {C R : Type 0} (host : Host C R) (world later : World C) (i k next : ℕ) (request : R) (worker : Worker)
     (so_far : IsServedUpTo host world k) (is_next : next ≡ suc k) (turn : slice_get (turns_of host world.phase) k ≡ Some (i, request)) where
@@ -136,8 +136,7 @@ module _ {C R : Type 0} (host : Host C R) (world : World C) (i k next : ℕ) (pl
       go (inl stopped) = absurd (true≢false (sym stopped ∙ running))
       go (inr served) = served.1
 
-  -- ---- the worlds within the turn
-
+  -- the worlds within the turn, and how its worker stands there
   abbrev holding : Worker
   holding = record (worker_at host world i) { holds = Some (record { place = place; used = false }) }
 
@@ -173,14 +172,15 @@ module _ {C R : Type 0} (host : Host C R) (world : World C) (i k next : ℕ) (pl
   pub turn_enabled : IsPlace world place → host.owns place.shard (shard_at world place.shard).contents place.seat request ≡ true
       → AreEnabled host world (turn_at i place request)
   turn_enabled is_place owns = (
+    record {
+      serving = record { going = so_far.going; phase = so_far.phase; there = there };
+      there = is_place;
+      free = λ j used here holds. absurd (none-some _ (sym (so_far.each j here).idle ∙ holds));
+      empty = (so_far.each i there).idle;
+      running = running;
+    },
+    (
       record {
-        serving = record { going = so_far.going; phase = so_far.phase; there = there };
-        there = is_place;
-        free = λ j used here holds. absurd (none-some _ (sym (so_far.each j here).idle ∙ holds));
-        empty = (so_far.each i there).idle;
-        running = running;
-      },
-      (record {
         serving = record { going = so_far.going; phase = so_far.phase; there = omega (arith, there, taken_changes.count) };
         there = is_place;
         holds = ap (λ (w : Worker). w.holds) taken_changes.own;
@@ -188,16 +188,20 @@ module _ {C R : Type 0} (host : Host C R) (world : World C) (i k next : ℕ) (pl
             ∙ next_turn host i world.phase k request so_far.within turn;
         owns = owns;
       },
-      (record {
-        serving = record {
-          going = serve-over taken i (worker_at host taken i) place (shard_at taken place.shard) what ∙ so_far.going;
-          phase = serve-closing taken i (worker_at host taken i) place (shard_at taken place.shard) what ∙ so_far.phase;
-          there = omega (arith, there, served_changes.count);
-        };
-        holds =
-            let holds = serve-holds holding place what refl in
-            (holds.0, ap (λ (w : Worker). w.holds) served_changes.own ∙ holds.1);
-      }, tt)),
+      (
+        record {
+          serving = record {
+            going = serve-over taken i (worker_at host taken i) place (shard_at taken place.shard) what ∙ so_far.going;
+            phase = serve-closing taken i (worker_at host taken i) place (shard_at taken place.shard) what ∙ so_far.phase;
+            there = omega (arith, there, served_changes.count);
+          };
+          holds =
+              let holds = serve-holds holding place what refl in
+              (holds.0, ap (λ (w : Worker). w.holds) served_changes.own ∙ holds.1);
+        },
+        tt,
+      ),
+    ),
   )
 
   -- ---- what holds behind it
@@ -238,11 +242,11 @@ module _ {C R : Type 0} (host : Host C R) (world : World C) (i k next : ℕ) (pl
   -- and who is stopped stays so.
   pub turn_stays : SomeStopped host world → SomeStopped host behind
   turn_stays stopped = (
-      stopped.0,
-      omega (arith, stopped.1, behind_changes.count),
-      ap (λ (w : Worker). w.stopped) (behind_changes.others stopped.0
-      (λ same. true≢false (sym stopped.2 ∙ ap (λ (n : ℕ). (worker_at host world n).stopped) same ∙ running)))
-      ∙ stopped.2,
+    stopped.0,
+    omega (arith, stopped.1, behind_changes.count),
+    ap (λ (w : Worker). w.stopped) (behind_changes.others stopped.0
+        (λ same. true≢false (sym stopped.2 ∙ ap (λ (n : ℕ). (worker_at host world n).stopped) same ∙ running)))
+        ∙ stopped.2,
   )
 
 module _ {C R : Type 0} (host : Host C R) (world : World C) (k next : ℕ) (so_far : IsServedUpTo host world k) (is_next : next ≡ suc k) where
@@ -268,7 +272,7 @@ module _ {C R : Type 0} (host : Host C R) (world : World C) (k next : ℕ) (so_f
 
 -- All turns are served, so no worker has more to do.
 pub phase_served : {C R : Type 0} (host : Host C R) (world : World C) (k : ℕ) → IsServedUpTo host world k → k ≡ length (turns_of host world.phase) → IsServedOut host world
-phase_served {C} {R} host world k so_far all = record { served = served; over = λ i there. (( served.each i there).idle, through i there (served.each i there).served) }
+phase_served {C} {R} host world k so_far all = record { served = served; over = λ i there. ((served.each i there).idle, through i there (served.each i there).served) }
   where
     served : IsServedUpTo host world (length (turns_of host world.phase))
     served = subst (IsServedUpTo host world) all so_far

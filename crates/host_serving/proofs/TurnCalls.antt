@@ -10,7 +10,6 @@ use Rattle.script_text.specs.declared.task.Task.{Task}
 use Rattle.host_core.specs.Host.{Host}
 use Rattle.host_core.specs.World.{Worker, World}
 use Rattle.host_core.specs.WorldEvent.{WorldEvent, AreEnabled, run_events}
-use Rattle.host_shard.specs.Content.{Content}
 use Rattle.host_world.specs.declared.fault.ClockEnd.{ClockEnd}
 use Rattle.host_world.specs.declared.settings.Settings.{Settings}
 use Rattle.host_world.specs.declared.world.World as code
@@ -18,7 +17,7 @@ use Rattle.host_world.specs.ShippedHost.{turn_of, shipped_host}
 use Rattle.host_world.specs.Shown.{digests_of, requests_of}
 use Rattle.host_world.specs.Behind.{host_of, AreOfOneHost}
 use Rattle.host_serving.specs.Leading.{Leads, first_of, first_end}
-use Rattle.host_serving.specs.Standing.{turns_of, NoneStopped, SomeStopped}
+use Rattle.host_serving.specs.Standing.{NoneStopped, SomeStopped}
 
 -- ---- what is read
 
@@ -49,7 +48,7 @@ pub turn_read : (script seen : List (List Task)) (phase at number : ℕ) (tasks 
 turn_read script seen phase at number tasks task asked now is there here read =
     let count = turns_count script seen phase at tasks asked now is there in
     let tasks_are : tasks ≡ get_or script phase [] =
-        is ∙ ap (λ (s : List (List Task)). get_or s at []) asked ∙ ap (λ (n : ℕ). get_or script n []) now in
+    is ∙ ap (λ (s : List (List Task)). get_or s at []) asked ∙ ap (λ (n : ℕ). get_or script n []) now in
     ap (λ (turns : List (ℕ × Request)). slice_get turns number)
     (get_or-map (map turn_of) script phase [] [] (omega (arith, there, length-map script (map turn_of))) ∙ ap (map turn_of) (sym tasks_are))
     ∙ slice_get-map turn_of tasks number
@@ -119,7 +118,7 @@ some_of_two (Some end) later P Q one stays two = stays one
 
 -- ---- worlds of one host
 
--- are also the next
+-- Worlds of one host are so in turn,
 pub hosts_then : {D : Type 0} (old now later : code.World D) → AreOfOneHost old now → AreOfOneHost now later → AreOfOneHost old later
 hosts_then old now later first second = record {
   settings = second.settings ∙ first.settings;
@@ -128,7 +127,7 @@ hosts_then old now later first second = record {
 }
 
 module _ {D : Type 0} (functions : D → DigestFunctions) (old now : code.World D) (same : AreOfOneHost old now) where
-  -- and have the same host
+  -- and have one host.
   pub host_kept : host_of (functions (digests_of now)) now ≡ host_of (functions (digests_of old)) old
   host_kept =
       ap (λ d. shipped_host (functions d) now.settings (requests_of now)) same.digests

@@ -1,5 +1,5 @@
 -- What a script asks of a worker, turn by turn: what is next, and that nothing of a phase is left behind its last turn.
-use Rattle.std.proofs.Common.{◌≡◌, ℕ, zero, suc, ◌+◌, ◌<◌, ◌≤◌, ◌==◌, Bool, true, false, List, [], ◌∷◌, ◌++◌, map, filter, length, take, drop, get_or, slice_get, Option, Some, None, if◌then◌else◌, refl, sym, ◌∙◌, ap, subst, append_assoc, take_all, arith}
+use Rattle.std.proofs.Common.{◌≡◌, ℕ, zero, suc, ◌+◌, ◌<◌, ◌≤◌, ◌==◌, Bool, true, false, List, [], ◌∷◌, ◌++◌, map, filter, length, take, drop, get_or, slice_get, Some, if◌then◌else◌, refl, sym, ◌∙◌, ap, append_assoc, take_all, arith}
 use Rattle.std.proofs.lemmas.Bool.{eq-eqb, ne_eqb}
 use Rattle.std.proofs.lemmas.Option.{none-some, same_Some}
 use Rattle.host_core.specs.Host.{Host, asked_in, asked_from, asked}
@@ -135,10 +135,10 @@ module _ {C R : Type 0} (host : Host C R) where
       let more = asked_from i (suc phase) (drop (suc phase) host.script) in
       let all : take (length turns) turns ≡ turns = take_all (length turns) turns (omega arith) in
       let next : slice_get more 0 ≡ Some (phase, request) =
-          sym (ap (λ (asks : List (ℕ × R)). slice_get asks (length front + length inside)) (asked-around i 0 phase phase host.script (omega arith) there)
-          ∙ slice_get-behind front (inside ++ more) (length inside) (length front + length inside) refl
-          ∙ slice_get-behind inside more 0 (length inside) (omega arith))
-          ∙ ap (λ (some : List (ℕ × R)). slice_get (asked host i) (length front + length (asked_in i phase some))) (sym all)
-          ∙ is in
+      sym (ap (λ (asks : List (ℕ × R)). slice_get asks (length front + length inside)) (asked-around i 0 phase phase host.script (omega arith) there)
+      ∙ slice_get-behind front (inside ++ more) (length inside) (length front + length inside) refl
+      ∙ slice_get-behind inside more 0 (length inside) (omega arith))
+      ∙ ap (λ (some : List (ℕ × R)). slice_get (asked host i) (length front + length (asked_in i phase some))) (sym all)
+      ∙ is in
       let later : suc phase ≤ phase = later_only i (suc phase) (drop (suc phase) host.script) (phase, request) next in
       absurd (omega (arith, later))

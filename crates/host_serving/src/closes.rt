@@ -114,18 +114,15 @@ fn move_all<D: Digests>(world: &mut World<'_, D>) -> Result<Option<ClockEnd>, Me
         → StandsWith (D.functions (digests_of world.new)) world.new logs }
 {
     let mut first = None;
-    for worker in 0..world.settings().header.verifiers {
-        let end = move_own(world, worker)?;
+    for mover in 0..world.settings().header.verifiers {
+        let end = move_own(world, mover)?;
         first = first.or(end);
     }
     Ok(first)
 }
 
 // A worker moves its shards in order, until its clock ends.
-fn move_own<D: Digests>(
-    world: &mut World<'_, D>,
-    worker: u16,
-) -> Result<Option<ClockEnd>, Memory>
+fn move_own<D: Digests>(world: &mut World<'_, D>, worker: u16) -> Result<Option<ClockEnd>, Memory>
     requires behind { StandsBehind (D.functions (digests_of world.old)) world.old }
     requires may { CanMoveOwn (host_of (D.functions (digests_of world.old)) world.old) (shown_world world.old) worker }
     ensures leads { IfOk result (λ end. Leads (host_of (D.functions (digests_of world.old)) world.old)

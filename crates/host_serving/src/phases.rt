@@ -16,74 +16,14 @@ use record_hash::Digests;
 use record_text::Request;
 use want_of_memory::Memory;
 
-/// Serves the requests of the world's phase in the script's order, each by its worker, which enters the gate before. A worker
-/// whose clock ends serves no more in this phase. It answers the first such end.
-pub fn serve_phase<D: Digests, G: Gate>(
-    world: &mut World<'_, D>,
-    gate: &G,
-) -> Result<Option<ClockEnd>, Memory>
-    requires behind { StandsBehind (D.functions (digests_of world.old)) world.old }
-    requires begins { IsServedUpTo (host_of (D.functions (digests_of world.old)) world.old) (shown_world world.old) 0 }
-    requires workers { AllByRecursion (λ turn. turn.0 < length (shown_world world.old).workers)
-        (turns_of (host_of (D.functions (digests_of world.old)) world.old) (shown_world world.old).phase) }
-    ensures leads { IfOk result (λ end. Leads (host_of (D.functions (digests_of world.old)) world.old)
-        (shown_world world.old) (shown_world world.new) end) }
-    ensures served { OnOk result (IsServedOut (host_of (D.functions (digests_of world.old)) world.old) (shown_world world.new)) }
-    ensures phase { OnOk result ((shown_world world.new).phase ≡ (shown_world world.old).phase) }
-    ensures running { result ≡ Ok None → NoneStopped (host_of (D.functions (digests_of world.old)) world.old) (shown_world world.old)
-        → NoneStopped (host_of (D.functions (digests_of world.old)) world.old) (shown_world world.new) }
-    ensures stopped { IfOk result (λ end. IfSome end
-        (λ _. SomeStopped (host_of (D.functions (digests_of world.old)) world.old) (shown_world world.new))) }
-    ensures host { AreOfOneHost world.old world.new }
-    ensures behind { StandsBehind (D.functions (digests_of world.new)) world.new }
-    ensures goes_on { (logs : List (List Command)) → StandsWith (D.functions (digests_of world.old)) world.old logs
-        → StandsWith (D.functions (digests_of world.new)) world.new logs }
+// The first of two ends, if either is there.
+fn earlier(first: Option<ClockEnd>, later: Option<ClockEnd>) -> Option<ClockEnd>
+    ensures { result ≡ first_of first later }
 {
-    let turns = world.requests().phase(world.phase()).len();
-    let mut first = None;
-    for number in 0..turns {
-        let end = serve_turn(world, gate, number)?;
-        first = earlier(first, end);
+    match first {
+        Some(end) => Some(end),
+        None => later,
     }
-    Ok(first)
-}
-
-// Serves one request of the world's phase, unless its worker's clock ended in this phase. It answers where the clock ends.
-fn serve_turn<D: Digests, G: Gate>(
-    world: &mut World<'_, D>,
-    gate: &G,
-    number: usize,
-) -> Result<Option<ClockEnd>, Memory>
-    requires behind { StandsBehind (D.functions (digests_of world.old)) world.old }
-    requires so_far { IsServedUpTo (host_of (D.functions (digests_of world.old)) world.old) (shown_world world.old) number }
-    requires there { number < length (turns_of (host_of (D.functions (digests_of world.old)) world.old) (shown_world world.old).phase) }
-    requires workers { AllByRecursion (λ turn. turn.0 < length (shown_world world.old).workers)
-        (turns_of (host_of (D.functions (digests_of world.old)) world.old) (shown_world world.old).phase) }
-    ensures leads { IfOk result (λ end. Leads (host_of (D.functions (digests_of world.old)) world.old)
-        (shown_world world.old) (shown_world world.new) end) }
-    ensures served { OnOk result (IsServedUpTo (host_of (D.functions (digests_of world.old)) world.old) (shown_world world.new) (number + 1)) }
-    ensures phase { OnOk result ((shown_world world.new).phase ≡ (shown_world world.old).phase) }
-    ensures count { OnOk result (length (shown_world world.new).workers ≡ length (shown_world world.old).workers) }
-    ensures running { result ≡ Ok None → NoneStopped (host_of (D.functions (digests_of world.old)) world.old) (shown_world world.old)
-        → NoneStopped (host_of (D.functions (digests_of world.old)) world.old) (shown_world world.new) }
-    ensures stopped { IfOk result (λ end. IfSome end
-        (λ _. SomeStopped (host_of (D.functions (digests_of world.old)) world.old) (shown_world world.new))) }
-    ensures stays { OnOk result (SomeStopped (host_of (D.functions (digests_of world.old)) world.old) (shown_world world.old)
-        → SomeStopped (host_of (D.functions (digests_of world.old)) world.old) (shown_world world.new)) }
-    ensures host { AreOfOneHost world.old world.new }
-    ensures behind { StandsBehind (D.functions (digests_of world.new)) world.new }
-    ensures goes_on { (logs : List (List Command)) → StandsWith (D.functions (digests_of world.old)) world.old logs
-        → StandsWith (D.functions (digests_of world.new)) world.new logs }
-{
-    let task = &world.requests().phase(world.phase())[number];
-    let server = &world.workers()[usize::from(task.worker)];
-    let stopped = server.is_stopped();
-    if stopped {
-        return Ok(None);
-    }
-    gate.enter(task.worker, server.served());
-    let place = world.place_for(&task.request);
-    serve_at(world, task.worker, place, &task.request)
 }
 
 // A worker takes a place, serves a request there, and gives the place back, also where its clock ends. It answers that end.
@@ -111,12 +51,81 @@ fn serve_at<D: Digests>(
     Ok(end)
 }
 
-// The first of two ends, if either is there.
-fn earlier(first: Option<ClockEnd>, later: Option<ClockEnd>) -> Option<ClockEnd>
-    ensures { result ≡ first_of first later }
+// Serves one request of the world's phase, unless its worker's clock ended in this phase. It answers where the clock ends.
+// Who is stopped stays so.
+fn serve_turn<D: Digests, G: Gate>(
+    world: &mut World<'_, D>,
+    gate: &G,
+    number: usize,
+) -> Result<Option<ClockEnd>, Memory>
+    requires behind { StandsBehind (D.functions (digests_of world.old)) world.old }
+    requires so_far { IsServedUpTo (host_of (D.functions (digests_of world.old)) world.old) (shown_world world.old)
+        number }
+    requires there { number < length (turns_of (host_of (D.functions (digests_of world.old)) world.old)
+        (shown_world world.old).phase) }
+    requires workers { AllByRecursion (λ turn. turn.0 < length (shown_world world.old).workers)
+        (turns_of (host_of (D.functions (digests_of world.old)) world.old) (shown_world world.old).phase) }
+    ensures leads { IfOk result (λ end. Leads (host_of (D.functions (digests_of world.old)) world.old)
+        (shown_world world.old) (shown_world world.new) end) }
+    ensures served { OnOk result (IsServedUpTo (host_of (D.functions (digests_of world.old)) world.old)
+        (shown_world world.new) (number + 1)) }
+    ensures phase { OnOk result ((shown_world world.new).phase ≡ (shown_world world.old).phase) }
+    ensures count { OnOk result (length (shown_world world.new).workers
+        ≡ length (shown_world world.old).workers) }
+    ensures running { result ≡ Ok None
+        → NoneStopped (host_of (D.functions (digests_of world.old)) world.old) (shown_world world.old)
+        → NoneStopped (host_of (D.functions (digests_of world.old)) world.old) (shown_world world.new) }
+    ensures stopped { IfOk result (λ end. IfSome end
+        (λ _. SomeStopped (host_of (D.functions (digests_of world.old)) world.old) (shown_world world.new))) }
+    ensures stays { OnOk result (
+        SomeStopped (host_of (D.functions (digests_of world.old)) world.old) (shown_world world.old)
+        → SomeStopped (host_of (D.functions (digests_of world.old)) world.old) (shown_world world.new)) }
+    ensures host { AreOfOneHost world.old world.new }
+    ensures behind { StandsBehind (D.functions (digests_of world.new)) world.new }
+    ensures goes_on { (logs : List (List Command)) → StandsWith (D.functions (digests_of world.old)) world.old logs
+        → StandsWith (D.functions (digests_of world.new)) world.new logs }
 {
-    match first {
-        Some(end) => Some(end),
-        None => later,
+    let task = &world.requests().phase(world.phase())[number];
+    let server = &world.workers()[usize::from(task.worker)];
+    let stopped = server.is_stopped();
+    if stopped {
+        return Ok(None);
     }
+    gate.enter(task.worker, server.served());
+    let place = world.place_for(&task.request);
+    serve_at(world, task.worker, place, &task.request)
+}
+
+/// Serves the requests of the world's phase in the script's order, each by its worker, which enters the gate before. A worker
+/// whose clock ends serves no more in this phase. It answers the first such end.
+pub fn serve_phase<D: Digests, G: Gate>(
+    world: &mut World<'_, D>,
+    gate: &G,
+) -> Result<Option<ClockEnd>, Memory>
+    requires behind { StandsBehind (D.functions (digests_of world.old)) world.old }
+    requires begins { IsServedUpTo (host_of (D.functions (digests_of world.old)) world.old) (shown_world world.old) 0 }
+    requires workers { AllByRecursion (λ turn. turn.0 < length (shown_world world.old).workers)
+        (turns_of (host_of (D.functions (digests_of world.old)) world.old) (shown_world world.old).phase) }
+    ensures leads { IfOk result (λ end. Leads (host_of (D.functions (digests_of world.old)) world.old)
+        (shown_world world.old) (shown_world world.new) end) }
+    ensures served { OnOk result (IsServedOut (host_of (D.functions (digests_of world.old)) world.old)
+        (shown_world world.new)) }
+    ensures phase { OnOk result ((shown_world world.new).phase ≡ (shown_world world.old).phase) }
+    ensures running { result ≡ Ok None
+        → NoneStopped (host_of (D.functions (digests_of world.old)) world.old) (shown_world world.old)
+        → NoneStopped (host_of (D.functions (digests_of world.old)) world.old) (shown_world world.new) }
+    ensures stopped { IfOk result (λ end. IfSome end
+        (λ _. SomeStopped (host_of (D.functions (digests_of world.old)) world.old) (shown_world world.new))) }
+    ensures host { AreOfOneHost world.old world.new }
+    ensures behind { StandsBehind (D.functions (digests_of world.new)) world.new }
+    ensures goes_on { (logs : List (List Command)) → StandsWith (D.functions (digests_of world.old)) world.old logs
+        → StandsWith (D.functions (digests_of world.new)) world.new logs }
+{
+    let turns = world.requests().phase(world.phase()).len();
+    let mut first = None;
+    for number in 0..turns {
+        let end = serve_turn(world, gate, number)?;
+        first = earlier(first, end);
+    }
+    Ok(first)
 }

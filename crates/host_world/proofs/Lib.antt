@@ -10,7 +10,7 @@ pub mod SeatLaws
 pub mod RangeLaws
 mod OrderlyLemmas
 mod BehindLemmas
-mod FrontierLaws
+pub mod FrontierLaws
 mod WorldLemmas
 mod TakenLemmas
 mod StandingLemmas

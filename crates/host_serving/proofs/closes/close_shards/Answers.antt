@@ -10,7 +10,7 @@ use Rattle.host_world.specs.Behind.{host_of, with_logs}
 use Rattle.host_world.specs.Shown.{shown_world, digests_of, requests_of}
 use Rattle.host_serving.specs.Leading.{Leads}
 use Rattle.host_serving.specs.Closing.{CanMoveAll, HaveAdvanced, EndsAdvance, EndsMoves, EndsShards}
-use Rattle.host_serving.proofs.CloseLemmas.{begins, moves_begin, ends_shards}
+use Rattle.host_serving.proofs.CloseLemmas.{over_rests, begins, moves_begin, ends_shards}
 use Rattle.host_serving.proofs.CloseWorldLemmas.{host_same, leads_on, if_ok_then, workers_are, clocks_stand, none_is_moved}
 use Rattle.host_serving.proofs.closes.close_shards.Goals as goal
 
@@ -43,6 +43,13 @@ move_all-requires-clause-may g c =
     subst (λ (h : Host Content Request). CanMoveAll h (shown_world middle)) (sym (host_same g.D.Digests.functions old middle c.advance_all.ensures.host))
     (moves_begin host (shown_world old) c.requires.served (clocks_stand functions old logs stands orderly phase) (none_is_moved functions old logs stands orderly phase)
     (shown_world middle) some have)
+
+pub returns-in-Some-clause-ended : goal.returns-in-Some-clause-ended
+returns-in-Some-clause-ended g c =
+    let old = c.args.world.now in
+    let middle = c.advance_all.new.world in
+    let host = host_of (g.D.Digests.functions (digests_of old)) old in
+    over_rests host (shown_world middle) (subst (EndsAdvance host (shown_world old) (shown_world middle)) c.in-Some.is c.in_ok-end.ensures.ended)
 
 pub returns-clause-leads : goal.returns-clause-leads
 returns-clause-leads g c =

@@ -1,4 +1,4 @@
-use Rattle.std.proofs.Common.{◌≡◌, ℕ, ◌+◌, ◌≤◌, Option, Ok, None, IfSome, length, sym, ◌∙◌, ap, subst, arith}
+use Rattle.std.proofs.Common.{◌≡◌, ℕ, ◌+◌, Option, Ok, IfSome, length, sym, ◌∙◌, ap, subst, arith}
 use Rattle.record_text.specs.declared.request.Request.{Request}
 use Rattle.host_core.specs.Host.{Host}
 use Rattle.host_shard.specs.Content.{Content}
@@ -55,8 +55,8 @@ returns-clause-served g c =
     let host = host_of (g.D.Digests.functions (digests_of old)) old in
     let so_far = c.loop-number.invariant in
     let count =
-        turns_count (requests_of old) c.requests.result.now old.phase c.phase.result c.phase-turns.result.now c.requests.ensures.value c.phase.ensures.value
-        c.phase-turns.ensures.value c.requires.begins.within in
+    turns_count (requests_of old) c.requests.result.now old.phase c.phase.result c.phase-turns.result.now c.requests.ensures.value c.phase.ensures.value
+    c.phase-turns.ensures.value c.requires.begins.within in
     let all : c.loop-number.number ≡ length (turns_of host old.phase) = omega (arith, count, c.loop-number-test.false, c.loop-number.auto.number-end) in
     phase_served host (shown_world now) c.loop-number.number so_far.served
     (all ∙ ap (λ (n : ℕ). length (turns_of host n)) (sym so_far.phase))

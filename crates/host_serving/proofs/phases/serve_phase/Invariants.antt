@@ -1,4 +1,4 @@
-use Rattle.std.proofs.Common.{◌≡◌, ℕ, List, None, length, IfSome}
+use Rattle.std.proofs.Common.{◌≡◌, List, None, length, IfSome}
 use Rattle.log_codec.specs.declared.command.Command.{Command}
 use Rattle.host_world.specs.Shown.{shown_world, digests_of}
 use Rattle.host_world.specs.Behind.{host_of, StandsBehind, StandsWith, AreOfOneHost}

@@ -1,4 +1,4 @@
-use Rattle.std.proofs.Common.{◌≡◌, ℕ, suc, ◌+◌, ◌<◌, true, false, length, slice_get, Some, sym, ◌∙◌, ap, arith}
+use Rattle.std.proofs.Common.{◌≡◌, ℕ, suc, ◌+◌, ◌<◌, true, false, length, slice_get, Some, ◌∙◌, ap, arith}
 use Rattle.host_core.specs.World.{World, Worker, fresh, worker_at}
 use Rattle.host_shard.specs.Content.{Content}
 use Rattle.host_world.specs.Places.{place_of}
@@ -6,11 +6,10 @@ use Rattle.host_world.specs.Shown.{shown_world, digests_of, requests_of}
 use Rattle.host_world.specs.Behind.{host_of}
 use Rattle.host_serving.specs.Standing.{turns_of, IsServedUpTo, SomeStopped}
 use Rattle.host_serving.specs.Turn.{turn_at}
-use Rattle.host_serving.proofs.TurnCalls.{all-found, turns_count, turn_read, worker_read, answer_leads, answer_holds, answer_running, answer_stopped}
+use Rattle.host_serving.proofs.TurnCalls.{all-found, turn_read, worker_read, answer_leads, answer_holds, answer_running, answer_stopped}
 use Rattle.host_serving.proofs.PhaseLemmas.{turn_enabled, turn_count, turn_phase, turn_serves, turn_running, turn_stopped, turn_stays, turn_passed}
 use Rattle.host_serving.proofs.phases.serve_turn.Given.{Over}
 use Rattle.host_serving.proofs.phases.serve_turn.Goals as goal
-
 
 pub bounds-workers-from : goal.bounds-workers-from
 bounds-workers-from g c =
@@ -18,9 +17,9 @@ bounds-workers-from g c =
     let host = host_of (g.D.Digests.functions (digests_of world)) world in
     let task = c.index-phase-number.result in
     let turn = turn_read (requests_of world) c.requests.result.now world.phase c.phase.result c.args.number c.phase-2.result.now task
-        c.requests.ensures.value c.phase.ensures.value c.phase-2.ensures.value c.requires.so_far.within c.requires.there c.index-phase-number.is in
+    c.requests.ensures.value c.phase.ensures.value c.phase-2.ensures.value c.requires.so_far.within c.requires.there c.index-phase-number.is in
     let there : task.worker < length world.workers.items =
-        all-found (λ turn. turn.0 < length world.workers.items) (turns_of host world.phase) c.args.number (task.worker, task.request) c.requires.workers turn in
+    all-found (λ turn. turn.0 < length world.workers.items) (turns_of host world.phase) c.args.number (task.worker, task.request) c.requires.workers turn in
     omega (arith, there, ap length c.workers.ensures.value, c.from.ensures)
 
 pub returns-then-stopped-clause-served : goal.returns-then-stopped-clause-served
@@ -29,12 +28,12 @@ returns-then-stopped-clause-served g c =
     let host = host_of (g.D.Digests.functions (digests_of world)) world in
     let task = c.index-phase-number.result in
     let turn = turn_read (requests_of world) c.requests.result.now world.phase c.phase.result c.args.number c.phase-2.result.now task
-        c.requests.ensures.value c.phase.ensures.value c.phase-2.ensures.value c.requires.so_far.within c.requires.there c.index-phase-number.is in
+    c.requests.ensures.value c.phase.ensures.value c.phase-2.ensures.value c.requires.so_far.within c.requires.there c.index-phase-number.is in
     let there : task.worker < length world.workers.items =
-        all-found (λ turn. turn.0 < length world.workers.items) (turns_of host world.phase) c.args.number (task.worker, task.request) c.requires.workers turn in
+    all-found (λ turn. turn.0 < length world.workers.items) (turns_of host world.phase) c.args.number (task.worker, task.request) c.requires.workers turn in
     let next : c.args.number + 1 ≡ suc c.args.number = omega arith in
     let server = worker_read world.workers.items c.workers.result.now task.worker c.from.result c.index-workers-from.result (fresh world.settings.header)
-        c.workers.ensures.value c.from.ensures there c.index-workers-from.is in
+    c.workers.ensures.value c.from.ensures there c.index-workers-from.is in
     let seen : c.index-workers-from.result.stopped ≡ true = cc in
     turn_passed host (shown_world world) c.args.number (c.args.number + 1) c.requires.so_far next task.worker task.request turn
     (ap (λ (w : Worker). w.stopped) server ∙ seen)
@@ -45,12 +44,12 @@ serve_at-requires-clause-enabled g c =
     let host = host_of (g.D.Digests.functions (digests_of world)) world in
     let task = c.index-phase-number.result in
     let turn = turn_read (requests_of world) c.requests.result.now world.phase c.phase.result c.args.number c.phase-2.result.now task
-        c.requests.ensures.value c.phase.ensures.value c.phase-2.ensures.value c.requires.so_far.within c.requires.there c.index-phase-number.is in
+    c.requests.ensures.value c.phase.ensures.value c.phase-2.ensures.value c.requires.so_far.within c.requires.there c.index-phase-number.is in
     let there : task.worker < length world.workers.items =
-        all-found (λ turn. turn.0 < length world.workers.items) (turns_of host world.phase) c.args.number (task.worker, task.request) c.requires.workers turn in
+    all-found (λ turn. turn.0 < length world.workers.items) (turns_of host world.phase) c.args.number (task.worker, task.request) c.requires.workers turn in
     let next : c.args.number + 1 ≡ suc c.args.number = omega arith in
     let server = worker_read world.workers.items c.workers.result.now task.worker c.from.result c.index-workers-from.result (fresh world.settings.header)
-        c.workers.ensures.value c.from.ensures there c.index-workers-from.is in
+    c.workers.ensures.value c.from.ensures there c.index-workers-from.is in
     let seen : c.index-workers-from.result.stopped ≡ false = cc in
     let running = ap (λ (w : Worker). w.stopped) server ∙ seen in
     turn_enabled host (shown_world world) task.worker c.args.number (c.args.number + 1) (place_of c.place_for-place.result) task.request
