@@ -1,5 +1,5 @@
 -- How many vacant places shards have.
-use Rattle.std.proofs.Common.{◌≡◌, suc, ◌+◌, List, ◌∷◌, ◌++◌, map, length, replicate, Result, OnOk, sym, ◌∙◌, ap, append_assoc, arith}
+use Rattle.std.proofs.Common.{◌≡◌, ◌+◌, List, ◌∷◌, ◌++◌, map, length, replicate, Result, OnOk, sym, ◌∙◌, ap, append_assoc, arith}
 use Rattle.std.proofs.lemmas.List.{length-append, length-map, replicate-append-replicate}
 use Rattle.host_shard.specs.Content.{Content, vacant}
 use Rattle.host_shard.specs.Shown.{shown_content}

@@ -1,24 +1,16 @@
-//! What a world's places have, lent to a table and taken back; and what workers did meanwhile, joined to them.
-ghost use Rattle.std.specs.Prelude.{◌≡◌, ◌<◌, List, [], ◌++◌, length, map, replicate, IfOk, OnOk, OnErr};
-ghost use Rattle.std.specs.List.{flat_map, AllByRecursion};
-ghost use Rattle.record_text.specs.Format.{short_keys};
-ghost use Rattle.log_codec.specs.Command.{IsCommand};
-ghost use Rattle.host_core.specs.World.{worker_at};
-ghost use Rattle.host_core.specs.WorldEvent.{with_worker};
+//! What a world's places have, and its workers, lent to a phase at a table and taken back.
+ghost use Rattle.std.specs.Prelude.{◌≡◌, ◌+◌, [], ◌++◌, length, map, replicate, IfOk, OnOk, OnErr};
 ghost use Rattle.host_shard.specs.Content.{vacant};
 ghost use Rattle.host_shard.specs.Shown.{shown_content};
-ghost use Rattle.host_world.specs.Behind.{host_of, log_at, AreOfOneHost};
+ghost use Rattle.host_world.specs.Behind.{AreOfOneHost};
 ghost use Rattle.host_world.specs.Lending.{all_contents, filled};
-ghost use Rattle.host_world.specs.Shown.{contents_of, shown_seats, shown_world, digests_of};
+ghost use Rattle.host_world.specs.Shown.{contents_of, shown_seats, shown_world};
 
 use crate::seats::Seats;
+use crate::worker::Worker;
 use crate::world::World;
-use host_plan::Commands;
 use host_shard::Content;
-use lamport_clocks::Clock;
-use record_hash::Digests;
-use std::alloc::Global;
-use std::mem::swap;
+use std::mem::{replace, swap};
 use want_of_memory::Memory;
 
 impl Seats {
@@ -73,13 +65,13 @@ fn add_vacant_for(contents: &mut Vec<Content>, shards: &[Seats]) -> Result<(), M
     add_vacant_for(contents, others)
 }
 
-impl<'a, D: Digests> World<'a, D> {
+impl<'a, D> World<'a, D> {
     /// All that its places have, in the order of their numbers. They are vacant then. For want of memory all is as before.
     pub fn lend(&mut self) -> Result<Vec<Content>, Memory>
         ensures lent { IfOk result (λ contents.
             map shown_content contents.items ≡ all_contents (shown_world self.old).shards) }
         ensures left { OnOk result (shown_world self.new ≡ record (shown_world self.old) {
-            shards = filled (shown_world self.old).shards (replicate (length (all_contents (shown_world self.old).shards)) vacant)
+          shards = filled (shown_world self.old).shards (replicate (length (all_contents (shown_world self.old).shards)) vacant);
         }) }
         ensures host { AreOfOneHost self.old self.new }
         ensures as_before { OnErr result (shown_world self.new ≡ shown_world self.old) }
@@ -94,7 +86,7 @@ impl<'a, D: Digests> World<'a, D> {
     pub fn take_back(&mut self, contents: Vec<Content>)
         requires as_many { length contents.items ≡ length (all_contents (shown_world self.old).shards) }
         ensures filled { shown_world self.new ≡ record (shown_world self.old) {
-            shards = filled (shown_world self.old).shards (map shown_content contents.items)
+          shards = filled (shown_world self.old).shards (map shown_content contents.items);
         } }
         ensures host { AreOfOneHost self.old self.new }
     {
@@ -102,33 +94,20 @@ impl<'a, D: Digests> World<'a, D> {
         exchange_all(self.shards.as_mut_slice(), contents.as_mut_slice());
     }
 
-    /// What a worker logged, deed by deed. Its log is empty then.
-    pub fn lend_log(&mut self, worker: u16) -> Vec<Commands>
-        requires there { worker < length (shown_world self.old).workers }
-        ensures log { flat_map (λ commands. commands) result.items ≡ log_at self.old worker }
-        ensures typed { AllByRecursion (AllByRecursion (IsCommand short_keys)) result.items }
-        ensures left { shown_world self.new ≡ with_worker (shown_world self.old) worker
-            (record (worker_at (host_of (D.functions (digests_of self.old)) self.old) (shown_world self.old) worker) { log = [] }) }
+    /// Its workers. It has none then.
+    pub fn lend_workers(&mut self) -> Vec<Worker>
+        ensures lent { result.items ≡ (shown_world self.old).workers }
+        ensures left { shown_world self.new ≡ record (shown_world self.old) { workers = [] } }
         ensures host { AreOfOneHost self.old self.new }
     {
-        let alloc = self.alloc;
-        self.workers[usize::from(worker)].lend_log(alloc)
+        replace(&mut self.workers, Vec::new(self.alloc))
     }
 
-    /// What a worker did in a phase: its log is this now, deed by deed, and its clock, the count of requests that it has
-    /// served, and whether its clock ended are these.
-    pub fn note_turns(&mut self, worker: u16, log: Vec<Commands>, clock: Clock, served: u64, stopped: bool)
-        requires there { worker < length (shown_world self.old).workers }
-        requires typed { AllByRecursion (AllByRecursion (IsCommand short_keys)) log.items }
-        ensures noted { shown_world self.new ≡ with_worker (shown_world self.old) worker
-            (record (worker_at (host_of (D.functions (digests_of self.old)) self.old) (shown_world self.old) worker) {
-              log = flat_map (λ commands. commands) log.items;
-              clock = clock;
-              served = served;
-              stopped = stopped;
-            }) }
+    /// These are its workers.
+    pub fn take_workers(&mut self, workers: Vec<Worker>)
+        ensures taken { shown_world self.new ≡ record (shown_world self.old) { workers = workers.items } }
         ensures host { AreOfOneHost self.old self.new }
     {
-        self.workers[usize::from(worker)].note_turns(log, clock, served, stopped);
+        self.workers = workers;
     }
 }

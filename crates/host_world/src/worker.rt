@@ -133,8 +133,8 @@ impl Worker {
         Ok(())
     }
 
-    // What it logged, deed by deed. Its log is empty then.
-    pub(crate) fn lend_log(&mut self, alloc: Global) -> Vec<Commands>
+    /// What it logged, deed by deed. Its log is empty then.
+    pub fn lend_log(&mut self, alloc: Global) -> Vec<Commands>
         ensures log { flat_map (λ commands. commands) result.items ≡ self.old.log }
         ensures typed { AllByRecursion (AllByRecursion (IsCommand short_keys)) result.items }
         ensures left { self.new ≡ record self.old { log = [] } }
@@ -142,14 +142,8 @@ impl Worker {
         replace(&mut self.log, Vec::new(alloc))
     }
 
-    // What it did in a phase: its log is this now, and its clock, its count and whether its clock ended are these.
-    pub(crate) fn note_turns(
-        &mut self,
-        log: Vec<Commands>,
-        clock: Clock,
-        served: u64,
-        stopped: bool,
-    )
+    /// What it did in a phase: its log is this now, and its clock, its count and whether its clock ended are these.
+    pub fn note_turns(&mut self, log: Vec<Commands>, clock: Clock, served: u64, stopped: bool)
         requires typed { AllByRecursion (AllByRecursion (IsCommand short_keys)) log.items }
         ensures noted { self.new ≡ record self.old {
           log = flat_map (λ commands. commands) log.items;

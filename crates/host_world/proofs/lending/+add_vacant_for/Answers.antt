@@ -8,9 +8,9 @@ pub returns : goal.returns
 returns t c =
     let many : c.len.result ≡ length c.in-Some.seats.now.hot.items = omega (arith, c.len.ensures, c.in-Some.seats.now.hot.ok) in
     record {
-  added = vacant_added c.add_vacant_for.result c.in-Some.seats.now c.in-Some.others.now c.args.shards.now (map shown_content c.args.contents.now.items)
-      (map shown_content c.add_vacant.new.contents.items) (map shown_content c.add_vacant_for.new.contents.items)
-      c.in-Some.ensures.cases.0
-      (c.in_ok-add_vacant.ensures.added ∙ ap (λ (n : ℕ). map shown_content c.args.contents.now.items ++ replicate (n + 1) vacant) many)
-      c.add_vacant_for.ensures.added;
-}
+      added = vacant_added c.add_vacant_for.result c.in-Some.seats.now c.in-Some.others.now c.args.shards.now (map shown_content c.args.contents.now.items)
+          (map shown_content c.add_vacant.new.contents.items) (map shown_content c.add_vacant_for.new.contents.items)
+          c.in-Some.ensures.cases.0
+          (c.in_ok-add_vacant.ensures.added ∙ ap (λ (n : ℕ). map shown_content c.args.contents.now.items ++ replicate (n + 1) vacant) many)
+          c.add_vacant_for.ensures.added;
+    }
