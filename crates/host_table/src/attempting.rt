@@ -1,9 +1,13 @@
 //! How a worker serves a request at the key's place.
 ghost use Rattle.std.specs.Prelude.{◌≡◌, ◌<◌, [], None, Some};
+ghost use Rattle.std.specs.List.{AllByRecursion};
+ghost use Rattle.log_codec.specs.Command.{IsCommand};
 ghost use Rattle.record_text.specs.Format.{short_keys};
 ghost use Rattle.record_text.specs.Value.{IsBlob};
 ghost use Rattle.host_shard.specs.Shown.{shown_content};
+ghost use Rattle.host_plan.specs.declared.plans.Plan.{Plan};
 ghost use Rattle.host_plan.specs.Plan.{IsPastEnd};
+ghost use Rattle.host_table.specs.declared.answers.Attempt.TheVariants.{Served};
 ghost use Rattle.host_table.specs.Calls.{Attempts, IsAfter, clock_at};
 ghost use Rattle.host_table.specs.Hands.{Holds, IsFree, content, entries, stop};
 ghost use Rattle.host_table.specs.Made.{terms_of};
@@ -48,6 +52,7 @@ impl<D: Digests> Records<D> {
         ensures attempts { Attempts (terms D.functions self.now) hand.old place request.now clock.old result hand.new clock.new }
         ensures clock { IsClockOf (terms D.functions self.now) clock.new }
         ensures chained { TakesUp (entries hand.new) clock.new }
+        ensures typed { (made : Plan) → result ≡ Served made → AllByRecursion (IsCommand short_keys) made.commands }
     {
         let mut content = match self.try_take(hand, place) {
             Taking::Taken(content) => content,

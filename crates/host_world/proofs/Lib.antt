@@ -15,3 +15,4 @@ mod WorldLemmas
 mod TakenLemmas
 mod StandingLemmas
 mod PlacingLemmas
+mod LendLemmas

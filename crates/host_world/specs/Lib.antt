@@ -9,6 +9,7 @@ pub mod Planned
 pub mod Places
 pub mod Doing
 pub mod Shown
+pub mod Lending
 pub mod Ending
 pub mod Behind
 pub mod Orderly

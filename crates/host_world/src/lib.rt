@@ -7,6 +7,7 @@ mod event;
 mod fault;
 mod handing_out;
 mod laws;
+mod lending;
 mod placing;
 mod seats;
 mod settings;

@@ -27,6 +27,7 @@ use record_hash::Digests;
 use record_text::Request;
 use std::alloc::Global;
 use std::marker::Model;
+use std::mem::replace;
 use want_of_memory::Memory;
 
 /// A place that a worker holds, by its number, and whether it has served there since it took it.
@@ -130,6 +131,31 @@ impl Worker {
         }
         self.log.clear();
         Ok(())
+    }
+
+    /// What it logged, deed by deed. Its log is empty then.
+    pub fn lend_log(&mut self, alloc: Global) -> Vec<Commands>
+        ensures log { flat_map (λ commands. commands) result.items ≡ self.old.log }
+        ensures typed { AllByRecursion (AllByRecursion (IsCommand short_keys)) result.items }
+        ensures left { self.new ≡ record self.old { log = [] } }
+    {
+        replace(&mut self.log, Vec::new(alloc))
+    }
+
+    /// What it did in a phase: its log is this now, and its clock, its count and whether its clock ended are these.
+    pub fn note_turns(&mut self, log: Vec<Commands>, clock: Clock, served: u64, stopped: bool)
+        requires typed { AllByRecursion (AllByRecursion (IsCommand short_keys)) log.items }
+        ensures noted { self.new ≡ record self.old {
+          log = flat_map (λ commands. commands) log.items;
+          clock = clock;
+          served = served;
+          stopped = stopped;
+        } }
+    {
+        self.log = log;
+        self.clock = clock;
+        self.served = served;
+        self.stopped = stopped;
     }
 
     /// Its clock.
