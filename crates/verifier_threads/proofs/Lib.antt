@@ -1,0 +1,6 @@
+-- What the proofs of this crate rest on.
+mod DueLemmas
+mod HandingLemmas
+mod StandingLemmas
+mod RunningLemmas
+mod NothingLemmas
