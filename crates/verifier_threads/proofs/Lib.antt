@@ -3,4 +3,5 @@ mod DueLemmas
 mod HandingLemmas
 mod StandingLemmas
 mod RunningLemmas
+mod PassingLemmas
 mod NothingLemmas
