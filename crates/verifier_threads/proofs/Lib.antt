@@ -4,4 +4,5 @@ mod HandingLemmas
 mod StandingLemmas
 mod RunningLemmas
 mod PassingLemmas
+mod PhaseLemmas
 mod NothingLemmas
