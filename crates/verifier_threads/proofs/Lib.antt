@@ -5,4 +5,5 @@ mod StandingLemmas
 mod RunningLemmas
 mod PassingLemmas
 mod PhaseLemmas
+mod EndingLemmas
 mod NothingLemmas

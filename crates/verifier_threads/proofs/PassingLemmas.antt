@@ -36,6 +36,14 @@ pub ok_then : {T E P Q : Type 0} (r : Result T E) → OnOk r P → (P → Q) →
 ok_then (Ok value) p f = f p
 ok_then (Err fault) p f = tt
 
+pub ok_four : {T E P Q R S Z : Type 0} (r : Result T E) → OnOk r P → OnOk r Q → OnOk r R → OnOk r S → (P → Q → R → S → Z) → OnOk r Z
+ok_four (Ok value) p q s t f = f p q s t
+ok_four (Err fault) p q s t f = tt
+
+pub err_then : {T E P Q : Type 0} (r : Result T E) → OnErr r P → (P → Q) → OnErr r Q
+err_then (Ok value) p f = tt
+err_then (Err fault) p f = f p
+
 pub ok_any : {T E P : Type 0} (r : Result T E) → P → OnOk r P
 ok_any (Ok value) p = p
 ok_any (Err fault) p = tt

@@ -17,6 +17,11 @@ pub moved : {C R : Type 0} (P : Host C R → World C → Option ClockEnd → Typ
 moved {C} {R} P h h' w w' e e' host world end holds =
     subst (λ (k : Host C R). P k w' e') (sym host) (subst (λ (v : World C). P h v e') (sym world) (subst (λ (f : Option ClockEnd). P h w f) (sym end) holds))
 
+-- whether it is over, by another name of the end
+pub over_at : (last : Bool) (e e' : Option ClockEnd) → e ≡ e' → (last ≡ true) ⊎ (e ≡ None → ⊥) → (last ≡ true) ⊎ (e' ≡ None → ⊥)
+over_at last e e' is (inl it) = inl it
+over_at last e e' is (inr ended) = inr (λ none'. ended (is ∙ none'))
+
 module _ {C R : Type 0} (host : Host C R) (old now : World C) where
   -- the phase was served
   pub at-close : (end : Option ClockEnd) → IsServedOut host now → NoneStopped host old

@@ -62,10 +62,16 @@ pub record RunsWhole {D : Type 0} (functions : D → DigestFunctions) (runner : 
   pub runs : Runs functions runner outputs
   pub all : AllCounted (functions (digests_of runner.world)) runner.world.settings.header (texts_of runs.running.logs) runner.rounds
 
--- there is something that it held and wrote before
-abbrev pub IsUnderWay : {D : Type 0} → (D → DigestFunctions) → Runner D → Type 0
-IsUnderWay functions runner = (outputs : Outputs) × Runs functions runner outputs
+-- So it runs, whatever the vault and the sink held before, where the vault now holds this.
+abbrev pub IsUnderWay : {D : Type 0} → (D → DigestFunctions) → Runner D → Option (List ℕ) → Type 0
+IsUnderWay functions runner held = (outputs : Outputs) × Runs functions runner outputs × (outputs.vault_after ≡ held)
 
+-- the same where the sink now holds this
+abbrev pub IsUnderWayWith : {D : Type 0} → (D → DigestFunctions) → Runner D → Option (List ℕ) → Option (List ℕ) → Type 0
+IsUnderWayWith functions runner held out =
+    (outputs : Outputs) × Runs functions runner outputs × (outputs.vault_after ≡ held) × (outputs.out_after ≡ out)
+
+-- so it runs, with all counted that its logs certify
 abbrev pub IsUnderWayWhole : {D : Type 0} → (D → DigestFunctions) → Runner D → Type 0
 IsUnderWayWhole functions runner = (outputs : Outputs) × RunsWhole functions runner outputs
 

@@ -10,7 +10,7 @@ ghost use Rattle.host_world.specs.Behind.{AreInRange, AreOfOneHost, host_of};
 ghost use Rattle.host_serving.specs.Leading.{first_of};
 ghost use Rattle.host_serving.specs.Standing.{turns_of};
 ghost use Rattle.verifier_threads.specs.Serving.{Outputs, IsServed, IsCutOff, IsCutAtEnd};
-ghost use Rattle.verifier_threads.specs.Running.{Runs, RunsWhole, IsUnderWay, IsUnderWayWhole, IsAtPhase, IsAtClose, IsAtEnd, all_handed_out};
+ghost use Rattle.verifier_threads.specs.Running.{Runs, RunsWhole, IsUnderWay, IsUnderWayWith, IsUnderWayWhole, IsAtPhase, IsAtClose, IsAtEnd, all_handed_out};
 
 use crate::ending::RunEnd;
 use crate::handing::hand_out_all;
@@ -78,7 +78,7 @@ impl<'a, D: Digests> Runner<'a, D> {
         gate: &G,
         vault: &mut V,
     ) -> Result<(), RoundStop>
-        requires runs { IsUnderWay D.functions self.old }
+        requires runs { IsUnderWay D.functions self.old (V.held vault.old) }
         requires begins { IsAtPhase (host_of (D.functions (digests_of self.old.world)) self.old.world)
             (shown_world self.old.world) self.old.end }
         requires workers { AllByRecursion (λ turn. turn.0 < length (shown_world self.old.world).workers)
@@ -109,7 +109,7 @@ impl<'a, D: Digests> Runner<'a, D> {
         vault: &mut V,
         out: &mut O,
     ) -> Result<(), RoundStop>
-        requires runs { IsUnderWay D.functions self.old }
+        requires runs { IsUnderWay D.functions self.old (V.held vault.old) }
         requires served { IsAtClose (host_of (D.functions (digests_of self.old.world)) self.old.world)
             (shown_world self.old.world) self.old.end }
         requires last { (last ≡ true) ↔ IsLast (host_of (D.functions (digests_of self.old.world)) self.old.world)
@@ -148,7 +148,7 @@ impl<'a, D: Digests> Runner<'a, D> {
         vault: &mut V,
         out: &mut O,
     ) -> Result<(), RoundStop>
-        requires runs { IsUnderWay D.functions self.old }
+        requires runs { IsUnderWayWith D.functions self.old (V.held vault.old) (O.held out.old) }
         requires begins { IsAtPhase (host_of (D.functions (digests_of self.old.world)) self.old.world)
             (shown_world self.old.world) self.old.end }
         requires workers { AllByRecursion (λ turn. turn.0 < length (shown_world self.old.world).workers)
@@ -208,7 +208,7 @@ impl<'a, D: Digests> Runner<'a, D> {
 
     // Hands out what all workers logged: it goes to the vault, and the verifiers' runs take it.
     fn pass_on<V: Sink>(&mut self, vault: &mut V) -> Result<(), RoundStop>
-        requires runs { IsUnderWay D.functions self.old }
+        requires runs { IsUnderWay D.functions self.old (V.held vault.old) }
         ensures runs { (outputs : Outputs) → Runs D.functions self.old outputs → outputs.vault_after ≡ V.held vault.old
             → OnOk result (Runs D.functions self.new (record outputs { vault_after = V.held vault.new })) }
         ensures handed { OnOk result (shown_world self.new.world ≡ all_handed_out (shown_world self.old.world)) }

@@ -9,7 +9,7 @@ ghost use Rattle.host_world.specs.Settings.{IsSettings};
 ghost use Rattle.host_world.specs.Shown.{shown_world, digests_of, requests_of, settings_of};
 ghost use Rattle.host_world.specs.Behind.{AreOfOneHost, host_of};
 ghost use Rattle.verifier_threads.specs.Serving.{Outputs, ServesTo, IsCutOff, setup_end};
-ghost use Rattle.verifier_threads.specs.Running.{Runs, RunsWhole, IsUnderWay, IsAtPhase, IsAtClose, IsAtEnd};
+ghost use Rattle.verifier_threads.specs.Running.{Runs, RunsWhole, IsUnderWayWith, IsAtPhase, IsAtClose, IsAtEnd};
 
 use crate::ending::RunEnd;
 use crate::runner::Runner;
@@ -88,7 +88,7 @@ fn serve_phases<D: Digests, V: Sink, O: Sink, G: Gate>(
     vault: &mut V,
     out: &mut O,
 ) -> Result<(), RoundStop>
-    requires runs { IsUnderWay D.functions runner.old }
+    requires runs { IsUnderWayWith D.functions runner.old (V.held vault.old) (O.held out.old) }
     requires begins { IsAtPhase (host_of (D.functions (digests_of runner.old.world)) runner.old.world)
         (shown_world runner.old.world) runner.old.end }
     requires first { (shown_world runner.old.world).phase ≡ 0 }
