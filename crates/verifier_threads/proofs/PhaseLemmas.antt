@@ -17,10 +17,38 @@ pub moved : {C R : Type 0} (P : Host C R → World C → Option ClockEnd → Typ
 moved {C} {R} P h h' w w' e e' host world end holds =
     subst (λ (k : Host C R). P k w' e') (sym host) (subst (λ (v : World C). P h v e') (sym world) (subst (λ (f : Option ClockEnd). P h w f) (sym end) holds))
 
+-- where there is no first of two ends, there is neither
+pub none-first : (a b : Option ClockEnd) → first_of a b ≡ None → (a ≡ None) × (b ≡ None)
+none-first None b is = (refl, is)
+none-first (Some end) b is = absurd (cc)
+
+-- one of two facts, the first by what follows from it
+pub plus-both : {P Q R : Type 0} → P ⊎ R → (P → Q) → Q ⊎ R
+plus-both (inl p) f = inl (f p)
+plus-both (inr r) f = inr r
+
 -- whether it is over, by another name of the end
 pub over_at : (last : Bool) (e e' : Option ClockEnd) → e ≡ e' → (last ≡ true) ⊎ (e ≡ None → ⊥) → (last ≡ true) ⊎ (e' ≡ None → ⊥)
 over_at last e e' is (inl it) = inl it
 over_at last e e' is (inr ended) = inr (λ none'. ended (is ∙ none'))
+
+-- the close is the last at the script's end, and where a clock ended
+pub closes-last : {C R : Type 0} (host : Host C R) (world : World C) (end : Option ClockEnd) (at_end last : Bool) → IsAtClose host world end
+    → (at_end ≡ true) ↔ (length host.script ≤ suc world.phase) → (at_end ≡ true → last ≡ true) → ((end ≡ None → ⊥) → last ≡ true)
+    → (at_end ≡ false → end ≡ None → last ≡ false) → (last ≡ true) ↔ IsLast host world
+closes-last host world end at_end last at script by_script by_end going = (forward at_end refl at.ended, backward)
+  where
+    forward : (b : Bool) → at_end ≡ b → ((end ≡ None) × NoneStopped host world) ⊎ ((end ≡ None → ⊥) × SomeStopped host world) → last ≡ true → IsLast host world
+    forward true is ended is_last = inl (script.0 is)
+    forward false is (inl running) is_last = absurd (false≢true (sym (going is running.0) ∙ is_last))
+    forward false is (inr stopped) is_last = inr stopped.1
+
+    backward : IsLast host world → last ≡ true
+    backward (inl over) = by_script (script.1 over)
+    backward (inr stopped) = elim at.ended [
+      | inl running ↦ absurd (false≢true (sym (running.1 stopped.0 stopped.1) ∙ stopped.2))
+      | inr ended ↦ by_end ended.0
+    ]
 
 module _ {C R : Type 0} (host : Host C R) (old now : World C) where
   -- the phase was served

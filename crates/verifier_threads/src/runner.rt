@@ -119,6 +119,7 @@ impl<'a, D: Digests> Runner<'a, D> {
             → OnOk result (RunsWhole D.functions self.new (record outputs { vault_after = V.held vault.new; out_after = O.held out.new })) }
         ensures ended { (last ≡ true) ⊎ (self.new.end ≢ None)
             → OnOk result (IsAtEnd (host_of (D.functions (digests_of self.new.world)) self.new.world) (shown_world self.new.world) self.new.end) }
+        ensures kept { self.new.end ≡ None → self.old.end ≡ None }
         ensures opened { last ≡ false → self.new.end ≡ None
             → OnOk result (IsAtPhase (host_of (D.functions (digests_of self.new.world)) self.new.world) (shown_world self.new.world) self.new.end
             × ((shown_world self.new.world).phase ≡ suc (shown_world self.old.world).phase)) }
@@ -174,7 +175,7 @@ impl<'a, D: Digests> Runner<'a, D> {
         ensures name { V.name vault.new ≡ V.name vault.old }
     {
         self.phase(gate, vault)?;
-        let last = at_end || self.end.is_some();
+        let last = closes_last(at_end, self.end);
         self.close_epoch(last, vault, out)
     }
 
@@ -236,6 +237,15 @@ fn earlier_end(first: Option<ClockEnd>, later: Option<ClockEnd>) -> Option<Clock
         Some(end) => Some(end),
         None => later,
     }
+}
+
+// Whether a close is the last one: at the script's end, or where a clock ended in its phase.
+fn closes_last(at_end: bool, end: Option<ClockEnd>) -> bool
+    ensures at_end { at_end ≡ true → result ≡ true }
+    ensures ended { end ≢ None → result ≡ true }
+    ensures going { at_end ≡ false → end ≡ None → result ≡ false }
+{
+    at_end || end.is_some()
 }
 
 // So many buffers that hold nothing.

@@ -13,7 +13,7 @@ use Rattle.verifier_threads.specs.Serving.{Outputs, IsCutOff, texts_of}
 use Rattle.verifier_threads.specs.Running.{Runs, RunsWhole, IsAtPhase, IsAtClose, IsAtEnd, all_handed_out}
 use Rattle.verifier_threads.proofs.RunningLemmas.{one_host, host_same}
 use Rattle.verifier_threads.proofs.PassingLemmas.{ok_any, ok_four, err_any, err_then, runs-behind, runs-led, runs-cut, runs-certified, runs-cut_lines}
-use Rattle.verifier_threads.proofs.PhaseLemmas.{moved, at-end, at-phase, over_at}
+use Rattle.verifier_threads.proofs.PhaseLemmas.{moved, at-end, at-phase, over_at, none-first}
 use Rattle.verifier_threads.proofs.runner.Runner.close_epoch.Goals as goal
 
 pub close_phase-requires : goal.close_phase-requires
@@ -134,3 +134,11 @@ returns-clause-cut g c = λ outputs runs held written.
 
 pub returns-clause-host : goal.returns-clause-host
 returns-clause-host g c = one_host c.args.self.now.world c.close_phase.new.world c.pass_on.new.self.world c.close_phase.ensures.host c.pass_on.ensures.host
+
+pub returns-in_err-pass_on-clause-kept : goal.returns-in_err-pass_on-clause-kept
+returns-in_err-pass_on-clause-kept g c = λ none'.
+    (none-first c.args.self.now.end c.in_ok-end.end (sym (c.pass_on.ensures.end ∙ c.earlier_end-self.ensures.value) ∙ none')).0
+
+pub returns-clause-kept : goal.returns-clause-kept
+returns-clause-kept g c = λ none'.
+    (none-first c.args.self.now.end c.in_ok-end.end (sym (c.pass_on.ensures.end ∙ c.earlier_end-self.ensures.value) ∙ none')).0
