@@ -15,7 +15,9 @@ use Rattle.report_text.specs.declared.ending.BundleEnd.{BundleEnd}
 use Rattle.report_text.specs.declared.ending.BundleEnd.TheVariants.{Done}
 use Rattle.report_text.specs.Ending.{status_of}
 use Rattle.report_text.specs.Status.{last_line}
+use Rattle.merkle_records.specs.Scheme.{scheme_of}
 use Rattle.bundle_report.specs.Logs.{empty_logs}
+use Rattle.bundle_report.proofs.DueLaws.{lines-due}
 use Rattle.host_core.specs.Host.{Host}
 use Rattle.host_core.specs.World.{Worker, World, logs_of, set_up, idle, fresh, worker_at}
 use Rattle.host_core.specs.WorldEvent.{WorldEvent, AreEnabled, HasAdvanced, run_events}
@@ -117,6 +119,9 @@ turns-script verifiers (tasks ∷ script) (suc phase) are = turns-script verifie
 
 -- ---- the end
 
+pub done-same : (a b : ℕ) → Done a ≡ Done b → a ≡ b
+done-same a b is = cc
+
 -- what a check makes of the logs of a whole run
 abbrev pub ChecksAsDone : Type 0
 ChecksAsDone = (functions : DigestFunctions) (settings : Settings) (script : List (List Task)) (events : List (WorldEvent Request))
@@ -163,10 +168,20 @@ module _ (functions : DigestFunctions) (settings : Settings) (script : List (Lis
       (subst (λ (w : World Content). (i : ℕ) → i < length w.workers → HasAdvanced own_host w i 2) way.is whole.closed.advanced)
       ∙ ap (λ (n : ℕ). Done n) (ap (λ (w : World Content). suc w.phase) (sym way.is) ∙ at.last none' ∙ length-map script (map turn_of))
 
-  module _ (all : AllCounted functions settings.header (texts_of running.logs) rounds) (counted : lines_counted functions settings.header (texts_of running.logs) rounds ≡ lines_due functions settings.header (texts_of running.logs)) where
+  -- so the last line says
+  pub ended-line : ChecksAsDone → GivesDigests functions.digest → end ≡ None
+      → last_line (status_of (end_due functions settings.header (texts_of running.logs))) ≡ last_line (status_at (end_by (length script) end))
+  ended-line checks digests none' =
+      ap (λ (e : BundleEnd). last_line (status_of e)) (ended-due checks digests none')
+      ∙ ap (λ (e : Option ClockEnd). last_line (status_at (end_by (length script) e))) (sym none')
+
+  module _ (all : AllCounted functions settings.header (texts_of running.logs) rounds) where
     -- all that is due is written
     due-written : Grows outputs.out outputs.out_after (lines_due functions settings.header (texts_of running.logs))
-    due-written = subst (Grows outputs.out outputs.out_after) counted running.written
+    due-written =
+        subst (Grows outputs.out outputs.out_after)
+        (lines-due (scheme_of functions settings.header) settings.header (texts_of running.logs) rounds.judged (map (λ fed. fed.run) rounds.runs) running.keeps.runs.taken all)
+        running.written
 
     -- the last line is written
     pub ended-served : (out' : Option (List ℕ)) (result : RunEnd) → result ≡ end_by (length script) end
