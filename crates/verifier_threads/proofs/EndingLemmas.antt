@@ -3,7 +3,7 @@ use Rattle.std.proofs.Common.{◌≡◌, ◌^◌, ◌-◌, ℕ, zero, suc, ◌<�
 use Rattle.std.specs.List.{AllByRecursion}
 use Rattle.std.proofs.lemmas.List.{length-map, length-replicate}
 use Rattle.fv_outside.specs.Written.{Grows, GrowsByFront}
-use Rattle.fv_outside.proofs.WrittenLaws.{Grows-nil, Grows-then, GrowsByFront-then}
+use Rattle.fv_outside.proofs.WrittenLaws.{Grows-nil, Grows-then, GrowsByFront-none, GrowsByFront-then}
 use Rattle.record_hash.specs.Functions.{DigestFunctions}
 use Rattle.record_text.specs.declared.request.Request.{Request}
 use Rattle.record_text.specs.Format.{short_keys}
@@ -17,6 +17,7 @@ use Rattle.report_text.specs.Ending.{status_of}
 use Rattle.report_text.specs.Status.{last_line}
 use Rattle.merkle_records.specs.Scheme.{scheme_of}
 use Rattle.bundle_report.specs.Logs.{empty_logs}
+use Rattle.bundle_report.specs.Answer.{check_answer}
 use Rattle.bundle_report.proofs.DueLaws.{lines-due}
 use Rattle.host_core.specs.Host.{Host}
 use Rattle.host_core.specs.World.{Worker, World, logs_of, set_up, idle, fresh, worker_at}
@@ -26,9 +27,11 @@ use Rattle.script_text.specs.declared.task.Task.{Task}
 use Rattle.script_text.specs.Text.{AreTasks, IsTask}
 use Rattle.host_world.specs.declared.fault.ClockEnd.{ClockEnd}
 use Rattle.host_world.specs.declared.settings.Settings.{Settings}
+use Rattle.host_world.specs.declared.world.World as code
+use Rattle.host_world.specs.Shown.{shown_world, requests_of}
 use Rattle.host_world.specs.ShippedHost.{shipped_host, turn_of}
 use Rattle.host_world.specs.Settings.{IsSettings}
-use Rattle.host_world.specs.Behind.{AreInRange, before_each, with_logs}
+use Rattle.host_world.specs.Behind.{AreInRange, AreOfOneHost, before_each, with_logs}
 use Rattle.host_world.proofs.FrontLaws.{before_each-none}
 use Rattle.host_fits.specs.Promise.{CanRun}
 use Rattle.host_serving.specs.Leading.{Leads, CanDoNoMore}
@@ -37,9 +40,11 @@ use Rattle.host_serving.proofs.LeadingLaws.{leads-none}
 use Rattle.host_rounds.specs.SoFar.{RunsSoFar, Keeps, AllCounted, lines_counted, lines_due, end_due}
 use Rattle.host_rounds.proofs.RoundLaws.{counted-none}
 use Rattle.verifier_threads.specs.declared.ending.RunEnd.{RunEnd}
+use Rattle.verifier_threads.specs.declared.runner.Runner.{Runner}
 use Rattle.verifier_threads.specs.declared.ending.RunEnd.TheVariants as ends
-use Rattle.verifier_threads.specs.Serving.{Outputs, AreServed, AreOfRun, IsServed, IsCutAtEnd, end_by, status_at, report_of, texts_of}
-use Rattle.verifier_threads.specs.Running.{IsRunning, IsAtPhase, IsAtEnd}
+use Rattle.verifier_threads.specs.Serving.{Outputs, AreServed, AreOfRun, IsServed, IsCutOff, IsCutAtEnd, end_by, status_at, report_of, texts_of}
+use Rattle.verifier_threads.specs.Running.{IsRunning, Runs, IsAtPhase, IsAtEnd}
+use Rattle.verifier_threads.proofs.RunningLemmas.{running-workers}
 use Rattle.verifier_threads.proofs.HandingLemmas.{front-logs}
 use Rattle.verifier_threads.proofs.StandingLemmas.{all_with, rests_with}
 
@@ -206,3 +211,40 @@ module _ (functions : DigestFunctions) (settings : Settings) (script : List (Lis
       vault = running.keeps.vault;
       out = GrowsByFront-then outputs.out outputs.out_after out' (lines_due functions settings.header (texts_of running.logs)) (last_line (status_at (end_by (length script) end))) due-written written;
     }
+
+-- ---- before the first phase
+
+-- a front of something is in the vault, and nothing is written
+pub opening-cut : (functions : DigestFunctions) (vault vault_after out : Option (List ℕ)) (text : List ℕ) → GrowsByFront vault vault_after text
+    → IsCutOff functions (record { vault = vault; vault_after = vault_after; out = out; out_after = out })
+opening-cut functions vault vault_after out text grown = record {
+  bytes = grown.front;
+  vault = grown.grown;
+  out = GrowsByFront-none out (check_answer functions grown.front).due;
+}
+
+-- as many workers as verifiers
+pub set_up-count : (settings : Settings) (host : Host Content Request) (world : World Content) → IsSettings settings → host.header ≡ settings.header → world ≡ set_up host
+    → length world.workers ≡ settings.header.verifiers
+set_up-count settings host world fit same is =
+    ap (λ (w : World Content). length w.workers) is
+    ∙ ap suc (length-replicate (host.header.verifiers - 1) (fresh host.header))
+    ∙ ap (λ (header : Header). suc (header.verifiers - 1)) same
+    ∙ (let some = fit.header.some_verifiers in omega arith)
+
+-- ---- from phase to phase
+
+-- each turn of a phase is one of the workers', also of a world further on
+pub turns-now : {D : Type 0} (old now : code.World D) (phase : ℕ) → AreOfOneHost old now → AreTasks old.settings.header.verifiers (requests_of old)
+    → length now.workers.items ≡ now.settings.header.verifiers
+    → AllByRecursion (λ turn. turn.0 < length now.workers.items) (get_or (map (map turn_of) (requests_of now)) phase [])
+turns-now old now phase same tasks count =
+    subst (λ (n : ℕ). AllByRecursion (λ turn. turn.0 < n) (get_or (map (map turn_of) (requests_of now)) phase [])) (sym count)
+    (turns-script now.settings.header.verifiers (requests_of now) phase
+    (subst (λ (settings : Settings). AreTasks settings.header.verifiers (requests_of now)) (sym same.settings)
+    (subst (AreTasks old.settings.header.verifiers) (sym same.requests) tasks)))
+
+-- as many workers as verifiers, where the run goes on
+pub runs-workers : {D : Type 0} (functions : D → DigestFunctions) (runner : Runner D) (outputs : Outputs) → Runs functions runner outputs
+    → length runner.world.workers.items ≡ runner.world.settings.header.verifiers
+runs-workers functions runner outputs runs = running-workers _ _ _ (shown_world runner.world) runner.rounds runner.end outputs runs.running
