@@ -102,6 +102,13 @@ module _ {D : Type 0} (functions : D → DigestFunctions) (old : Runner D) (outp
     behind = running-behind _ _ _ (shown_world old.world) old.rounds old.end outputs runs.running;
   })
 
+  -- by other names of what is held
+  pub runs-at : (vault out : Option (List ℕ)) → outputs.vault_after ≡ vault → outputs.out_after ≡ out
+      → Runs functions old (record outputs { vault_after = vault; out_after = out })
+  runs-at vault out vault_is out_is =
+      subst (λ (o : Option (List ℕ)). Runs functions old (record outputs { vault_after = vault; out_after = o })) out_is
+      (subst (λ (v : Option (List ℕ)). Runs functions old (record outputs { vault_after = v })) vault_is runs)
+
   -- events lead its world on
   pub runs-led : (world : code.World D) (next end : Option ClockEnd) → AreOfOneHost old.world world
       → Leads host_now (shown_world old.world) (shown_world world) next → end ≡ first_of old.end next

@@ -1,5 +1,5 @@
 -- A run goes on: events lead on, logs are handed out, and where it stops it is cut off.
-use Rattle.std.proofs.Common.{◌≡◌, ◌⊎◌, inl, inr, ℕ, suc, ◌<◌, ◌≤◌, List, [], ◌∷◌, ◌++◌, length, map, Option, Some, None, Result, Ok, Err, refl, sym, ◌∙◌, ap, subst, arith}
+use Rattle.std.proofs.Common.{◌≡◌, ◌⊎◌, inl, inr, ℕ, suc, ◌<◌, ◌≤◌, List, [], ◌∷◌, ◌++◌, length, map, Option, Some, None, Result, Ok, Err, IfOk, OnErr, refl, sym, ◌∙◌, ap, subst, arith}
 use Rattle.std.proofs.lemmas.List.{length-map, append-nil}
 use Rattle.fv_outside.specs.Written.{Grows, GrowsByFront}
 use Rattle.fv_outside.proofs.WrittenLaws.{Grows-then, GrowsByFront-whole, GrowsByFront-more, GrowsByFront-none}
@@ -31,7 +31,7 @@ use Rattle.host_rounds.specs.Bundle.{IsBundle, HasBundle}
 use Rattle.host_rounds.specs.SoFar.{RunsSoFar, Keeps, HaveRun, HaveRunSome, lines_counted, lines_due}
 use Rattle.host_rounds.proofs.RoundLaws.{counted-front, logs_with-none}
 use Rattle.verifier_threads.specs.declared.ending.RunEnd.{RunEnd}
-use Rattle.verifier_threads.specs.Serving.{Outputs, IsCutOff, IsCutAtEnd, ServesTo, texts_of}
+use Rattle.verifier_threads.specs.Serving.{Outputs, IsServed, IsCutOff, IsCutAtEnd, ServesTo, texts_of}
 use Rattle.verifier_threads.specs.Running.{IsRunning, all_handed_out, logged_with, with_no_log}
 use Rattle.verifier_threads.proofs.HandingLemmas.{logged_with-length, logged_with-texts, with_logs-handed}
 
@@ -169,3 +169,15 @@ ends-so functions settings script stop outputs is cut =
 
 pub stop-is : {A : Type 0} (result : Result A RoundStop) (stop : RoundStop) → result ≡ Err stop → result ≡ Err stops.WriteFault → stop ≡ stops.WriteFault
 stop-is result stop is fault = cc
+
+-- a run that came to its end ends so
+pub finishes-so : (functions : DigestFunctions) (settings : Settings) (script : List (List Task)) (result : Result RunEnd RoundStop) (outputs : Outputs)
+    → IfOk result (λ end. IsServed functions settings script end outputs) → OnErr result (IsCutAtEnd functions settings script outputs)
+    → OnErr result (result ≡ Err stops.WriteFault) → ServesTo functions settings script result outputs
+finishes-so functions settings script (Ok end) outputs served cut stop = served
+finishes-so functions settings script (Err fault) outputs served cut stop =
+    ends-so functions settings script fault outputs (stop-is {A = RunEnd} (Err fault) fault refl stop) cut
+
+-- what is said of the one host's world is said of the other's
+pub host-back : {D : Type 0} (a b : code.World D) → AreOfOneHost a b → AreOfOneHost b a
+host-back a b same = record { settings = sym same.settings; requests = sym same.requests; digests = sym same.digests }

