@@ -9,7 +9,8 @@ ghost use Rattle.report_text.specs.Ending.{status_of};
 ghost use Rattle.report_text.specs.Status.{last_line};
 ghost use Rattle.bundle_frames.specs.Bundle.{header_text};
 ghost use Rattle.bundle_report.specs.Logs.{empty_logs};
-ghost use Rattle.host_rounds.specs.Round.{logs_with};
+ghost use Rattle.host_log.specs.Frames.{pieces_text};
+ghost use Rattle.host_rounds.specs.Round.{logs_with, pieces_of};
 ghost use Rattle.host_rounds.specs.Bundle.{HasFront};
 ghost use Rattle.host_rounds.specs.SoFar.{RunsSoFar, HaveRun, HaveRunSome, Keeps, AllCounted, lines_counted, lines_due, end_due};
 
@@ -95,7 +96,9 @@ impl Rounds {
             → OnOk result (lines_counted functions header (logs_with before logs.now) self.new ≡ lines_counted functions header before self.old) }
         ensures runs { OnOk result (length self.new.runs ≡ length self.old.runs) }
 
-        // Where it stops, the vault has a front of their bundle; at want of memory that may be the whole.
+        // Where it stops, the vault has a front of their bundle; at want of memory that may be the whole. What it had before
+        // stays, in any case.
+        ensures grown { GrowsByFront (V.held vault.old) (V.held vault.new) (pieces_text (pieces_of 0 logs.now)) }
         ensures front { (header : Header) (before : List (List ℕ)) (held : Option (List ℕ))
             → Keeps (D.functions d.now) header before self.old held (V.held vault.old)
             → OnErr result (HasFront header (logs_with before logs.now) held (V.held vault.new)) }

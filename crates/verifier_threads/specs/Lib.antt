@@ -1,4 +1,5 @@
 -- How a script is served, up to its report, in reading order.
 pub mod Serving
+pub mod Running
 pub use Rattle.host_serving.specs
 pub use Rattle.host_rounds.specs as host_rounds_specs

@@ -6,5 +6,11 @@
 #![tactic(auto)]
 
 mod ending;
+mod handing;
+mod laws;
+mod runner;
+mod serving;
+mod stand_ins;
 
 pub use ending::RunEnd;
+pub use serving::serve_script;

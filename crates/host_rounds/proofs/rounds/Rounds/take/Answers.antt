@@ -29,6 +29,10 @@ returns-then-is_err-clause-front g c = λ header before held keeps.
           (err_holds _ c.write_round.result (sym c.is_err.ensures.value ∙ c.if-is_err.true) c.write_round.ensures.front);
     }
 
+pub returns-then-is_err-clause-grown : goal.returns-then-is_err-clause-grown
+returns-then-is_err-clause-grown g c =
+    err_holds _ c.write_round.result (sym c.is_err.ensures.value ∙ c.if-is_err.true) c.write_round.ensures.front
+
 pub feed_all-requires-clause-few : goal.feed_all-requires-clause-few
 feed_all-requires-clause-few g c =
     let inside = c.self.inside in
@@ -51,6 +55,14 @@ returns-in_err-feed_all-clause-front g c = λ header before held keeps.
           (Grows-then held _ _ keeps.vault.bytes text keeps.vault.grown
           (ok_holds _ c.write_round.result (sym c.is_err.ensures.value ∙ c.if-is_err.false) c.write_round.ensures.whole));
     })
+
+pub returns-in_err-feed_all-clause-grown : goal.returns-in_err-feed_all-clause-grown
+returns-in_err-feed_all-clause-grown g c =
+    GrowsByFront-whole _ _ _ (ok_holds _ c.write_round.result (sym c.is_err.ensures.value ∙ c.if-is_err.false) c.write_round.ensures.whole)
+
+pub returns-clause-grown : goal.returns-clause-grown
+returns-clause-grown g c =
+    GrowsByFront-whole _ _ _ (ok_holds _ c.write_round.result (sym c.is_err.ensures.value ∙ c.if-is_err.false) c.write_round.ensures.whole)
 
 pub returns-clause-keeps : goal.returns-clause-keeps
 returns-clause-keeps g c = λ header before held keeps.

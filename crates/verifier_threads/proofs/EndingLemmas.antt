@@ -1,0 +1,250 @@
+-- Where a run ends: what is served, and what its report says.
+use Rattle.std.proofs.Common.{◌≡◌, ◌^◌, ◌-◌, ℕ, zero, suc, ◌<◌, ◌≤◌, false, List, [], ◌∷◌, ◌++◌, length, map, get_or, replicate, Option, Some, None, inl, inr, refl, sym, ◌∙◌, ap, subst, arith}
+use Rattle.std.specs.List.{AllByRecursion}
+use Rattle.std.proofs.lemmas.List.{length-map, length-replicate}
+use Rattle.fv_outside.specs.Written.{Grows, GrowsByFront}
+use Rattle.fv_outside.proofs.WrittenLaws.{Grows-nil, Grows-then, GrowsByFront-none, GrowsByFront-then}
+use Rattle.record_hash.specs.Functions.{DigestFunctions}
+use Rattle.record_text.specs.declared.request.Request.{Request}
+use Rattle.record_text.specs.Format.{short_keys}
+use Rattle.lamport_clocks.specs.declared.header.Header.{Header}
+use Rattle.log_codec.specs.declared.command.Command.{Command}
+use Rattle.log_codec.specs.Log.{log_text}
+use Rattle.merkle_records.specs.Merkle.{GivesDigests}
+use Rattle.report_text.specs.declared.ending.BundleEnd.{BundleEnd}
+use Rattle.report_text.specs.declared.ending.BundleEnd.TheVariants.{Done}
+use Rattle.report_text.specs.Ending.{status_of}
+use Rattle.report_text.specs.Status.{last_line}
+use Rattle.merkle_records.specs.Scheme.{scheme_of}
+use Rattle.bundle_report.specs.Logs.{empty_logs}
+use Rattle.bundle_report.specs.Answer.{check_answer}
+use Rattle.bundle_report.proofs.DueLaws.{lines-due}
+use Rattle.host_core.specs.Host.{Host}
+use Rattle.host_core.specs.World.{Worker, World, logs_of, set_up, idle, fresh, worker_at}
+use Rattle.host_core.specs.WorldEvent.{WorldEvent, AreEnabled, HasAdvanced, run_events}
+use Rattle.host_shard.specs.Content.{Content}
+use Rattle.script_text.specs.declared.task.Task.{Task}
+use Rattle.script_text.specs.Text.{AreTasks, IsTask}
+use Rattle.host_world.specs.declared.fault.ClockEnd.{ClockEnd}
+use Rattle.host_world.specs.declared.settings.Settings.{Settings}
+use Rattle.host_world.specs.declared.world.World as code
+use Rattle.host_world.specs.Shown.{shown_world, requests_of}
+use Rattle.host_world.specs.ShippedHost.{shipped_host, turn_of}
+use Rattle.host_world.specs.Settings.{IsSettings}
+use Rattle.host_world.specs.Behind.{AreInRange, AreOfOneHost, before_each, with_logs}
+use Rattle.host_world.proofs.FrontLaws.{before_each-none}
+use Rattle.host_fits.specs.Promise.{CanRun}
+use Rattle.host_serving.specs.Leading.{Leads, CanDoNoMore}
+use Rattle.host_serving.specs.Standing.{HasServedUpTo, IsServedUpTo, NoneStopped, IsAllServed, turns_of, asked_by}
+use Rattle.host_serving.proofs.LeadingLaws.{leads-none}
+use Rattle.host_rounds.specs.SoFar.{RunsSoFar, Keeps, AllCounted, lines_counted, lines_due, end_due}
+use Rattle.host_rounds.proofs.RoundLaws.{counted-none}
+use Rattle.verifier_threads.specs.declared.ending.RunEnd.{RunEnd}
+use Rattle.verifier_threads.specs.declared.runner.Runner.{Runner}
+use Rattle.verifier_threads.specs.declared.ending.RunEnd.TheVariants as ends
+use Rattle.verifier_threads.specs.Serving.{Outputs, AreServed, AreOfRun, IsServed, IsCutOff, IsCutAtEnd, end_by, status_at, report_of, texts_of}
+use Rattle.verifier_threads.specs.Running.{IsRunning, Runs, IsAtPhase, IsAtEnd}
+use Rattle.verifier_threads.proofs.RunningLemmas.{running-workers}
+use Rattle.verifier_threads.proofs.HandingLemmas.{front-logs}
+use Rattle.verifier_threads.proofs.StandingLemmas.{all_with, rests_with}
+
+-- ---- the setup
+
+texts-none : (count : ℕ) → texts_of (replicate count []) ≡ empty_logs count
+texts-none zero = refl
+texts-none (suc count) = ap (λ (rest : List (List ℕ)). [] ∷ rest) (texts-none count)
+
+get-replicate : {A : Type 0} (count i : ℕ) (x : A) → get_or (replicate count x) i x ≡ x
+get-replicate zero i x = refl
+get-replicate (suc count) zero x = refl
+get-replicate (suc count) (suc i) x = get-replicate count i x
+
+module _ {C R : Type 0} (host : Host C R) where
+  -- each worker holds nothing, and has served nothing
+  new_worker : (i : ℕ) → HasServedUpTo (worker_at host (set_up host) i) 0
+  new_worker zero = record { idle = refl; going = refl; served = inr (refl, refl) }
+  new_worker (suc i) =
+      let is : worker_at host (set_up host) (suc i) ≡ fresh host.header = get-replicate (host.header.verifiers - 1) i (fresh host.header) in
+      subst (λ (w : Worker). HasServedUpTo w 0) (sym is) (record { idle = refl; going = refl; served = inr (refl, refl) })
+
+  new_running : (i : ℕ) → (worker_at host (set_up host) i).stopped ≡ false
+  new_running zero = refl
+  new_running (suc i) = ap (λ (w : Worker). w.stopped) (get-replicate (host.header.verifiers - 1) i (fresh host.header))
+
+  -- so the first phase begins
+  pub set_up-begins : 0 < length host.script → IsAtPhase host (set_up host) None
+  set_up-begins some = record {
+    begins = record { going = refl; phase = refl; within = some; each = λ i there. new_worker i };
+    running = λ i there. new_running i;
+    unended = refl;
+  }
+
+-- a world that is set up, of settings that suffice
+pub record IsRunningFrom (functions : DigestFunctions) (settings : Settings) (script : List (List Task)) (world : World Content) : Type 0 where
+  pub settings_fit : IsSettings settings
+  pub counters : settings.shards ≤ settings.header.end
+  pub keys : AreInRange script
+  pub is : world ≡ set_up (shipped_host functions settings script)
+  pub count : length world.workers ≡ settings.header.verifiers
+
+-- the run before its first phase
+pub running-new : (functions : DigestFunctions) (settings : Settings) (script : List (List Task)) (world : World Content) (rounds : RunsSoFar) (vault vault_after out : Option (List ℕ))
+    → IsRunningFrom functions settings script world → Keeps functions settings.header (empty_logs settings.header.verifiers) rounds vault vault_after
+    → rounds.judged.count ≡ 0
+    → IsRunning functions settings script world rounds None (record { vault = vault; vault_after = vault_after; out = out; out_after = out })
+running-new functions settings script world rounds vault vault_after out from keeps none' =
+    let host = shipped_host functions settings script in
+    let logs = replicate settings.header.verifiers [] in
+    let texts = texts-none settings.header.verifiers in
+    record {
+      settings_fit = from.settings_fit;
+      counters = from.counters;
+      keys = from.keys;
+      logs = logs;
+      each = length-replicate settings.header.verifiers [] ∙ sym from.count;
+      way = subst (λ (w : World Content). Leads host (set_up host) w None)
+          (sym (ap (λ (workers : List Worker). record world { workers = workers }) (before_each-none settings.header.verifiers world.workers) ∙ from.is))
+          (leads-none host (set_up host));
+      keeps = subst (λ (all : List (List ℕ)). Keeps functions settings.header all rounds vault vault_after) (sym texts) keeps;
+      written = subst (Grows out out) (sym (counted-none functions settings.header (texts_of logs) rounds none')) (Grows-nil out);
+    }
+
+-- ---- the script's turns
+
+-- each turn is one of the workers'
+turns-phase : (verifiers : ℕ) (tasks : List Task) → AllByRecursion (IsTask verifiers) tasks → AllByRecursion (λ turn. turn.0 < verifiers) (map turn_of tasks)
+turns-phase verifiers [] are = tt
+turns-phase verifiers (task ∷ tasks) are = (are.0.worker, turns-phase verifiers tasks are.1)
+
+pub turns-script : (verifiers : ℕ) (script : List (List Task)) (phase : ℕ) → AreTasks verifiers script
+    → AllByRecursion (λ turn. turn.0 < verifiers) (get_or (map (map turn_of) script) phase [])
+turns-script verifiers [] phase are = tt
+turns-script verifiers (tasks ∷ script) zero are = turns-phase verifiers tasks are.0
+turns-script verifiers (tasks ∷ script) (suc phase) are = turns-script verifiers script phase are.1
+
+-- ---- the end
+
+pub done-same : (a b : ℕ) → Done a ≡ Done b → a ≡ b
+done-same a b is = cc
+
+-- what a check makes of the logs of a whole run
+abbrev pub ChecksAsDone : Type 0
+ChecksAsDone = (functions : DigestFunctions) (settings : Settings) (script : List (List Task)) (events : List (WorldEvent Request))
+    → CanRun functions settings script → settings.header.first < 4294967296
+    → let host = shipped_host functions settings script in
+    AreEnabled host (set_up host) events
+    → ((i : ℕ) → i < length (run_events host (set_up host) events).workers → HasAdvanced host (run_events host (set_up host) events) i 2)
+    → end_due host.functions host.header (texts_of (logs_of (run_events host (set_up host) events)))
+    ≡ Done (suc (run_events host (set_up host) events).phase)
+
+module _ (functions : DigestFunctions) (settings : Settings) (script : List (List Task)) (world : World Content) (rounds : RunsSoFar)
+    (end : Option ClockEnd) (outputs : Outputs) (running : IsRunning functions settings script world rounds end outputs)
+    (at : IsAtEnd (shipped_host functions settings script) world end) where
+  abbrev own_host : Host Content Request
+  own_host = shipped_host functions settings script
+
+  abbrev all_logged : World Content
+  all_logged = with_logs running.logs world
+
+  logs-are : running.logs ≡ logs_of all_logged
+  logs-are = front-logs running.logs world.workers running.each at.handed
+
+  pub ended-run : AreOfRun functions settings script running.logs end
+  ended-run = record {
+    served = λ enough. record {
+      world = all_logged;
+      way = running.way;
+      rests = rests_with own_host running.logs world at.rests;
+      logs_are = logs-are;
+      whole = λ none'. all_with own_host running.logs world (at.whole none');
+    };
+    unserved = λ short. absurd (omega (arith, short, running.counters));
+  }
+
+  -- all epochs are certified where no clock ended
+  pub ended-due : ChecksAsDone → GivesDigests functions.digest → end ≡ None
+      → end_due functions settings.header (texts_of running.logs) ≡ Done (length script)
+  ended-due checks digests none' =
+      let way = running.way in
+      let can : CanRun functions settings script = record { in_range = running.settings_fit; counters = running.counters; keys = running.keys; digests = digests } in
+      let whole = all_with own_host running.logs world (at.whole none') in
+      ap (λ (logs : List (List Command)). end_due functions settings.header (texts_of logs)) (logs-are ∙ ap logs_of way.is)
+      ∙ checks functions settings script way.events can running.keeps.vault.is_bundle.first way.enabled
+      (subst (λ (w : World Content). (i : ℕ) → i < length w.workers → HasAdvanced own_host w i 2) way.is whole.closed.advanced)
+      ∙ ap (λ (n : ℕ). Done n) (ap (λ (w : World Content). suc w.phase) (sym way.is) ∙ at.last none' ∙ length-map script (map turn_of))
+
+  -- so the last line says
+  pub ended-line : ChecksAsDone → GivesDigests functions.digest → end ≡ None
+      → last_line (status_of (end_due functions settings.header (texts_of running.logs))) ≡ last_line (status_at (end_by (length script) end))
+  ended-line checks digests none' =
+      ap (λ (e : BundleEnd). last_line (status_of e)) (ended-due checks digests none')
+      ∙ ap (λ (e : Option ClockEnd). last_line (status_at (end_by (length script) e))) (sym none')
+
+  module _ (all : AllCounted functions settings.header (texts_of running.logs) rounds) where
+    -- all that is due is written
+    due-written : Grows outputs.out outputs.out_after (lines_due functions settings.header (texts_of running.logs))
+    due-written =
+        subst (Grows outputs.out outputs.out_after)
+        (lines-due (scheme_of functions settings.header) settings.header (texts_of running.logs) rounds.judged (map (λ fed. fed.run) rounds.runs) running.keeps.runs.taken all)
+        running.written
+
+    -- the last line is written
+    pub ended-served : (out' : Option (List ℕ)) (result : RunEnd) → result ≡ end_by (length script) end
+        → Grows outputs.out_after out' (last_line (status_at result))
+        → IsServed functions settings script result (record outputs { out_after = out' })
+    ended-served out' result is written = record {
+      logs = running.logs;
+      end = end;
+      run = ended-run;
+      is = is;
+      vault = running.keeps.vault;
+      out = Grows-then outputs.out outputs.out_after out' (lines_due functions settings.header (texts_of running.logs)) (last_line (status_at result)) due-written written;
+    }
+
+    -- or a front of it
+    pub ended-cut : (out' : Option (List ℕ)) → GrowsByFront outputs.out_after out' (last_line (status_at (end_by (length script) end)))
+        → IsCutAtEnd functions settings script (record outputs { out_after = out' })
+    ended-cut out' written = record {
+      logs = running.logs;
+      end = end;
+      run = ended-run;
+      vault = running.keeps.vault;
+      out = GrowsByFront-then outputs.out outputs.out_after out' (lines_due functions settings.header (texts_of running.logs)) (last_line (status_at (end_by (length script) end))) due-written written;
+    }
+
+-- ---- before the first phase
+
+-- a front of something is in the vault, and nothing is written
+pub opening-cut : (functions : DigestFunctions) (vault vault_after out : Option (List ℕ)) (text : List ℕ) → GrowsByFront vault vault_after text
+    → IsCutOff functions (record { vault = vault; vault_after = vault_after; out = out; out_after = out })
+opening-cut functions vault vault_after out text grown = record {
+  bytes = grown.front;
+  vault = grown.grown;
+  out = GrowsByFront-none out (check_answer functions grown.front).due;
+}
+
+-- as many workers as verifiers
+pub set_up-count : (settings : Settings) (host : Host Content Request) (world : World Content) → IsSettings settings → host.header ≡ settings.header → world ≡ set_up host
+    → length world.workers ≡ settings.header.verifiers
+set_up-count settings host world fit same is =
+    ap (λ (w : World Content). length w.workers) is
+    ∙ ap suc (length-replicate (host.header.verifiers - 1) (fresh host.header))
+    ∙ ap (λ (header : Header). suc (header.verifiers - 1)) same
+    ∙ (let some = fit.header.some_verifiers in omega arith)
+
+-- ---- from phase to phase
+
+-- each turn of a phase is one of the workers', also of a world further on
+pub turns-now : {D : Type 0} (old now : code.World D) (phase : ℕ) → AreOfOneHost old now → AreTasks old.settings.header.verifiers (requests_of old)
+    → length now.workers.items ≡ now.settings.header.verifiers
+    → AllByRecursion (λ turn. turn.0 < length now.workers.items) (get_or (map (map turn_of) (requests_of now)) phase [])
+turns-now old now phase same tasks count =
+    subst (λ (n : ℕ). AllByRecursion (λ turn. turn.0 < n) (get_or (map (map turn_of) (requests_of now)) phase [])) (sym count)
+    (turns-script now.settings.header.verifiers (requests_of now) phase
+    (subst (λ (settings : Settings). AreTasks settings.header.verifiers (requests_of now)) (sym same.settings)
+    (subst (AreTasks old.settings.header.verifiers) (sym same.requests) tasks)))
+
+-- as many workers as verifiers, where the run goes on
+pub runs-workers : {D : Type 0} (functions : D → DigestFunctions) (runner : Runner D) (outputs : Outputs) → Runs functions runner outputs
+    → length runner.world.workers.items ≡ runner.world.settings.header.verifiers
+runs-workers functions runner outputs runs = running-workers _ _ _ (shown_world runner.world) runner.rounds runner.end outputs runs.running

@@ -1,0 +1,9 @@
+-- What the proofs of this crate rest on.
+mod DueLemmas
+mod HandingLemmas
+mod StandingLemmas
+mod RunningLemmas
+mod PassingLemmas
+mod PhaseLemmas
+mod EndingLemmas
+mod NothingLemmas

@@ -1,0 +1,122 @@
+-- Where a phase and a close leave a run.
+use Rattle.std.proofs.Common.{◌≡◌, ◌⊎◌, inl, inr, ◌↔◌, ℕ, zero, suc, ◌<◌, ◌≤◌, Bool, true, false, List, [], ◌∷◌, length, map, get_or, replicate, Option, Some, None, IfSome, refl, sym, ◌∙◌, ap, subst, arith}
+use Rattle.std.proofs.lemmas.Bool.{false≢true}
+use Rattle.host_core.specs.Host.{Host}
+use Rattle.host_core.specs.World.{Worker, World, worker_at}
+use Rattle.host_core.specs.WorldEvent.{IsLast}
+use Rattle.host_world.specs.declared.fault.ClockEnd.{ClockEnd}
+use Rattle.host_serving.specs.Leading.{first_of, CanDoNoMore}
+use Rattle.host_serving.specs.Standing.{IsServedUpTo, IsServedOut, NoneStopped, SomeStopped, IsClosed, IsAllServed}
+use Rattle.verifier_threads.specs.Running.{all_handed_out, IsAtPhase, IsAtClose, IsAtEnd}
+use Rattle.verifier_threads.proofs.HandingLemmas.{handed-none}
+use Rattle.verifier_threads.proofs.StandingLemmas.{phase_handed, all_handed, rests_handed}
+
+-- what holds of a host, a world and an end holds of the same under other names
+pub moved : {C R : Type 0} (P : Host C R → World C → Option ClockEnd → Type 0) (h h' : Host C R) (w w' : World C) (e e' : Option ClockEnd)
+    → h' ≡ h → w' ≡ w → e' ≡ e → P h w e → P h' w' e'
+moved {C} {R} P h h' w w' e e' host world end holds =
+    subst (λ (k : Host C R). P k w' e') (sym host) (subst (λ (v : World C). P h v e') (sym world) (subst (λ (f : Option ClockEnd). P h w f) (sym end) holds))
+
+-- where there is no first of two ends, there is neither
+pub none-first : (a b : Option ClockEnd) → first_of a b ≡ None → (a ≡ None) × (b ≡ None)
+none-first None b is = (refl, is)
+none-first (Some end) b is = absurd (cc)
+
+-- one of two facts, the first by what follows from it
+pub plus-both : {P Q R : Type 0} → P ⊎ R → (P → Q) → Q ⊎ R
+plus-both (inl p) f = inl (f p)
+plus-both (inr r) f = inr r
+
+-- whether it is over, by another name of the end
+pub over_at : (last : Bool) (e e' : Option ClockEnd) → e ≡ e' → (last ≡ true) ⊎ (e ≡ None → ⊥) → (last ≡ true) ⊎ (e' ≡ None → ⊥)
+over_at last e e' is (inl it) = inl it
+over_at last e e' is (inr ended) = inr (λ none'. ended (is ∙ none'))
+
+-- the close is the last at the script's end, and where a clock ended
+pub closes-last : {C R : Type 0} (host : Host C R) (world : World C) (end : Option ClockEnd) (at_end last : Bool) → IsAtClose host world end
+    → (at_end ≡ true) ↔ (length host.script ≤ suc world.phase) → (at_end ≡ true → last ≡ true) → ((end ≡ None → ⊥) → last ≡ true)
+    → (at_end ≡ false → end ≡ None → last ≡ false) → (last ≡ true) ↔ IsLast host world
+closes-last host world end at_end last at script by_script by_end going = (forward at_end refl at.ended, backward)
+  where
+    forward : (b : Bool) → at_end ≡ b → ((end ≡ None) × NoneStopped host world) ⊎ ((end ≡ None → ⊥) × SomeStopped host world) → last ≡ true → IsLast host world
+    forward true is ended is_last = inl (script.0 is)
+    forward false is (inl running) is_last = absurd (false≢true (sym (going is running.0) ∙ is_last))
+    forward false is (inr stopped) is_last = inr stopped.1
+
+    backward : IsLast host world → last ≡ true
+    backward (inl over) = by_script (script.1 over)
+    backward (inr stopped) = elim at.ended [
+      | inl running ↦ absurd (false≢true (sym (running.1 stopped.0 stopped.1) ∙ stopped.2))
+      | inr ended ↦ by_end ended.0
+    ]
+
+module _ {C R : Type 0} (host : Host C R) (old now : World C) where
+  -- the phase was served
+  pub at-close : (end : Option ClockEnd) → IsServedOut host now → NoneStopped host old
+      → (end ≡ None → NoneStopped host old → NoneStopped host now) → IfSome end (λ _. SomeStopped host now) → IsAtClose host now end
+  at-close None served before running stopped = record { served = served; ended = inl (refl, running refl before) }
+  at-close (Some end) served before running stopped = record { served = served; ended = inr (λ is. cc, stopped) }
+
+  module _ (last : Bool) (start next : Option ClockEnd) (at : IsAtClose host old start) (is_last : (last ≡ true) ↔ IsLast host old) where
+    -- where a clock ended in the phase the close is the last
+    stopped_last : (start ≡ None → ⊥) → last ≡ true
+    stopped_last ended = elim at.ended [
+      | inl running ↦ absurd (ended running.0)
+      | inr stopped ↦ is_last.1 (inr stopped.1)
+    ]
+
+    -- no clock has ended, and the close was the script's last
+    pub whole_close : start ≡ None → last ≡ true → IsClosed host now × (now.phase ≡ old.phase) × (NoneStopped host old → NoneStopped host now)
+        → IsAllServed host now × (suc now.phase ≡ length host.script)
+    whole_close none' is closed = elim at.ended [
+      | inl running ↦ from_last running.1 (is_last.0 is)
+      | inr stopped ↦ absurd (stopped.0 none')
+    ]
+      where
+        from_last : NoneStopped host old → IsLast host old → IsAllServed host now × (suc now.phase ≡ length host.script)
+        from_last running (inl end) = (
+          record { last = omega (arith, end, closed.1); closed = closed.0; running = closed.2 running },
+          omega (arith, end, closed.1, at.served.served.within),
+        )
+        from_last running (inr stopped) = absurd (false≢true (sym (running stopped.0 stopped.1) ∙ stopped.2))
+
+    pub at-end : (closed : next ≡ None → last ≡ true → IsClosed host now × (now.phase ≡ old.phase) × (NoneStopped host old → NoneStopped host now))
+        → (next ≡ None → last ≡ true → CanDoNoMore host now) → IfSome next (λ _. CanDoNoMore host now)
+        → (last ≡ true) ⊎ (first_of start next ≡ None → ⊥) → IsAtEnd host (all_handed_out now) (first_of start next)
+    at-end closed rests ended over = record {
+      rests = rests_handed host now (no_more start next refl refl ended over);
+      handed = handed-none now.workers;
+      whole = λ none'. all_handed host now (whole none').0;
+      last = λ none'. (whole none').1;
+    }
+      where
+        none_first : (a b : Option ClockEnd) → first_of a b ≡ None → (a ≡ None) × (b ≡ None)
+        none_first None b is = (refl, is)
+        none_first (Some end) b is = absurd (cc)
+
+        is_over : next ≡ None → (last ≡ true) ⊎ (first_of start next ≡ None → ⊥) → last ≡ true
+        is_over none' (inl is) = is
+        is_over none' (inr end) = stopped_last (λ start_none. end (ap (λ (a : Option ClockEnd). first_of a next) start_none ∙ none'))
+
+        no_more : (a b : Option ClockEnd) → start ≡ a → next ≡ b → IfSome b (λ _. CanDoNoMore host now)
+            → (last ≡ true) ⊎ (first_of start next ≡ None → ⊥) → CanDoNoMore host now
+        no_more a None start_is next_is stuck end = rests next_is (is_over next_is end)
+        no_more a (Some e) start_is next_is stuck end = stuck
+
+        whole : first_of start next ≡ None → IsAllServed host now × (suc now.phase ≡ length host.script)
+        whole none' =
+            let both = none_first start next none' in
+            let is = is_over both.1 over in
+            whole_close both.0 is (closed both.1 is)
+
+    -- another phase begins
+    pub at-phase : (next ≡ None → last ≡ false → IsServedUpTo host now 0 × (now.phase ≡ suc old.phase) × NoneStopped host now)
+        → last ≡ false → first_of start next ≡ None
+        → IsAtPhase host (all_handed_out now) (first_of start next) × ((all_handed_out now).phase ≡ suc old.phase)
+    at-phase opened going none' =
+        let new = opened (none_next start next none') going in
+        (phase_handed host now (first_of start next) (record { begins = new.0; running = new.2; unended = none' }), new.1)
+      where
+        none_next : (a b : Option ClockEnd) → first_of a b ≡ None → b ≡ None
+        none_next None b is = is
+        none_next (Some end) b is = absurd (cc)

@@ -1,0 +1,183 @@
+-- A run goes on: events lead on, logs are handed out, and where it stops it is cut off.
+use Rattle.std.proofs.Common.{◌≡◌, ◌⊎◌, inl, inr, ℕ, suc, ◌<◌, ◌≤◌, List, [], ◌∷◌, ◌++◌, length, map, Option, Some, None, Result, Ok, Err, IfOk, OnErr, refl, sym, ◌∙◌, ap, subst, arith}
+use Rattle.std.proofs.lemmas.List.{length-map, append-nil}
+use Rattle.fv_outside.specs.Written.{Grows, GrowsByFront}
+use Rattle.fv_outside.proofs.WrittenLaws.{Grows-then, GrowsByFront-whole, GrowsByFront-more, GrowsByFront-none}
+use Rattle.record_hash.specs.Functions.{DigestFunctions}
+use Rattle.record_text.specs.declared.request.Request.{Request}
+use Rattle.record_text.specs.Format.{short_keys}
+use Rattle.lamport_clocks.specs.declared.header.Header.{Header}
+use Rattle.log_codec.specs.declared.command.Command.{Command}
+use Rattle.log_codec.specs.Log.{log_text}
+use Rattle.bundle_report.specs.Answer.{check_answer}
+use Rattle.host_core.specs.Host.{Host}
+use Rattle.host_core.specs.World.{Worker, World, logs_of, set_up}
+use Rattle.host_core.specs.WorldEvent.{WorldEvent, step, run_events}
+use Rattle.host_shard.specs.Content.{Content}
+use Rattle.script_text.specs.declared.task.Task.{Task}
+use Rattle.host_world.specs.declared.fault.ClockEnd.{ClockEnd}
+use Rattle.host_world.specs.declared.settings.Settings.{Settings}
+use Rattle.host_world.specs.declared.world.World as code
+use Rattle.host_world.specs.ShippedHost.{shipped_host}
+use Rattle.host_world.specs.Shown.{shown_world, digests_of, requests_of}
+use Rattle.host_world.specs.Behind.{IsBehindSetup, StandsBehind, AreOfOneHost, host_of, with_logs}
+use Rattle.host_world.proofs.FrontLaws.{length-step, length-before_each}
+use Rattle.host_serving.specs.Leading.{Leads, first_of}
+use Rattle.host_serving.proofs.LeadingLaws.{leads-then, leads-with}
+use Rattle.host_rounds.specs.declared.stops.RoundStop.{RoundStop}
+use Rattle.host_rounds.specs.declared.stops.RoundStop.TheVariants as stops
+use Rattle.host_rounds.specs.Round.{logs_with}
+use Rattle.host_rounds.specs.Bundle.{IsBundle, HasBundle}
+use Rattle.host_rounds.specs.SoFar.{RunsSoFar, Keeps, HaveRun, HaveRunSome, lines_counted, lines_due}
+use Rattle.host_rounds.proofs.RoundLaws.{counted-front, logs_with-none}
+use Rattle.verifier_threads.specs.declared.ending.RunEnd.{RunEnd}
+use Rattle.verifier_threads.specs.Serving.{Outputs, IsServed, IsCutOff, IsCutAtEnd, ServesTo, texts_of}
+use Rattle.verifier_threads.specs.Running.{IsRunning, all_handed_out, logged_with, with_no_log}
+use Rattle.verifier_threads.proofs.HandingLemmas.{logged_with-length, logged_with-texts, with_logs-handed}
+
+-- ---- worlds of one host
+
+pub one_host : {D : Type 0} (a b c : code.World D) → AreOfOneHost a b → AreOfOneHost b c → AreOfOneHost a c
+one_host a b c first then' = record {
+  settings = then'.settings ∙ first.settings;
+  requests = then'.requests ∙ first.requests;
+  digests = then'.digests ∙ first.digests;
+}
+
+pub host_same : {D : Type 0} (functions : D → DigestFunctions) (old new : code.World D) → AreOfOneHost old new
+    → host_of (functions (digests_of new)) new ≡ host_of (functions (digests_of old)) old
+host_same functions old new same =
+    ap (λ d. shipped_host (functions d) new.settings (requests_of new)) same.digests
+    ∙ ap (λ (settings : Settings). shipped_host (functions (digests_of old)) settings (requests_of new)) same.settings
+    ∙ ap (λ (script : List (List Task)). shipped_host (functions (digests_of old)) old.settings script) same.requests
+
+-- what holds of the one's numbers holds of the other's
+pub of_one_host : {D : Type 0} (functions : D → DigestFunctions) (old new : code.World D) → AreOfOneHost old new
+    → (P : DigestFunctions → Settings → List (List Task) → Type 0) → P (functions (digests_of old)) old.settings (requests_of old)
+    → P (functions (digests_of new)) new.settings (requests_of new)
+of_one_host functions old new same P holds =
+    subst (λ d. P (functions d) new.settings (requests_of new)) (sym same.digests)
+    (subst (λ (settings : Settings). P (functions (digests_of old)) settings (requests_of new)) (sym same.settings)
+    (subst (λ (script : List (List Task)). P (functions (digests_of old)) old.settings script) (sym same.requests) holds))
+
+-- ---- how many workers there are
+
+run-length : {C R : Type 0} (host : Host C R) (world : World C) (events : List (WorldEvent R))
+    → length (run_events host world events).workers ≡ length world.workers
+run-length host world [] = refl
+run-length host world (event ∷ events) = run-length host (step host world event) events ∙ length-step host world event
+
+pub leads-length : {C R : Type 0} (host : Host C R) (world later : World C) (end : Option ClockEnd) → Leads host world later end
+    → length later.workers ≡ length world.workers
+leads-length {C} host world later end way = ap (λ (w : World C). length w.workers) way.is ∙ run-length host world way.events
+
+-- ---- a run goes on
+
+module _ (functions : DigestFunctions) (settings : Settings) (script : List (List Task)) (world : World Content) (rounds : RunsSoFar)
+    (end : Option ClockEnd) (outputs : Outputs) (running : IsRunning functions settings script world rounds end outputs) where
+  abbrev own_host : Host Content Request
+  own_host = shipped_host functions settings script
+
+  -- it stands behind the setup
+  pub running-behind : IsBehindSetup functions settings script (with_logs running.logs world)
+  running-behind = record {
+    settings_fit = running.settings_fit;
+    keys = running.keys;
+    events = running.way.events;
+    enabled = running.way.enabled;
+    is = running.way.is;
+  }
+
+  -- as many workers as verifiers, and as many runs
+  pub running-workers : length world.workers ≡ settings.header.verifiers
+  running-workers =
+      sym running.each ∙ sym (length-map running.logs (log_text short_keys)) ∙ running.keeps.runs.taken.whole
+
+  -- events lead on
+  pub running-led : (later : World Content) (next : Option ClockEnd) → Leads own_host world later next
+      → IsRunning functions settings script later rounds (first_of end next) outputs
+  running-led later next way = record {
+    settings_fit = running.settings_fit;
+    counters = running.counters;
+    keys = running.keys;
+    logs = running.logs;
+    each = running.each ∙ sym (leads-length own_host world later next way);
+    way = leads-then own_host (set_up own_host) (with_logs running.logs world) (with_logs running.logs later) end next running.way
+        (leads-with own_host running.logs world later next way);
+    keeps = running.keeps;
+    written = running.written;
+  }
+
+  -- logs are handed out
+  pub running-handed : (rounds' : RunsSoFar) (outputs' : Outputs)
+      → Keeps functions settings.header (logs_with (texts_of running.logs) (texts_of (logs_of world))) rounds' outputs'.vault outputs'.vault_after
+      → Grows outputs'.out outputs'.out_after (lines_counted functions settings.header (logs_with (texts_of running.logs) (texts_of (logs_of world))) rounds')
+      → IsRunning functions settings script (all_handed_out world) rounds' end outputs'
+  running-handed rounds' outputs' keeps written =
+      let logs = logged_with running.logs (logs_of world) in
+      let texts : logs_with (texts_of running.logs) (texts_of (logs_of world)) ≡ texts_of logs = sym (logged_with-texts running.logs (logs_of world)) in
+      record {
+        settings_fit = running.settings_fit;
+        counters = running.counters;
+        keys = running.keys;
+        logs = logs;
+        each = logged_with-length running.logs (logs_of world) ∙ running.each ∙ sym (length-map world.workers with_no_log);
+        way = subst (λ (w : World Content). Leads own_host (set_up own_host) w end) (sym (with_logs-handed running.logs world running.each)) running.way;
+        keeps = subst (λ (all : List (List ℕ)). Keeps functions settings.header all rounds' outputs'.vault outputs'.vault_after) texts keeps;
+        written = subst (λ (all : List (List ℕ)). Grows outputs'.out outputs'.out_after (lines_counted functions settings.header all rounds')) texts written;
+      }
+
+-- ---- where it stops
+
+-- what the vault's bytes certify, whatever follows them
+abbrev pub StaysDue : Type 0
+StaysDue = (functions : DigestFunctions) (header : Header) (logs : List (List ℕ)) (bytes more : List ℕ) → IsBundle header logs bytes
+    → (rest : List ℕ) × ((check_answer functions (bytes ++ more)).due ≡ lines_due functions header logs ++ rest)
+
+module _ (stays : StaysDue) (functions : DigestFunctions) (header : Header) (logs : List (List ℕ)) where
+  -- a front of what is due was written, and the vault has the bundle and a front of something more
+  pub cut-due : (vault vault_now vault_after out out_after : Option (List ℕ)) (text : List ℕ) → HasBundle header logs vault vault_now
+      → GrowsByFront vault_now vault_after text → GrowsByFront out out_after (lines_due functions header logs)
+      → IsCutOff functions (record { vault = vault; vault_after = vault_after; out = out; out_after = out_after })
+  cut-due vault vault_now vault_after out out_after text has grown written =
+      let due = stays functions header logs has.bytes grown.front has.is_bundle in
+      record {
+        bytes = has.bytes ++ grown.front;
+        vault = Grows-then vault vault_now vault_after has.bytes grown.front has.grown grown.grown;
+        out = subst (GrowsByFront out out_after) (sym due.1) (GrowsByFront-more out out_after (lines_due functions header logs) due.0 written);
+      }
+
+  -- the lines of what is counted were
+  pub counted-due : (so_far : RunsSoFar) (out out_after : Option (List ℕ)) → HaveRun functions header logs so_far
+      → Grows out out_after (lines_counted functions header logs so_far) → GrowsByFront out out_after (lines_due functions header logs)
+  counted-due so_far out out_after have written =
+      subst (λ (all : List (List ℕ)). GrowsByFront out out_after (lines_due functions header all)) (logs_with-none logs)
+      (counted-front functions header logs so_far have [] out out_after written)
+
+-- a run that was cut off stops so, whatever the reason
+pub stops-so : (functions : DigestFunctions) (settings : Settings) (script : List (List Task)) (stop : RoundStop) (outputs : Outputs)
+    → IsCutOff functions outputs → ServesTo functions settings script (Err stop) outputs
+stops-so functions settings script stops.Memory outputs cut = cut
+stops-so functions settings script stops.VaultFault outputs cut = cut
+stops-so functions settings script stops.WriteFault outputs cut = inl cut
+
+-- a run that was cut off at its end stops because the sink failed
+pub ends-so : (functions : DigestFunctions) (settings : Settings) (script : List (List Task)) (stop : RoundStop) (outputs : Outputs)
+    → stop ≡ stops.WriteFault → IsCutAtEnd functions settings script outputs → ServesTo functions settings script (Err stop) outputs
+ends-so functions settings script stop outputs is cut =
+    subst (λ (s : RoundStop). ServesTo functions settings script (Err s) outputs) (sym is) (inr cut)
+
+pub stop-is : {A : Type 0} (result : Result A RoundStop) (stop : RoundStop) → result ≡ Err stop → result ≡ Err stops.WriteFault → stop ≡ stops.WriteFault
+stop-is result stop is fault = cc
+
+-- a run that came to its end ends so
+pub finishes-so : (functions : DigestFunctions) (settings : Settings) (script : List (List Task)) (result : Result RunEnd RoundStop) (outputs : Outputs)
+    → IfOk result (λ end. IsServed functions settings script end outputs) → OnErr result (IsCutAtEnd functions settings script outputs)
+    → OnErr result (result ≡ Err stops.WriteFault) → ServesTo functions settings script result outputs
+finishes-so functions settings script (Ok end) outputs served cut stop = served
+finishes-so functions settings script (Err fault) outputs served cut stop =
+    ends-so functions settings script fault outputs (stop-is {A = RunEnd} (Err fault) fault refl stop) cut
+
+-- what is said of the one host's world is said of the other's
+pub host-back : {D : Type 0} (a b : code.World D) → AreOfOneHost a b → AreOfOneHost b a
+host-back a b same = record { settings = sym same.settings; requests = sym same.requests; digests = sym same.digests }

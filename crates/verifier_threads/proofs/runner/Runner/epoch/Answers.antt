@@ -1,0 +1,63 @@
+use Rattle.std.proofs.Common.{◌≡◌, ◌⊎◌, inl, inr, ℕ, suc, ◌≤◌, true, false, List, Option, None, length, map, OnOk, OnErr, refl, sym, ◌∙◌, ap, subst, arith}
+use Rattle.std.proofs.lemmas.List.{length-map}
+use Rattle.script_text.specs.declared.task.Task.{Task}
+use Rattle.host_world.specs.ShippedHost.{turn_of}
+use Rattle.host_world.specs.Shown.{shown_world, digests_of, requests_of}
+use Rattle.host_world.specs.Behind.{host_of}
+use Rattle.verifier_threads.specs.Serving.{IsCutOff}
+use Rattle.verifier_threads.proofs.RunningLemmas.{one_host}
+use Rattle.verifier_threads.proofs.PassingLemmas.{ok_then, err_any}
+use Rattle.verifier_threads.proofs.PhaseLemmas.{closes-last, plus-both}
+use Rattle.verifier_threads.proofs.runner.Runner.epoch.Goals as goal
+
+pub phase-requires : goal.phase-requires
+phase-requires g c = record {
+  runs = (c.requires.runs.0, c.requires.runs.1, c.requires.runs.2);
+  begins = c.requires.begins;
+  workers = c.requires.workers;
+}
+
+pub close_epoch-requires : goal.close_epoch-requires
+close_epoch-requires g c =
+    let old = c.args.self.now.world in
+    let new = c.phase.new.self.world in
+    let size : length (map (map turn_of) (requests_of new)) ≡ length (requests_of old) =
+    length-map (requests_of new) (map turn_of) ∙ ap (λ (script : List (List Task)). length script) c.phase.ensures.host.requests in
+    let same = c.in_ok-phase.ensures.same_phase in
+    record {
+      runs = (_, c.in_ok-phase.ensures.runs c.requires.runs.0 c.requires.runs.1 c.requires.runs.2, refl);
+      served = c.in_ok-phase.ensures.served;
+      last =
+          closes-last (host_of (g.D.Digests.functions (digests_of new)) new) (shown_world new) c.phase.new.self.end c.args.at_end c.closes_last-last.result c.in_ok-phase.ensures.served
+          (λ is. omega (arith, c.requires.at_end.0 is, size, same), λ over. c.requires.at_end.1 (omega (arith, over, size, same)))
+          c.closes_last-last.ensures.at_end c.closes_last-last.ensures.ended c.closes_last-last.ensures.going;
+    }
+
+pub returns-in_err-phase-clause-cut : goal.returns-in_err-phase-clause-cut
+returns-in_err-phase-clause-cut g c = λ outputs runs held written.
+    err_any c.from_residual.result
+    (subst (λ (o : Option (List ℕ)). IsCutOff (g.D.Digests.functions (digests_of c.args.self.now.world)) (record outputs { vault_after = g.V.Sink.held c.phase.new.vault; out_after = o }))
+    written (c.in_err-phase.ensures.cut outputs runs held))
+
+pub returns-clause-runs : goal.returns-clause-runs
+returns-clause-runs g c = λ outputs runs held written.
+    c.close_epoch.ensures.runs (record outputs { vault_after = g.V.Sink.held c.phase.new.vault }) (c.in_ok-phase.ensures.runs outputs runs held) refl written
+
+pub returns-clause-ended : goal.returns-clause-ended
+returns-clause-ended g c = λ over. c.close_epoch.ensures.ended (plus-both over c.closes_last-last.ensures.at_end)
+
+pub returns-clause-opened : goal.returns-clause-opened
+returns-clause-opened g c = λ going none'.
+    ok_then c.close_epoch.result
+    (c.close_epoch.ensures.opened (c.closes_last-last.ensures.going going (c.close_epoch.ensures.kept none')) none')
+    (λ opened. (opened.0, opened.1 ∙ ap suc c.in_ok-phase.ensures.same_phase))
+
+pub returns-clause-cut : goal.returns-clause-cut
+returns-clause-cut g c = λ outputs runs held written.
+    let functions = g.D.Digests.functions in
+    subst (λ d. OnErr c.close_epoch.result (IsCutOff (functions d) (record outputs { vault_after = g.V.Sink.held c.close_epoch.new.vault; out_after = g.O.Sink.held c.close_epoch.new.out })))
+    c.phase.ensures.host.digests
+    (c.close_epoch.ensures.cut (record outputs { vault_after = g.V.Sink.held c.phase.new.vault }) (c.in_ok-phase.ensures.runs outputs runs held) refl written)
+
+pub returns-clause-host : goal.returns-clause-host
+returns-clause-host g c = one_host c.args.self.now.world c.phase.new.self.world c.close_epoch.new.self.world c.phase.ensures.host c.close_epoch.ensures.host

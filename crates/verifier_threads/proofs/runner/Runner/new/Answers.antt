@@ -1,0 +1,51 @@
+use Rattle.std.proofs.Common.{◌≡◌, ℕ, suc, ◌-◌, ◌<◌, ◌≤◌, List, [], Option, None, length, map, refl, sym, ◌∙◌, ap, subst, arith}
+use Rattle.std.proofs.lemmas.List.{length-map}
+use Rattle.fv_outside.proofs.WrittenLaws.{GrowsByFront-none}
+use Rattle.lamport_clocks.specs.declared.header.Header.{Header}
+use Rattle.bundle_report.specs.Logs.{empty_logs}
+use Rattle.host_core.specs.World.{World, set_up}
+use Rattle.host_shard.specs.Content.{Content}
+use Rattle.host_world.specs.declared.settings.Settings.{Settings}
+use Rattle.host_world.specs.ShippedHost.{turn_of}
+use Rattle.host_world.specs.Shown.{shown_world, digests_of, requests_of}
+use Rattle.host_world.specs.Behind.{host_of}
+use Rattle.host_rounds.specs.SoFar.{Keeps}
+use Rattle.verifier_threads.specs.Running.{IsAtPhase}
+use Rattle.verifier_threads.proofs.PassingLemmas.{err_any}
+use Rattle.verifier_threads.proofs.EndingLemmas.{running-new, set_up-begins, set_up-count, opening-cut}
+use Rattle.verifier_threads.proofs.runner.Runner.new.Goals as goal
+
+pub returns-in_err-buffers-clause-cut : goal.returns-in_err-buffers-clause-cut
+returns-in_err-buffers-clause-cut g c = λ held.
+    err_any c.from_residual.result
+    (opening-cut (g.D.Digests.functions (digests_of c.args.world)) (g.V.Sink.held c.args.vault.now) (g.V.Sink.held c.args.vault.now) held []
+    (GrowsByFront-none (g.V.Sink.held c.args.vault.now) []))
+
+pub returns-in_err-rounds-clause-cut : goal.returns-in_err-rounds-clause-cut
+returns-in_err-rounds-clause-cut g c = λ held.
+    err_any _
+    (opening-cut (g.D.Digests.functions (digests_of c.args.world)) (g.V.Sink.held c.args.vault.now) (g.V.Sink.held c.new.new.vault) held _ c.in_err-rounds.ensures.front)
+
+pub returns-clause-runs : goal.returns-clause-runs
+returns-clause-runs g c = λ held.
+    let world = c.args.world in
+    let f = g.D.Digests.functions (digests_of world) in
+    let host = host_of f world in
+    let header_is : c.settings.result.header ≡ world.settings.header = ap (λ (s : Settings). s.header) c.settings.ensures.value in
+    let count = set_up-count world.settings host (shown_world world) c.requires.settings refl c.requires.setup in
+    record {
+      running =
+          running-new f world.settings (requests_of world) (shown_world world) c.in_ok-rounds.rounds (g.V.Sink.held c.args.vault.now) (g.V.Sink.held c.new.new.vault) held
+          (record { settings_fit = c.requires.settings; counters = c.requires.counters; keys = c.requires.keys; is = c.requires.setup; count = count })
+          (subst (λ (header : Header). Keeps f header (empty_logs header.verifiers) c.in_ok-rounds.rounds (g.V.Sink.held c.args.vault.now) (g.V.Sink.held c.new.new.vault)) header_is
+          (c.in_ok-rounds.ensures.keeps f))
+          c.in_ok-rounds.ensures.none;
+      buffers = c.in_ok-buffers.ensures ∙ ap (λ (header : Header). header.verifiers) header_is ∙ sym count;
+    }
+
+pub returns-clause-begins : goal.returns-clause-begins
+returns-clause-begins g c =
+    let world = c.args.world in
+    let host = host_of (g.D.Digests.functions (digests_of world)) world in
+    subst (λ (w : World Content). IsAtPhase host w None) (sym c.requires.setup)
+    (set_up-begins host (omega (arith, c.requires.some, length-map (requests_of world) (map turn_of))))

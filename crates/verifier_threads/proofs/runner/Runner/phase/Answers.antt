@@ -1,0 +1,76 @@
+use Rattle.std.proofs.Common.{◌≡◌, ℕ, List, Option, Some, None, Ok, OnErr, refl, sym, ◌∙◌, ap, subst}
+use Rattle.record_hash.specs.Functions.{DigestFunctions}
+use Rattle.host_core.specs.World.{World}
+use Rattle.host_shard.specs.Content.{Content}
+use Rattle.host_world.specs.declared.fault.ClockEnd.{ClockEnd}
+use Rattle.host_world.specs.Shown.{shown_world, digests_of}
+use Rattle.host_world.specs.Behind.{host_of}
+use Rattle.host_serving.specs.Leading.{first_of}
+use Rattle.verifier_threads.specs.declared.runner.Runner.{Runner}
+use Rattle.verifier_threads.specs.Serving.{Outputs, IsCutOff}
+use Rattle.verifier_threads.specs.Running.{Runs, IsAtClose, all_handed_out}
+use Rattle.verifier_threads.proofs.RunningLemmas.{one_host, host_same}
+use Rattle.verifier_threads.proofs.StandingLemmas.{close_handed}
+use Rattle.verifier_threads.proofs.PassingLemmas.{ok_any, err_any, ok_then, runs-behind, runs-led, runs-cut}
+use Rattle.verifier_threads.proofs.PhaseLemmas.{moved, at-close}
+use Rattle.verifier_threads.proofs.runner.Runner.phase.Goals as goal
+
+pub serve_phase-requires : goal.serve_phase-requires
+serve_phase-requires g c = record {
+  behind = runs-behind g.D.Digests.functions c.args.self.now c.requires.runs.0 c.requires.runs.1;
+  begins = c.requires.begins.begins;
+  workers = c.requires.workers;
+}
+
+pub pass_on-requires : goal.pass_on-requires
+pass_on-requires g c = record {
+  runs =
+      (c.requires.runs.0,
+      runs-led g.D.Digests.functions c.args.self.now c.requires.runs.0 c.requires.runs.1 c.serve_phase.new.world c.in_ok-self.field-0 c.in_ok-self.field-0
+      c.serve_phase.ensures.host c.in_ok-self.ensures.leads (ap (λ (e : Option ClockEnd). first_of e c.in_ok-self.field-0) (sym c.requires.begins.unended)),
+      c.requires.runs.2);
+}
+
+pub returns-in_err-self-clause-cut : goal.returns-in_err-self-clause-cut
+returns-in_err-self-clause-cut g c = λ outputs runs held.
+    err_any c.from_residual.result
+    (runs-cut g.D.Digests.functions c.args.self.now outputs runs c.what_is_due_stays_due.ensures.stays (g.V.Sink.held c.args.vault.now) outputs.out_after held refl)
+
+pub returns-clause-runs : goal.returns-clause-runs
+returns-clause-runs g c = λ outputs runs held.
+    c.pass_on.ensures.runs outputs
+    (runs-led g.D.Digests.functions c.args.self.now outputs runs c.serve_phase.new.world c.in_ok-self.field-0 c.in_ok-self.field-0
+    c.serve_phase.ensures.host c.in_ok-self.ensures.leads (ap (λ (e : Option ClockEnd). first_of e c.in_ok-self.field-0) (sym c.requires.begins.unended)))
+    held
+
+pub returns-clause-served : goal.returns-clause-served
+returns-clause-served g c =
+    let functions = g.D.Digests.functions in
+    let old = c.args.self.now.world in
+    let middle = c.serve_phase.new.world in
+    let new = c.pass_on.new.self in
+    let host = host_of (functions (digests_of old)) old in
+    let end = c.in_ok-self.field-0 in
+    ok_then c.pass_on.result c.pass_on.ensures.handed
+    (λ handed. moved IsAtClose host _ (all_handed_out (shown_world middle)) (shown_world new.world) end new.end
+    (host_same functions old new.world (one_host old middle new.world c.serve_phase.ensures.host c.pass_on.ensures.host)) handed c.pass_on.ensures.end
+    (close_handed host (shown_world middle) end
+    (at-close host (shown_world old) (shown_world middle) end c.in_ok-self.ensures.served c.requires.begins.running
+    (λ is. c.in_ok-self.ensures.running (ap (λ (e : Option ClockEnd). Ok e) is)) c.in_ok-self.ensures.stopped)))
+
+pub returns-clause-same_phase : goal.returns-clause-same_phase
+returns-clause-same_phase g c =
+    ok_then c.pass_on.result c.pass_on.ensures.handed
+    (λ handed. ap (λ (w : World Content). w.phase) handed ∙ c.in_ok-self.ensures.phase)
+
+pub returns-clause-cut : goal.returns-clause-cut
+returns-clause-cut g c = λ outputs runs held.
+    let functions = g.D.Digests.functions in
+    subst (λ d. OnErr c.pass_on.result (IsCutOff (functions d) (record outputs { vault_after = g.V.Sink.held c.pass_on.new.vault }))) c.serve_phase.ensures.host.digests
+    (c.pass_on.ensures.cut outputs
+    (runs-led functions c.args.self.now outputs runs c.serve_phase.new.world c.in_ok-self.field-0 c.in_ok-self.field-0
+    c.serve_phase.ensures.host c.in_ok-self.ensures.leads (ap (λ (e : Option ClockEnd). first_of e c.in_ok-self.field-0) (sym c.requires.begins.unended)))
+    held)
+
+pub returns-clause-host : goal.returns-clause-host
+returns-clause-host g c = one_host c.args.self.now.world c.serve_phase.new.world c.pass_on.new.self.world c.serve_phase.ensures.host c.pass_on.ensures.host

@@ -1,0 +1,101 @@
+use Rattle.std.proofs.Common.{◌≡◌, inl, inr, ℕ, suc, ◌+◌, ◌<◌, ◌≤◌, true, false, List, [], Option, Some, None, length, OnOk, OnErr, refl, sym, ◌∙◌, ap, subst, arith}
+use Rattle.std.specs.Option.{is_some}
+use Rattle.std.proofs.lemmas.Bool.{false≢true}
+use Rattle.script_text.specs.declared.task.Task.{Task}
+use Rattle.host_world.specs.declared.fault.ClockEnd.{ClockEnd}
+use Rattle.host_world.specs.Shown.{shown_world, digests_of, requests_of}
+use Rattle.verifier_threads.specs.Serving.{Outputs, IsCutOff}
+use Rattle.verifier_threads.proofs.RunningLemmas.{one_host}
+use Rattle.verifier_threads.proofs.PassingLemmas.{err_any, runs-at}
+use Rattle.verifier_threads.proofs.EndingLemmas.{turns-now, runs-workers}
+use Rattle.verifier_threads.proofs.serving.serve_phases.Goals as goal
+
+-- an end that is not there
+no_end : (end : Option ClockEnd) → is_some end ≡ false → end ≡ None
+no_end None is = refl
+no_end (Some end) is = absurd (false≢true (sym is))
+
+an_end : (end : Option ClockEnd) → is_some end ≡ true → end ≡ None → ⊥
+an_end None is none' = false≢true is
+an_end (Some end) is none' = cc
+
+pub loop-number-init : goal.loop-number-init
+loop-number-init g c = record {
+  host = record { settings = refl; requests = refl; digests = refl };
+  begins = c.requires.begins;
+  phase = ap suc c.requires.first;
+  under_way = c.requires.runs;
+  runs = λ outputs runs held written. runs-at g.D.Digests.functions c.args.runner.now outputs runs _ _ held written;
+  vault_counts = omega arith;
+  out_counts = omega arith;
+  name = refl;
+}
+
+pub epoch-requires : goal.epoch-requires
+epoch-requires g c =
+    let now = c.loop-number.runner in
+    let inv = c.loop-number.invariant in
+    let old = c.args.runner.now.world in
+    let size : length (requests_of now.world) ≡ c.len-phases.result =
+    ap (λ (script : List (List Task)). length script) (inv.host.requests ∙ sym c.requests.ensures.value) ∙ sym c.len-phases.ensures.value in
+    record {
+      runs = inv.under_way;
+      begins = inv.begins;
+      workers = turns-now old now.world (shown_world now.world).phase inv.host c.requires.tasks (runs-workers g.D.Digests.functions now inv.under_way.0 inv.under_way.1);
+      at_end = (λ is. absurd (false≢true is), λ over. absurd (omega (arith, over, size, inv.phase, c.loop-number-test.true)));
+    }
+
+pub loop-number-preserved : goal.loop-number-preserved
+loop-number-preserved g c =
+    let inv = c.loop-number.invariant in
+    let new = c.epoch.new.self in
+    let going : new.end ≡ None = no_end new.end (sym c.if-is_some.ensures) in
+    let opened = c.in_ok-epoch.ensures.opened refl going in
+    let next : c.loop-number._number + 1 ≡ suc c.loop-number._number = omega arith in
+    record {
+      host = one_host c.args.runner.now.world c.loop-number.runner.world new.world inv.host c.epoch.ensures.host;
+      begins = opened.0;
+      phase = ap suc opened.1 ∙ ap suc inv.phase ∙ sym next;
+      under_way = (_, (c.in_ok-epoch.ensures.runs inv.under_way.0 inv.under_way.1 inv.under_way.2 inv.under_way.3).runs, refl, refl);
+      runs = λ outputs runs held written.
+          (c.in_ok-epoch.ensures.runs (record outputs { vault_after = g.V.Sink.held c.loop-number.vault; out_after = g.O.Sink.held c.loop-number.out })
+          (inv.runs outputs runs held written) refl refl).runs;
+      vault_counts = omega (arith, inv.vault_counts, c.epoch.ensures.vault_never_falls);
+      out_counts = omega (arith, inv.out_counts, c.epoch.ensures.never_falls);
+      name = c.epoch.ensures.name ∙ inv.name;
+    }
+
+pub returns-in_err-epoch-clause-cut : goal.returns-in_err-epoch-clause-cut
+returns-in_err-epoch-clause-cut g c = λ outputs runs held written.
+    let functions = g.D.Digests.functions in
+    let inv = c.loop-number.invariant in
+    err_any c.from_residual.result
+    (subst (λ d. IsCutOff (functions d) (record outputs { vault_after = g.V.Sink.held c.epoch.new.vault; out_after = g.O.Sink.held c.epoch.new.out })) inv.host.digests
+    (c.in_err-epoch.ensures.cut (record outputs { vault_after = g.V.Sink.held c.loop-number.vault; out_after = g.O.Sink.held c.loop-number.out })
+    (inv.runs outputs runs held written) refl refl))
+
+pub returns-then-is_some-clause-runs : goal.returns-then-is_some-clause-runs
+returns-then-is_some-clause-runs g c = λ outputs runs held written.
+    c.in_ok-epoch.ensures.runs (record outputs { vault_after = g.V.Sink.held c.loop-number.vault; out_after = g.O.Sink.held c.loop-number.out })
+    (c.loop-number.invariant.runs outputs runs held written) refl refl
+
+pub epoch-requires-2-clause-workers : goal.epoch-requires-2-clause-workers
+epoch-requires-2-clause-workers g c =
+    let now = c.loop-number.runner in
+    let inv = c.loop-number.invariant in
+    turns-now c.args.runner.now.world now.world (shown_world now.world).phase inv.host c.requires.tasks
+    (runs-workers g.D.Digests.functions now inv.under_way.0 inv.under_way.1)
+
+pub returns-clause-runs : goal.returns-clause-runs
+returns-clause-runs g c = λ outputs runs held written.
+    c.epoch-2.ensures.runs (record outputs { vault_after = g.V.Sink.held c.loop-number.vault; out_after = g.O.Sink.held c.loop-number.out })
+    (c.loop-number.invariant.runs outputs runs held written) refl refl
+
+pub returns-clause-cut : goal.returns-clause-cut
+returns-clause-cut g c = λ outputs runs held written.
+    let functions = g.D.Digests.functions in
+    let inv = c.loop-number.invariant in
+    subst (λ d. OnErr c.epoch-2.result (IsCutOff (functions d) (record outputs { vault_after = g.V.Sink.held c.epoch-2.new.vault; out_after = g.O.Sink.held c.epoch-2.new.out })))
+    inv.host.digests
+    (c.epoch-2.ensures.cut (record outputs { vault_after = g.V.Sink.held c.loop-number.vault; out_after = g.O.Sink.held c.loop-number.out })
+    (inv.runs outputs runs held written) refl refl)

@@ -1,0 +1,97 @@
+-- How a run stands between two calls: its world, the vault, what the verifiers read, and what is written.
+use Rattle.std.specs.Prelude.{◌≡◌, ◌≢◌, ◌⊎◌, ℕ, suc, ◌<◌, ◌≤◌, List, [], ◌∷◌, ◌++◌, length, map, Option, Some, None}
+use Rattle.std.specs.List.{AllByRecursion}
+use Rattle.fv_outside.specs.Written.{Grows}
+use Rattle.record_hash.specs.Functions.{DigestFunctions}
+use Rattle.log_codec.specs.declared.command.Command.{Command}
+use Rattle.host_core.specs.Host.{Host}
+use Rattle.host_core.specs.World as machine
+use Rattle.host_shard.specs.Content.{Content}
+use Rattle.script_text.specs.declared.task.Task.{Task}
+use Rattle.host_world.specs.declared.fault.ClockEnd.{ClockEnd}
+use Rattle.host_world.specs.declared.settings.Settings.{Settings}
+use Rattle.host_world.specs.declared.world.World.{World}
+use Rattle.host_world.specs.Settings.{IsSettings}
+use Rattle.host_world.specs.Shown.{shown_world, digests_of, requests_of}
+use Rattle.host_world.specs.ShippedHost.{shipped_host}
+use Rattle.host_world.specs.Behind.{AreInRange, with_logs}
+use Rattle.host_serving.specs.Leading.{Leads, CanDoNoMore}
+use Rattle.host_serving.specs.Standing.{IsServedUpTo, IsServedOut, NoneStopped, SomeStopped, IsAllServed}
+use Rattle.host_rounds.specs.SoFar.{RunsSoFar, Keeps, AllCounted, lines_counted}
+use Rattle.verifier_threads.specs.declared.runner.Runner.{Runner}
+use Rattle.verifier_threads.specs.Serving.{Outputs, texts_of}
+
+-- ---- logs that are handed out
+
+-- a worker that has handed its log out
+abbrev pub with_no_log : machine.Worker → machine.Worker
+with_no_log worker = record worker { log = [] }
+
+-- a world whose workers have
+abbrev pub all_handed_out : {C : Type 0} → machine.World C → machine.World C
+all_handed_out world = record world { workers = map with_no_log world.workers }
+
+-- logs with what is logged next behind each
+abbrev pub logged_with : List (List Command) → List (List Command) → List (List Command)
+logged_with [] round = []
+logged_with (log ∷ logs) [] = log ∷ logs
+logged_with (log ∷ logs) (next ∷ round) = (log ++ next) ∷ logged_with logs round
+
+-- ---- a run
+
+-- Events lead from the setup to this world with the logs in front that were handed out, and this is the first end of a
+-- clock that they come to. The vault has the bundle of these logs and the verifiers' runs have taken them, and what is
+-- written is the lines of the epochs that are counted.
+pub record IsRunning (functions : DigestFunctions) (settings : Settings) (script : List (List Task)) (world : machine.World Content) (rounds : RunsSoFar) (end : Option ClockEnd) (outputs : Outputs) : Type 0 where
+  pub settings_fit : IsSettings settings
+  pub counters : settings.shards ≤ settings.header.end
+  pub keys : AreInRange script
+  pub logs : List (List Command)
+  pub each : length logs ≡ length world.workers
+  pub way : Leads (shipped_host functions settings script) (machine.set_up (shipped_host functions settings script)) (with_logs logs world) end
+  pub keeps : Keeps functions settings.header (texts_of logs) rounds outputs.vault outputs.vault_after
+  pub written : Grows outputs.out outputs.out_after (lines_counted functions settings.header (texts_of logs) rounds)
+
+-- So runs a runner of the code, which has a buffer for each worker.
+pub record Runs {D : Type 0} (functions : D → DigestFunctions) (runner : Runner D) (outputs : Outputs) : Type 0 where
+  pub running : IsRunning (functions (digests_of runner.world)) runner.world.settings (requests_of runner.world) (shown_world runner.world) runner.rounds runner.end outputs
+  pub buffers : length runner.buffers.items ≡ length runner.world.workers.items
+
+-- The same, and each epoch that the logs certify is counted.
+pub record RunsWhole {D : Type 0} (functions : D → DigestFunctions) (runner : Runner D) (outputs : Outputs) : Type 0 where
+  pub runs : Runs functions runner outputs
+  pub all : AllCounted (functions (digests_of runner.world)) runner.world.settings.header (texts_of runs.running.logs) runner.rounds
+
+-- So it runs, whatever the vault and the sink held before, where the vault now holds this.
+abbrev pub IsUnderWay : {D : Type 0} → (D → DigestFunctions) → Runner D → Option (List ℕ) → Type 0
+IsUnderWay functions runner held = (outputs : Outputs) × Runs functions runner outputs × (outputs.vault_after ≡ held)
+
+-- the same where the sink now holds this
+abbrev pub IsUnderWayWith : {D : Type 0} → (D → DigestFunctions) → Runner D → Option (List ℕ) → Option (List ℕ) → Type 0
+IsUnderWayWith functions runner held out =
+    (outputs : Outputs) × Runs functions runner outputs × (outputs.vault_after ≡ held) × (outputs.out_after ≡ out)
+
+-- so it runs, with all counted that its logs certify
+abbrev pub IsUnderWayWhole : {D : Type 0} → (D → DigestFunctions) → Runner D → Type 0
+IsUnderWayWhole functions runner = (outputs : Outputs) × RunsWhole functions runner outputs
+
+-- ---- where it stands
+
+module _ {C R : Type 0} (host : Host C R) (world : machine.World C) (end : Option ClockEnd) where
+  -- A phase begins, and no clock has ended.
+  pub record IsAtPhase : Type 0 where
+    pub begins : IsServedUpTo host world 0
+    pub running : NoneStopped host world
+    pub unended : end ≡ None
+
+  -- A phase is served, and its clocks tell whether one has ended.
+  pub record IsAtClose : Type 0 where
+    pub served : IsServedOut host world
+    pub ended : ((end ≡ None) × NoneStopped host world) ⊎ ((end ≢ None) × SomeStopped host world)
+
+  -- No more can be done, each log is handed out, and where no clock ended the script is served to its last phase.
+  pub record IsAtEnd : Type 0 where
+    pub rests : CanDoNoMore host world
+    pub handed : AllByRecursion (λ worker. worker.log ≡ []) world.workers
+    pub whole : end ≡ None → IsAllServed host world
+    pub last : end ≡ None → suc world.phase ≡ length host.script

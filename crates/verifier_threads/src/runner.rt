@@ -1,0 +1,260 @@
+//! A run of a script: its world, phase by phase, and what becomes of the logs.
+ghost use Rattle.std.specs.Prelude.{◌≡◌, ◌≢◌, ◌↔◌, ◌⊎◌, ◌≤◌, ◌<◌, ℕ, suc, true, false, List, Option, None, length, OnOk, OnErr, IfOk, Err};
+ghost use Rattle.std.specs.List.{AllByRecursion};
+ghost use Rattle.fv_outside.specs.Faults.{Rose};
+ghost use Rattle.host_core.specs.World.{set_up};
+ghost use Rattle.host_core.specs.WorldEvent.{IsLast};
+ghost use Rattle.host_world.specs.Settings.{IsSettings};
+ghost use Rattle.host_world.specs.Shown.{shown_world, digests_of, requests_of, settings_of};
+ghost use Rattle.host_world.specs.Behind.{AreInRange, AreOfOneHost, host_of};
+ghost use Rattle.host_serving.specs.Leading.{first_of};
+ghost use Rattle.host_serving.specs.Standing.{turns_of};
+ghost use Rattle.verifier_threads.specs.Serving.{Outputs, IsServed, IsCutOff, IsCutAtEnd};
+ghost use Rattle.verifier_threads.specs.Running.{Runs, RunsWhole, IsUnderWay, IsUnderWayWith, IsUnderWayWhole, IsAtPhase, IsAtClose, IsAtEnd, all_handed_out};
+
+use crate::ending::RunEnd;
+use crate::handing::hand_out_all;
+use crate::laws::what_is_due_stays_due;
+use crate::stand_ins::{a_check_of_the_logs_ends_as_the_host_promises, close_phase, serve_phase};
+use fv_outside::{Gate, Sink};
+use host_log::LogBuffer;
+use host_rounds::{RoundStop, Rounds, write_end};
+use host_world::{ClockEnd, World};
+use record_hash::Digests;
+use report_text::BundleEnd;
+use std::alloc::Global;
+use want_of_memory::Memory;
+
+/// A run of a script: the world, what the verifiers have come to over its logs, a buffer for the log of each worker, and
+/// the first end of a clock. The vault and the sink of the report are handed in at each call.
+///
+/// After an error it is of no more use.
+#[derive(Drop)]
+pub(crate) struct Runner<'a, D> {
+    pub(crate) world: World<'a, D>,
+    pub(crate) rounds: Rounds,
+    pub(crate) buffers: Vec<LogBuffer>,
+    pub(crate) end: Option<ClockEnd>,
+}
+
+impl<'a, D: Digests> Runner<'a, D> {
+    /// Before the first phase: writes the header of the bundle to the vault.
+    pub(crate) fn new<V: Sink>(
+        alloc: Global,
+        world: World<'a, D>,
+        vault: &mut V,
+    ) -> Result<Self, RoundStop>
+        requires setup { shown_world world ≡ set_up (host_of (D.functions (digests_of world)) world) }
+        requires settings { IsSettings (settings_of world) }
+        requires counters { (settings_of world).shards ≤ (settings_of world).header.end }
+        requires keys { AreInRange (requests_of world) }
+        requires some { 0 < length (requests_of world) }
+        ensures runs { (held : Option (List ℕ)) → IfOk result (λ runner. Runs D.functions runner
+            (record { vault = V.held vault.old; vault_after = V.held vault.new; out = held; out_after = held })) }
+        ensures world { IfOk result (λ runner. runner.world ≡ world.entry) }
+        ensures begins { IfOk result (λ runner. IsAtPhase (host_of (D.functions (digests_of world.entry)) world.entry)
+            (shown_world world.entry) runner.end) }
+        ensures cut { (held : Option (List ℕ)) → OnErr result (IsCutOff (D.functions (digests_of world.entry))
+            (record { vault = V.held vault.old; vault_after = V.held vault.new; out = held; out_after = held })) }
+        ensures stop { result ≢ Err RoundStop.WriteFault }
+        ensures vault_fault { result ≡ Err RoundStop.VaultFault → Rose (V.faults vault.old) (V.faults vault.new) }
+        ensures never_falls { V.faults vault.old ≤ V.faults vault.new }
+        ensures name { V.name vault.new ≡ V.name vault.old }
+    {
+        let header = world.settings().header;
+        let buffers = buffers_for(alloc, header.verifiers)?;
+        let rounds = Rounds::new(alloc, &header, vault)?;
+        Ok(Runner {
+            world,
+            rounds,
+            buffers,
+            end: None,
+        })
+    }
+
+    /// A phase: its requests are served, and what was logged goes to the vault. A clock may end in it.
+    pub(crate) fn phase<V: Sink, G: Gate>(
+        &mut self,
+        gate: &G,
+        vault: &mut V,
+    ) -> Result<(), RoundStop>
+        requires runs { IsUnderWay D.functions self.old (V.held vault.old) }
+        requires begins { IsAtPhase (host_of (D.functions (digests_of self.old.world)) self.old.world)
+            (shown_world self.old.world) self.old.end }
+        requires workers { AllByRecursion (λ turn. turn.0 < length (shown_world self.old.world).workers)
+            (turns_of (host_of (D.functions (digests_of self.old.world)) self.old.world) (shown_world self.old.world).phase) }
+        ensures runs { (outputs : Outputs) → Runs D.functions self.old outputs → outputs.vault_after ≡ V.held vault.old
+            → OnOk result (Runs D.functions self.new (record outputs { vault_after = V.held vault.new })) }
+        ensures served { OnOk result (IsAtClose (host_of (D.functions (digests_of self.new.world)) self.new.world)
+            (shown_world self.new.world) self.new.end) }
+        ensures same_phase { OnOk result ((shown_world self.new.world).phase ≡ (shown_world self.old.world).phase) }
+        ensures cut { (outputs : Outputs) → Runs D.functions self.old outputs → outputs.vault_after ≡ V.held vault.old
+            → OnErr result (IsCutOff (D.functions (digests_of self.old.world)) (record outputs { vault_after = V.held vault.new })) }
+        ensures host { AreOfOneHost self.old.world self.new.world }
+        ensures stop { result ≢ Err RoundStop.WriteFault }
+        ensures vault_fault { result ≡ Err RoundStop.VaultFault → Rose (V.faults vault.old) (V.faults vault.new) }
+        ensures never_falls { V.faults vault.old ≤ V.faults vault.new }
+        ensures name { V.name vault.new ≡ V.name vault.old }
+    {
+        what_is_due_stays_due();
+        self.end = serve_phase(&mut self.world, gate)?;
+        self.pass_on(vault)
+    }
+
+    /// A close, the last one or another: the workers move on to the next epoch, what they logged goes to the vault, and the
+    /// lines of all epochs that are now certified are written. A clock may end in it, and then no more can be done.
+    pub(crate) fn close_epoch<V: Sink, O: Sink>(
+        &mut self,
+        last: bool,
+        vault: &mut V,
+        out: &mut O,
+    ) -> Result<(), RoundStop>
+        requires runs { IsUnderWay D.functions self.old (V.held vault.old) }
+        requires served { IsAtClose (host_of (D.functions (digests_of self.old.world)) self.old.world)
+            (shown_world self.old.world) self.old.end }
+        requires last { (last ≡ true) ↔ IsLast (host_of (D.functions (digests_of self.old.world)) self.old.world)
+            (shown_world self.old.world) }
+        ensures runs { (outputs : Outputs) → Runs D.functions self.old outputs → outputs.vault_after ≡ V.held vault.old
+            → outputs.out_after ≡ O.held out.old
+            → OnOk result (RunsWhole D.functions self.new (record outputs { vault_after = V.held vault.new; out_after = O.held out.new })) }
+        ensures ended { (last ≡ true) ⊎ (self.new.end ≢ None)
+            → OnOk result (IsAtEnd (host_of (D.functions (digests_of self.new.world)) self.new.world) (shown_world self.new.world) self.new.end) }
+        ensures kept { self.new.end ≡ None → self.old.end ≡ None }
+        ensures opened { last ≡ false → self.new.end ≡ None
+            → OnOk result (IsAtPhase (host_of (D.functions (digests_of self.new.world)) self.new.world) (shown_world self.new.world) self.new.end
+            × ((shown_world self.new.world).phase ≡ suc (shown_world self.old.world).phase)) }
+        ensures cut { (outputs : Outputs) → Runs D.functions self.old outputs → outputs.vault_after ≡ V.held vault.old
+            → outputs.out_after ≡ O.held out.old
+            → OnErr result (IsCutOff (D.functions (digests_of self.old.world))
+            (record outputs { vault_after = V.held vault.new; out_after = O.held out.new })) }
+        ensures host { AreOfOneHost self.old.world self.new.world }
+        ensures vault_fault { result ≡ Err RoundStop.VaultFault → Rose (V.faults vault.old) (V.faults vault.new) }
+        ensures write_fault { result ≡ Err RoundStop.WriteFault → Rose (O.faults out.old) (O.faults out.new) }
+        ensures vault_never_falls { V.faults vault.old ≤ V.faults vault.new }
+        ensures never_falls { O.faults out.old ≤ O.faults out.new }
+        ensures name { V.name vault.new ≡ V.name vault.old }
+    {
+        what_is_due_stays_due();
+        let end = close_phase(&mut self.world, last)?;
+        self.end = earlier_end(self.end, end);
+        self.pass_on(vault)?;
+        self.rounds.certify(out)
+    }
+
+    /// A phase and its close, which is the last one at the script's end, or where a clock ended in the phase.
+    pub(crate) fn epoch<V: Sink, O: Sink, G: Gate>(
+        &mut self,
+        at_end: bool,
+        gate: &G,
+        vault: &mut V,
+        out: &mut O,
+    ) -> Result<(), RoundStop>
+        requires runs { IsUnderWayWith D.functions self.old (V.held vault.old) (O.held out.old) }
+        requires begins { IsAtPhase (host_of (D.functions (digests_of self.old.world)) self.old.world)
+            (shown_world self.old.world) self.old.end }
+        requires workers { AllByRecursion (λ turn. turn.0 < length (shown_world self.old.world).workers)
+            (turns_of (host_of (D.functions (digests_of self.old.world)) self.old.world) (shown_world self.old.world).phase) }
+        requires at_end { (at_end ≡ true) ↔ (length (requests_of self.old.world) ≤ suc (shown_world self.old.world).phase) }
+        ensures runs { (outputs : Outputs) → Runs D.functions self.old outputs → outputs.vault_after ≡ V.held vault.old
+            → outputs.out_after ≡ O.held out.old
+            → OnOk result (RunsWhole D.functions self.new (record outputs { vault_after = V.held vault.new; out_after = O.held out.new })) }
+        ensures ended { (at_end ≡ true) ⊎ (self.new.end ≢ None)
+            → OnOk result (IsAtEnd (host_of (D.functions (digests_of self.new.world)) self.new.world) (shown_world self.new.world) self.new.end) }
+        ensures opened { at_end ≡ false → self.new.end ≡ None
+            → OnOk result (IsAtPhase (host_of (D.functions (digests_of self.new.world)) self.new.world) (shown_world self.new.world) self.new.end
+            × ((shown_world self.new.world).phase ≡ suc (shown_world self.old.world).phase)) }
+        ensures cut { (outputs : Outputs) → Runs D.functions self.old outputs → outputs.vault_after ≡ V.held vault.old
+            → outputs.out_after ≡ O.held out.old
+            → OnErr result (IsCutOff (D.functions (digests_of self.old.world))
+            (record outputs { vault_after = V.held vault.new; out_after = O.held out.new })) }
+        ensures host { AreOfOneHost self.old.world self.new.world }
+        ensures vault_fault { result ≡ Err RoundStop.VaultFault → Rose (V.faults vault.old) (V.faults vault.new) }
+        ensures write_fault { result ≡ Err RoundStop.WriteFault → Rose (O.faults out.old) (O.faults out.new) }
+        ensures vault_never_falls { V.faults vault.old ≤ V.faults vault.new }
+        ensures never_falls { O.faults out.old ≤ O.faults out.new }
+        ensures name { V.name vault.new ≡ V.name vault.old }
+    {
+        self.phase(gate, vault)?;
+        let last = closes_last(at_end, self.end);
+        self.close_epoch(last, vault, out)
+    }
+
+    /// Behind the last close: writes the last line of the report.
+    pub(crate) fn finish<O: Sink>(&mut self, out: &mut O) -> Result<RunEnd, RoundStop>
+        requires runs { IsUnderWayWhole D.functions self.old }
+        requires ended { IsAtEnd (host_of (D.functions (digests_of self.old.world)) self.old.world) (shown_world self.old.world) self.old.end }
+        ensures served { (outputs : Outputs) → RunsWhole D.functions self.old outputs → outputs.out_after ≡ O.held out.old
+            → IfOk result (λ end. IsServed (D.functions (digests_of self.old.world)) (settings_of self.old.world) (requests_of self.old.world) end
+            (record outputs { out_after = O.held out.new })) }
+        ensures cut { (outputs : Outputs) → RunsWhole D.functions self.old outputs → outputs.out_after ≡ O.held out.old
+            → OnErr result (IsCutAtEnd (D.functions (digests_of self.old.world)) (settings_of self.old.world) (requests_of self.old.world)
+            (record outputs { out_after = O.held out.new })) }
+        ensures stop { OnErr result (result ≡ Err RoundStop.WriteFault) }
+        ensures write_fault { OnErr result (Rose (O.faults out.old) (O.faults out.new)) }
+        ensures never_falls { O.faults out.old ≤ O.faults out.new }
+    {
+        a_check_of_the_logs_ends_as_the_host_promises();
+        match self.end {
+            None => match self.rounds.finish(out)? {
+                BundleEnd::Done { epochs } => Ok(RunEnd::Done(epochs)),
+                _ => unreachable!(),
+            },
+            Some(end) => {
+                let ended = RunEnd::ClockEnd(end);
+                write_end(&ended.status(), out)?;
+                Ok(ended)
+            }
+        }
+    }
+
+    // Hands out what all workers logged: it goes to the vault, and the verifiers' runs take it.
+    fn pass_on<V: Sink>(&mut self, vault: &mut V) -> Result<(), RoundStop>
+        requires runs { IsUnderWay D.functions self.old (V.held vault.old) }
+        ensures runs { (outputs : Outputs) → Runs D.functions self.old outputs → outputs.vault_after ≡ V.held vault.old
+            → OnOk result (Runs D.functions self.new (record outputs { vault_after = V.held vault.new })) }
+        ensures handed { OnOk result (shown_world self.new.world ≡ all_handed_out (shown_world self.old.world)) }
+        ensures end { self.new.end ≡ self.old.end }
+        ensures cut { (outputs : Outputs) → Runs D.functions self.old outputs → outputs.vault_after ≡ V.held vault.old
+            → OnErr result (IsCutOff (D.functions (digests_of self.old.world)) (record outputs { vault_after = V.held vault.new })) }
+        ensures host { AreOfOneHost self.old.world self.new.world }
+        ensures stop { result ≢ Err RoundStop.WriteFault }
+        ensures vault_fault { result ≡ Err RoundStop.VaultFault → Rose (V.faults vault.old) (V.faults vault.new) }
+        ensures never_falls { V.faults vault.old ≤ V.faults vault.new }
+        ensures name { V.name vault.new ≡ V.name vault.old }
+    {
+        what_is_due_stays_due();
+        hand_out_all(&mut self.world, self.buffers.as_mut_slice())?;
+        self.rounds
+            .take(self.world.digests(), self.buffers.as_slice(), vault)
+    }
+}
+
+// The first of two ends, if either is there.
+fn earlier_end(first: Option<ClockEnd>, later: Option<ClockEnd>) -> Option<ClockEnd>
+    ensures value { result ≡ first_of first later }
+{
+    match first {
+        Some(end) => Some(end),
+        None => later,
+    }
+}
+
+// Whether a close is the last one: at the script's end, or where a clock ended in its phase.
+fn closes_last(at_end: bool, end: Option<ClockEnd>) -> bool
+    ensures at_end { at_end ≡ true → result ≡ true }
+    ensures ended { end ≢ None → result ≡ true }
+    ensures going { at_end ≡ false → end ≡ None → result ≡ false }
+{
+    at_end || end.is_some()
+}
+
+// So many buffers that hold nothing.
+fn buffers_for(alloc: Global, count: u16) -> Result<Vec<LogBuffer>, Memory>
+    ensures len { IfOk result (λ buffers. length buffers.items ≡ count) }
+{
+    let mut buffers = Vec::new(alloc);
+    for _ in 0..count {
+        buffers.push(LogBuffer::new(alloc))?;
+    }
+    Ok(buffers)
+}

@@ -1,0 +1,154 @@
+//! A script that is served, from the setup to the last line of the report.
+ghost use Rattle.std.specs.Prelude.{◌≡◌, ◌≢◌, ◌↔◌, ◌⊎◌, ◌≤◌, ◌<◌, ℕ, suc, true, List, Option, None, length, OnOk, OnErr, Err};
+ghost use Rattle.fv_outside.specs.Faults.{Rose};
+ghost use Rattle.record_hash.specs.Functions.{DigestFunctions};
+ghost use Rattle.script_text.specs.Text.{AreTasks};
+ghost use Rattle.script_text.specs.declared.task.Task.{Task};
+ghost use Rattle.host_core.specs.World.{set_up};
+ghost use Rattle.host_world.specs.Settings.{IsSettings};
+ghost use Rattle.host_world.specs.Shown.{shown_world, digests_of, requests_of, settings_of};
+ghost use Rattle.host_world.specs.Behind.{AreOfOneHost, host_of};
+ghost use Rattle.verifier_threads.specs.Serving.{Outputs, ServesTo, IsCutOff, setup_end};
+ghost use Rattle.verifier_threads.specs.Running.{Runs, RunsWhole, IsUnderWayWith, IsAtPhase, IsAtClose, IsAtEnd};
+
+use crate::ending::RunEnd;
+use crate::runner::Runner;
+use crate::stand_ins::logs_of_no_bytes_certify_nothing;
+use fv_outside::{Gate, Sink};
+use host_fits::scripts_ask_for_keys_in_range;
+use host_rounds::{RoundStop, Rounds, write_end};
+use host_world::{ClockEnd, Settings, World, WorldFault};
+use record_hash::Digests;
+use script_text::Requests;
+use std::alloc::Global;
+
+/// Serves a script to its end, or up to where a clock ends: the workers serve it phase by phase, the vault takes the bundle
+/// of their logs, and the sink the report of what these certify. The gate is passed before each request.
+///
+/// At `Ok` the whole report is written, and the answer says how it ends: where no clock ended the script is served and each
+/// of its phases certified. At an error the sink has a front of the lines that the bytes in the vault certify, or, where it
+/// failed at the last line, of the report.
+pub fn serve_script<D: Digests, V: Sink, O: Sink, G: Gate>(
+    alloc: Global,
+    d: &D,
+    settings: &Settings,
+    requests: &Requests,
+    gate: &G,
+    vault: &mut V,
+    out: &mut O,
+) -> Result<RunEnd, RoundStop>
+    requires settings { IsSettings settings.now }
+    requires tasks { AreTasks settings.now.header.verifiers requests.now }
+    ensures serves { ServesTo (D.functions d.now) settings.now requests.now result
+        (record { vault = V.held vault.old; vault_after = V.held vault.new; out = O.held out.old; out_after = O.held out.new }) }
+    ensures vault_fault { result ≡ Err RoundStop.VaultFault → Rose (V.faults vault.old) (V.faults vault.new) }
+    ensures write_fault { result ≡ Err RoundStop.WriteFault → Rose (O.faults out.old) (O.faults out.new) }
+    ensures vault_never_falls { V.faults vault.old ≤ V.faults vault.new }
+    ensures never_falls { O.faults out.old ≤ O.faults out.new }
+    ensures name { V.name vault.new ≡ V.name vault.old }
+{
+    scripts_ask_for_keys_in_range();
+    match World::new(alloc, d, settings, requests) {
+        Ok(world) => serve_world(alloc, world, gate, vault, out),
+        Err(WorldFault::ClockEnd(end)) => serve_nothing(alloc, settings, end, vault, out),
+        Err(WorldFault::Memory) => Err(RoundStop::Memory),
+    }
+}
+
+// Serves the script of a world that is set up.
+fn serve_world<D: Digests, V: Sink, O: Sink, G: Gate>(
+    alloc: Global,
+    world: World<'_, D>,
+    gate: &G,
+    vault: &mut V,
+    out: &mut O,
+) -> Result<RunEnd, RoundStop>
+    requires setup { shown_world world ≡ set_up (host_of (D.functions (digests_of world)) world) }
+    requires settings { IsSettings (settings_of world) }
+    requires counters { (settings_of world).shards ≤ (settings_of world).header.end }
+    requires tasks { AreTasks (settings_of world).header.verifiers (requests_of world) }
+    ensures serves { ServesTo (D.functions (digests_of world.entry)) (settings_of world.entry) (requests_of world.entry) result
+        (record { vault = V.held vault.old; vault_after = V.held vault.new; out = O.held out.old; out_after = O.held out.new }) }
+    ensures vault_fault { result ≡ Err RoundStop.VaultFault → Rose (V.faults vault.old) (V.faults vault.new) }
+    ensures write_fault { result ≡ Err RoundStop.WriteFault → Rose (O.faults out.old) (O.faults out.new) }
+    ensures vault_never_falls { V.faults vault.old ≤ V.faults vault.new }
+    ensures never_falls { O.faults out.old ≤ O.faults out.new }
+    ensures name { V.name vault.new ≡ V.name vault.old }
+{
+    scripts_ask_for_keys_in_range();
+    has_a_phase(world.requests());
+    let mut runner = Runner::new(alloc, world, vault)?;
+    serve_phases(&mut runner, gate, vault, out)?;
+    runner.finish(out)
+}
+
+// Serves phase after phase, and closes each, until a clock ends or the script does.
+fn serve_phases<D: Digests, V: Sink, O: Sink, G: Gate>(
+    runner: &mut Runner<'_, D>,
+    gate: &G,
+    vault: &mut V,
+    out: &mut O,
+) -> Result<(), RoundStop>
+    requires runs { IsUnderWayWith D.functions runner.old (V.held vault.old) (O.held out.old) }
+    requires begins { IsAtPhase (host_of (D.functions (digests_of runner.old.world)) runner.old.world)
+        (shown_world runner.old.world) runner.old.end }
+    requires first { (shown_world runner.old.world).phase ≡ 0 }
+    requires tasks { AreTasks (settings_of runner.old.world).header.verifiers (requests_of runner.old.world) }
+    ensures runs { (outputs : Outputs) → Runs D.functions runner.old outputs → outputs.vault_after ≡ V.held vault.old
+        → outputs.out_after ≡ O.held out.old
+        → OnOk result (RunsWhole D.functions runner.new (record outputs { vault_after = V.held vault.new; out_after = O.held out.new })) }
+    ensures ended { OnOk result (IsAtEnd (host_of (D.functions (digests_of runner.new.world)) runner.new.world)
+        (shown_world runner.new.world) runner.new.end) }
+    ensures cut { (outputs : Outputs) → Runs D.functions runner.old outputs → outputs.vault_after ≡ V.held vault.old
+        → outputs.out_after ≡ O.held out.old
+        → OnErr result (IsCutOff (D.functions (digests_of runner.old.world))
+        (record outputs { vault_after = V.held vault.new; out_after = O.held out.new })) }
+    ensures host { AreOfOneHost runner.old.world runner.new.world }
+    ensures vault_fault { result ≡ Err RoundStop.VaultFault → Rose (V.faults vault.old) (V.faults vault.new) }
+    ensures write_fault { result ≡ Err RoundStop.WriteFault → Rose (O.faults out.old) (O.faults out.new) }
+    ensures vault_never_falls { V.faults vault.old ≤ V.faults vault.new }
+    ensures never_falls { O.faults out.old ≤ O.faults out.new }
+    ensures name { V.name vault.new ≡ V.name vault.old }
+{
+    let phases = runner.world.requests().len();
+    for _number in 1..phases {
+        runner.epoch(false, gate, vault, out)?;
+        if runner.end.is_some() {
+            return Ok(());
+        }
+    }
+    runner.epoch(true, gate, vault, out)
+}
+
+// Where the counters don't suffice for the setup: the vault has the header alone, and the report its last line.
+fn serve_nothing<V: Sink, O: Sink>(
+    alloc: Global,
+    settings: &Settings,
+    end: ClockEnd,
+    vault: &mut V,
+    out: &mut O,
+) -> Result<RunEnd, RoundStop>
+    requires settings { IsSettings settings.now }
+    requires unserved { settings.now.header.end < settings.now.shards }
+    requires end { end ≡ setup_end settings.now }
+    ensures serves { (functions : DigestFunctions) (script : List (List Task)) → ServesTo functions settings.now script result
+        (record { vault = V.held vault.old; vault_after = V.held vault.new; out = O.held out.old; out_after = O.held out.new }) }
+    ensures vault_fault { result ≡ Err RoundStop.VaultFault → Rose (V.faults vault.old) (V.faults vault.new) }
+    ensures write_fault { result ≡ Err RoundStop.WriteFault → Rose (O.faults out.old) (O.faults out.new) }
+    ensures vault_never_falls { V.faults vault.old ≤ V.faults vault.new }
+    ensures never_falls { O.faults out.old ≤ O.faults out.new }
+    ensures name { V.name vault.new ≡ V.name vault.old }
+{
+    logs_of_no_bytes_certify_nothing();
+    let ended = RunEnd::ClockEnd(end);
+    let _rounds = Rounds::new(alloc, &settings.header, vault)?;
+    write_end(&ended.status(), out)?;
+    Ok(ended)
+}
+
+// A script has a phase. It does nothing, and its contract is the fact.
+fn has_a_phase(requests: &Requests)
+    ensures some { 0 < length requests.now }
+{
+    let _count = requests.len();
+}
