@@ -1,6 +1,5 @@
 -- What a run does, by how it ends.
-use Rattle.std.proofs.Common.{◌≡◌, ◌≢◌, ◌⊎◌, ℕ, ◌+◌, List, [], ◌++◌, length, Option, Some, None, IfSome, Result, Ok, Err, inl, inr, refl, sym, ◌∙◌, ap, subst}
-use Rattle.std.specs.Io.KnownBytes.{IsAtEnd}
+use Rattle.std.proofs.Common.{◌≡◌, ◌⊎◌, ℕ, ◌+◌, List, [], ◌++◌, length, Option, Some, None, Ok, Err, inl, inr, refl, sym, ◌∙◌, ap, subst}
 use Rattle.fv_outside.specs.Consumed.{TookAtMost, TookJust}
 use Rattle.fv_outside.specs.Faults.{Rose}
 use Rattle.fv_outside.specs.Written.{Grows, GrowsByFront}
@@ -10,7 +9,6 @@ use Rattle.record_text.specs.declared.cause.Cause.{Cause}
 use Rattle.program_words.specs.declared.host_words.RunWords.{RunWords}
 use Rattle.report_text.specs.declared.status.Status.{Status}
 use Rattle.report_text.specs.declared.status.Status.TheVariants as statuses
-use Rattle.report_text.specs.declared.ending.BundleEnd.{BundleEnd}
 use Rattle.report_text.specs.declared.ending.BundleEnd.TheVariants as bundles
 use Rattle.report_text.specs.Answer.{IsEnd, Reading, Writing}
 use Rattle.report_text.specs.Ending.{status_of}
@@ -31,7 +29,7 @@ use Rattle.verifier_threads.specs.declared.ending.RunEnd.TheVariants as ends
 use Rattle.verifier_threads.specs.Serving.{Outputs, AreOfRun, IsServed, IsCutOff, IsCutAtEnd, ServesTo, end_by, status_at, texts_of}
 use Rattle.fastver_top.specs.declared.scripts.ScriptStop.{ScriptStop}
 use Rattle.fastver_top.specs.declared.scripts.ScriptStop.TheVariants as scripts
-use Rattle.fastver_top.specs.Running.{HasScript, HasBadLine, ReadsScript, script_stopped, run_stopped, settings_for, Keeping, outputs_of, EndsServed, EndsCut, IsDueByCheck, IsAnswerOfCheck, IsNamedFor, IsUntouched, IsBeforeRun, IsBehindScript, RunsTo}
+use Rattle.fastver_top.specs.Running.{HasScript, HasBadLine, ReadsScript, script_stopped, run_stopped, settings_for, Keeping, outputs_of, EndsServed, IsDueByCheck, IsAnswerOfCheck, IsNamedFor, IsUntouched, IsBehindScript, RunsTo}
 
 -- ---- what a check of the vault's bytes answers
 

@@ -1,5 +1,5 @@
 -- Where a script is served to its end, a check of the logs ends with the number of its phases.
-use Rattle.std.proofs.Common.{◌≡◌, ◌⊎◌, ℕ, suc, ◌<◌, ◌≤◌, ◌^◌, ◌==◌, Bool, true, false, List, [], ◌∷◌, length, map, Option, Some, None, Result, Ok, Err, if◌then◌else◌, inl, inr, refl, sym, ◌∙◌, ap, subst, arith, ⊎_elim}
+use Rattle.std.proofs.Common.{◌≡◌, ℕ, suc, ◌<◌, ◌^◌, ◌==◌, Bool, true, false, List, [], ◌∷◌, length, Option, Some, None, Result, Ok, Err, inl, refl, sym, ◌∙◌, ap, subst, arith, ⊎_elim}
 use Rattle.std.proofs.lemmas.List.{length-map}
 use Rattle.std.proofs.lemmas.Bool.{cases_lt}
 use Rattle.std.specs.List.{onto_first}
@@ -13,14 +13,13 @@ use Rattle.script_text.specs.declared.task.Line.{Line}
 use Rattle.script_text.specs.declared.task.Line.TheVariants as said
 use Rattle.script_text.specs.Lines.{lines_of}
 use Rattle.script_text.specs.Script.{BadLine, lines_say, phases_of, script_of, with_line}
-use Rattle.script_text.specs.Text.{AreTasks}
 use Rattle.lamport_clocks.specs.Clock.{last_epoch}
 use Rattle.host_core.specs.Host.{Host, Done as Deed}
 use Rattle.host_core.specs.World.{Place, Worker, Seats, World, set_up, logs_of, worker_at}
 use Rattle.host_core.specs.WorldEvent.{WorldEvent, takes, loses, serves, gives, advances, moves, opens, step, IsEnabled, AreEnabled, run_events, HasAdvanced, after_serve, after_move, after_advance}
 use Rattle.host_world.specs.Behind.{AreInRange}
 use Rattle.host_world.specs.Settings.{IsSettings}
-use Rattle.host_world.specs.ShippedHost.{shipped_host, turn_of}
+use Rattle.host_world.specs.ShippedHost.{shipped_host}
 use Rattle.host_world.specs.declared.settings.Settings.{Settings}
 use Rattle.host_fits.specs.Promise.{CanRun}
 use Rattle.host_rounds.specs.SoFar.{end_due}

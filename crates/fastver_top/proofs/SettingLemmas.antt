@@ -1,5 +1,5 @@
 -- Numbers that words give are those of a host.
-use Rattle.std.proofs.Common.{◌≡◌, ◌<◌, ◌≤◌, ℕ, Option, Some, None, IfSome, refl, arith}
+use Rattle.std.proofs.Common.{◌<◌, ◌≤◌, ℕ, Option, Some, None, IfSome, refl, arith}
 use Rattle.host_world.specs.Settings.{IsSettings}
 use Rattle.program_words.specs.declared.host_words.HostNumbers.{HostNumbers}
 use Rattle.program_words.specs.HostWords.{AreHostNumbers}

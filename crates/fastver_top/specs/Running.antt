@@ -4,7 +4,6 @@ use Rattle.std.specs.Io.KnownBytes.{IsAtEnd}
 use Rattle.fv_outside.specs.Consumed.{TookAtMost, TookJust}
 use Rattle.fv_outside.specs.Faults.{Rose}
 use Rattle.fv_outside.specs.Written.{Grows, IsNamed}
-use Rattle.lamport_clocks.specs.declared.header.Header.{Header}
 use Rattle.record_hash.specs.Functions.{DigestFunctions}
 use Rattle.record_text.specs.declared.cause.Cause.{Cause}
 use Rattle.program_words.specs.declared.host_words.HostNumbers.{HostNumbers}
@@ -13,11 +12,9 @@ use Rattle.report_text.specs.declared.status.Status.{Status}
 use Rattle.report_text.specs.declared.status.Status.TheVariants as statuses
 use Rattle.report_text.specs.Answer.{IsEnd, Reading, Writing}
 use Rattle.report_text.specs.Status.{last_line}
-use Rattle.check_core.specs.declared.stops.ReadStop.{ReadStop}
 use Rattle.check_core.specs.declared.stops.ReadStop.TheVariants as reads
 use Rattle.check_core.specs.Stops.{reading_stopped}
 use Rattle.bundle_report.specs.Answer.{check_answer}
-use Rattle.script_text.specs.declared.fault.ScriptFault.{ScriptFault}
 use Rattle.script_text.specs.declared.fault.ScriptFault.TheVariants as faults
 use Rattle.script_text.specs.declared.task.Task.{Task}
 use Rattle.script_text.specs.Script.{script_of}

@@ -1,5 +1,5 @@
 -- The numbers of what words ask for are in their ranges.
-use Rattle.std.proofs.Common.{◌≡◌, ◌⊎◌, ℕ, ◌-◌, ◌<◌, ◌≤◌, ◌^◌, ◌==◌, Bool, true, false, List, [], ◌∷◌, Option, Some, None, IfSome, if◌then◌else◌, option_and_then, unwrap_or, inl, inr, refl, ap, sym, ◌∙◌, arith, subst}
+use Rattle.std.proofs.Common.{◌≡◌, ℕ, ◌-◌, ◌<◌, ◌≤◌, ◌^◌, ◌==◌, Bool, true, false, List, [], ◌∷◌, Option, Some, None, IfSome, if◌then◌else◌, option_and_then, unwrap_or, refl, ◌∙◌, arith, subst}
 use Rattle.std.specs.Prelude.{codes, Result, Ok, Err, IfOk}
 use Rattle.std.specs.List.{list_any}
 use Rattle.std.specs.Option.{option_map}
@@ -14,7 +14,7 @@ use Rattle.program_words.specs.HostWords.{most_verifiers, most_touches, greatest
 use Rattle.program_words.specs.Words.{fastver_app, run_as, asked_as, asked_by, unless_fault, asked_of, IsInRange}
 use Rattle.program_words.specs.declared.host_words.HostNumbers.{HostNumbers}
 use Rattle.program_words.specs.declared.words.Asked.{Asked}
-use Rattle.program_words.specs.declared.words.Asked.TheVariants.{Check, Audit, Run}
+use Rattle.program_words.specs.declared.words.Asked.TheVariants.{Check, Audit}
 use Rattle.program_words.specs.declared.words.WordsFault.{WordsFault}
 
 -- ---- one number

@@ -1,5 +1,7 @@
 //! Objects that fail, one call after the other, and objects that never do.
-use crate::serving::{Objects, REPORT, SCRIPT, assert_front, checked, line_of, objects, program, served};
+use crate::serving::{
+    Objects, REPORT, SCRIPT, assert_front, checked, line_of, objects_of, program, served,
+};
 use fastver_top::{Status, fastver};
 use fv_outside::{FreeGate, SureSink, SureSource, SureVault};
 use std::alloc::Global;
@@ -15,7 +17,7 @@ fn failing<R: Threads + Wait + Sync>(
     fails: (&[u64], &[u64], &[u64]),
 ) -> Result<(Objects, Status), Fail> {
     let line = line_of(alloc, more)?;
-    let mut objects = objects(alloc, SCRIPT.as_bytes(), 1, fails)?;
+    let mut objects = objects_of(alloc, SCRIPT.as_bytes(), 1, fails)?;
     let status = program(rt, alloc, &line, &mut objects)?;
     Ok((objects, status))
 }
@@ -43,7 +45,12 @@ fn where_a_write_fails_a_front_of_the_report_stands(rt: HostRuntime) -> Result<(
         assert_eq!(rt; objects.vault.name_taken(), Some("x"), "{k}");
         // The vault has the frames of what was written.
         let (again, _status) = checked(&rt, rt.alloc(), objects.vault.bytes())?;
-        assert_front(&rt, "the vault's lines", objects.out.bytes(), again.out.bytes());
+        assert_front(
+            &rt,
+            "the vault's lines",
+            objects.out.bytes(),
+            again.out.bytes(),
+        );
     }
     Ok(())
 }
@@ -52,7 +59,7 @@ fn where_a_write_fails_a_front_of_the_report_stands(rt: HostRuntime) -> Result<(
 fn a_second_write_that_fails_leaves_the_first(rt: HostRuntime) -> Result<(), Fail> {
     let line = line_of(rt.alloc(), "2")?;
     for piece in [7, 30, 1000] {
-        let mut objects = objects(rt.alloc(), SCRIPT.as_bytes(), piece, (&[], &[1], &[]))?;
+        let mut objects = objects_of(rt.alloc(), SCRIPT.as_bytes(), piece, (&[], &[1], &[]))?;
         let status = program(&rt, rt.alloc(), &line, &mut objects)?;
         assert_eq!(rt; status, Status::WriteFault, "{piece}");
         assert!(rt; !objects.out.bytes().is_empty(), "{piece}");
@@ -64,8 +71,10 @@ fn a_second_write_that_fails_leaves_the_first(rt: HostRuntime) -> Result<(), Fai
 #[test]
 fn where_the_vault_fails_a_front_of_the_bundle_stands(rt: HostRuntime) -> Result<(), Fail> {
     let line = line_of(rt.alloc(), "2")?;
-    let (whole, _status) = served(&rt, rt.alloc(), &line, SCRIPT, 1)?;
+    let (whole, status) = served(&rt, rt.alloc(), &line, SCRIPT, 1)?;
+    assert_eq!(rt; status, Status::Done { epochs: 1 });
     let bundle = whole.vault.bytes();
+    assert!(rt; bundle.len() > 208);
     for k in 0..bundle.len() {
         let (objects, status) = failing(&rt, rt.alloc(), "2", (&[], &[], &[k as u64]))?;
         assert_eq!(rt; status, Status::VaultFault, "{k}");

@@ -142,7 +142,10 @@ fn where_counters_do_not_suffice_for_the_setup_the_vault_holds_a_header(
     let (objects, status) = served(&rt, rt.alloc(), &line, "0 get 5\n", 10)?;
     assert_eq!(rt; objects.vault.bytes(), header.as_slice());
     assert_eq!(rt; objects.vault.name_taken(), Some("x"));
-    assert_eq!(rt; objects.out.bytes(), b"clock end worker 0 at 0.0\n".as_slice());
+    assert_eq!(rt;
+        objects.out.bytes(),
+        b"clock end worker 0 at 0.0\n".as_slice()
+    );
     assert_eq!(rt; status.number(), 10);
     Ok(())
 }
@@ -194,7 +197,11 @@ fn bad_scripts_are_refused_before_anything_is_written(rt: HostRuntime) -> Result
         let label = case.label;
         let (objects, status) = served(&rt, rt.alloc(), &line, case.rows, 10)?;
         assert_eq!(rt; status.number(), case.status, "{label}");
-        assert_eq!(rt; status.line().as_slice(), case.report.trim().as_bytes(), "{label}");
+        assert_eq!(rt;
+            status.line().as_slice(),
+            case.report.trim().as_bytes(),
+            "{label}"
+        );
         assert!(rt; objects.out.bytes().is_empty(), "{label}");
         assert!(rt; objects.vault.bytes().is_empty(), "{label}");
         assert!(rt; objects.vault.name_taken().is_none(), "{label}");
@@ -221,7 +228,10 @@ fn a_value_has_64_bytes_at_most(rt: HostRuntime) -> Result<(), Fail> {
     assert_eq!(rt; objects.out.bytes().len(), 20 + 13 + 128 + 1 + 7);
     let longer = long_put(rt.alloc(), 65)?;
     let (objects, status) = served(&rt, rt.alloc(), &line, &longer, 10)?;
-    assert_eq!(rt; status.line().as_slice(), b"bad script line 1 Hex".as_slice());
+    assert_eq!(rt;
+        status.line().as_slice(),
+        b"bad script line 1 Hex".as_slice()
+    );
     assert!(rt; objects.out.bytes().is_empty());
     Ok(())
 }

@@ -23,6 +23,7 @@ done 1
 ";
 
 /// What a program reads, writes and keeps, in memory.
+#[derive(Drop)]
 pub(crate) struct Objects {
     pub source: MemorySource,
     pub out: MemorySink,
@@ -30,7 +31,7 @@ pub(crate) struct Objects {
 }
 
 /// Objects with these bytes to read, all by pieces of so many, and with calls that fail.
-pub(crate) fn objects(
+pub(crate) fn objects_of(
     alloc: Global,
     bytes: &[u8],
     piece: usize,
@@ -74,7 +75,7 @@ pub(crate) fn served<R: Threads + Wait + Sync>(
     script: &str,
     piece: usize,
 ) -> Result<(Objects, Status), Fail> {
-    let mut objects = objects(alloc, script.as_bytes(), piece, (&[], &[], &[]))?;
+    let mut objects = objects_of(alloc, script.as_bytes(), piece, (&[], &[], &[]))?;
     let status = program(rt, alloc, line, &mut objects)?;
     Ok((objects, status))
 }
@@ -86,7 +87,7 @@ pub(crate) fn checked<R: Threads + Wait + Sync>(
     bytes: &[u8],
 ) -> Result<(Objects, Status), Fail> {
     let line = "fastver check --key 00000000000000000000000000000000";
-    let mut objects = objects(alloc, bytes, 1000, (&[], &[], &[]))?;
+    let mut objects = objects_of(alloc, bytes, 1000, (&[], &[], &[]))?;
     let status = program(rt, alloc, line, &mut objects)?;
     Ok((objects, status))
 }

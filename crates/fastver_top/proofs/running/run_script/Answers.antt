@@ -1,4 +1,4 @@
-use Rattle.std.proofs.Common.{refl, sym, subst, inr, arith}
+use Rattle.std.proofs.Common.{refl, sym, subst}
 use Rattle.report_text.specs.declared.status.Status.{Status}
 use Rattle.report_text.specs.Answer.{Reading, Writing}
 use Rattle.fastver_top.specs.Running.{Keeping, RunsTo, settings_for}
