@@ -1,5 +1,5 @@
 -- A table that is made of one content, and its worker.
-use Rattle.std.proofs.Common.{◌≡◌, ℕ, zero, suc, ◌<◌, List, [], ◌∷◌, length, get_or, All, refl, sym, ap, ◌∙◌, subst, Option, Some, None, arith}
+use Rattle.std.proofs.Common.{◌≡◌, ℕ, zero, suc, ◌<◌, List, [], ◌∷◌, ◌++◌, length, length-append, get_or, All, refl, sym, ap, ◌∙◌, subst, Option, Some, None, arith}
 use Rattle.std.proofs.lemmas.Option.{same_Some}
 use Rattle.lamport_clocks.specs.declared.header.Header.{Header}
 use Rattle.lamport_clocks.specs.Clock.{opening_reading}
@@ -95,3 +95,10 @@ can_attempt terms z hands d start header all new =
       clock_is = clock_of terms start header;
       chained = subst (λ (es : List Entry). TakesUp es (opening_reading 0 16777215)) (sym (new 0 d there).entries) tt;
     }
+
+-- the one hand of a list
+pub only_hand : (rest : List Hand) (hand : Hand) (hands : List Hand) → hands ≡ rest ++ hand ∷ [] → length hands ≡ 1 → get_or hands 0 hand ≡ hand
+only_hand [] hand hands is one = ap (λ (hs : List Hand). get_or hs 0 hand) is
+only_hand (other ∷ rest) hand hands is one =
+    let many : length hands ≡ suc (length (rest ++ hand ∷ [])) = ap (λ (hs : List Hand). length hs) is in
+    absurd (omega (arith, one, many, length-append rest (hand ∷ [])))

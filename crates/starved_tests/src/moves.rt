@@ -51,14 +51,32 @@ evictB /0 2.5
 pub fn away(alloc: Global) -> Result<Outcome, Fault> {
     let seat = two_put(alloc)?;
     let twin = two_put(alloc)?;
-    moved(alloc, seat, &twin, AWAY, Stamp { epoch: 1, counter: 4 })
+    moved(
+        alloc,
+        seat,
+        &twin,
+        AWAY,
+        Stamp {
+            epoch: 1,
+            counter: 4,
+        },
+    )
 }
 
 /// They come back, and another key becomes hot.
 pub fn back(alloc: Global) -> Result<Outcome, Fault> {
     let seat = two_away(alloc)?;
     let twin = two_away(alloc)?;
-    moved(alloc, seat, &twin, BACK, Stamp { epoch: 2, counter: 5 })
+    moved(
+        alloc,
+        seat,
+        &twin,
+        BACK,
+        Stamp {
+            epoch: 2,
+            counter: 5,
+        },
+    )
 }
 
 // Two keys were put, and the epoch is over.

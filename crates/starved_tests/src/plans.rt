@@ -90,7 +90,9 @@ fn put_behind(
 // The plan is this one, and the shard waits with the clock's stamp.
 fn look(plan: &Plan, seat: &Seat, wanted: &[u8], counter: u32) -> Result<(), Fault> {
     let stamp = Stamp { epoch: 0, counter };
-    if !are_written_as(plan.commands.as_slice(), wanted) || Some(plan.answer.copy()) != Blob::of_bytes(b"b") {
+    if !are_written_as(plan.commands.as_slice(), wanted)
+        || Some(plan.answer.copy()) != Blob::of_bytes(b"b")
+    {
         return Err(Fault::Amiss("another plan"));
     }
     match seat.cold.pending() {
