@@ -1,0 +1,6 @@
+use Rattle.host_shard.specs.Shown.{shown_content}
+use Rattle.starved_tests.specs.Fit.{IsFit}
+use Rattle.starved_tests.proofs.seat.Seat.after.Given as goal
+
+abbrev pub invariant-loop-put : goal.invariant-loop-put
+invariant-loop-put l = IsFit (shown_content l.seat.cold)

@@ -1,0 +1,102 @@
+//! A put that makes a fork, and one for whose last record the tree that keeps them has no room.
+use crate::outcome::{Fault, Outcome};
+use crate::same::are_written_as;
+use crate::seat::Seat;
+use bundle_rows::log_of;
+use host_plan::Plan;
+use lamport_clocks::Stamp;
+use record_text::Blob;
+use std::alloc::Global;
+
+// What tools/slow_plans.py prints for the last of two puts.
+const FORK: &str = "
+addB /0 0:63,- 0.4 v0
+addM 0/63 -,- /0
+addM 1 none 0/63
+put 1 62
+evictM 1 0/63
+evictM 0/63 /0
+evictB /0 0.6
+";
+
+// The puts before it, where there are 14 records then: a node of the tree that keeps them has room for 15.
+const MANY: [(u64, u8); 8] = [
+    (0, b'a'),
+    (2, b'b'),
+    (4, b'c'),
+    (6, b'd'),
+    (8, b'e'),
+    (10, b'f'),
+    (12, b'g'),
+    (4_611_686_018_427_387_904, b'h'),
+];
+
+// What it prints for one behind these.
+const SPLIT: &str = "
+addB /0 0/60:010d,4611686018427387904:6a 0.18 v0
+addM 0/60 0/61:0126,8/61:0161 /0
+addM 0/61 0/62:014b,4/62:0157 0/60
+addM 0/62 0:63,2:64 0/61
+addM 0/63 -,- 0/62
+addM 1 none 0/63
+put 1 62
+evictM 1 0/63
+evictM 0/63 0/62
+evictM 0/62 0/61
+evictM 0/61 0/60
+evictM 0/60 /0
+evictB /0 0.20
+";
+
+/// A put of the key beside the only one.
+pub fn fork(alloc: Global) -> Result<Outcome, Fault> {
+    put_behind(alloc, &[(0, b'a')], FORK, 6)
+}
+
+/// The same put where a node of the records' tree has to be split for it, once the fork has its record.
+pub fn split(alloc: Global) -> Result<Outcome, Fault> {
+    put_behind(alloc, &MANY, SPLIT, 20)
+}
+
+// A put behind others, which is logged in these rows and leaves the clock at this counter.
+fn put_behind(
+    alloc: Global,
+    puts: &[(u64, u8)],
+    rows: &str,
+    counter: u32,
+) -> Result<Outcome, Fault> {
+    let mut seat = Seat::after(alloc, puts)?;
+    let twin = Seat::after(alloc, puts)?;
+    let wanted = log_of(alloc, rows.trim())?;
+    match seat.put(alloc, 1, b'b') {
+        Ok(plan) => {
+            look(&plan, &seat, &wanted, counter)?;
+            Ok(Outcome::Made)
+        }
+        Err(Fault::Memory) => {
+            if !seat.is_same(&twin) {
+                return Err(Fault::Amiss("another shard or clock than before"));
+            }
+            match seat.put(alloc, 1, b'b') {
+                Ok(plan) => look(&plan, &seat, &wanted, counter)?,
+                Err(_) => return Err(Fault::Amiss("no plan when asked again")),
+            }
+            Ok(Outcome::MadeAgain)
+        }
+        Err(fault) => Err(fault),
+    }
+}
+
+// The plan is this one, and the shard waits with the clock's stamp.
+fn look(plan: &Plan, seat: &Seat, wanted: &[u8], counter: u32) -> Result<(), Fault> {
+    let stamp = Stamp { epoch: 0, counter };
+    if !are_written_as(plan.commands.as_slice(), wanted)
+        || Some(plan.answer.copy()) != Blob::of_bytes(b"b")
+    {
+        return Err(Fault::Amiss("another plan"));
+    }
+    match seat.cold.pending() {
+        Some(element) if element.stamp == stamp && seat.clock.at() == stamp => Ok(()),
+        _ => Err(Fault::Amiss("another stamp")),
+    }
+}

@@ -1,0 +1,64 @@
+#!/usr/bin/env python3
+"""Refuses each allocation of some calls in turn, and looks that each call then leaves all as before.
+
+usage: tools/refuse_memory.py [CALL ..]
+
+The calls are those of crates/starved_tests, by default the ones that its stdin names. Its program makes so many allocations
+to no use as a line of its input says, and then tries a call, all of whose things it makes anew. `rt try` builds it once,
+unproved, and runs it once for each number, and in each run the same allocation is refused: so the fewer are made to no use,
+the later is the one of the try. It writes what came of each, up to the first that is not refused, and fails where a call
+left anything else than it was, or was not made when it was called again.
+"""
+import os
+import subprocess
+import sys
+import tempfile
+
+CRATE = os.path.join(os.path.dirname(os.path.abspath(__file__)), "..", "crates", "starved_tests")
+REFUSED = 100  # which allocation of a run is refused: no try makes as many
+EARLY, BEFORE, GOOD, NONE = "refused too early", "refused before the call", "refused, all as before", "not refused"
+
+
+def calls():
+    with open(os.path.join(CRATE, "stdin"), encoding="ascii") as lines:
+        return [line.split()[0] for line in lines]
+
+
+def tried(names):
+    """What the program tells of each call, by how many allocations it makes first."""
+    with tempfile.TemporaryDirectory() as folder:
+        for name in names:
+            for spent in range(REFUSED):
+                with open(os.path.join(folder, f"{name}-{spent}"), "w", encoding="ascii") as file:
+                    file.write(f"{name} {spent}\n")
+        words = ["rt", "try", "--fail-alloc", str(REFUSED), "--cases", folder]
+        said = subprocess.run(words, cwd=CRATE, stdout=subprocess.PIPE, stderr=subprocess.PIPE, text=True, check=False)
+    told = {}
+    for block in said.stdout.split("== ")[1:]:
+        case, *lines = block.splitlines()
+        told[case] = lines[0].partition(": ")[2] if len(lines) == 1 else ""
+    if not told:
+        sys.exit(said.stderr)
+    return {name: [told.get(f"{name}-{spent}", "") or "stopped" for spent in range(REFUSED)] for name in names}
+
+
+def shown(name, told):
+    """The numbers of the try's allocations that are refused, and how many of them the call makes. It is None at a fault."""
+    outcomes = [it for it in reversed(told) if it not in (EARLY, "stopped")]
+    last = max((number for number, it in enumerate(outcomes) if it != NONE), default=-1)
+    for number, outcome in enumerate(outcomes[: last + 2], 1):
+        print(f"{name}, allocation {number}: {outcome}")
+    fine = EARLY in told and told[0] == NONE and GOOD in told and all(it in (BEFORE, GOOD, NONE) for it in outcomes)
+    return outcomes.count(GOOD) if fine else None
+
+
+def main():
+    names = sys.argv[1:] or calls()
+    counts = {name: shown(name, told) for name, told in tried(names).items()}
+    for name, count in counts.items():
+        print(f"{name}: FAILED" if count is None else f"{name}: {count} allocations, all as before at each")
+    return 1 if None in counts.values() else 0
+
+
+if __name__ == "__main__":
+    sys.exit(main())
