@@ -15,3 +15,4 @@ mod PlanLemmas
 mod MoveLemmas
 mod SteadyLemmas
 mod PromiseLemmas
+pub mod TypedLaws

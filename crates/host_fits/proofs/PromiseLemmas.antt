@@ -20,7 +20,7 @@ use Rattle.host_fits.proofs.SettingLemmas.{is_setting}
 use Rattle.host_fits.proofs.RangeLemmas.{are_enabled, run_same}
 use Rattle.host_fits.proofs.OpenLemmas.{setup_mirrored, setup_deed, others_rest, setup_clear, setup_apart}
 
-is_fit : (setting : Setting) → IsSetting setting → IsFit (PlacesMirror setting) (ranged setting)
+pub is_fit : (setting : Setting) → IsSetting setting → IsFit (PlacesMirror setting) (ranged setting)
 is_fit setting is = record {
   some = is.some;
   others = others_rest setting is;

@@ -5,7 +5,7 @@ mod RisingLemmas
 mod PartLemmas
 mod OrderLemmas
 mod StopLemmas
-mod PhaseLaws
+pub mod PhaseLaws
 mod AdvanceLemmas
 mod MoveLemmas
 mod CloseLaws

@@ -59,9 +59,10 @@ module _ {C R : Type 0} (host : Host C R) where
   module _ (logs : List (List Command)) where
     enabled-with : (world : World C) (events : List (WorldEvent R)) → AreEnabled host world events → AreEnabled host (with_logs logs world) events
     enabled-with world [] enabled = tt
-    enabled-with world (event ∷ events) enabled =
-        (enabled_with host logs world event enabled.0,
-        subst (λ (w : World C). AreEnabled host w events) (sym (step_with host logs world event)) (enabled-with (step host world event) events enabled.1))
+    enabled-with world (event ∷ events) enabled = (
+      enabled_with host logs world event enabled.0,
+      subst (λ (w : World C). AreEnabled host w events) (sym (step_with host logs world event)) (enabled-with (step host world event) events enabled.1),
+    )
 
     run-with : (world : World C) (events : List (WorldEvent R)) → with_logs logs (run_events host world events) ≡ run_events host (with_logs logs world) events
     run-with world [] = refl

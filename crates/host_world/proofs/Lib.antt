@@ -14,3 +14,4 @@ pub mod FrontierLaws
 mod WorldLemmas
 mod TakenLemmas
 mod StandingLemmas
+mod PlacingLemmas

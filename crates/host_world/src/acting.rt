@@ -15,7 +15,7 @@ use record_text::Request;
 use want_of_memory::Memory;
 
 // How many places a shard has: one for itself, and four hot ones.
-const PLACES_EACH: u32 = 5;
+pub(crate) const PLACES_EACH: u32 = 5;
 
 impl<'a, D: Digests> World<'a, D> {
     // A worker takes a place.

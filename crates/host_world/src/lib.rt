@@ -7,6 +7,7 @@ mod event;
 mod fault;
 mod handing_out;
 mod laws;
+mod placing;
 mod seats;
 mod settings;
 mod stepping;

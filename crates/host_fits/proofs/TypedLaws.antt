@@ -1,0 +1,31 @@
+-- Whatever happens, each command that the shipped host logs brings in a value of its path's kind.
+use Rattle.std.proofs.Common.{List, subst}
+use Rattle.record_hash.specs.Functions.{DigestFunctions}
+use Rattle.record_text.specs.declared.request.Request.{Request}
+use Rattle.record_text.specs.Format.{format_of}
+use Rattle.script_text.specs.declared.task.Task.{Task}
+use Rattle.soundness.specs.Sound.{AreTyped}
+use Rattle.host_shard.specs.Content.{Content}
+use Rattle.host_core.specs.World.{World, logs_of, set_up}
+use Rattle.host_core.specs.WorldEvent.{WorldEvent, AreEnabled, run_events}
+use Rattle.host_core.proofs.CoreLaws.{always_typed}
+use Rattle.host_world.specs.declared.settings.Settings.{Settings}
+use Rattle.host_world.specs.ShippedHost.{shipped_host}
+use Rattle.host_fits.specs.Promise.{CanRun}
+use Rattle.host_fits.proofs.Keeping.{Setting, setting_of, ranged, PlacesMirror}
+use Rattle.host_fits.proofs.SettingLemmas.{is_setting}
+use Rattle.host_fits.proofs.RangeLemmas.{are_enabled, run_same}
+use Rattle.host_fits.proofs.PromiseLemmas.{is_fit}
+
+pub logs_typed : (functions : DigestFunctions) (settings : Settings) (script : List (List Task)) (events : List (WorldEvent Request))
+    → CanRun functions settings script
+    → AreEnabled (shipped_host functions settings script) (set_up (shipped_host functions settings script)) events
+    → AreTyped (format_of settings.header) (logs_of (run_events (shipped_host functions settings script) (set_up (shipped_host functions settings script)) events))
+logs_typed functions settings script events can enabled =
+    subst (λ (w : World Content). AreTyped (format_of settings.header) (logs_of w))
+    (run_same functions settings script can.keys (set_up (shipped_host functions settings script)) events)
+    (always_typed (PlacesMirror setting) (ranged setting) (is_fit setting (is_setting functions settings script can)) events
+    (are_enabled functions settings script can.keys (set_up (shipped_host functions settings script)) events enabled))
+  where
+    setting : Setting
+    setting = setting_of functions settings script

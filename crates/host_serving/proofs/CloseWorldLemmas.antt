@@ -1,0 +1,164 @@
+-- Worlds of the code in a close: they are of one host, stand behind its setup, and have its numbers of workers and shards.
+use Rattle.std.proofs.Common.{◌≡◌, ℕ, zero, suc, ◌-◌, ◌^◌, ◌<◌, ◌≤◌, Bool, true, false, List, [], ◌∷◌, length, nat_le, Option, Some, None, Result, Ok, Err, OnOk, IfOk, if◌then◌else◌, refl, sym, ◌∙◌, ap, subst, inl, inr, ◌⊎◌, length-append, pow-suc, arith}
+use Rattle.std.proofs.lemmas.Bool.{cases_eq, le-leb, leb-true}
+use Rattle.std.proofs.lemmas.Nat.{pow_below}
+use Rattle.std.proofs.lemmas.List.{length-map, length-replicate}
+use Rattle.std.specs.Option.{option_or}
+use Rattle.record_hash.specs.Functions.{DigestFunctions}
+use Rattle.record_text.specs.declared.request.Request.{Request}
+use Rattle.log_codec.specs.declared.command.Command.{Command}
+use Rattle.merkle_records.specs.Merkle.{GivesDigests}
+use Rattle.host_core.specs.Host.{Host}
+use Rattle.host_core.specs.World.{Seats, World, fresh, shard_at, set_up}
+use Rattle.host_core.specs.WorldEvent.{WorldEvent, step, run_events, IsEnabled, HasAdvanced}
+use Rattle.host_plan.specs.Setup.{IsShardCount, child, paths_below}
+use Rattle.host_shard.specs.Content.{Content}
+use Rattle.script_text.specs.declared.task.Task.{Task}
+use Rattle.host_world.specs.declared.settings.Settings.{Settings}
+use Rattle.host_world.specs.declared.world.World as code
+use Rattle.host_world.specs.declared.fault.ClockEnd.{ClockEnd}
+use Rattle.host_world.specs.Ending.{end_of}
+use Rattle.host_world.specs.Settings.{bits_within, frontier_bits}
+use Rattle.host_world.specs.ShippedHost.{shipped_host}
+use Rattle.host_world.specs.Shown.{shown_world, digests_of, requests_of}
+use Rattle.host_world.specs.Orderly.{IsOrderly}
+use Rattle.host_world.specs.Behind.{host_of, with_logs, StandsWith, AreOfOneHost}
+use Rattle.host_world.proofs.FrontLaws.{length-before_each, clock_with, length-step}
+use Rattle.host_world.proofs.FrontierLaws.{frontier_in, frontiers_behind}
+use Rattle.host_serving.specs.Leading.{first_of, Leads}
+use Rattle.host_serving.proofs.LeadingLaws.{leads-one, leads-then}
+
+-- ---- worlds of one host
+
+pub one_host : {D : Type 0} (a b c : code.World D) → AreOfOneHost a b → AreOfOneHost b c → AreOfOneHost a c
+one_host a b c first then' = record {
+  settings = then'.settings ∙ first.settings;
+  requests = then'.requests ∙ first.requests;
+  digests = then'.digests ∙ first.digests;
+}
+
+pub host_same : {D : Type 0} (functions : D → DigestFunctions) (old new : code.World D) → AreOfOneHost old new
+    → host_of (functions (digests_of new)) new ≡ host_of (functions (digests_of old)) old
+host_same functions old new same =
+    ap (λ d. shipped_host (functions d) new.settings (requests_of new)) same.digests
+    ∙ ap (λ (settings : Settings). shipped_host (functions (digests_of old)) settings (requests_of new)) same.settings
+    ∙ ap (λ (script : List (List Task)). shipped_host (functions (digests_of old)) old.settings script) same.requests
+
+-- One more event of a world of the same host.
+module _ {D : Type 0} (functions : D → DigestFunctions) (first now : code.World D) (same : AreOfOneHost first now) where
+  pub enabled_now : (event : WorldEvent Request) → IsEnabled (host_of (functions (digests_of first)) first) (shown_world now) event
+      → IsEnabled (host_of (functions (digests_of now)) now) (shown_world now) event
+  enabled_now event may = subst (λ (h : Host Content Request). IsEnabled h (shown_world now) event) (sym (host_same functions first now same)) may
+
+  module _ (new : code.World D) where
+    pub stepped_first : (event : WorldEvent Request) → shown_world new ≡ step (host_of (functions (digests_of now)) now) (shown_world now) event
+        → shown_world new ≡ step (host_of (functions (digests_of first)) first) (shown_world now) event
+    stepped_first event is = is ∙ ap (λ (h : Host Content Request). step h (shown_world now) event) (host_same functions first now same)
+
+    pub leads_on : (one two : Option ClockEnd) → Leads (host_of (functions (digests_of first)) first) (shown_world first) (shown_world now) one
+        → Leads (host_of (functions (digests_of now)) now) (shown_world now) (shown_world new) two
+        → Leads (host_of (functions (digests_of first)) first) (shown_world first) (shown_world new) (first_of one two)
+    leads_on one two way more =
+        leads-then (host_of (functions (digests_of first)) first) (shown_world first) (shown_world now) (shown_world new) one two way
+        (subst (λ (h : Host Content Request). Leads h (shown_world now) (shown_world new) two) (host_same functions first now same) more)
+
+    pub ended_first : (event : WorldEvent Request) (end : Option ClockEnd) → end ≡ end_of (host_of (functions (digests_of now)) now) (shown_world now) event
+        → end ≡ end_of (host_of (functions (digests_of first)) first) (shown_world now) event
+    ended_first event end is = is ∙ ap (λ (h : Host Content Request). end_of h (shown_world now) event) (host_same functions first now same)
+
+    pub leads_next : (event : WorldEvent Request) (end : Option ClockEnd) → IsEnabled (host_of (functions (digests_of first)) first) (shown_world now) event
+        → shown_world new ≡ step (host_of (functions (digests_of now)) now) (shown_world now) event
+        → end ≡ end_of (host_of (functions (digests_of now)) now) (shown_world now) event
+        → Leads (host_of (functions (digests_of first)) first) (shown_world first) (shown_world now) None
+        → Leads (host_of (functions (digests_of first)) first) (shown_world first) (shown_world new) end
+    leads_next event end may is ends way =
+        leads-then (host_of (functions (digests_of first)) first) (shown_world first) (shown_world now) (shown_world new) None end way
+        (leads-one (host_of (functions (digests_of first)) first) (shown_world now) (shown_world new) event end may (stepped_first event is) (ended_first event end ends))
+
+    -- the same of a step's answer
+    pub leads_answered : {E : Type 0} (r : Result (Option ClockEnd) E) (event : WorldEvent Request)
+        → IsEnabled (host_of (functions (digests_of first)) first) (shown_world now) event
+        → OnOk r (shown_world new ≡ step (host_of (functions (digests_of now)) now) (shown_world now) event)
+        → IfOk r (λ end. end ≡ end_of (host_of (functions (digests_of now)) now) (shown_world now) event)
+        → Leads (host_of (functions (digests_of first)) first) (shown_world first) (shown_world now) None
+        → IfOk r (λ end. Leads (host_of (functions (digests_of first)) first) (shown_world first) (shown_world new) end)
+    leads_answered (Ok end) event may is ends way = leads_next event end may is ends way
+    leads_answered (Err fault) event may is ends way = tt
+
+-- the first of two ends, as it is written in code
+pub first_of-or : (one two : Option ClockEnd) → first_of one two ≡ option_or one two
+first_of-or None two = refl
+first_of-or (Some end) two = refl
+
+-- what follows of an answer
+pub if_ok_then : {T E : Type 0} (P Q : T → Type 0) (r : Result T E) → ((x : T) → P x → Q x) → IfOk r P → IfOk r Q
+if_ok_then P Q (Ok x) f p = f x p
+if_ok_then P Q (Err e) f p = tt
+
+-- ---- how many workers and shards there are
+
+count_run : {C R : Type 0} (host : Host C R) (world : World C) (events : List (WorldEvent R)) → length (run_events host world events).workers ≡ length world.workers
+count_run host world [] = refl
+count_run host world (event ∷ events) = count_run host (step host world event) events ∙ length-step host world event
+
+count_paths : (levels : ℕ) (path : List Bool) → length (paths_below levels path) ≡ 2 ^ levels
+count_paths zero path = refl
+count_paths (suc levels) path =
+    omega (
+      arith,
+      length-append (paths_below levels (child path false)) (paths_below levels (child path true)),
+      count_paths levels (child path false),
+      count_paths levels (child path true),
+      pow-suc 2 levels,
+    )
+
+bits_are : (most bits : ℕ) → bits ≤ most → bits_within most (2 ^ bits) ≡ bits
+bits_are zero bits few = omega (arith, few)
+bits_are (suc most) bits few = go (cases_eq bits (suc most)) (λ less. bits_are most bits less)
+  where
+    go : (bits ≡ suc most) ⊎ (bits ≡ suc most → ⊥) → (bits ≤ most → bits_within most (2 ^ bits) ≡ bits)
+        → (if nat_le (2 ^ suc most) (2 ^ bits) then suc most else bits_within most (2 ^ bits)) ≡ bits
+    go (inl same) rest =
+        subst (λ (n : ℕ). (if nat_le (2 ^ suc most) (2 ^ n) then suc most else bits_within most (2 ^ n)) ≡ n) (sym same)
+        (ap (λ (b : Bool). if b then suc most else bits_within most (2 ^ suc most)) (le-leb (2 ^ suc most) (2 ^ suc most) (omega arith)))
+    go (inr other) rest = under (nat_le (2 ^ suc most) (2 ^ bits)) refl
+      where
+        less : bits < suc most
+        less = omega (arith, few, other)
+
+        under : (b : Bool) → nat_le (2 ^ suc most) (2 ^ bits) ≡ b → (if b then suc most else bits_within most (2 ^ bits)) ≡ bits
+        under true is = absurd (omega (arith, leb-true (2 ^ suc most) (2 ^ bits) is, pow_below bits (suc most) less))
+        under false is = rest (omega (arith, less))
+
+shards_are : (shards : ℕ) → IsShardCount shards → 2 ^ frontier_bits shards ≡ shards
+shards_are shards is = ap (λ (n : ℕ). 2 ^ frontier_bits n) is.power ∙ ap (λ (bits : ℕ). 2 ^ bits) (bits_are 10 is.bits is.most) ∙ sym is.power
+
+module _ {D : Type 0} (functions : DigestFunctions) (world : code.World D) (logs : List (List Command)) (stands : StandsWith functions world logs) where
+  -- as many workers as the header says
+  pub workers_are : length world.workers.items ≡ world.settings.header.verifiers
+  workers_are =
+      let host = shipped_host functions world.settings (requests_of world) in
+      sym (length-before_each logs world.workers.items)
+      ∙ ap (λ (w : World Content). length w.workers) stands.behind.is
+      ∙ count_run host (set_up host) stands.behind.events
+      ∙ omega (arith, length-replicate (world.settings.header.verifiers - 1) (fresh world.settings.header), stands.behind.settings_fit.header.some_verifiers)
+
+  -- as many shards as the settings say
+  pub shard_count : GivesDigests functions.digest → length (shown_world world).shards ≡ world.settings.shards
+  shard_count digests =
+      let whole = with_logs logs (shown_world world) in
+      sym (length-map (shown_world world).shards (λ (seats : Seats Content). frontier_in seats.contents))
+      ∙ ap (λ (xs : List (List Bool)). length xs) (frontiers_behind functions world.settings (requests_of world) digests whole stands.behind)
+      ∙ count_paths (frontier_bits world.settings.shards) []
+      ∙ shards_are world.settings.shards stands.behind.settings_fit.shards
+
+  -- in a phase the clocks stand in its epoch, and no shard is moved
+  module _ (orderly : IsOrderly functions world.settings (requests_of world) (with_logs logs (shown_world world))) (phase : world.closing ≡ false) where
+    pub clocks_stand : (i : ℕ) → i < length (shown_world world).workers → HasAdvanced (host_of functions world) (shown_world world) i 0
+    clocks_stand i within =
+        ap (λ clock. clock.at.epoch) (sym (clock_with (host_of functions world) logs (shown_world world) i))
+        ∙ orderly.clocked phase i (subst (λ (n : ℕ). i < n) (sym (length-before_each logs world.workers.items)) within)
+        ∙ omega arith
+
+    pub none_is_moved : (s : ℕ) → s < length (shown_world world).shards → (shard_at (shown_world world) s).moved ≡ false
+    none_is_moved = orderly.unmoved phase

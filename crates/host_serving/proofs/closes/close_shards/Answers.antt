@@ -1,0 +1,82 @@
+use Rattle.std.proofs.Common.{◌≡◌, ◌<◌, false, length, None, sym, subst, arith}
+use Rattle.record_text.specs.declared.request.Request.{Request}
+use Rattle.merkle_records.specs.Merkle.{GivesDigests}
+use Rattle.host_core.specs.Host.{Host}
+use Rattle.host_shard.specs.Content.{Content}
+use Rattle.host_world.specs.Behind.{host_of, with_logs}
+use Rattle.host_world.specs.Shown.{shown_world, digests_of, requests_of}
+use Rattle.host_serving.specs.Leading.{Leads}
+use Rattle.host_serving.specs.Closing.{CanMoveAll, HaveAdvanced, EndsAdvance, EndsMoves, EndsShards}
+use Rattle.host_serving.proofs.CloseLemmas.{over_rests, begins, moves_begin, ends_shards}
+use Rattle.host_serving.proofs.CloseWorldLemmas.{host_same, leads_on, if_ok_then, workers_are, clocks_stand, none_is_moved}
+use Rattle.host_serving.proofs.closes.close_shards.Goals as goal
+
+pub advance_all-requires-clause-may : goal.advance_all-requires-clause-may
+advance_all-requires-clause-may g c =
+    let old = c.args.world.now in
+    let logs = c.requires.behind.0 in
+    let stands = c.requires.behind.1 in
+    let functions = g.D.Digests.functions (digests_of old) in
+    let digests : GivesDigests functions.digest = λ text. (g.met.D.Digests.text_digest_shape old.d.now text).size in
+    let orderly = c.worlds_are_orderly.ensures.orderly functions old.settings (requests_of old) (with_logs logs (shown_world old)) digests stands.behind in
+    let phase : old.closing ≡ false = c.requires.served.served.phase in
+    begins (host_of functions old) (shown_world old) c.requires.served (clocks_stand functions old logs stands orderly phase) (none_is_moved functions old logs stands orderly phase)
+
+pub move_all-requires-clause-may : goal.move_all-requires-clause-may
+move_all-requires-clause-may g c =
+    let old = c.args.world.now in
+    let middle = c.advance_all.new.world in
+    let logs = c.requires.behind.0 in
+    let stands = c.requires.behind.1 in
+    let functions = g.D.Digests.functions (digests_of old) in
+    let host = host_of functions old in
+    let digests : GivesDigests functions.digest = λ text. (g.met.D.Digests.text_digest_shape old.d.now text).size in
+    let orderly = c.worlds_are_orderly.ensures.orderly functions old.settings (requests_of old) (with_logs logs (shown_world old)) digests stands.behind in
+    let phase : old.closing ≡ false = c.requires.served.served.phase in
+    let some : 0 < length old.workers.items = omega (arith, workers_are functions old logs stands, stands.behind.settings_fit.header.some_verifiers) in
+    let ended : c.in_ok-end.field-0 ≡ None = c.in_default.is in
+    let have : HaveAdvanced host (shown_world old) (shown_world middle) (length old.workers.items) =
+    subst (EndsAdvance host (shown_world old) (shown_world middle)) ended c.in_ok-end.ensures.ended in
+    subst (λ (h : Host Content Request). CanMoveAll h (shown_world middle)) (sym (host_same g.D.Digests.functions old middle c.advance_all.ensures.host))
+    (moves_begin host (shown_world old) c.requires.served (clocks_stand functions old logs stands orderly phase) (none_is_moved functions old logs stands orderly phase)
+    (shown_world middle) some have)
+
+pub returns-in-Some-clause-ended : goal.returns-in-Some-clause-ended
+returns-in-Some-clause-ended g c =
+    let old = c.args.world.now in
+    let middle = c.advance_all.new.world in
+    let host = host_of (g.D.Digests.functions (digests_of old)) old in
+    over_rests host (shown_world middle) (subst (EndsAdvance host (shown_world old) (shown_world middle)) c.in-Some.is c.in_ok-end.ensures.ended)
+
+pub returns-clause-leads : goal.returns-clause-leads
+returns-clause-leads g c =
+    let old = c.args.world.now in
+    let middle = c.advance_all.new.world in
+    let later = c.move_all.new.world in
+    let host = host_of (g.D.Digests.functions (digests_of old)) old in
+    let ended : c.in_ok-end.field-0 ≡ None = c.in_default.is in
+    let way : Leads host (shown_world old) (shown_world middle) None = subst (Leads host (shown_world old) (shown_world middle)) ended c.in_ok-end.ensures.leads in
+    if_ok_then (Leads (host_of (g.D.Digests.functions (digests_of middle)) middle) (shown_world middle) (shown_world later)) (Leads host (shown_world old) (shown_world later)) c.move_all.result
+    (λ end more. leads_on g.D.Digests.functions old middle c.advance_all.ensures.host later None end way more) c.move_all.ensures.leads
+
+pub returns-clause-ended : goal.returns-clause-ended
+returns-clause-ended g c =
+    let old = c.args.world.now in
+    let middle = c.advance_all.new.world in
+    let later = c.move_all.new.world in
+    let logs = c.requires.behind.0 in
+    let stands = c.requires.behind.1 in
+    let functions = g.D.Digests.functions (digests_of old) in
+    let host = host_of functions old in
+    let digests : GivesDigests functions.digest = λ text. (g.met.D.Digests.text_digest_shape old.d.now text).size in
+    let orderly = c.worlds_are_orderly.ensures.orderly functions old.settings (requests_of old) (with_logs logs (shown_world old)) digests stands.behind in
+    let phase : old.closing ≡ false = c.requires.served.served.phase in
+    let some : 0 < length old.workers.items = omega (arith, workers_are functions old logs stands, stands.behind.settings_fit.header.some_verifiers) in
+    let ended : c.in_ok-end.field-0 ≡ None = c.in_default.is in
+    let have : HaveAdvanced host (shown_world old) (shown_world middle) (length old.workers.items) =
+    subst (EndsAdvance host (shown_world old) (shown_world middle)) ended c.in_ok-end.ensures.ended in
+    if_ok_then (EndsMoves (host_of (g.D.Digests.functions (digests_of middle)) middle) (shown_world middle) (shown_world later)) (EndsShards host (shown_world old) (shown_world later)) c.move_all.result
+    (λ end moved. ends_shards host (shown_world old) c.requires.served (clocks_stand functions old logs stands orderly phase) (none_is_moved functions old logs stands orderly phase)
+    (shown_world middle) some have (shown_world later) end
+    (subst (λ (h : Host Content Request). EndsMoves h (shown_world middle) (shown_world later) end) (host_same g.D.Digests.functions old middle c.advance_all.ensures.host) moved))
+    c.move_all.ensures.ended

@@ -1,0 +1,110 @@
+use Rattle.std.proofs.Common.{◌≡◌, ◌+◌, ◌<◌, ◌≤◌, length, None, ap, subst, arith}
+use Rattle.merkle_records.specs.Merkle.{GivesDigests}
+use Rattle.record_text.specs.declared.request.Request.{Request}
+use Rattle.host_core.specs.WorldEvent.{WorldEvent, moves}
+use Rattle.host_world.specs.declared.settings.Settings.{Settings}
+use Rattle.host_world.specs.Behind.{host_of}
+use Rattle.host_world.specs.Shown.{shown_world, digests_of, requests_of}
+use Rattle.host_serving.specs.Leading.{Leads}
+use Rattle.host_serving.proofs.MoveLemmas.{OwnBelow, own_through, may_move, goes_next, Goes}
+use Rattle.host_serving.proofs.CloseWorldLemmas.{one_host, enabled_now, stepped_first, ended_first, leads_next, workers_are, shard_count}
+use Rattle.host_serving.proofs.closes.move_own.Goals as goal
+
+pub step-requires-clause-behind : goal.step-requires-clause-behind
+step-requires-clause-behind g c = (c.requires.behind.0, c.loop-shard.invariant.goes_on c.requires.behind.0 c.requires.behind.1)
+
+pub step-requires-clause-enabled : goal.step-requires-clause-enabled
+step-requires-clause-enabled g c =
+    let old = c.args.world.now in
+    let now = c.loop-shard.world in
+    let functions = g.D.Digests.functions in
+    let host = host_of (functions (digests_of old)) old in
+    let digests : GivesDigests (functions (digests_of old)).digest = λ text. (g.met.D.Digests.text_digest_shape old.d.now text).size in
+    let count : c.settings-settings.result.shards ≡ old.settings.shards = ap (λ (s : Settings). s.shards) c.settings-settings.ensures.value in
+    let there : c.loop-shard.shard < length (shown_world old).shards =
+    omega (arith, c.loop-shard-test.true, count, shard_count (functions (digests_of old)) old c.requires.behind.0 c.requires.behind.1 digests) in
+    let keep = c.the_shipped_host_is_steady.ensures.close (functions (digests_of old)) old.settings (requests_of old) in
+    enabled_now functions old now c.loop-shard.invariant.host (moves c.args.worker c.loop-shard.shard)
+    (may_move host keep (shown_world old) c.args.worker c.requires.may (shown_world now) c.loop-shard.shard c.loop-shard.invariant.below there)
+
+pub returns-in-Some-clause-leads : goal.returns-in-Some-clause-leads
+returns-in-Some-clause-leads g c =
+    let old = c.args.world.now in
+    let now = c.loop-shard.world in
+    let new = c.step.new.self in
+    let functions = g.D.Digests.functions in
+    let host = host_of (functions (digests_of old)) old in
+    let digests : GivesDigests (functions (digests_of old)).digest = λ text. (g.met.D.Digests.text_digest_shape old.d.now text).size in
+    let count : c.settings-settings.result.shards ≡ old.settings.shards = ap (λ (s : Settings). s.shards) c.settings-settings.ensures.value in
+    let there : c.loop-shard.shard < length (shown_world old).shards =
+    omega (arith, c.loop-shard-test.true, count, shard_count (functions (digests_of old)) old c.requires.behind.0 c.requires.behind.1 digests) in
+    let keep = c.the_shipped_host_is_steady.ensures.close (functions (digests_of old)) old.settings (requests_of old) in
+    let may = may_move host keep (shown_world old) c.args.worker c.requires.may (shown_world now) c.loop-shard.shard c.loop-shard.invariant.below there in
+    subst (Leads host (shown_world old) (shown_world new)) c.in-Some.is
+    (leads_next functions old now c.loop-shard.invariant.host new (moves c.args.worker c.loop-shard.shard) c.in_ok-end.field-0 may
+    c.in_ok-end.ensures.stepped c.in_ok-end.ensures.ended c.loop-shard.invariant.leads)
+
+pub returns-in-Some-clause-ended : goal.returns-in-Some-clause-ended
+returns-in-Some-clause-ended g c =
+    let old = c.args.world.now in
+    let now = c.loop-shard.world in
+    let new = c.step.new.self in
+    let functions = g.D.Digests.functions in
+    let host = host_of (functions (digests_of old)) old in
+    let event : WorldEvent Request = moves c.args.worker c.loop-shard.shard in
+    let digests : GivesDigests (functions (digests_of old)).digest = λ text. (g.met.D.Digests.text_digest_shape old.d.now text).size in
+    let count : c.settings-settings.result.shards ≡ old.settings.shards = ap (λ (s : Settings). s.shards) c.settings-settings.ensures.value in
+    let there : c.loop-shard.shard < length (shown_world old).shards =
+    omega (arith, c.loop-shard-test.true, count, shard_count (functions (digests_of old)) old c.requires.behind.0 c.requires.behind.1 digests) in
+    let keep = c.the_shipped_host_is_steady.ensures.close (functions (digests_of old)) old.settings (requests_of old) in
+    subst (Goes host keep (shown_world old) c.args.worker c.requires.may (shown_world now) c.loop-shard.shard c.loop-shard.invariant.below there (shown_world new)) c.in-Some.is
+    (goes_next host keep (shown_world old) c.args.worker c.requires.may (shown_world now) c.loop-shard.shard c.loop-shard.invariant.below there (shown_world new) c.in_ok-end.field-0
+    (stepped_first functions old now c.loop-shard.invariant.host new event c.in_ok-end.ensures.stepped)
+    (ended_first functions old now c.loop-shard.invariant.host new event c.in_ok-end.field-0 c.in_ok-end.ensures.ended))
+
+pub returns-in-Some-clause-goes_on : goal.returns-in-Some-clause-goes_on
+returns-in-Some-clause-goes_on g c = λ logs stands. c.step.ensures.goes_on logs (c.loop-shard.invariant.goes_on logs stands)
+
+pub loop-shard-preserved : goal.loop-shard-preserved
+loop-shard-preserved g c =
+    let old = c.args.world.now in
+    let now = c.loop-shard.world in
+    let new = c.step.new.self in
+    let functions = g.D.Digests.functions in
+    let host = host_of (functions (digests_of old)) old in
+    let event : WorldEvent Request = moves c.args.worker c.loop-shard.shard in
+    let digests : GivesDigests (functions (digests_of old)).digest = λ text. (g.met.D.Digests.text_digest_shape old.d.now text).size in
+    let count : c.settings-settings.result.shards ≡ old.settings.shards = ap (λ (s : Settings). s.shards) c.settings-settings.ensures.value in
+    let numbers : c.settings-settings.result.header.verifiers ≡ old.settings.header.verifiers = ap (λ (s : Settings). s.header.verifiers) c.settings-settings.ensures.value in
+    let there : c.loop-shard.shard < length (shown_world old).shards =
+    omega (arith, c.loop-shard-test.true, count, shard_count (functions (digests_of old)) old c.requires.behind.0 c.requires.behind.1 digests) in
+    let keep = c.the_shipped_host_is_steady.ensures.close (functions (digests_of old)) old.settings (requests_of old) in
+    let may = may_move host keep (shown_world old) c.args.worker c.requires.may (shown_world now) c.loop-shard.shard c.loop-shard.invariant.below there in
+    let ended : c.in_ok-end.field-0 ≡ None = c.in_default.is in
+    let next : c.loop-shard.shard + length old.workers.items ≡ c.loop-shard.shard + c.from-workers.result =
+    omega (arith, c.from-workers.ensures, numbers, workers_are (functions (digests_of old)) old c.requires.behind.0 c.requires.behind.1) in
+    record {
+      host = one_host old now new c.loop-shard.invariant.host c.step.ensures.host;
+      goes_on = λ logs stands. c.step.ensures.goes_on logs (c.loop-shard.invariant.goes_on logs stands);
+      leads = subst (Leads host (shown_world old) (shown_world new)) ended
+          (leads_next functions old now c.loop-shard.invariant.host new event c.in_ok-end.field-0 may
+          c.in_ok-end.ensures.stepped c.in_ok-end.ensures.ended c.loop-shard.invariant.leads);
+      below = subst (OwnBelow host (shown_world old) c.args.worker (shown_world new)) next
+          (subst (Goes host keep (shown_world old) c.args.worker c.requires.may (shown_world now) c.loop-shard.shard c.loop-shard.invariant.below there (shown_world new)) ended
+          (goes_next host keep (shown_world old) c.args.worker c.requires.may (shown_world now) c.loop-shard.shard c.loop-shard.invariant.below there (shown_world new) c.in_ok-end.field-0
+          (stepped_first functions old now c.loop-shard.invariant.host new event c.in_ok-end.ensures.stepped)
+          (ended_first functions old now c.loop-shard.invariant.host new event c.in_ok-end.field-0 c.in_ok-end.ensures.ended)));
+    }
+
+pub returns-clause-ended : goal.returns-clause-ended
+returns-clause-ended g c =
+    let old = c.args.world.now in
+    let now = c.loop-shard.world in
+    let functions = g.D.Digests.functions in
+    let host = host_of (functions (digests_of old)) old in
+    let digests : GivesDigests (functions (digests_of old)).digest = λ text. (g.met.D.Digests.text_digest_shape old.d.now text).size in
+    let count : c.settings-settings.result.shards ≡ old.settings.shards = ap (λ (s : Settings). s.shards) c.settings-settings.ensures.value in
+    let past : length (shown_world old).shards ≤ c.loop-shard.shard =
+    omega (arith, c.loop-shard-test.false, count, shard_count (functions (digests_of old)) old c.requires.behind.0 c.requires.behind.1 digests) in
+    let keep = c.the_shipped_host_is_steady.ensures.close (functions (digests_of old)) old.settings (requests_of old) in
+    own_through host keep (shown_world old) c.args.worker c.requires.may (shown_world now) c.loop-shard.shard c.loop-shard.invariant.below past

@@ -1,0 +1,266 @@
+-- Where a key is served: the shard below whose frontier it lies, and the seat there.
+use Rattle.std.proofs.Common.{◌≡◌, ◌≢◌, ◌⊎◌, ℕ, zero, suc, ◌+◌, ◌-◌, ◌*◌, ◌/◌, ◌%◌, ◌^◌, ◌<◌, ◌≤◌, ◌==◌, ◌&&◌, ◌||◌, Bool, true, false, not, List, [], ◌∷◌, ◌++◌, length, take, get_or, map, refl, sym, ◌∙◌, ap, subst, inl, inr, append_assoc, length-append, arith}
+use Rattle.std.specs.List.{list_any}
+use Rattle.std.proofs.Math.Nat.{pow-suc, pow-le-pow_right}
+use Rattle.std.proofs.lemmas.Bool.{false≢true, cases_lt, and_from}
+use Rattle.std.proofs.lemmas.List.{append-nil, get_or-map, get_or_append_left, get_or-append_right, length-map}
+use Rattle.std.proofs.lemmas.Nat.{pow_below, shr_high, mod_low}
+use Rattle.std.proofs.lemmas.List.Folds.{list_any_more}
+use Rattle.tree_keys.specs.Bits.{bits_of, number_of}
+use Rattle.tree_keys.specs.BitsLaws.{length-bits_of, number_back}
+use Rattle.tree_keys.specs.Path.{is_prefix}
+use Rattle.tree_keys.proofs.BitsLaws.{bits_of-same, bits_of-number_of, take-bits_of, first_below}
+use Rattle.record_hash.specs.Functions.{DigestFunctions}
+use Rattle.record_text.specs.declared.request.Request.{Request}
+use Rattle.record_text.specs.Format.{short_keys}
+use Rattle.merkle_records.specs.Merkle.{Digest, GivesDigests}
+use Rattle.log_codec.specs.declared.command.Command.{Command}
+use Rattle.host_core.specs.World.{Place, Seats, World, unmoved, shard_at}
+use Rattle.host_core.specs.WorldEvent.{IsPlace}
+use Rattle.host_shard.specs.Content.{Content, cold, hot, vacant, key_path}
+use Rattle.host_shard.specs.Shown.{shown_content}
+use Rattle.host_plan.specs.Setup.{IsShardCount, child, paths_below}
+use Rattle.script_text.specs.declared.task.Task.{Task}
+use Rattle.protection_moves.specs.Stage.{is_hot_at}
+use Rattle.host_world.specs.declared.settings.Settings.{Settings}
+use Rattle.host_world.specs.declared.seats.Seats as code_seats
+use Rattle.host_world.specs.declared.world.World as code
+use Rattle.host_world.specs.Behind.{IsBehindSetup, StandsWith, with_logs}
+use Rattle.host_world.specs.Places.{place_of}
+use Rattle.host_world.specs.Seated.{SeatsMirror}
+use Rattle.host_world.specs.Settings.{frontier_bits}
+use Rattle.host_world.specs.ShippedHost.{serves_key, is_blob, is_place_of}
+use Rattle.host_world.specs.Shown.{contents_of, shown_seats, shown_world, requests_of}
+use Rattle.host_world.proofs.BehindLemmas.{behind_orderly, shards_are, frontier_bits_are}
+use Rattle.host_world.proofs.FrontierLaws.{frontier_in, frontiers_behind}
+use Rattle.host_world.proofs.WorldLemmas.{read_shown}
+
+-- ---- the first bits of a key
+
+-- the exponent of a power of two
+exponent : (n r bits : ℕ) → n ≡ 2 ^ bits → 2 ^ r ≤ n → n < 2 * 2 ^ r → r ≡ bits
+exponent n r bits is low high = go (cases_lt r bits) (cases_lt bits r)
+  where
+    go : (r < bits) ⊎ (bits ≤ r) → (bits < r) ⊎ (r ≤ bits) → r ≡ bits
+    go (inl less) other =
+        let more : 2 ^ suc r ≤ 2 ^ bits = pow-le-pow_right {n = 2} (omega arith) {i = suc r} {j = bits} (omega (arith, less)) in
+        absurd (omega (arith, is, high, more, pow-suc 2 r))
+    go (inr least) (inl more) = absurd (omega (arith, is, low, pow_below bits r more))
+    go (inr least) (inr most) = omega (arith, least, most)
+
+-- how many bits a frontier has, as a logarithm
+log_is : (shards r : ℕ) (count : IsShardCount shards) → 2 ^ r ≤ shards → shards < 2 * 2 ^ r → r ≡ count.bits
+log_is shards r count low high = exponent shards r count.bits count.power low high
+
+-- so many bits fewer than a key has are fewer
+pub shift_below : (shards r : ℕ) → IsShardCount shards → 2 ^ r ≤ shards → shards < 2 * 2 ^ r → 64 - r < 64
+shift_below shards r count low high = omega (arith, log_is shards r count low high, count.some)
+
+-- so many first bits of a key spell what is left of it above the others
+number_of-first : (key bits : ℕ) → key < 2 ^ 64 → bits ≤ 64 → number_of (take bits (key_path short_keys key)) ≡ key / 2 ^ (64 - bits)
+number_of-first key bits small within =
+    ap number_of (take-bits_of 64 bits key within)
+    ∙ number_back bits (key / 2 ^ (64 - bits)) (first_below key 64 bits within small)
+
+-- The shard of a key, from the logarithm of how many shards there are.
+pub shard_is : (key shards r : ℕ) → key < 2 ^ 64 → IsShardCount shards → 2 ^ r ≤ shards → shards < 2 * 2 ^ r
+    → key / 2 ^ (64 - r) ≡ number_of (take (frontier_bits shards) (key_path short_keys key))
+shard_is key shards r small count low high =
+    let bits : r ≡ frontier_bits shards = log_is shards r count low high ∙ sym (frontier_bits_are shards count) in
+    ap (λ (n : ℕ). key / 2 ^ (64 - n)) bits
+    ∙ sym (number_of-first key (frontier_bits shards) small (omega (arith, frontier_bits_are shards count, count.most)))
+
+-- It is one of them.
+pub shard_below : (key shards r : ℕ) → key < 2 ^ 64 → IsShardCount shards → 2 ^ r ≤ shards → shards < 2 * 2 ^ r → key / 2 ^ (64 - r) < shards
+shard_below key shards r small count low high =
+    let bits = log_is shards r count low high in
+    subst (λ (n : ℕ). key / 2 ^ (64 - r) < n) (ap (λ (n : ℕ). 2 ^ n) bits ∙ sym count.power)
+    (first_below key 64 r (omega (arith, bits, count.most)) small)
+
+-- the first of the bits are a prefix of them
+prefix-take : (n : ℕ) (bits : List Bool) → is_prefix (take n bits) bits ≡ true
+prefix-take zero bits = refl
+prefix-take (suc n) [] = refl
+prefix-take (suc n) (true ∷ bits) = prefix-take n bits
+prefix-take (suc n) (false ∷ bits) = prefix-take n bits
+
+-- and as many as they are
+length-first : (n : ℕ) (bits : List Bool) → n ≤ length bits → length (take n bits) ≡ n
+length-first zero bits within = refl
+length-first (suc n) [] within = absurd (omega (arith, within))
+length-first (suc n) (bit ∷ bits) within = ap (λ (k : ℕ). suc k) (length-first n bits (omega (arith, within)))
+
+-- ---- the frontiers by their numbers
+
+-- how many paths there are
+count_below : (levels : ℕ) (path : List Bool) → length (paths_below levels path) ≡ 2 ^ levels
+count_below zero path = refl
+count_below (suc levels) path =
+    omega (arith, length-append (paths_below levels (child path false)) (paths_below levels (child path true)), count_below levels (child path false), count_below levels (child path true), pow-suc 2 levels)
+
+-- a number of one bit more, whose first bit is 0 or 1
+low_bits : (levels n : ℕ) → n < 2 ^ levels → bits_of (suc levels) n ≡ false ∷ bits_of levels n
+unfolding bits_of
+low_bits levels n low =
+    let top : n / 2 ^ levels ≡ 0 = ap (λ (m : ℕ). m / 2 ^ levels) (omega arith) ∙ shr_high 0 levels n low in
+    ap (λ (m : ℕ). (m % 2 == 1) ∷ bits_of levels n) top
+
+high_bits : (levels m : ℕ) → m < 2 ^ levels → bits_of (suc levels) (1 * 2 ^ levels + m) ≡ true ∷ bits_of levels m
+unfolding bits_of
+high_bits levels m low =
+    ap (λ (k : ℕ). (k % 2 == 1) ∷ bits_of levels (1 * 2 ^ levels + m)) (shr_high 1 levels m low)
+    ∙ ap (λ (bits : List Bool). true ∷ bits) (bits_of-same levels (1 * 2 ^ levels + m) m
+    (mod_low 1 levels m low ∙ (sym (mod_low 0 levels m low) ∙ ap (λ (k : ℕ). k % 2 ^ levels) (omega arith))))
+
+-- Of the paths so many levels below a path, that of each number.
+path_at : (levels : ℕ) (path : List Bool) (n : ℕ) → n < 2 ^ levels → get_or (paths_below levels path) n [] ≡ path ++ bits_of levels n
+unfolding bits_of
+path_at zero path zero small = sym (append-nil path)
+path_at zero path (suc n) small = absurd (omega (arith, small))
+path_at (suc levels) path n small = go (cases_lt n (2 ^ levels)) (path_at levels (child path false)) (path_at levels (child path true))
+  where
+    go : (n < 2 ^ levels) ⊎ (2 ^ levels ≤ n)
+        → ((m : ℕ) → m < 2 ^ levels → get_or (paths_below levels (child path false)) m [] ≡ child path false ++ bits_of levels m)
+        → ((m : ℕ) → m < 2 ^ levels → get_or (paths_below levels (child path true)) m [] ≡ child path true ++ bits_of levels m)
+        → get_or (paths_below levels (child path false) ++ paths_below levels (child path true)) n [] ≡ path ++ bits_of (suc levels) n
+    go (inl low) first second =
+        get_or_append_left (paths_below levels (child path false)) (paths_below levels (child path true)) [] n (omega (arith, low, count_below levels (child path false)))
+        ∙ first n low ∙ append_assoc path (false ∷ []) (bits_of levels n)
+        ∙ ap (λ (bits : List Bool). path ++ bits) (sym (low_bits levels n low))
+    go (inr high) first second =
+        let m : ℕ = n - 2 ^ levels in
+        let less : m < 2 ^ levels = omega (arith, small, high, pow-suc 2 levels) in
+        let is : 1 * 2 ^ levels + m ≡ n = omega (arith, high) in
+        get_or-append_right (paths_below levels (child path false)) (paths_below levels (child path true)) (2 ^ levels) n [] (count_below levels (child path false)) high
+        ∙ second m less ∙ append_assoc path (true ∷ []) (bits_of levels m)
+        ∙ ap (λ (bits : List Bool). path ++ bits) (sym (high_bits levels m less))
+        ∙ ap (λ (k : ℕ). path ++ bits_of (suc levels) k) is
+
+-- ---- a world behind the setup
+
+module _ (functions : DigestFunctions) (settings : Settings) (script : List (List Task)) (digests : GivesDigests functions.digest) (world : World Content)
+    (behind : IsBehindSetup functions settings script world) where
+  -- It has as many shards as its settings say.
+  shards_there : length world.shards ≡ settings.shards
+  shards_there =
+      sym (length-map world.shards (λ (seats : Seats Content). frontier_in seats.contents))
+      ∙ ap (λ (paths : List (List Bool)). length paths) (frontiers_behind functions settings script digests world behind)
+      ∙ count_below (frontier_bits settings.shards) []
+      ∙ sym (shards_are settings.shards behind.settings_fit.shards)
+
+  -- each with its number's bits as its frontier
+  frontier_at : (s : ℕ) → s < settings.shards → frontier_in (shard_at world s).contents ≡ bits_of (frontier_bits settings.shards) s
+  frontier_at s there =
+      sym (get_or-map (λ (seats : Seats Content). frontier_in seats.contents) world.shards s (unmoved []) [] (omega (arith, there, shards_there)))
+      ∙ ap (λ (paths : List (List Bool)). get_or paths s []) (frontiers_behind functions settings script digests world behind)
+      ∙ path_at (frontier_bits settings.shards) [] s (omega (arith, there, shards_are settings.shards behind.settings_fit.shards))
+
+  -- A key lies below the frontier of the shard whose number its first bits spell.
+  lies_below : (key s : ℕ) → s ≡ number_of (take (frontier_bits settings.shards) (key_path short_keys key)) → s < settings.shards
+      → is_prefix (frontier_in (shard_at world s).contents) (key_path short_keys key) ≡ true
+  lies_below key s is there =
+      let bits : ℕ = frontier_bits settings.shards in
+      let first : List Bool = take bits (key_path short_keys key) in
+      let count = behind.settings_fit.shards in
+      let long : length first ≡ bits = length-first bits (key_path short_keys key) (omega (arith, length-bits_of 64 key, frontier_bits_are settings.shards count, count.most)) in
+      let frontier : frontier_in (shard_at world s).contents ≡ first =
+      frontier_at s there ∙ ap (bits_of bits) is ∙ ap (λ (n : ℕ). bits_of n (number_of first)) (sym long) ∙ bits_of-number_of first in
+      ap (λ (path : List Bool). is_prefix path (key_path short_keys key)) frontier ∙ prefix-take bits (key_path short_keys key)
+
+-- ---- the seat of a key
+
+-- none so far, and not the next
+pub none_more : {X Y : Type 0} (shown : X → Y) (test : Y → Bool) (xs : List X) (i : ℕ) (x : X) → i < length xs → x ≡ get_or xs i x → test (shown x) ≡ false
+    → list_any test (take i (map shown xs)) ≡ false → list_any test (take (i + 1) (map shown xs)) ≡ false
+none_more shown test xs i x there is not_it before =
+    list_any_more test (map shown xs) i (shown x) (omega (arith, there, length-map xs shown))
+    ∙ ap (λ (b : Bool). b || test (get_or (map shown xs) i (shown x))) before
+    ∙ ap test (read_shown shown xs i x (shown x) there is) ∙ not_it
+
+-- what is hot at a key serves it
+hot_serves : (seats : List Content) (key : ℕ) (content : Content) → is_hot_at key content ≡ true → serves_key short_keys seats key content ≡ true
+hot_serves seats key (cold shard) is = absurd (false≢true is)
+hot_serves seats key (hot found) is = is
+hot_serves seats key vacant is = absurd (false≢true is)
+
+-- A hot place that has a request's key is its place; and where none has, the shard's own is, if the key lies below its frontier.
+seat_owns : (digest : Digest) (first : Content) (places : List Content) → SeatsMirror short_keys digest (first ∷ places) → (seat : ℕ) (request : Request)
+    → is_prefix (frontier_in (first ∷ places)) (key_path short_keys request.key) ≡ true → is_blob short_keys request.value ≡ true
+    → (seat ≢ 0 → is_hot_at request.key (get_or (first ∷ places) seat vacant) ≡ true)
+    → (seat ≡ 0 → list_any (is_hot_at request.key) places ≡ false)
+    → is_place_of short_keys (first ∷ places) seat request ≡ true
+seat_owns digest (cold shard) places mirrors zero request below blob hot_there none_there =
+    and_from (is_prefix shard.frontier (key_path short_keys request.key) && not (list_any (is_hot_at request.key) places)) (is_blob short_keys request.value)
+    (and_from (is_prefix shard.frontier (key_path short_keys request.key)) (not (list_any (is_hot_at request.key) places)) below (ap not (none_there refl))) blob
+seat_owns digest first places mirrors (suc k) request below blob hot_there none_there =
+    and_from (serves_key short_keys (first ∷ places) request.key (get_or places k vacant)) (is_blob short_keys request.value)
+    (hot_serves (first ∷ places) request.key (get_or places k vacant) (hot_there (omega arith))) blob
+seat_owns digest (hot found) places mirrors zero request below blob hot_there none_there = absurd (no_shard mirrors.is)
+  where
+    no_shard : hot found ∷ places ≡ cold mirrors.shard ∷ mirrors.places → ⊥
+    no_shard is = cc
+seat_owns digest vacant places mirrors zero request below blob hot_there none_there = absurd (no_shard mirrors.is)
+  where
+    no_shard : vacant ∷ places ≡ cold mirrors.shard ∷ mirrors.places → ⊥
+    no_shard is = cc
+
+-- ---- a world of the code
+
+-- the number of a place
+place_back : (number s seat : ℕ) → number ≡ s * 5 + seat → seat < 5 → place_of number ≡ record { shard = s; seat = seat }
+place_back number s seat is few =
+    ap (λ (n : ℕ). record { shard = n; seat = number % 5 }) (omega (arith, is, few))
+    ∙ ap (λ (n : ℕ). record { shard = s; seat = n }) (omega (arith, is, few))
+
+module _ {D : Type 0} (functions : DigestFunctions) (digests : GivesDigests functions.digest) (world : code.World D) (logs : List (List Command))
+    (stands : StandsWith functions world logs) where
+  -- how many shards it has, and how many that can be
+  pub shards_in : length world.shards.items ≡ world.settings.shards
+  shards_in =
+      sym (length-map world.shards.items shown_seats)
+      ∙ shards_there functions world.settings (requests_of world) digests (with_logs logs (shown_world world)) stands.behind
+
+  pub few_shards : world.settings.shards ≤ 1024
+  few_shards =
+      let count = stands.behind.settings_fit.shards in
+      let most : 2 ^ count.bits ≤ 2 ^ 10 = pow-le-pow_right {n = 2} (omega arith) {i = count.bits} {j = 10} count.most in
+      omega (arith, count.power, most)
+
+  module _ (s : ℕ) (there : s < world.settings.shards) (seats : code_seats.Seats) (read : seats ≡ get_or world.shards.items s seats) where
+    -- the seats of a shard, as they were read
+    seats_read : shard_at (shown_world world) s ≡ shown_seats seats
+    seats_read = read_shown shown_seats world.shards.items s seats (unmoved []) (omega (arith, there, shards_in)) read
+
+    seats_mirror : SeatsMirror short_keys functions.digest (contents_of seats)
+    seats_mirror =
+        let whole = behind_orderly functions world.settings (requests_of world) digests (with_logs logs (shown_world world)) stands.behind in
+        subst (λ (found : Seats Content). SeatsMirror short_keys functions.digest found.contents) seats_read
+        (whole.shards s (omega (arith, there, shards_in, length-map world.shards.items shown_seats))).mirrors
+
+    pub five_seats : length (contents_of seats) ≡ 5
+    five_seats = ap (λ (xs : List Content). length xs) seats_mirror.is ∙ ap (λ (n : ℕ). suc n) seats_mirror.four
+
+    module _ (number seat : ℕ) (is : number ≡ s * 5 + seat) (among : seat < length (contents_of seats)) where
+      at_place : (P : Place → Type 0) → P (record { shard = s; seat = seat }) → P (place_of number)
+      at_place P holds = subst P (sym (place_back number s seat is (omega (arith, among, five_seats)))) holds
+
+      -- The seat's number is that of a place.
+      pub place_there : IsPlace (shown_world world) (place_of number)
+      place_there =
+          at_place (λ (place : Place). IsPlace (shown_world world) place) (
+            omega (arith, there, shards_in, length-map world.shards.items shown_seats),
+            subst (λ (found : Seats Content). seat < length found.contents) (sym seats_read) among,
+          )
+
+      -- And it is the place of a request whose key's first bits spell the shard's number, if the seat is the key's.
+      pub place_owns : (request : Request) → s ≡ number_of (take (frontier_bits world.settings.shards) (key_path short_keys request.key)) → is_blob short_keys request.value ≡ true
+          → (seat ≢ 0 → is_hot_at request.key (get_or (contents_of seats) seat vacant) ≡ true)
+          → (seat ≡ 0 → list_any (is_hot_at request.key) (map shown_content seats.hot.items) ≡ false)
+          → is_place_of short_keys (shard_at (shown_world world) (place_of number).shard).contents (place_of number).seat request ≡ true
+      place_owns request first blob hot_there none_there =
+          at_place (λ (place : Place). is_place_of short_keys (shard_at (shown_world world) place.shard).contents place.seat request ≡ true)
+          (subst (λ (found : Seats Content). is_place_of short_keys found.contents seat request ≡ true) (sym seats_read)
+          (seat_owns functions.digest (shown_content seats.first) (map shown_content seats.hot.items) seats_mirror seat request
+          (subst (λ (found : Seats Content). is_prefix (frontier_in found.contents) (key_path short_keys request.key) ≡ true) seats_read
+          (lies_below functions world.settings (requests_of world) digests (with_logs logs (shown_world world)) stands.behind request.key s first there))
+          blob hot_there none_there))

@@ -1,0 +1,6 @@
+-- How it is proved what a check makes of the host's logs, in reading order: the stamps of what is added and evicted,
+-- commands that have texts, logs that are read back, and the laws.
+mod StampLemmas
+mod CommandLemmas
+mod TextLemmas
+mod ReportLemmas

@@ -1,0 +1,206 @@
+-- What a check makes of the logs of the shipped host.
+use Rattle.std.proofs.Common.{◌≡◌, ℕ, zero, suc, ◌+◌, ◌<◌, ◌≤◌, ◌^◌, ◌==◌, false, List, [], ◌∷◌, ◌++◌, map, length, get_or, take, Some, None, refl, sym, ◌∙◌, ap, subst, arith}
+use Rattle.std.specs.List.{AllByRecursion}
+use Rattle.std.proofs.lemmas.Bool.{cond_both}
+use Rattle.std.proofs.lemmas.Grind.{flat_map-append}
+use Rattle.std.proofs.lemmas.List.{length-map}
+use Rattle.lamport_clocks.specs.Header.{IsHeader}
+use Rattle.record_hash.specs.Functions.{DigestFunctions}
+use Rattle.record_text.specs.declared.exhibit.Exhibit.TheVariants.{Clean}
+use Rattle.record_text.specs.declared.request.Request.{Request}
+use Rattle.record_text.specs.Format.{short_keys, format_of}
+use Rattle.log_codec.specs.Command.{IsCommand}
+use Rattle.log_codec.specs.Log.{read_log}
+use Rattle.merkle_records.specs.Merkle.{GivesDigests}
+use Rattle.report_text.specs.declared.ending.BundleEnd.TheVariants.{Done}
+use Rattle.script_text.specs.declared.task.Task.{Task}
+use Rattle.stamp_order.specs.Serial.{IsSerial}
+use Rattle.verifier_commands.specs.State.{opening, root_entry}
+use Rattle.soundness.specs.History.{Event, log_events, log_refusal, histories_from}
+use Rattle.soundness.specs.StateHistory.{rules_under}
+use Rattle.soundness.specs.Certified.{all_events, added_by, certified_count, certified_operations}
+use Rattle.soundness.specs.Sound.{AreTyped}
+use Rattle.soundness.specs.Timed.{added_among}
+use Rattle.soundness.proofs.StateHistoryLaws.{history-from_state}
+use Rattle.bundle_report.specs.BundleReport.{histories_at, refused_among, end_of}
+use Rattle.bundle_report.specs.Headline.{certified_exhibit, exhibit_at}
+use Rattle.host_rounds.specs.SoFar.{end_due}
+use Rattle.host_shard.specs.Content.{Content}
+use Rattle.host_core.specs.Accepted.{IsAccepted}
+use Rattle.host_core.specs.Host.{Host, scheme, machinery, script_of}
+use Rattle.host_core.specs.World.{Worker, World, fresh, worker_at, logs_of, set_up}
+use Rattle.host_core.specs.WorldEvent.{WorldEvent, HasAdvanced, IsPhaseOver, AreEnabled, run_events}
+use Rattle.host_core.specs.Deeds.{answers_in}
+use Rattle.host_core.specs.Core.{histories, pending_in, AreAccepted}
+use Rattle.host_world.specs.declared.settings.Settings.{Settings}
+use Rattle.host_world.specs.ShippedHost.{shipped_host}
+use Rattle.host_fits.specs.Promise.{CanRun, IsPromised}
+use Rattle.host_fits.proofs.TypedLaws.{logs_typed}
+use Rattle.run_reports.specs.Runs.{texts_of, HoldsOfRuns}
+use Rattle.run_reports.proofs.StampLemmas.{IsStamped, opening_narrow, logs_evict, logs_add, every-first, every-second}
+use Rattle.run_reports.proofs.CommandLemmas.{IsKind, IsGood, accepted_spelled}
+use Rattle.run_reports.proofs.TextLemmas.{read_texts, histories_read_back, none_among, end_done}
+
+module _ {C R : Type 0} (host : Host C R) where
+  -- a verifier begins with nothing, or with the root
+  opening_good : (number : ℕ) → host.header.first < 2 ^ 32 → IsHeader host.header → IsGood short_keys (opening number host.header)
+  opening_good number first is = record {
+    kinds = cond_both (number == 0) (root_entry ∷ []) [] (AllByRecursion (IsKind short_keys))
+        (λ here. ((omega arith, tt, tt), tt)) (λ here. tt);
+    narrow = opening_narrow number host.header first (omega (arith, is.end));
+  }
+
+  -- Logs that are accepted have texts, where their commands are typed and the stamps of what they add are in their ranges.
+  logs_spelled : (number : ℕ) (workers : List Worker) (d : Worker) → GivesDigests host.functions.digest → host.header.first < 2 ^ 32 → IsHeader host.header
+      → ((i : ℕ) → i < length workers → IsAccepted (machinery host (number + i)) (opening (number + i) host.header) (get_or workers i d).log)
+      → AreTyped short_keys (map (λ worker. worker.log) workers)
+      → AllByRecursion IsStamped (added_among (all_events (histories_from (scheme host) host.header number (map (λ worker. worker.log) workers))))
+      → AllByRecursion (AllByRecursion (IsCommand short_keys)) (map (λ worker. worker.log) workers)
+  logs_spelled number [] d digests first is accepted typed stamped = tt
+  logs_spelled number (worker ∷ workers) d digests first is accepted typed stamped = (
+    accepted_spelled (rules_under (scheme host) host.header number) digests (omega (arith, is.verifiers)) number 0 (opening number host.header) worker.log
+        (opening_good number first is) typed.0
+        (subst (λ (n : ℕ). IsAccepted (machinery host n) (opening n host.header) worker.log) (omega arith) (accepted 0 (omega arith)))
+        (subst (λ (events : List Event). AllByRecursion IsStamped (added_among events)) (history-from_state (scheme host) host.header number worker.log).events
+        (every-first IsStamped (added_among here) (added_among rest) split)),
+    logs_spelled (suc number) workers d digests first is
+        (λ i within. subst (λ (n : ℕ). IsAccepted (machinery host n) (opening n host.header) (get_or workers i d).log) (omega arith) (accepted (suc i) (omega (arith, within))))
+        typed.1 (every-second IsStamped (added_among here) (added_among rest) split),
+  )
+    where
+      here : List Event
+      here = log_events (scheme host) host.header number worker.log
+
+      rest : List Event
+      rest = all_events (histories_from (scheme host) host.header (suc number) (map (λ worker. worker.log) workers))
+
+      split : AllByRecursion IsStamped (added_among here ++ added_among rest)
+      split = subst (AllByRecursion IsStamped) (flat_map-append (λ (event : Event). added_by event.change) here rest) stamped
+
+  -- the history of a worker
+  history_at : (number : ℕ) (workers : List Worker) (i : ℕ) (d : Worker) → i < length workers
+      → get_or (histories_from (scheme host) host.header number (map (λ worker. worker.log) workers)) i []
+      ≡ log_events (scheme host) host.header (number + i) (get_or workers i d).log
+  history_at number [] i d within = absurd (omega (arith, within))
+  history_at number (worker ∷ workers) zero d within =
+      ap (λ (n : ℕ). log_events (scheme host) host.header n worker.log) (omega arith)
+  history_at number (worker ∷ workers) (suc i) d within =
+      history_at (suc number) workers i d (omega (arith, within))
+      ∙ ap (λ (n : ℕ). log_events (scheme host) host.header n (get_or workers i d).log) (omega arith)
+
+  log_at : (workers : List Worker) (i : ℕ) (d : Worker) → i < length workers → get_or (map (λ worker. worker.log) workers) i [] ≡ (get_or workers i d).log
+  log_at [] i d within = absurd (omega (arith, within))
+  log_at (worker ∷ workers) zero d within = refl
+  log_at (worker ∷ workers) (suc i) d within = log_at workers i d (omega (arith, within))
+
+  -- no verifier refuses a log
+  log_accepted : (world : World C) → AreAccepted host world → (i : ℕ) → i < length world.workers
+      → log_refusal (scheme host) host.header (0 + i) (get_or (logs_of world) i []) ≡ None
+  log_accepted world accepted i within =
+      ap (λ (n : ℕ). log_refusal (scheme host) host.header n (get_or (logs_of world) i [])) (omega arith)
+      ∙ ap (log_refusal (scheme host) host.header i) (log_at world.workers i (fresh host.header) within)
+      ∙ (history-from_state (scheme host) host.header i (worker_at host world i).log).refusal
+      ∙ (accepted i within).0
+
+-- ---- the shipped host
+
+-- the shipped host keeps its promise, as `host_fits` says
+abbrev pub KeepsPromise : Type 0
+KeepsPromise =
+    (functions : DigestFunctions) (settings : Settings) (script : List (List Task)) (events : List (WorldEvent Request))
+    → CanRun functions settings script
+    → AreEnabled (shipped_host functions settings script) (set_up (shipped_host functions settings script)) events
+    → IsPromised (shipped_host functions settings script) (run_events (shipped_host functions settings script) (set_up (shipped_host functions settings script)) events)
+
+module _ (keeps : KeepsPromise) (functions : DigestFunctions) (settings : Settings) (script : List (List Task)) (events : List (WorldEvent Request)) where
+  abbrev host : Host Content Request
+  host = shipped_host functions settings script
+
+  abbrev world : World Content
+  world = run_events host (set_up host) events
+
+  abbrev texts : List (List ℕ)
+  texts = texts_of (logs_of world)
+
+  module _ (can : CanRun functions settings script) (first : settings.header.first < 2 ^ 32) (enabled : AreEnabled host (set_up host) events) where
+    promise : IsPromised host world
+    promise = keeps functions settings script events can enabled
+
+    spelled : AllByRecursion (AllByRecursion (IsCommand short_keys)) (logs_of world)
+    spelled =
+        logs_spelled host 0 world.workers (fresh host.header) can.digests first can.in_range.header
+        (λ i within. subst (λ (n : ℕ). IsAccepted (machinery host n) (opening n host.header) (worker_at host world i).log) (omega arith) (promise.accepted i within).0)
+        (logs_typed functions settings script events can enabled)
+        (logs_add (all_events (histories host world)) (pending_in host world)
+        (logs_evict (scheme host) host.header 0 (logs_of world) first (omega (arith, can.in_range.header.end)))
+        promise.even)
+
+    read : histories_at (scheme host) host.header texts ≡ histories host world
+    read = histories_read_back (scheme host) host.header (logs_of world) refl spelled
+
+    refused : refused_among (scheme host) host.header 0 (map (read_log (format_of host.header)) texts) ≡ None
+    refused =
+        ap (refused_among (scheme host) host.header 0) (read_texts (logs_of world) spelled)
+        ∙ none_among (scheme host) host.header 0 (logs_of world) []
+        (λ i within. log_accepted host world promise.accepted i (subst (λ (n : ℕ). i < n) (length-map world.workers (λ (worker : Worker). worker.log)) within))
+
+    ends : end_due functions settings.header texts ≡ Done (certified_count (scheme host) host.header.first (histories host world))
+    ends =
+        ap (λ (hs : List (List Event)). end_of (scheme host) host.header (map (read_log (format_of host.header)) texts) hs None) read
+        ∙ end_done (scheme host) host.header (map (read_log (format_of host.header)) texts) (histories host world) promise.certified refused
+
+    clean : exhibit_at functions (Some settings.header) texts ≡ Clean
+    clean = ap (certified_exhibit (scheme host) host.header.first) read ∙ promise.nothing_to_show
+
+    serial : IsSerial (certified_operations (scheme host) host.header.first (histories_at (scheme host) host.header texts))
+    serial =
+        subst (λ (hs : List (List Event)). IsSerial (certified_operations (scheme host) host.header.first hs)) (sym read)
+        (promise.serially can.digests)
+
+    -- what a check reads of a worker's log
+    history_read : (i : ℕ) → i < length world.workers
+        → get_or (histories_at (scheme host) host.header texts) i [] ≡ log_events (scheme host) host.header i (worker_at host world i).log
+    history_read i within =
+        ap (λ (hs : List (List Event)). get_or hs i []) read
+        ∙ history_at host 0 world.workers i (fresh host.header) within
+        ∙ ap (λ (n : ℕ). log_events (scheme host) host.header n (worker_at host world i).log) (omega arith)
+
+-- ---- the laws
+
+module _ (keeps : KeepsPromise) where
+  pub reads : HoldsOfRuns (λ host world. histories_at (scheme host) host.header (texts_of (logs_of world)) ≡ histories host world)
+  reads = read keeps
+
+  pub refuses_none : HoldsOfRuns (λ host world. refused_among (scheme host) host.header 0 (map (read_log (format_of host.header)) (texts_of (logs_of world))) ≡ None)
+  refuses_none = refused keeps
+
+  pub comes_to_end : HoldsOfRuns (λ host world.
+      end_due host.functions host.header (texts_of (logs_of world)) ≡ Done (certified_count (scheme host) host.header.first (histories host world)))
+  comes_to_end = ends keeps
+
+  pub comes_to_whole : HoldsOfRuns (λ host world. ((i : ℕ) → i < length world.workers → HasAdvanced host world i 2)
+      → end_due host.functions host.header (texts_of (logs_of world)) ≡ Done (suc world.phase))
+  comes_to_whole functions settings script events can first enabled turned =
+      ends keeps functions settings script events can first enabled
+      ∙ ap (λ (n : ℕ). Done n) ((promise keeps functions settings script events can first enabled).whole turned)
+
+  pub shows_nothing : HoldsOfRuns (λ host world. exhibit_at host.functions (Some host.header) (texts_of (logs_of world)) ≡ Clean)
+  shows_nothing = clean keeps
+
+  pub certifies_serial : HoldsOfRuns (λ host world.
+      IsSerial (certified_operations (scheme host) host.header.first (histories_at (scheme host) host.header (texts_of (logs_of world)))))
+  certifies_serial = serial keeps
+
+  pub finds_answers : HoldsOfRuns (λ host world. (i : ℕ) → i < length world.workers
+      → answers_in (get_or (histories_at (scheme host) host.header (texts_of (logs_of world))) i []) ≡ take (worker_at host world i).served (script_of host i))
+  finds_answers functions settings script events can first enabled i within =
+      ap answers_in (history_read keeps functions settings script events can first enabled i within)
+      ∙ (promise keeps functions settings script events can first enabled).answered i within
+
+  pub finds_all_answers : HoldsOfRuns (λ host world. length host.script ≤ suc world.phase → IsPhaseOver host world
+      → ((i : ℕ) → i < length world.workers → (worker_at host world i).stopped ≡ false)
+      → (i : ℕ) → i < length world.workers
+      → answers_in (get_or (histories_at (scheme host) host.header (texts_of (logs_of world))) i []) ≡ script_of host i)
+  finds_all_answers functions settings script events can first enabled last over going i within =
+      ap answers_in (history_read keeps functions settings script events can first enabled i within)
+      ∙ (promise keeps functions settings script events can first enabled).done last over going i within

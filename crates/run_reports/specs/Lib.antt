@@ -1,0 +1,2 @@
+-- What the laws on reports cite.
+pub mod Runs

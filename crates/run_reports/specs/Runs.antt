@@ -1,0 +1,28 @@
+-- The worlds of runs, and the bytes of their logs.
+use Rattle.std.specs.Prelude.{ℕ, ◌^◌, ◌<◌, List, map}
+use Rattle.record_hash.specs.Functions.{DigestFunctions}
+use Rattle.record_text.specs.declared.request.Request.{Request}
+use Rattle.record_text.specs.Format.{short_keys}
+use Rattle.log_codec.specs.declared.command.Command.{Command}
+use Rattle.log_codec.specs.Log.{log_text}
+use Rattle.script_text.specs.declared.task.Task.{Task}
+use Rattle.host_shard.specs.Content.{Content}
+use Rattle.host_core.specs.Host.{Host}
+use Rattle.host_core.specs.World.{World, set_up}
+use Rattle.host_core.specs.WorldEvent.{WorldEvent, AreEnabled, run_events}
+use Rattle.host_world.specs.declared.settings.Settings.{Settings}
+use Rattle.host_world.specs.ShippedHost.{shipped_host}
+use Rattle.host_fits.specs.Promise.{CanRun}
+
+-- the bytes of logs
+abbrev pub texts_of : List (List Command) → List (List ℕ)
+texts_of logs = map (log_text short_keys) logs
+
+-- P holds of whatever shipped host can run, and of the world behind every list of events that are enabled from its setup
+-- on. The first epoch has 32 bits, as many as a log spells.
+abbrev pub HoldsOfRuns : (Host Content Request → World Content → Type 0) → Type 0
+HoldsOfRuns P =
+    (functions : DigestFunctions) (settings : Settings) (script : List (List Task)) (events : List (WorldEvent Request))
+    → CanRun functions settings script → settings.header.first < 2 ^ 32
+    → let host = shipped_host functions settings script in
+    AreEnabled host (set_up host) events → P host (run_events host (set_up host) events)

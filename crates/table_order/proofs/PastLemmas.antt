@@ -1,0 +1,211 @@
+-- The past of a place: each entry there is what the shipped host does, since the content that it finds mirrors.
+use Rattle.std.proofs.Common.{◌≡◌, ◌⊎◌, ℕ, ◌^◌, ◌/◌, ◌%◌, ◌<◌, ◌≤◌, Bool, false, List, [], ◌∷◌, length, refl, sym, ◌∙◌, ap, subst, inl, inr}
+use Rattle.std.specs.List.{AllByRecursion}
+use Rattle.std.proofs.lemmas.Bool.{cases_lt}
+use Rattle.lamport_clocks.specs.Reading.{Reading}
+use Rattle.record_hash.specs.Functions.{DigestFunctions}
+use Rattle.record_text.specs.declared.request.Request.{Request}
+use Rattle.record_text.specs.Format.{short_keys}
+use Rattle.merkle_records.specs.Merkle.{GivesDigests}
+use Rattle.script_text.specs.declared.task.Task.{Task}
+use Rattle.tree_keys.specs.Path.{IsBelow}
+use Rattle.host_core.specs.World.{World, worker_at, shard_at}
+use Rattle.host_order.specs.Serving.{IsPlaceChain, content_behind, IsHad}
+use Rattle.host_order.specs.Told.{IsServed}
+use Rattle.host_shard.specs.declared.content.Content as code
+use Rattle.host_shard.specs.declared.link.Link.{Link}
+use Rattle.host_shard.specs.Content.{Content, cold, hot, vacant, key_path}
+use Rattle.host_shard.specs.Shown.{shown_content}
+use Rattle.host_plan.specs.Plan.{Owns, CanServe, IsPlan, clock_after, content_after}
+use Rattle.host_mirrors.specs.Mirroring.{ContentMirrors, IsCold}
+use Rattle.host_mirrors.proofs.MirrorLaws.{plan_mirrors, mirrors_serve}
+use Rattle.protection_moves.specs.Stage.{hot_paths}
+use Rattle.host_table.specs.declared.told.Entry.{Entry}
+use Rattle.host_table.specs.Terms.{Terms, place_count, first_at, IsPlaceOf}
+use Rattle.host_table.specs.Told as told
+use Rattle.host_world.specs.declared.settings.Settings.{Settings}
+use Rattle.host_world.specs.Orderly.{IsOrderly}
+use Rattle.host_world.specs.Places.{place_of}
+use Rattle.host_world.specs.ShippedHost.{shipped_host}
+use Rattle.host_world.proofs.SeatLaws.{SeatServes, seat_serves}
+use Rattle.table_order.specs.Servings.{serving_of, servings_of}
+use Rattle.table_order.specs.Phases.{AreTermsOf}
+use Rattle.table_order.proofs.Keeping.{DoesPlans}
+use Rattle.table_order.proofs.PlaceLemmas.{shard_there, is_place, owns_there}
+
+-- ---- what a history says
+
+-- what it leaves
+pub behind_leads : (terms : Terms) (place : ℕ) (x y : code.Content) (entries : List Entry) → told.Leads terms place x entries y
+    → content_behind (shown_content x) (servings_of entries) ≡ shown_content y
+behind_leads terms place x y [] leads = sym leads
+behind_leads terms place x y (entry ∷ entries) leads = behind_leads terms place entry.after y entries leads.3
+
+-- that it is a chain
+pub chain_leads : (terms : Terms) (place : ℕ) (x y : code.Content) (entries : List Entry) → told.Leads terms place x entries y
+    → IsPlaceChain (shown_content x) (servings_of entries)
+chain_leads terms place x y [] leads = tt
+chain_leads terms place x y (entry ∷ entries) leads = (leads.1, chain_leads terms place entry.after y entries leads.3)
+
+-- that all is at the place
+pub place_leads : (terms : Terms) (place : ℕ) (x y : code.Content) (entries : List Entry) → told.Leads terms place x entries y
+    → AllByRecursion (λ serving. serving.place ≡ place_of place) (servings_of entries)
+place_leads terms place x y [] leads = tt
+place_leads terms place x y (entry ∷ entries) leads = (ap place_of leads.0, place_leads terms place entry.after y entries leads.3)
+
+-- a content that the place has had
+pub had_shown : (x had : code.Content) (entries : List Entry) → told.IsHad x entries had
+    → IsHad (shown_content x) (servings_of entries) (shown_content had)
+had_shown x had [] is = is
+had_shown x had (entry ∷ entries) (inl is) = inl is
+had_shown x had (entry ∷ entries) (inr is) = inr (had_shown entry.after had entries is)
+
+-- ---- what stays of a place
+
+-- the same shard or hot record, as another
+abbrev IsStill : Content → Content → Type 0
+IsStill (cold old) (cold new) = new.frontier ≡ old.frontier
+IsStill (cold old) (hot new) = ⊥
+IsStill (cold old) vacant = ⊥
+IsStill (hot old) (cold new) = ⊥
+IsStill (hot old) (hot new) = new.key ≡ old.key
+IsStill (hot old) vacant = ⊥
+IsStill vacant (cold new) = ⊥
+IsStill vacant (hot new) = ⊥
+IsStill vacant vacant = Unit {0}
+
+still : (content : Content) → IsStill content content
+still (cold shard) = refl
+still (hot found) = refl
+still vacant = tt
+
+-- it owns the same keys, if it mirrors
+owns_still : (functions : DigestFunctions) (hot_keys : List (List Bool)) (old new : Content) (key : ℕ) → IsStill old new
+    → ContentMirrors short_keys functions.digest hot_keys new → Owns short_keys old key → Owns short_keys new key
+owns_still functions hot_keys (cold old) (cold new) key same mirrors own =
+    (mirrors.fits, record { whole = own.1.whole; below = subst (λ (path : List Bool). IsBelow path (key_path short_keys key)) (sym same) own.1.below })
+owns_still functions hot_keys (cold old) (hot new) key same mirrors own = absurd same
+owns_still functions hot_keys (cold old) vacant key same mirrors own = absurd same
+owns_still functions hot_keys (hot old) (cold new) key same mirrors own = absurd same
+owns_still functions hot_keys (hot old) (hot new) key same mirrors own = same ∙ own
+owns_still functions hot_keys (hot old) vacant key same mirrors own = absurd same
+owns_still functions hot_keys vacant new key same mirrors own = absurd own
+
+cold_still : (hot_keys : List (List Bool)) (old new : Content) (key : ℕ) → IsStill old new → IsCold short_keys hot_keys old key → IsCold short_keys hot_keys new key
+cold_still hot_keys (cold old) (cold new) key same apart = apart
+cold_still hot_keys (cold old) (hot new) key same apart = tt
+cold_still hot_keys (cold old) vacant key same apart = tt
+cold_still hot_keys (hot old) (cold new) key same apart = absurd same
+cold_still hot_keys (hot old) (hot new) key same apart = tt
+cold_still hot_keys (hot old) vacant key same apart = tt
+cold_still hot_keys vacant (cold new) key same apart = absurd same
+cold_still hot_keys vacant (hot new) key same apart = tt
+cold_still hot_keys vacant vacant key same apart = tt
+
+-- so does what comes of a request
+still_after : (functions : DigestFunctions) (worker : ℕ) (old content : Content) (links : List Link) (request : Request) (clock : Reading)
+    → IsStill old content → IsStill old (content_after short_keys functions.digest worker content links request clock)
+still_after functions worker (cold old) (cold shard) links request clock same = same
+still_after functions worker (cold old) (hot found) links request clock same = same
+still_after functions worker (cold old) vacant links request clock same = same
+still_after functions worker (hot old) (cold shard) links request clock same = same
+still_after functions worker (hot old) (hot found) links request clock same = same
+still_after functions worker (hot old) vacant links request clock same = same
+still_after functions worker vacant (cold shard) links request clock same = same
+still_after functions worker vacant (hot found) links request clock same = same
+still_after functions worker vacant vacant links request clock same = same
+
+-- ---- the entries of a place
+
+-- the key has no more than 64 bits
+abbrev pub IsSmall : Entry → Type 0
+IsSmall entry = entry.request.key < 2 ^ 64
+
+module _ (functions : DigestFunctions) (settings : Settings) (script : List (List Task)) (world : World Content)
+    (orderly : IsOrderly functions settings script world) (terms : Terms) (made : AreTermsOf (shipped_host functions settings script) world terms)
+    (digests : GivesDigests functions.digest) (does : DoesPlans functions settings script)
+    (running : (worker : ℕ) → worker < length world.workers → (worker_at (shipped_host functions settings script) world worker).stopped ≡ false) where
+  -- An entry is what the host does, where it can be served at the content that it finds.
+  entry_served : (entry : Entry) → told.IsServed terms entry → CanServe short_keys functions.digest (shown_content entry.before) entry.request.key
+      → IsServed (shipped_host functions settings script) world (serving_of entry)
+  entry_served entry served can =
+      let by : entry.worker < length world.workers = subst (λ (n : ℕ). entry.worker < n) made.workers served.by in
+      let plan = subst (λ (digest : _). IsPlan short_keys digest entry.worker (shown_content entry.before) entry.request entry.clock entry.plan (shown_content entry.after) entry.later) made.digest served.plan in
+      record {
+        may = record {
+          there = by;
+          at = is_place functions settings script world orderly terms made entry.place served.at.there;
+          running = running entry.worker by;
+          owns = owns_there functions settings script world orderly terms made entry.place served.at.there entry.request served.at served.value;
+        };
+        serves = does entry.worker (shown_content entry.before) (shown_content entry.after) entry.request entry.clock entry.later entry.plan can plan
+            (within (cases_lt entry.clock.end (clock_after (shown_content entry.before) entry.clock).at.counter));
+      }
+    where
+      within : (entry.clock.end < (clock_after (shown_content entry.before) entry.clock).at.counter)
+          ⊎ ((clock_after (shown_content entry.before) entry.clock).at.counter ≤ entry.clock.end)
+          → (clock_after (shown_content entry.before) entry.clock).at.counter ≤ entry.clock.end
+      within (inl past) = absurd (served.within past)
+      within (inr less) = less
+
+  module _ (place : ℕ) (there : place < place_count terms) where
+    abbrev hot_keys : List (List Bool)
+    hot_keys = hot_paths short_keys (orderly.shards (place / 5) (shard_there functions settings script world orderly terms made place there)).mirrors.places
+
+    abbrev first : Content
+    first = shown_content (first_at terms place)
+
+    -- the first content of the place can serve the entry's request
+    first_serves : (entry : Entry) → entry.place ≡ place → told.IsServed terms entry → IsSmall entry → SeatServes short_keys functions.digest hot_keys first entry.request
+    first_serves entry at served small =
+        let is_at : IsPlaceOf terms place entry.request.key = subst (λ (n : ℕ). IsPlaceOf terms n entry.request.key) at served.at in
+        subst (λ (c : Content). SeatServes short_keys functions.digest hot_keys c entry.request) (made.contents place there)
+        (seat_serves short_keys functions.digest (shard_at world (place / 5)).contents
+        (orderly.shards (place / 5) (shard_there functions settings script world orderly terms made place there)).mirrors
+        (place % 5) entry.request small
+        (owns_there functions settings script world orderly terms made place there entry.request is_at served.value))
+
+    from_mirrored : (x y : code.Content) (entries : List Entry) → IsStill first (shown_content x) → ContentMirrors short_keys functions.digest hot_keys (shown_content x)
+        → told.Leads terms place x entries y → AllByRecursion IsSmall entries
+        → AllByRecursion (λ entry. IsServed (shipped_host functions settings script) world (serving_of entry)) entries
+    from_mirrored x y [] same mirrors leads small = tt
+    from_mirrored x y (entry ∷ entries) same mirrors leads small =
+        (entry_served entry leads.2 can, from_mirrored entry.after y entries same_after mirrors_after leads.3 small.1)
+      where
+        before : Content
+        before = shown_content entry.before
+
+        serves : SeatServes short_keys functions.digest hot_keys first entry.request
+        serves = first_serves entry leads.0 leads.2 small.0
+
+        plan : IsPlan short_keys functions.digest entry.worker before entry.request entry.clock entry.plan (shown_content entry.after) entry.later
+        plan = subst (λ (digest : _). IsPlan short_keys digest entry.worker before entry.request entry.clock entry.plan (shown_content entry.after) entry.later) made.digest leads.2.plan
+
+        same_before : IsStill first before
+        same_before = subst (IsStill first) (sym leads.1) same
+
+        mirrors_before : ContentMirrors short_keys functions.digest hot_keys before
+        mirrors_before = subst (ContentMirrors short_keys functions.digest hot_keys) (sym leads.1) mirrors
+
+        own : Owns short_keys before entry.request.key
+        own = owns_still functions hot_keys first before entry.request.key same_before mirrors_before serves.own
+
+        apart : IsCold short_keys hot_keys before entry.request.key
+        apart = cold_still hot_keys first before entry.request.key same_before serves.cold_there
+
+        can : CanServe short_keys functions.digest before entry.request.key
+        can = mirrors_serve short_keys functions.digest hot_keys before entry.request.key mirrors_before own apart
+
+        same_after : IsStill first (shown_content entry.after)
+        same_after = subst (IsStill first) (sym plan.content) (still_after functions entry.worker first before plan.links entry.request entry.clock same_before)
+
+        mirrors_after : ContentMirrors short_keys functions.digest hot_keys (shown_content entry.after)
+        mirrors_after = plan_mirrors short_keys functions.digest entry.worker hot_keys before (shown_content entry.after) entry.request entry.clock entry.later entry.plan
+            digests leads.2.value mirrors_before own apart plan
+
+    -- Each entry of the place's past is what the host does.
+    pub past_served : (y : code.Content) (entries : List Entry) → told.Leads terms place (first_at terms place) entries y → AllByRecursion IsSmall entries
+        → AllByRecursion (λ entry. IsServed (shipped_host functions settings script) world (serving_of entry)) entries
+    past_served y [] leads small = tt
+    past_served y (entry ∷ entries) leads small =
+        from_mirrored (first_at terms place) y (entry ∷ entries) (still first) (first_serves entry leads.0 leads.2 small.0).mirrors leads small

@@ -1,0 +1,93 @@
+-- The turns of a worker: its list is a chain from its clock, and its stop stands behind it.
+use Rattle.std.proofs.Common.{◌≡◌, ◌≢◌, ℕ, suc, ◌+◌, ◌<◌, List, [], ◌∷◌, ◌++◌, length, Option, Some, None, refl, sym, subst, arith}
+use Rattle.std.specs.List.{AllByRecursion}
+use Rattle.std.specs.Option.{ForSome}
+use Rattle.stamp_order.proofs.InOrderLaws.{every-append}
+use Rattle.lamport_clocks.specs.Reading.{Reading}
+use Rattle.record_hash.specs.Functions.{DigestFunctions}
+use Rattle.record_text.specs.declared.request.Request.{Request}
+use Rattle.script_text.specs.declared.task.Task.{Task}
+use Rattle.host_core.specs.Host.{Host, asked}
+use Rattle.host_shard.specs.Content.{Content}
+use Rattle.host_order.specs.Serving.{IsWorkerChain, clock_behind}
+use Rattle.host_order.specs.Told as order
+use Rattle.host_table.specs.declared.told.Entry.{Entry}
+use Rattle.host_table.specs.declared.told.Stop.{Stop}
+use Rattle.host_table.specs.declared.views.Row.{Row}
+use Rattle.host_table.specs.Phase.{row_at}
+use Rattle.host_table.specs.Told.{Continues, TakesUp}
+use Rattle.host_world.specs.declared.settings.Settings.{Settings}
+use Rattle.host_world.specs.Behind.{AreInRange}
+use Rattle.host_world.specs.ShippedHost.{shipped_host}
+use Rattle.host_world.proofs.RangeLaws.{InRange, in_phases}
+use Rattle.table_order.specs.Servings.{servings_of, stop_of, stops_from}
+use Rattle.table_order.specs.Phases.{first_clock, AreNext}
+use Rattle.table_order.proofs.ListLemmas.{all-got}
+use Rattle.table_order.proofs.PastLemmas.{IsSmall}
+
+-- ---- a list
+
+module _ (host : Host Content Request) (phase worker : ℕ) where
+  continues_chain : (clock later : Reading) (served : ℕ) (entries : List Entry) → Continues clock entries later → AreNext host phase worker served entries
+      → IsWorkerChain host phase worker clock served (servings_of entries)
+  continues_chain clock later served [] goes next = tt
+  continues_chain clock later served (entry ∷ entries) goes next =
+      (goes.0, next.0, continues_chain entry.later later (suc served) entries goes.1 next.1)
+
+  -- A worker's list is a chain from the clock at which it begins.
+  pub worker_chain : (clock later : Reading) (served : ℕ) (entries : List Entry) (stop : Option Stop) → TakesUp entries later
+      → ForSome (first_clock entries stop) (λ first. first ≡ clock) → AreNext host phase worker served entries
+      → IsWorkerChain host phase worker clock served (servings_of entries)
+  worker_chain clock later served [] stop takes begins next = tt
+  worker_chain clock later served (entry ∷ entries) stop takes begins next =
+      (begins entry.clock refl, next.0, continues_chain entry.later later (suc served) entries takes next.1)
+
+continues_behind : (clock later : Reading) (entries : List Entry) → Continues clock entries later → clock_behind clock (servings_of entries) ≡ later
+continues_behind clock later [] goes = sym goes
+continues_behind clock later (entry ∷ entries) goes = continues_behind entry.later later entries goes.1
+
+-- Behind it the worker's clock is that of its stop.
+pub stop_clock : (clock : Reading) (entries : List Entry) (stop : Stop) → TakesUp entries stop.clock
+    → ForSome (first_clock entries (Some stop)) (λ first. first ≡ clock) → clock_behind clock (servings_of entries) ≡ stop.clock
+stop_clock clock [] stop takes begins = sym (begins stop.clock refl)
+stop_clock clock (entry ∷ entries) stop takes begins = continues_behind entry.later stop.clock entries takes
+
+-- ---- keys
+
+-- Of what the script asks each key has no more than 64 bits.
+pub next_small : (functions : DigestFunctions) (settings : Settings) (script : List (List Task)) → AreInRange script → (phase worker served : ℕ) (entries : List Entry)
+    → AreNext (shipped_host functions settings script) phase worker served entries → AllByRecursion IsSmall entries
+next_small functions settings script keys phase worker served [] next = tt
+next_small functions settings script keys phase worker served (entry ∷ entries) next = (
+  all-got InRange (asked (shipped_host functions settings script) worker) served (phase, entry.request) (in_phases worker 0 script keys) next.0,
+  next_small functions settings script keys phase worker (suc served) entries next.1,
+)
+
+-- ---- stops
+
+-- What holds of each worker's stop holds of all.
+pub all-stops : (P : order.Stop Request → Type 0) (number : ℕ) (rows : List Row)
+    → ((i : ℕ) → i < length rows → AllByRecursion P (stop_of (number + i) (row_at rows i).stop)) → AllByRecursion P (stops_from number rows)
+all-stops P number [] all = tt
+all-stops P number (row ∷ rows) all =
+    every-append P (stop_of number row.stop) (stops_from (suc number) rows)
+    (subst (λ (n : ℕ). AllByRecursion P (stop_of n row.stop)) (omega arith) (all 0 (omega arith)))
+    (all-stops P (suc number) rows
+    (λ i there. subst (λ (n : ℕ). AllByRecursion P (stop_of n (row_at rows i).stop)) (omega arith) (all (suc i) (omega (arith, there)))))
+
+-- the stops of later workers are of others
+later_stops : (worker number : ℕ) (rows : List Row) → worker < number → AllByRecursion (λ other. worker ≢ other.worker) (stops_from number rows)
+later_stops worker number rows before = all-stops (λ other. worker ≢ other.worker) number rows (λ i there. one (number + i) (row_at rows i).stop (omega (arith, before)))
+  where
+    one : (other : ℕ) (stop : Option Stop) → worker < other → AllByRecursion (λ (s : order.Stop Request). worker ≢ s.worker) (stop_of other stop)
+    one other None less = tt
+    one other (Some stop) less = (λ same. absurd (omega (arith, less, same)), tt)
+
+-- Each stop is of another worker.
+pub stops_apart : (number : ℕ) (rows : List Row) → order.AreOfOthers (stops_from number rows)
+stops_apart number [] = tt
+stops_apart number (row ∷ rows) = go row.stop (stops_apart (suc number) rows)
+  where
+    go : (stop : Option Stop) → order.AreOfOthers (stops_from (suc number) rows) → order.AreOfOthers (stop_of number stop ++ stops_from (suc number) rows)
+    go None rest = rest
+    go (Some stop) rest = (later_stops number (suc number) rows (omega arith), rest)

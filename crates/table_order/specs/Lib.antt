@@ -1,0 +1,3 @@
+-- What a table tells of a phase, as the machine sees it, in reading order.
+pub mod Servings
+pub mod Phases

@@ -1,0 +1,80 @@
+//! Why what a table tells of a phase was one list of events. These functions do nothing: their contracts are the laws.
+ghost use Rattle.std.specs.Prelude.{◌≡◌, ℕ, ◌<◌, List, length, get_or};
+ghost use Rattle.std.specs.List.{AllByRecursion};
+ghost use Rattle.record_hash.specs.Functions.{DigestFunctions};
+ghost use Rattle.script_text.specs.declared.task.Task.{Task};
+ghost use Rattle.host_core.specs.World.{World};
+ghost use Rattle.host_core.specs.WorldEvent.{run_events};
+ghost use Rattle.host_order.specs.Serving.{content_at};
+ghost use Rattle.host_order.specs.Told.{IsServed, AreTold, IsNoted, AreOfOthers, phase_events, HasOneOrder};
+ghost use Rattle.host_shard.specs.declared.content.Content as code;
+ghost use Rattle.host_shard.specs.declared.content.Content.TheVariants.{Vacant};
+ghost use Rattle.host_shard.specs.Content.{Content};
+ghost use Rattle.host_shard.specs.Shown.{shown_content};
+ghost use Rattle.host_table.specs.declared.views.Row.{Row};
+ghost use Rattle.host_table.specs.Phase.{IsPhase, row_at};
+ghost use Rattle.host_table.specs.Terms.{Terms, place_count};
+ghost use Rattle.host_world.specs.declared.settings.Settings.{Settings};
+ghost use Rattle.host_world.specs.Behind.{IsBehindSetup};
+ghost use Rattle.host_world.specs.Places.{place_of};
+ghost use Rattle.host_world.specs.ShippedHost.{shipped_host};
+ghost use Rattle.table_order.specs.Servings.{serving_of, lists_of, pasts_of, stops_of};
+ghost use Rattle.table_order.specs.Phases.{IsTableOf};
+
+use host_fits::{plans_are_what_the_host_does, the_shipped_host_is_steady};
+use host_world::worlds_are_orderly;
+
+/// Each entry of a worker's list is what the shipped host does for its request, at a place that owns it, from its clock and
+/// its content.
+pub fn entries_are_what_the_host_does()
+    ensures served { (functions : DigestFunctions) (settings : Settings) (script : List (List Task)) (world : World Content)
+        (terms : Terms) (after : List code.Content) (rows : List Row)
+        → IsTableOf functions settings script world terms rows → IsPhase terms after rows
+        → (worker : ℕ) → worker < length world.workers
+        → AllByRecursion (λ entry. IsServed (shipped_host functions settings script) world (serving_of entry)) (row_at rows worker).list }
+{
+    worlds_are_orderly();
+    plans_are_what_the_host_does();
+}
+
+/// What a table tells of a phase is what `host_order` asks of it: lists of workers and pasts of places, each chained, of the
+/// same servings, and stops that are noted, each of another worker.
+pub fn tables_tell_of_a_phase()
+    ensures told { (functions : DigestFunctions) (settings : Settings) (script : List (List Task)) (world : World Content)
+        (terms : Terms) (after : List code.Content) (rows : List Row)
+        → IsTableOf functions settings script world terms rows → (phase : IsPhase terms after rows)
+        → AreTold (shipped_host functions settings script) world (lists_of rows) (pasts_of (length world.shards) phase.past) }
+    ensures noted { (functions : DigestFunctions) (settings : Settings) (script : List (List Task)) (world : World Content)
+        (terms : Terms) (after : List code.Content) (rows : List Row)
+        → IsTableOf functions settings script world terms rows → (phase : IsPhase terms after rows)
+        → AllByRecursion (IsNoted (shipped_host functions settings script) world (lists_of rows) (pasts_of (length world.shards) phase.past)) (stops_of rows) }
+    ensures apart { (rows : List Row) → AreOfOthers (stops_of rows) }
+{
+    worlds_are_orderly();
+    plans_are_what_the_host_does();
+}
+
+/// What a table tells of a phase was one list of events: the served requests by the stamps of their evicts, and then the stops.
+/// They were enabled, each worker logged its plans' commands, and the world that they lead to stands behind the setup and has
+/// the contents that the table gives.
+pub fn a_phase_of_a_table_has_one_order()
+    ensures order { (functions : DigestFunctions) (settings : Settings) (script : List (List Task)) (world : World Content)
+        (terms : Terms) (after : List code.Content) (rows : List Row)
+        → IsTableOf functions settings script world terms rows → (phase : IsPhase terms after rows)
+        → HasOneOrder (shipped_host functions settings script) world (lists_of rows) (pasts_of (length world.shards) phase.past) (stops_of rows) }
+    ensures behind { (functions : DigestFunctions) (settings : Settings) (script : List (List Task)) (world : World Content)
+        (terms : Terms) (after : List code.Content) (rows : List Row)
+        → IsTableOf functions settings script world terms rows → IsPhase terms after rows
+        → let host = shipped_host functions settings script in
+        IsBehindSetup functions settings script (run_events host world (phase_events (lists_of rows) (stops_of rows))) }
+    ensures contents { (functions : DigestFunctions) (settings : Settings) (script : List (List Task)) (world : World Content)
+        (terms : Terms) (after : List code.Content) (rows : List Row)
+        → IsTableOf functions settings script world terms rows → IsPhase terms after rows
+        → (place : ℕ) → place < place_count terms
+        → let host = shipped_host functions settings script in
+        content_at host (run_events host world (phase_events (lists_of rows) (stops_of rows))) (place_of place) ≡ shown_content (get_or after place Vacant) }
+{
+    worlds_are_orderly();
+    plans_are_what_the_host_does();
+    the_shipped_host_is_steady();
+}
