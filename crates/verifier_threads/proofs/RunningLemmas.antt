@@ -170,6 +170,10 @@ ends-so functions settings script stop outputs is cut =
 pub stop-is : {A : Type 0} (result : Result A RoundStop) (stop : RoundStop) → result ≡ Err stop → result ≡ Err stops.WriteFault → stop ≡ stops.WriteFault
 stop-is result stop is fault = cc
 
+-- an error of one answer is that of another
+pub err-of : {A B : Type 0} (a b : RoundStop) → (let one : Result A RoundStop = Err a in one ≡ Err b) → (let one : Result B RoundStop = Err a in one ≡ Err b)
+err-of {A} {B} a b is = let same : a ≡ b = cc in ap (λ (e : RoundStop). Err e) same
+
 -- a run that came to its end ends so
 pub finishes-so : (functions : DigestFunctions) (settings : Settings) (script : List (List Task)) (result : Result RunEnd RoundStop) (outputs : Outputs)
     → IfOk result (λ end. IsServed functions settings script end outputs) → OnErr result (IsCutAtEnd functions settings script outputs)

@@ -10,7 +10,6 @@ mod handing;
 mod laws;
 mod runner;
 mod serving;
-mod stand_ins;
 
 pub use ending::RunEnd;
 pub use serving::serve_script;

@@ -15,13 +15,14 @@ ghost use Rattle.verifier_threads.specs.Running.{Runs, RunsWhole, IsUnderWay, Is
 use crate::ending::RunEnd;
 use crate::handing::hand_out_all;
 use crate::laws::what_is_due_stays_due;
-use crate::stand_ins::{a_check_of_the_logs_ends_as_the_host_promises, close_phase, serve_phase};
 use fv_outside::{Gate, Sink};
 use host_log::LogBuffer;
 use host_rounds::{RoundStop, Rounds, write_end};
+use host_serving::{close_phase, serve_phase};
 use host_world::{ClockEnd, World};
 use record_hash::Digests;
 use report_text::BundleEnd;
+use run_reports::a_check_of_the_logs_ends_as_the_host_promises;
 use std::alloc::Global;
 use want_of_memory::Memory;
 

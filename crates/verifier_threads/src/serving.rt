@@ -13,12 +13,12 @@ ghost use Rattle.verifier_threads.specs.Running.{Runs, RunsWhole, IsUnderWayWith
 
 use crate::ending::RunEnd;
 use crate::runner::Runner;
-use crate::stand_ins::logs_of_no_bytes_certify_nothing;
 use fv_outside::{Gate, Sink};
 use host_fits::scripts_ask_for_keys_in_range;
 use host_rounds::{RoundStop, Rounds, write_end};
 use host_world::{ClockEnd, Settings, World, WorldFault};
 use record_hash::Digests;
+use run_reports::logs_of_no_bytes_certify_nothing;
 use script_text::Requests;
 use std::alloc::Global;
 

@@ -3,7 +3,9 @@ use Rattle.std.proofs.lemmas.Result.{err_from_is_err_and}
 use Rattle.fv_outside.specs.Written.{Grows, GrowsByFront}
 use Rattle.report_text.specs.declared.status.Status.{Status}
 use Rattle.report_text.specs.Status.{last_line}
-use Rattle.verifier_threads.proofs.RunningLemmas.{ends-so, stop-is}
+use Rattle.host_rounds.specs.declared.stops.RoundStop.{RoundStop}
+use Rattle.verifier_threads.specs.declared.ending.RunEnd.{RunEnd}
+use Rattle.verifier_threads.proofs.RunningLemmas.{ends-so, stop-is, err-of}
 use Rattle.verifier_threads.proofs.NothingLemmas.{nothing-served, nothing-cut, header-cut}
 use Rattle.verifier_threads.proofs.serving.serve_nothing.Goals as goal
 
@@ -18,7 +20,7 @@ returns-in_err-write_end-clause-serves g c = λ functions script.
     let p = err_from_is_err_and c.from_residual-in_err-write_end.result c.from_residual-in_err-write_end.ensures.1 in
     rw p.1
     (ends-so functions c.args.settings.now script p.0 _
-    (stop-is c.write_end.result p.0 (c.in_err-write_end.was ∙ ap (λ e. Err e) (sym p.2)) c.in_err-write_end.ensures.stop)
+    (stop-is {A = RunEnd} (Err c.in_err-write_end.field-0.0) p.0 (ap (λ (e : RoundStop). Err e) (sym p.2)) (err-of _ _ c.in_err-write_end.ensures.stop))
     (nothing-cut laws.lines laws.texts functions c.args.settings.now script c.requires.unserved c.args.end _ _ _ _ c.requires.end
     (c.in_ok-_rounds.ensures.keeps functions).vault
     (subst (λ (s : Status). GrowsByFront (g.O.Sink.held c.args.out.now) (g.O.Sink.held c.write_end.new.out) (last_line s)) c.status.ensures.value

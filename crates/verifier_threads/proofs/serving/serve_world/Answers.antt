@@ -1,7 +1,10 @@
-use Rattle.std.proofs.Common.{◌≡◌, ℕ, List, Option, Ok, Err, refl, sym, ◌∙◌, ap, subst}
+use Rattle.std.proofs.Common.{◌≡◌, ℕ, List, Option, None, length, refl, sym, ◌∙◌, ap, subst, arith}
 use Rattle.std.proofs.lemmas.Result.{err_from_is_err_and}
 use Rattle.record_hash.specs.Functions.{DigestFunctions}
 use Rattle.script_text.specs.declared.task.Task.{Task}
+use Rattle.script_text.specs.Text.{AreTasks}
+use Rattle.host_core.specs.World.{World}
+use Rattle.host_shard.specs.Content.{Content}
 use Rattle.host_world.specs.declared.settings.Settings.{Settings}
 use Rattle.host_world.specs.declared.world.World as code
 use Rattle.host_world.specs.Shown.{shown_world, digests_of, requests_of}
@@ -17,14 +20,54 @@ new-requires g c = record {
   settings = c.requires.settings;
   counters = c.requires.counters;
   keys = c.scripts_ask_for_keys_in_range.ensures.keys c.args.world.settings.header.verifiers (requests_of c.args.world) c.requires.tasks;
-  some = ?;
+  some = omega (arith, c.has_a_phase.ensures.some, ap (λ (script : List (List Task)). length script) c.requests.ensures.value);
 }
 
 pub serve_phases-requires : goal.serve_phases-requires
-serve_phases-requires g c = ?
+serve_phases-requires g c =
+    let world_is = c.in_ok-runner.ensures.world in
+    let end = c.in_ok-runner.runner.end in
+    record {
+      runs = (_, c.in_ok-runner.ensures.runs (g.O.Sink.held c.args.out.now), refl, refl);
+      begins =
+          subst (λ (w : code.World _). IsAtPhase (host_of (g.D.Digests.functions (digests_of w)) w) (shown_world w) end) (sym world_is) c.in_ok-runner.ensures.begins;
+      first = ap (λ (w : code.World _). (shown_world w).phase) world_is ∙ ap (λ (w : World Content). w.phase) c.requires.setup;
+      tasks = subst (λ (w : code.World _). AreTasks w.settings.header.verifiers (requests_of w)) (sym world_is) c.requires.tasks;
+    }
 
 pub finish-requires : goal.finish-requires
-finish-requires g c = ?
+finish-requires g c = record {
+  runs = (_, c.in_ok-serve_phases.ensures.runs _ (c.in_ok-runner.ensures.runs (g.O.Sink.held c.args.out.now)) refl refl);
+  ended = c.in_ok-serve_phases.ensures.ended;
+}
 
-pub returns : goal.returns
-returns g c = ?
+pub returns-in_err-runner-clause-serves : goal.returns-in_err-runner-clause-serves
+returns-in_err-runner-clause-serves g c =
+    let p = err_from_is_err_and c.from_residual.result c.from_residual.ensures.1 in
+    rw p.1
+    (stops-so (g.D.Digests.functions (digests_of c.args.world)) c.args.world.settings (requests_of c.args.world) p.0 _
+    (c.in_err-runner.ensures.cut (g.O.Sink.held c.args.out.now)))
+
+pub returns-in_err-serve_phases-clause-serves : goal.returns-in_err-serve_phases-clause-serves
+returns-in_err-serve_phases-clause-serves g c =
+    let p = err_from_is_err_and c.from_residual-in_err-serve_phases.result c.from_residual-in_err-serve_phases.ensures.1 in
+    rw p.1
+    (stops-so (g.D.Digests.functions (digests_of c.args.world)) c.args.world.settings (requests_of c.args.world) p.0 _
+    (subst (λ (w : code.World _). IsCutOff (g.D.Digests.functions (digests_of w))
+    (record { vault = g.V.Sink.held c.args.vault.now; vault_after = g.V.Sink.held c.serve_phases.new.vault; out = g.O.Sink.held c.args.out.now; out_after = g.O.Sink.held c.serve_phases.new.out }))
+    c.in_ok-runner.ensures.world
+    (c.in_err-serve_phases.ensures.cut _ (c.in_ok-runner.ensures.runs (g.O.Sink.held c.args.out.now)) refl refl)))
+
+pub returns-clause-serves : goal.returns-clause-serves
+returns-clause-serves g c =
+    let functions = g.D.Digests.functions in
+    let runner = c.in_ok-runner.runner in
+    let now = c.serve_phases.new.runner.world in
+    let outputs : Outputs = record { vault = g.V.Sink.held c.args.vault.now; vault_after = g.V.Sink.held c.serve_phases.new.vault; out = g.O.Sink.held c.args.out.now; out_after = g.O.Sink.held c.serve_phases.new.out } in
+    let after : Outputs = record outputs { out_after = g.O.Sink.held c.finish.new.out } in
+    let whole = c.in_ok-serve_phases.ensures.runs _ (c.in_ok-runner.ensures.runs (g.O.Sink.held c.args.out.now)) refl refl in
+    subst (λ (w : code.World _). ServesTo (functions (digests_of w)) w.settings (requests_of w) c.finish.result after) c.in_ok-runner.ensures.world
+    (of_one_host functions now runner.world (host-back runner.world now c.serve_phases.ensures.host)
+    (λ (f : DigestFunctions) (settings : Settings) (script : List (List Task)). ServesTo f settings script c.finish.result after)
+    (finishes-so (functions (digests_of now)) now.settings (requests_of now) c.finish.result after
+    (c.finish.ensures.served outputs whole refl) (c.finish.ensures.cut outputs whole refl) c.finish.ensures.stop))

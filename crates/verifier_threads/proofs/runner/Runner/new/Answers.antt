@@ -40,7 +40,7 @@ returns-clause-runs g c = λ held.
           (subst (λ (header : Header). Keeps f header (empty_logs header.verifiers) c.in_ok-rounds.rounds (g.V.Sink.held c.args.vault.now) (g.V.Sink.held c.new.new.vault)) header_is
           (c.in_ok-rounds.ensures.keeps f))
           c.in_ok-rounds.ensures.none;
-      buffers = c.in_ok-buffers.ensures ∙ ap (λ (header : Header). header.verifiers) header_is ∙ sym count;
+      buffers = c.in_ok-buffers.ensures.len ∙ ap (λ (header : Header). header.verifiers) header_is ∙ sym count;
     }
 
 pub returns-clause-begins : goal.returns-clause-begins
