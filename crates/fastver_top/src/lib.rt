@@ -12,7 +12,6 @@ mod auditing;
 mod reading;
 mod running;
 mod scripts;
-mod stand_in;
 mod top;
 
 pub use audit_end::AuditEnd;

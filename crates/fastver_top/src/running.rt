@@ -9,7 +9,6 @@ ghost use Rattle.fastver_top.specs.Answers.{IsRunStatus};
 ghost use Rattle.fastver_top.specs.Running.{IsBeforeRun, IsNamedFor, IsUntouched, RunsTo, run_stopped, settings_for};
 
 use crate::scripts::read_script;
-use crate::stand_in::serve_script;
 use bundle_report::digests_have_32_bytes;
 use fv_outside::{Failed, Gate, Sink, Source, Vault};
 use host_fits::scripts_ask_for_keys_in_range;
@@ -22,7 +21,7 @@ use report_text::Status;
 use run_reports::a_check_of_the_logs_ends_as_the_host_promises;
 use script_text::Requests;
 use std::alloc::Global;
-use verifier_threads::RunEnd;
+use verifier_threads::{RunEnd, serve_script};
 
 // How many entries a verifier of the host may cache.
 const HOST_CACHE: u32 = 128;
