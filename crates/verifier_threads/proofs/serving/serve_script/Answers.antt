@@ -36,10 +36,6 @@ serve_world-requires g c =
     }
 
 pub serve_nothing-requires : goal.serve_nothing-requires
-serve_nothing-requires g c = ?
-
-pub returns-in-Ok-clause-serves : goal.returns-in-Ok-clause-serves
-returns-in-Ok-clause-serves g c = ?
-
-pub returns-in-Err-Memory-clause-serves : goal.returns-in-Err-Memory-clause-serves
-returns-in-Err-Memory-clause-serves g c = ?
+serve_nothing-requires g c =
+    let is = (c.new.ensures.clock_end c.in-Err-ClockEnd.end).0 (c.in-Err-ClockEnd.is ∙ ap (λ fault. Err fault) c.in-Err-ClockEnd.field-0-is) in
+    record { settings = c.requires.settings; unserved = is.0; end = is.1 }
