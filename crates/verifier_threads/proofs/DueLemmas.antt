@@ -93,10 +93,10 @@ frames-more enough back verifiers offset (frame ∷ frames) more fits good =
     let next = frames-more enough back verifiers (offset + frame_bytes frame) frames more fits good.1 in (
       next.0,
       ap (frames_from verifiers offset) (append_assoc text (texts_of frames) more)
-      ∙ frames-first enough verifiers offset (text ++ others) some
-      ∙ ap (λ (o : Option Frame). frames_behind offset o (λ f. frames_from verifiers (offset + frame_bytes f) (drop (frame_bytes f) (text ++ others)))) is
-      ∙ ap (λ (bytes : List ℕ). with_frame frame (frames_from verifiers (offset + frame_bytes frame) bytes)) behind
-      ∙ ap (with_frame frame) next.1,
+          ∙ frames-first enough verifiers offset (text ++ others) some
+          ∙ ap (λ (o : Option Frame). frames_behind offset o (λ f. frames_from verifiers (offset + frame_bytes f) (drop (frame_bytes f) (text ++ others)))) is
+          ∙ ap (λ (bytes : List ℕ). with_frame frame (frames_from verifiers (offset + frame_bytes frame) bytes)) behind
+          ∙ ap (with_frame frame) next.1,
     )
 
 -- ---- logs, and what frames add behind
@@ -154,6 +154,6 @@ module _ (enough : AreEnough) (back : AreReadBack) (heads : HeadsAreRead) (are :
       let stays = due-stays (scheme_of functions header) header logs found.0.frames bundle.header_good whole in (
         stays.0,
         ap (λ (b : Bundle). (answer_by functions (behind None [] b)).due) is
-        ∙ ap (lines_due functions header) logs_are
-        ∙ sym stays.1,
+            ∙ ap (lines_due functions header) logs_are
+            ∙ sym stays.1,
       )

@@ -97,10 +97,13 @@ module _ {D : Type 0} (functions : D → DigestFunctions) (old : Runner D) (outp
 
   -- its world stands behind the setup
   pub runs-behind : StandsBehind (functions (digests_of old.world)) old.world
-  runs-behind = (runs.running.logs, record {
-    each = runs.running.each;
-    behind = running-behind _ _ _ (shown_world old.world) old.rounds old.end outputs runs.running;
-  })
+  runs-behind = (
+    runs.running.logs,
+    record {
+      each = runs.running.each;
+      behind = running-behind _ _ _ (shown_world old.world) old.rounds old.end outputs runs.running;
+    },
+  )
 
   -- by other names of what is held
   pub runs-at : (vault out : Option (List ℕ)) → outputs.vault_after ≡ vault → outputs.out_after ≡ out

@@ -25,11 +25,12 @@ close_phase-requires g c = record {
 
 pub pass_on-requires : goal.pass_on-requires
 pass_on-requires g c = record {
-  runs =
-      (c.requires.runs.0,
-      runs-led g.D.Digests.functions c.args.self.now c.requires.runs.0 c.requires.runs.1 c.close_phase.new.world c.in_ok-end.end c.earlier_end-self.result
-      c.close_phase.ensures.host c.in_ok-end.ensures.leads c.earlier_end-self.ensures.value,
-      c.requires.runs.2);
+  runs = (
+    c.requires.runs.0,
+    runs-led g.D.Digests.functions c.args.self.now c.requires.runs.0 c.requires.runs.1 c.close_phase.new.world c.in_ok-end.end c.earlier_end-self.result
+        c.close_phase.ensures.host c.in_ok-end.ensures.leads c.earlier_end-self.ensures.value,
+    c.requires.runs.2,
+  );
 }
 
 pub certify-requires : goal.certify-requires
@@ -107,10 +108,11 @@ returns-clause-opened g c = λ going none'.
     let end_is : new.end ≡ first_of start next = c.pass_on.ensures.end ∙ c.earlier_end-self.ensures.value in
     let at = at-phase host (shown_world old) (shown_world middle) c.args.last start next c.requires.served c.requires.last
     (λ is going'. says.opened (ap (λ (e : Option ClockEnd). Ok e) is) going') going (sym end_is ∙ none') in
-    ok_any c.certify.result
-    (moved IsAtPhase host _ (all_handed_out (shown_world middle)) (shown_world new.world) (first_of start next) new.end
-    (host_same functions old new.world (one_host old middle new.world c.close_phase.ensures.host c.pass_on.ensures.host)) c.in_ok-pass_on.ensures.handed end_is at.0,
-    ap (λ (w : World Content). w.phase) c.in_ok-pass_on.ensures.handed ∙ at.1)
+    ok_any c.certify.result (
+      moved IsAtPhase host _ (all_handed_out (shown_world middle)) (shown_world new.world) (first_of start next) new.end
+          (host_same functions old new.world (one_host old middle new.world c.close_phase.ensures.host c.pass_on.ensures.host)) c.in_ok-pass_on.ensures.handed end_is at.0,
+      ap (λ (w : World Content). w.phase) c.in_ok-pass_on.ensures.handed ∙ at.1,
+    )
 
 pub returns-clause-cut : goal.returns-clause-cut
 returns-clause-cut g c = λ outputs runs held written.

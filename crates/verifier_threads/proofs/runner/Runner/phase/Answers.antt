@@ -24,11 +24,12 @@ serve_phase-requires g c = record {
 
 pub pass_on-requires : goal.pass_on-requires
 pass_on-requires g c = record {
-  runs =
-      (c.requires.runs.0,
-      runs-led g.D.Digests.functions c.args.self.now c.requires.runs.0 c.requires.runs.1 c.serve_phase.new.world c.in_ok-self.field-0 c.in_ok-self.field-0
-      c.serve_phase.ensures.host c.in_ok-self.ensures.leads (ap (λ (e : Option ClockEnd). first_of e c.in_ok-self.field-0) (sym c.requires.begins.unended)),
-      c.requires.runs.2);
+  runs = (
+    c.requires.runs.0,
+    runs-led g.D.Digests.functions c.args.self.now c.requires.runs.0 c.requires.runs.1 c.serve_phase.new.world c.in_ok-self.field-0 c.in_ok-self.field-0
+        c.serve_phase.ensures.host c.in_ok-self.ensures.leads (ap (λ (e : Option ClockEnd). first_of e c.in_ok-self.field-0) (sym c.requires.begins.unended)),
+    c.requires.runs.2,
+  );
 }
 
 pub returns-in_err-self-clause-cut : goal.returns-in_err-self-clause-cut
