@@ -33,31 +33,32 @@ def tried(names):
                     file.write(f"{name} {spent}\n")
         words = ["rt", "try", "--fail-alloc", str(REFUSED), "--cases", folder]
         said = subprocess.run(words, cwd=CRATE, stdout=subprocess.PIPE, stderr=subprocess.PIPE, text=True, check=False)
+    if said.returncode:
+        sys.exit(said.stderr)
     told = {}
     for block in said.stdout.split("== ")[1:]:
         case, *lines = block.splitlines()
-        told[case] = lines[0].partition(": ")[2] if len(lines) == 1 else ""
-    if not told:
-        sys.exit(said.stderr)
-    return {name: [told.get(f"{name}-{spent}", "") or "stopped" for spent in range(REFUSED)] for name in names}
+        told[case] = " ".join(lines).partition(": ")[2]
+    return {name: [told.get(f"{name}-{spent}") or "no answer" for spent in range(REFUSED)] for name in names}
 
 
 def shown(name, told):
-    """The numbers of the try's allocations that are refused, and how many of them the call makes. It is None at a fault."""
-    outcomes = [it for it in reversed(told) if it not in (EARLY, "stopped")]
+    """Writes what came of each allocation of a try. It answers how many of them the call made, or None where one went wrong."""
+    outcomes = [it for it in reversed(told) if it != EARLY]
     last = max((number for number, it in enumerate(outcomes) if it != NONE), default=-1)
     for number, outcome in enumerate(outcomes[: last + 2], 1):
         print(f"{name}, allocation {number}: {outcome}")
     fine = EARLY in told and told[0] == NONE and GOOD in told and all(it in (BEFORE, GOOD, NONE) for it in outcomes)
-    return outcomes.count(GOOD) if fine else None
+    count = outcomes.count(GOOD)
+    print(f"{name}: {count} allocations of the call, all as before at each" if fine else f"{name}: FAILED")
+    return count if fine else None
 
 
 def main():
-    names = sys.argv[1:] or calls()
-    counts = {name: shown(name, told) for name, told in tried(names).items()}
-    for name, count in counts.items():
-        print(f"{name}: FAILED" if count is None else f"{name}: {count} allocations, all as before at each")
-    return 1 if None in counts.values() else 0
+    counts = [shown(name, told) for name, told in tried(sys.argv[1:] or calls()).items()]
+    failed = counts.count(None)
+    print(f"{len(counts)} calls, {sum(filter(None, counts))} allocations refused in them, {failed} of the calls failed")
+    return 1 if failed else 0
 
 
 if __name__ == "__main__":

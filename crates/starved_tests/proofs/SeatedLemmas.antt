@@ -3,7 +3,6 @@ use Rattle.std.proofs.Common.{◌≡◌, ℕ, zero, suc, ◌<◌, List, [], ◌�
 use Rattle.std.proofs.lemmas.Option.{same_Some}
 use Rattle.lamport_clocks.specs.declared.header.Header.{Header}
 use Rattle.lamport_clocks.specs.Clock.{opening_reading}
-use Rattle.lamport_clocks.specs.Reading.{Reading}
 use Rattle.record_text.specs.declared.element.Element.{Element}
 use Rattle.record_text.specs.Format.{short_keys}
 use Rattle.atomic_table.specs.Seated.{TableId}
@@ -16,8 +15,7 @@ use Rattle.host_plan.specs.Plan.{Owns}
 use Rattle.host_table.specs.declared.hand.Hand.{Hand}
 use Rattle.host_table.specs.declared.told.Entry.{Entry}
 use Rattle.host_table.specs.Calls.{AreAll, IsNew}
-use Rattle.host_table.specs.Hands.{entries, IsFree}
-use Rattle.host_table.specs.Terms.{Terms, IsMaking, IsPlaceOf, IsClockOf, IsStamped, IsStampOf, epoch_in, first_at}
+use Rattle.host_table.specs.Terms.{Terms, IsMaking, IsPlaceOf, IsClockOf, IsStamped, IsStampOf, epoch_in}
 use Rattle.host_table.specs.Told.{TakesUp}
 use Rattle.starved_tests.specs.Seated.{CanAttempt, IsStart, IsWaiting, table_header}
 

@@ -99,7 +99,7 @@ impl Seat {
         }
     }
 
-    /// The clock goes to this counter of its epoch.
+    /// The clock goes on to this counter of its epoch.
     pub fn go_to(&mut self, epoch: u32, counter: u32) -> Result<(), Fault>
         ensures cold { self.new.cold ≡ self.old.cold }
     {

@@ -6,6 +6,7 @@ ghost use Rattle.host_table.specs.Table.{table, terms};
 ghost use Rattle.starved_tests.specs.Seated.{CanAttempt, IsStart, IsWaiting, table_header};
 
 use crate::outcome::{Fault, Outcome};
+use crate::plans::FORK;
 use crate::same::{are_same, are_written_as};
 use crate::seat::{END, Seat, owns, put_of};
 use bundle_rows::log_of;
@@ -16,17 +17,6 @@ use lamport_clocks::{Clock, Header, Stamp};
 use record_hash::{Digests, ToyDigests};
 use record_text::Request;
 use std::alloc::Global;
-
-// What tools/slow_plans.py prints for the last of two puts.
-const FORK: &str = "
-addB /0 0:63,- 0.4 v0
-addM 0/63 -,- /0
-addM 1 none 0/63
-put 1 62
-evictM 1 0/63
-evictM 0/63 /0
-evictB /0 0.6
-";
 
 /// A table is made of a shard with a record, and closed.
 pub fn make(alloc: Global) -> Result<Outcome, Fault> {
