@@ -15,7 +15,7 @@ import sys
 import tempfile
 
 CRATE = os.path.join(os.path.dirname(os.path.abspath(__file__)), "..", "crates", "starved_tests")
-REFUSED = 100  # which allocation of a run is refused: no try makes as many
+REFUSED = 64  # which allocation of a run is refused: each try makes fewer
 EARLY, BEFORE, GOOD, NONE = "refused too early", "refused before the call", "refused, all as before", "not refused"
 
 
