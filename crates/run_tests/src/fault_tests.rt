@@ -1,7 +1,5 @@
 //! Objects that fail, one call after the other, and objects that never do.
-use crate::serving::{
-    Objects, REPORT, SCRIPT, assert_front, checked, line_of, objects_of, program, served,
-};
+use crate::serving::{Objects, REPORT, SCRIPT, assert_front, checked, line_of, program, served};
 use fastver_top::{Status, fastver};
 use fv_outside::{FreeGate, SureSink, SureSource, SureVault};
 use std::alloc::Global;
@@ -17,9 +15,7 @@ fn failing<R: Threads + Wait + Sync>(
     fails: (&[u64], &[u64], &[u64]),
 ) -> Result<(Objects, Status), Fail> {
     let line = line_of(alloc, more)?;
-    let mut objects = objects_of(alloc, SCRIPT.as_bytes(), 1, fails)?;
-    let status = program(rt, alloc, &line, &mut objects)?;
-    Ok((objects, status))
+    program(rt, alloc, &line, SCRIPT.as_bytes(), 1, fails)
 }
 
 #[test]
@@ -59,8 +55,8 @@ fn where_a_write_fails_a_front_of_the_report_stands(rt: HostRuntime) -> Result<(
 fn a_second_write_that_fails_leaves_the_first(rt: HostRuntime) -> Result<(), Fail> {
     let line = line_of(rt.alloc(), "2")?;
     for piece in [7, 30, 1000] {
-        let mut objects = objects_of(rt.alloc(), SCRIPT.as_bytes(), piece, (&[], &[1], &[]))?;
-        let status = program(&rt, rt.alloc(), &line, &mut objects)?;
+        let fails: (&[u64], &[u64], &[u64]) = (&[], &[1], &[]);
+        let (objects, status) = program(&rt, rt.alloc(), &line, SCRIPT.as_bytes(), piece, fails)?;
         assert_eq!(rt; status, Status::WriteFault, "{piece}");
         assert!(rt; !objects.out.bytes().is_empty(), "{piece}");
         assert_front(&rt, "the report", objects.out.bytes(), REPORT.as_bytes());

@@ -30,41 +30,34 @@ pub(crate) struct Objects {
     pub vault: MemoryVault,
 }
 
-/// Objects with these bytes to read, all by pieces of so many, and with calls that fail.
-pub(crate) fn objects_of(
-    alloc: Global,
-    bytes: &[u8],
-    piece: usize,
-    fails: (&[u64], &[u64], &[u64]),
-) -> Result<Objects, Fail> {
-    let piece = piece.max(1);
-    Ok(Objects {
-        source: MemorySource::new(alloc, bytes, piece, fails.0)?,
-        out: MemorySink::new(alloc, 10_000, piece, fails.1)?,
-        vault: MemoryVault::new(alloc, 10_000, piece, fails.2)?,
-    })
-}
-
-/// The status of the program with the words of a line.
+/// What is there behind the program with the words of a line, over these bytes, all by pieces of so many and with calls
+/// that fail, and its status.
 pub(crate) fn program<R: Threads + Wait + Sync>(
     rt: &R,
     alloc: Global,
     line: &str,
-    objects: &mut Objects,
-) -> Result<Status, Fail> {
+    bytes: &[u8],
+    piece: usize,
+    fails: (&[u64], &[u64], &[u64]),
+) -> Result<(Objects, Status), Fail> {
     let mut words = Vec::new(alloc);
     for word in line.split_whitespace() {
         words.push(word)?;
     }
-    Ok(fastver(
+    let piece = piece.max(1);
+    let mut source = MemorySource::new(alloc, bytes, piece, fails.0)?;
+    let mut out = MemorySink::new(alloc, 10_000, piece, fails.1)?;
+    let mut vault = MemoryVault::new(alloc, 10_000, piece, fails.2)?;
+    let status = fastver(
         rt,
         alloc,
         &words,
-        &mut objects.source,
-        &mut objects.out,
-        &mut objects.vault,
+        &mut source,
+        &mut out,
+        &mut vault,
         &FreeGate,
-    ))
+    );
+    Ok((Objects { source, out, vault }, status))
 }
 
 /// What is there behind a run with these words, all by pieces of so many bytes, and its status.
@@ -75,9 +68,7 @@ pub(crate) fn served<R: Threads + Wait + Sync>(
     script: &str,
     piece: usize,
 ) -> Result<(Objects, Status), Fail> {
-    let mut objects = objects_of(alloc, script.as_bytes(), piece, (&[], &[], &[]))?;
-    let status = program(rt, alloc, line, &mut objects)?;
-    Ok((objects, status))
+    program(rt, alloc, line, script.as_bytes(), piece, (&[], &[], &[]))
 }
 
 /// What a check of these bytes writes, and its status.
@@ -87,9 +78,7 @@ pub(crate) fn checked<R: Threads + Wait + Sync>(
     bytes: &[u8],
 ) -> Result<(Objects, Status), Fail> {
     let line = "fastver check --key 00000000000000000000000000000000";
-    let mut objects = objects_of(alloc, bytes, 1000, (&[], &[], &[]))?;
-    let status = program(rt, alloc, line, &mut objects)?;
-    Ok((objects, status))
+    program(rt, alloc, line, bytes, 1000, (&[], &[], &[]))
 }
 
 /// The words of a run, with these behind them.
