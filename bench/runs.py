@@ -31,11 +31,11 @@ PROFILED = (1000, 10000)  # keys and requests
 HOST = KEY + ["--verifiers", "1", "--shards", "16"]
 PARTS = {
     "planning": ["host_plan", "host_shard", "protection_moves"],
-    "logging": ["host_log"],
+    "logging": ["host_log", "host_world"],
     "verifying": ["verifier_run", "verifier_commands", "verifier_cache"],
     "certifying": ["certified_epochs", "epoch_gather", "stamp_order"],
-    "writing": ["report_text", "bundle_frames", "fv_outside"],
-    "the rest": ["verifier_threads", "host_table", "script_text", "program_words", "fastver", "std::thread", "+threads", "main"],
+    "writing": ["report_text", "bundle_frames", "fv_outside", "host_rounds"],
+    "the rest": ["verifier_threads", "host_serving", "script_text", "program_words", "fastver", "std::thread", "+threads", "main"],
 }
 
 
