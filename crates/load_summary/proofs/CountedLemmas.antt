@@ -9,7 +9,7 @@ use Rattle.record_text.specs.declared.operation.Operation.{Operation}
 use Rattle.load_summary.specs.declared.tally.Tally.{Tally}
 use Rattle.load_summary.specs.Tallies.{tally_of, tallies_of}
 use Rattle.load_summary.specs.Counting.{Counted, counted_of, with_one}
-use Rattle.load_summary.proofs.TallyLaws.{length-tallies_of, get_or-tallies_of, tallies_of_own, tallies_of_other}
+use Rattle.load_summary.proofs.TallyLemmas.{length-tallies_of, get_or-tallies_of, tallies_of_own, tallies_of_other}
 
 same_counted : (operations operations' : ℕ) (tallies tallies' : List Tally) → operations ≡ operations' → tallies ≡ tallies'
     → let one : Counted = record { operations = operations; tallies = tallies } in let other : Counted = record { operations = operations'; tallies = tallies' } in one ≡ other

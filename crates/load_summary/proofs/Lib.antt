@@ -1,4 +1,4 @@
--- Tallies of operations in a row.
-pub mod TallyLaws
+-- Tallies of operations in a row, and lines of workers in a row.
+mod TallyLemmas
 mod CountedLemmas
 mod SummaryLemmas

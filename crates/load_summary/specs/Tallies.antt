@@ -1,5 +1,5 @@
 -- How often each worker got, put and deleted among operations.
-use Rattle.std.specs.Prelude.{ℕ, ◌==◌, ◌&&◌, Bool, not, List, map, is_some, is_none, count_by}
+use Rattle.std.specs.Prelude.{ℕ, ◌+◌, ◌==◌, ◌&&◌, Bool, not, List, map, is_some, is_none, count_by}
 use Rattle.std.specs.List.{range_with_len}
 use Rattle.record_text.specs.declared.operation.Operation.{Operation}
 use Rattle.load_summary.specs.declared.tally.Tally.{Tally}
@@ -32,3 +32,12 @@ tally_of worker ops = record {
 -- those of so many workers, from worker 0 on
 abbrev pub tallies_of : ℕ → List Operation → List Tally
 tallies_of workers ops = map (λ worker. tally_of worker ops) (range_with_len 0 workers)
+
+-- two tallies, number by number
+abbrev pub tally_sum : Tally → Tally → Tally
+tally_sum one other = record {
+  gets = one.gets + other.gets;
+  none = one.none + other.none;
+  puts = one.puts + other.puts;
+  dels = one.dels + other.dels;
+}

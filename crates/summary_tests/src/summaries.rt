@@ -123,7 +123,11 @@ fn operations_are_counted_piece_by_piece(rt: HostRuntime) -> Result<(), Fail> {
     }
     let mut sink = MemorySink::new(rt.alloc(), 1000, 1000, &[])?;
     let end = Status::Done { epochs: 1 };
-    assert!(rt; summary.write(17397014451822862089, 7, 1, &end, &mut sink).is_ok());
+    assert!(rt;
+        summary
+            .write(17397014451822862089, 7, 1, &end, &mut sink)
+            .is_ok()
+    );
     let lines = lines_of(rt.alloc(), field(row, 6)?)?;
     assert_eq!(rt; sink.bytes(), lines.as_bytes());
     Ok(())

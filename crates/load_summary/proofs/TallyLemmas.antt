@@ -2,24 +2,15 @@
 use Rattle.std.proofs.Common.{◌≡◌, ◌≢◌, ◌⊎◌, ℕ, ◌+◌, ◌<◌, ◌≤◌, ◌==◌, Bool, true, false, not, ◌&&◌, cond, List, [], ◌∷◌, ◌++◌, length, set, get_or, Option, None, Some, is_some, is_none, refl, sym, ap, subst, ◌∙◌, inl, inr, arith, add-zero, zero-add, eq-eqb, ne_eqb, get_or-set_same, get_or-set_other}
 use Rattle.std.specs.List.{count_by}
 use Rattle.std.proofs.lemmas.List.{same_lists, length-set}
-use Rattle.std.proofs.lemmas.List.Sums.{sum_by-append, sum_by_push}
+use Rattle.std.proofs.lemmas.List.Sums.{sum_by-append, sum_by-cons, sum_by_push}
 use Rattle.std.proofs.lemmas.List.FromFn.{length-map-range_with_len, get_or-map-range_with_len}
 use Rattle.std.proofs.lemmas.Bool.{cases_eq}
 use Rattle.record_text.specs.declared.operation.Operation.{Operation}
 use Rattle.load_summary.specs.declared.tally.Tally.{Tally}
-use Rattle.load_summary.specs.Tallies.{is_get, is_get_of_none, is_put, is_del, tally_of, tallies_of}
+use Rattle.load_summary.specs.Tallies.{is_get, is_get_of_none, is_put, is_del, tally_of, tally_sum, tallies_of}
 use Rattle.load_summary.specs.Counting.{with_one}
 
 -- ---- two lists in a row
-
--- number by number
-abbrev pub tally_sum : Tally → Tally → Tally
-tally_sum one other = record {
-  gets = one.gets + other.gets;
-  none = one.none + other.none;
-  puts = one.puts + other.puts;
-  dels = one.dels + other.dels;
-}
 
 same_tally : (a b : Tally) → a.gets ≡ b.gets → a.none ≡ b.none → a.puts ≡ b.puts → a.dels ≡ b.dels → a ≡ b
 same_tally a b gets none puts dels =
@@ -33,6 +24,29 @@ pub tally_of-append : (worker : ℕ) (xs ys : List Operation) → tally_of worke
 tally_of-append worker xs ys =
     same_tally _ _ (count_by-append (is_get worker) xs ys) (count_by-append (is_get_of_none worker) xs ys) (count_by-append (is_put worker) xs ys)
     (count_by-append (is_del worker) xs ys)
+
+-- ---- each operation is one thing
+
+one_each : (own put : Bool) (value : Option (List ℕ))
+    → (cond (own && not put) 1 0 + cond (own && put && is_some value) 1 0) + cond (own && put && is_none value) 1 0 ≡ cond own 1 0
+one_each false put value = refl
+one_each true false value = refl
+one_each true true None = refl
+one_each true true (Some bytes) = refl
+
+pub each_once : (worker : ℕ) (ops : List Operation)
+    → ((tally_of worker ops).gets + (tally_of worker ops).puts) + (tally_of worker ops).dels ≡ count_by (λ op. op.verifier == worker) ops
+each_once worker [] = refl
+each_once worker (op ∷ ops) =
+    omega (
+      arith,
+      each_once worker ops,
+      one_each (op.verifier == worker) op.put op.value,
+      sum_by-cons (λ o. cond (is_get worker o) 1 0) op ops,
+      sum_by-cons (λ o. cond (is_put worker o) 1 0) op ops,
+      sum_by-cons (λ o. cond (is_del worker o) 1 0) op ops,
+      sum_by-cons (λ o. cond (o.verifier == worker) 1 0) op ops,
+    )
 
 -- ---- one operation more
 
