@@ -15,6 +15,7 @@ use Rattle.verifier_run.specs.Progress.{Progress, opening_progress}
 use Rattle.verifier_run.proofs.RunLaws.{fed_nothing}
 use Rattle.bundle_report.specs.declared.judged.Judged.{Judged}
 use Rattle.bundle_report.specs.Logs.{empty_logs, joined_from}
+use Rattle.bundle_report.specs.Report.{EpochText}
 use Rattle.bundle_report.specs.BundleReport.{certified_lines, histories_at}
 use Rattle.bundle_report.specs.RunReport.{courses_of, parts_at}
 use Rattle.bundle_report.specs.Judged.{none_judged, judged_by, judged_from, judged}
@@ -27,39 +28,39 @@ use Rattle.bundle_report.proofs.SoFarLaws.{taken-more, lines-taken, counted-with
 -- ---- the lines that are due
 
 -- The lines of all epochs that runs tell to be certified are those of the report.
-pub lines-certified : (scheme : Scheme) (header : Header) (logs : List (List ℕ)) → IsHeader header → length logs ≡ header.verifiers
-    → lines_from (courses_of scheme header logs) header.first (judged header.verifiers (courses_of scheme header logs)).count
-    ≡ certified_lines scheme header (histories_at scheme header logs)
-lines-certified scheme header logs good whole =
+pub lines-certified : (tell : EpochText) (scheme : Scheme) (header : Header) (logs : List (List ℕ)) → IsHeader header → length logs ≡ header.verifiers
+    → lines_from tell (courses_of scheme header logs) header.first (judged header.verifiers (courses_of scheme header logs)).count
+    ≡ certified_lines tell scheme header (histories_at scheme header logs)
+lines-certified tell scheme header logs good whole =
     let count = judged-count scheme header logs good whole in
-    ap (lines_from (courses_of scheme header logs) header.first) count
-    ∙ lines-are scheme header logs _
+    ap (lines_from tell (courses_of scheme header logs) header.first) count
+    ∙ lines-are scheme header logs tell _
 
 -- Where all that is certified is counted, the lines of what is counted are due.
-pub lines-due : (scheme : Scheme) (header : Header) (logs : List (List ℕ)) (so_far : Judged) (runs : List (Progress Operation))
+pub lines-due : (tell : EpochText) (scheme : Scheme) (header : Header) (logs : List (List ℕ)) (so_far : Judged) (runs : List (Progress Operation))
     → HaveTaken scheme header logs so_far runs → so_far ≡ judged header.verifiers (courses_of scheme header logs)
-    → lines_from (courses_of scheme header logs) header.first so_far.count ≡ certified_lines scheme header (histories_at scheme header logs)
-lines-due scheme header logs so_far runs taken all =
-    ap (λ (j : Judged). lines_from (courses_of scheme header logs) header.first j.count) all
-    ∙ lines-certified scheme header logs taken.header_good taken.whole
+    → lines_from tell (courses_of scheme header logs) header.first so_far.count ≡ certified_lines tell scheme header (histories_at scheme header logs)
+lines-due tell scheme header logs so_far runs taken all =
+    ap (λ (j : Judged). lines_from tell (courses_of scheme header logs) header.first j.count) all
+    ∙ lines-certified tell scheme header logs taken.header_good taken.whole
 
 -- The lines of what is counted are a front of those that are due once the logs go on with frames.
-pub lines-front : (scheme : Scheme) (header : Header) (logs : List (List ℕ)) (so_far : Judged) (runs : List (Progress Operation)) (frames : List Frame)
+pub lines-front : (tell : EpochText) (scheme : Scheme) (header : Header) (logs : List (List ℕ)) (so_far : Judged) (runs : List (Progress Operation)) (frames : List Frame)
     → HaveTaken scheme header logs so_far runs
-    → (more : List ℕ) × (lines_from (courses_of scheme header logs) header.first so_far.count ++ more
-    ≡ certified_lines scheme header (histories_at scheme header (joined_from 0 logs frames)))
-lines-front scheme header logs so_far runs frames taken =
+    → (more : List ℕ) × (lines_from tell (courses_of scheme header logs) header.first so_far.count ++ more
+    ≡ certified_lines tell scheme header (histories_at scheme header (joined_from 0 logs frames)))
+lines-front tell scheme header logs so_far runs frames taken =
     let later = taken-more scheme header logs so_far runs frames taken in
     let all = courses_of scheme header (joined_from 0 logs frames) in
     let count = (judged header.verifiers all).count in
     let within = counted-within scheme header (joined_from 0 logs frames) so_far (runs_behind scheme 0 runs frames) later in
     let sum : so_far.count + (count - so_far.count) ≡ count = omega (arith, within) in (
-      lines_from all (header.first + so_far.count) (count - so_far.count),
-      ap (λ (t : List ℕ). t ++ lines_from all (header.first + so_far.count) (count - so_far.count))
-          (sym (lines-taken scheme header logs so_far runs frames taken))
-          ∙ sym (lines-behind all header.first so_far.count (count - so_far.count))
-          ∙ ap (lines_from all header.first) sum
-          ∙ lines-certified scheme header (joined_from 0 logs frames) later.header_good later.whole,
+      lines_from tell all (header.first + so_far.count) (count - so_far.count),
+      ap (λ (t : List ℕ). t ++ lines_from tell all (header.first + so_far.count) (count - so_far.count))
+          (sym (lines-taken tell scheme header logs so_far runs frames taken))
+          ∙ sym (lines-behind tell all header.first so_far.count (count - so_far.count))
+          ∙ ap (lines_from tell all header.first) sum
+          ∙ lines-certified tell scheme header (joined_from 0 logs frames) later.header_good later.whole,
     )
 
 -- ---- all that is certified is balanced
@@ -117,15 +118,15 @@ taken_whole scheme header (log ∷ logs) good whole =
     }
 
 -- The lines that are due stay, and more may come behind them, where the logs go on with frames.
-pub due-stays : (scheme : Scheme) (header : Header) (logs : List (List ℕ)) (frames : List Frame) → IsHeader header → length logs ≡ header.verifiers
-    → (more : List ℕ) × (certified_lines scheme header (histories_at scheme header logs) ++ more
-    ≡ certified_lines scheme header (histories_at scheme header (joined_from 0 logs frames)))
-due-stays scheme header logs frames good whole =
+pub due-stays : (tell : EpochText) (scheme : Scheme) (header : Header) (logs : List (List ℕ)) (frames : List Frame) → IsHeader header → length logs ≡ header.verifiers
+    → (more : List ℕ) × (certified_lines tell scheme header (histories_at scheme header logs) ++ more
+    ≡ certified_lines tell scheme header (histories_at scheme header (joined_from 0 logs frames)))
+due-stays tell scheme header logs frames good whole =
     let count = (judged header.verifiers (courses_of scheme header logs)).count in
-    let front = lines-front scheme header logs (record { count = count; unbalanced = None }) (runs_from scheme header count 0 logs) frames
+    let front = lines-front tell scheme header logs (record { count = count; unbalanced = None }) (runs_from scheme header count 0 logs) frames
     (taken_whole scheme header logs good whole) in (
       front.0,
-      ap (λ (t : List ℕ). t ++ front.0) (sym (lines-certified scheme header logs good whole)) ∙ front.1,
+      ap (λ (t : List ℕ). t ++ front.0) (sym (lines-certified tell scheme header logs good whole)) ∙ front.1,
     )
 
 -- ---- before the first byte

@@ -10,23 +10,22 @@ use Rattle.log_codec.specs.Log.{Log, read_log}
 use Rattle.verifier_run.specs.LogCourse.{refusal_by}
 use Rattle.report_text.specs.declared.ending.BundleEnd.{BundleEnd}
 use Rattle.report_text.specs.declared.ending.BundleEnd.TheVariants.{Done, BadBundle, Refused, Unbalanced}
-use Rattle.report_text.specs.Lines.{epoch_line, operation_line}
 use Rattle.report_text.specs.Status.{last_line}
 use Rattle.report_text.specs.Ending.{status_of}
 use Rattle.soundness.specs.History.{Event, log_events, log_refusal, histories_of}
 use Rattle.soundness.specs.Certified.{order_of, operations_of, added_in, evicted_in, sum_over, sealed_by_all, epochs_from, certified_count, certified_operations}
+use Rattle.bundle_report.specs.Report.{EpochText}
 
 -- ---- the lines
 
--- the lines of an epoch: how many operations it has, and then these
-abbrev pub epoch_lines : List Operation → ℕ → List ℕ
-epoch_lines operations epoch =
-    epoch_line epoch (length (operations_of epoch operations)) ++ flat_map operation_line (operations_of epoch operations)
+-- the lines of an epoch, by the operations of all epochs
+abbrev pub epoch_lines : EpochText → List Operation → ℕ → List ℕ
+epoch_lines tell operations epoch = tell epoch (operations_of epoch operations)
 
 -- the lines of all certified epochs
-abbrev pub certified_lines : Scheme → Header → List (List Event) → List ℕ
-certified_lines scheme header histories =
-    flat_map (epoch_lines (certified_operations scheme header.first histories))
+abbrev pub certified_lines : EpochText → Scheme → Header → List (List Event) → List ℕ
+certified_lines tell scheme header histories =
+    flat_map (epoch_lines tell (certified_operations scheme header.first histories))
     (epochs_from header.first (certified_count scheme header.first histories))
 
 -- ---- how it ends
@@ -73,9 +72,9 @@ end_of scheme header logs histories bad =
     else end_or (refused_among scheme header 0 logs) (done_or_bad certified bad)
 
 -- The report: the lines of the certified epochs, and the last line.
-abbrev pub report_of_logs : Scheme → Header → List Log → List (List Event) → Option ℕ → List ℕ
-report_of_logs scheme header logs histories bad =
-    certified_lines scheme header histories ++ last_line (status_of (end_of scheme header logs histories bad))
+abbrev pub report_of_logs : EpochText → Scheme → Header → List Log → List (List Event) → Option ℕ → List ℕ
+report_of_logs tell scheme header logs histories bad =
+    certified_lines tell scheme header histories ++ last_line (status_of (end_of scheme header logs histories bad))
 
 -- the histories of logs that were read
 abbrev pub histories_in : Scheme → Header → List Log → List (List Event)

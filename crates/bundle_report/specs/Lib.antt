@@ -1,11 +1,11 @@
 -- The report of a bundle and what it means, in reading order.
 pub mod Logs
 pub mod Logged
+pub mod Report
 pub mod BundleReport
 pub mod Stops
 pub mod Answer
 pub mod Headline
-pub mod Report
 pub mod RunReport
 pub mod Judged
 pub mod SoFar

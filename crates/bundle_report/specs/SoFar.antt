@@ -18,7 +18,7 @@ use Rattle.verifier_run.specs.Progress.{Progress, opening_progress, fed, ended}
 use Rattle.soundness.specs.Certified.{epochs_from}
 use Rattle.bundle_report.specs.declared.judged.Judged.{Judged}
 use Rattle.bundle_report.specs.declared.judged.Uneven.{Uneven}
-use Rattle.bundle_report.specs.Report.{epoch_text}
+use Rattle.bundle_report.specs.Report.{EpochText}
 use Rattle.bundle_report.specs.RunReport.{courses_of, parts_at, operations_among}
 
 -- ---- the lines of an epoch
@@ -27,13 +27,13 @@ use Rattle.bundle_report.specs.RunReport.{courses_of, parts_at, operations_among
 abbrev pub epoch_operations : ℕ → List (Course Operation) → List Operation
 epoch_operations epoch courses = merged moment_of (of_epoch moment_of epoch (operations_among courses))
 
--- the lines of an epoch: how many operations it has, and then these
-abbrev pub lines_told : List (Course Operation) → ℕ → List ℕ
-lines_told courses epoch = epoch_text epoch (epoch_operations epoch courses)
+-- the lines of an epoch that has these
+abbrev pub lines_told : EpochText → List (Course Operation) → ℕ → List ℕ
+lines_told tell courses epoch = tell epoch (epoch_operations epoch courses)
 
 -- the lines of so many epochs from this one on
-abbrev pub lines_from : List (Course Operation) → ℕ → ℕ → List ℕ
-lines_from courses epoch count = flat_map (lines_told courses) (epochs_from epoch count)
+abbrev pub lines_from : EpochText → List (Course Operation) → ℕ → ℕ → List ℕ
+lines_from tell courses epoch count = flat_map (lines_told tell courses) (epochs_from epoch count)
 
 -- ---- runs
 

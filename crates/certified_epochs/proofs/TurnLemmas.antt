@@ -18,7 +18,7 @@ use Rattle.verifier_run.specs.Progress.{Progress}
 use Rattle.verifier_run.specs.Taken.{left_of}
 use Rattle.bundle_report.specs.declared.judged.Judged.{Judged}
 use Rattle.bundle_report.specs.declared.judged.Uneven.{Uneven}
-use Rattle.bundle_report.specs.Report.{epoch_text}
+use Rattle.bundle_report.specs.Report.{EpochText}
 use Rattle.bundle_report.specs.RunReport.{courses_of, parts_at, operations_among}
 use Rattle.bundle_report.specs.Judged.{judged, judged_by, CanBeJudged, first_parts, refused_log, end_by}
 use Rattle.log_codec.specs.Log.{read_log}
@@ -36,11 +36,11 @@ use Rattle.certified_epochs.specs.Turn.{courses_in, next_epoch, parts_left, Turn
 -- ---- what a turn tells
 
 -- the next epoch is certified: it is counted, and its lines are written
-pub record IsCertified (scheme : Scheme) (header : Header) (logs : List (List ℕ)) (so_far : Judged) (turned : Turned) : Type 0 where
+pub record IsCertified (tell : EpochText) (scheme : Scheme) (header : Header) (logs : List (List ℕ)) (so_far : Judged) (turned : Turned) : Type 0 where
   pub taken : HaveTaken scheme header logs turned.judged turned.runs
   pub count : turned.judged.count ≡ suc so_far.count
   pub even : turned.judged.unbalanced ≡ None
-  pub text : turned.text ≡ lines_told (courses_of scheme header logs) (header.first + so_far.count)
+  pub text : turned.text ≡ lines_told tell (courses_of scheme header logs) (header.first + so_far.count)
 
 -- it isn't: all that is certified is counted
 pub record IsDone (scheme : Scheme) (header : Header) (logs : List (List ℕ)) (so_far : Judged) (turned : Turned) : Type 0 where
@@ -49,12 +49,12 @@ pub record IsDone (scheme : Scheme) (header : Header) (logs : List (List ℕ)) (
   pub all : turned.judged ≡ judged header.verifiers (courses_of scheme header logs)
   pub text : turned.text ≡ []
 
-abbrev pub TellsBy : Bool → Scheme → Header → List (List ℕ) → Judged → Turned → Type 0
-TellsBy true scheme header logs so_far turned = IsCertified scheme header logs so_far turned
-TellsBy false scheme header logs so_far turned = IsDone scheme header logs so_far turned
+abbrev pub TellsBy : EpochText → Bool → Scheme → Header → List (List ℕ) → Judged → Turned → Type 0
+TellsBy tell true scheme header logs so_far turned = IsCertified tell scheme header logs so_far turned
+TellsBy tell false scheme header logs so_far turned = IsDone scheme header logs so_far turned
 
-abbrev pub Tells : Scheme → Header → List (List ℕ) → Judged → Turned → Type 0
-Tells scheme header logs so_far turned = TellsBy turned.more scheme header logs so_far turned
+abbrev pub Tells : EpochText → Scheme → Header → List (List ℕ) → Judged → Turned → Type 0
+Tells tell scheme header logs so_far turned = TellsBy tell turned.more scheme header logs so_far turned
 
 module _ (scheme : Scheme) (header : Header) (log : List ℕ) (logs : List (List ℕ)) (so_far : Judged) (runs : List (Progress Operation))
     (taken : HaveTaken scheme header (log ∷ logs) so_far runs) (even : so_far.unbalanced ≡ None) where
@@ -85,14 +85,14 @@ module _ (scheme : Scheme) (header : Header) (log : List ℕ) (logs : List (List
       ∙ ap (verdict_of header.verifiers epoch) (next-parts scheme header so_far.count 0 all)
 
   -- its lines
-  text_is : epoch_text epoch (merged_up_to epoch (operations_among (courses_in runs))) ≡ lines_told courses epoch
-  text_is =
-      ap (λ (rs : List (Progress Operation)). epoch_text epoch (merged_up_to epoch (operations_among (courses_in rs)))) taken.runs_are
-      ∙ ap (λ (ops : List Operation). epoch_text epoch (merged moment_of ops)) (next-operations scheme header so_far.count 0 all)
+  text_is : (tell : EpochText) → tell epoch (merged_up_to epoch (operations_among (courses_in runs))) ≡ lines_told tell courses epoch
+  text_is tell =
+      ap (λ (rs : List (Progress Operation)). tell epoch (merged_up_to epoch (operations_among (courses_in rs)))) taken.runs_are
+      ∙ ap (λ (ops : List Operation). tell epoch (merged moment_of ops)) (next-operations scheme header so_far.count 0 all)
 
   -- it is balanced
-  certified : verdict_at scheme header all so_far.count ≡ Balanced → IsCertified scheme header all so_far (turn_by so_far runs epoch Balanced)
-  certified is = record {
+  certified : (tell : EpochText) → verdict_at scheme header all so_far.count ≡ Balanced → IsCertified tell scheme header all so_far (turn_by tell so_far runs epoch Balanced)
+  certified tell is = record {
     taken = record {
       header_good = taken.header_good;
       whole = taken.whole;
@@ -102,7 +102,7 @@ module _ (scheme : Scheme) (header : Header) (log : List ℕ) (logs : List (List
     };
     count = refl;
     even = even;
-    text = text_is;
+    text = text_is tell;
   }
     where
       by : (index : ℕ) → index < suc so_far.count → (index < so_far.count) ⊎ (so_far.count ≤ index) → verdict_at scheme header all index ≡ Balanced
@@ -118,16 +118,16 @@ module _ (scheme : Scheme) (header : Header) (log : List ℕ) (logs : List (List
       ap (λ (n : ℕ). record so_far { count = n }) same ∙ ap (λ (o : Option Uneven). record { count = count; unbalanced = o }) other
 
   -- nothing more is certified
-  done : so_far ≡ judged header.verifiers courses → IsDone scheme header all so_far (turn_at so_far runs None)
-  done is = record { taken = taken; count = refl; all = is; text = refl }
+  done : (tell : EpochText) → so_far ≡ judged header.verifiers courses → IsDone scheme header all so_far (turn_at tell so_far runs None)
+  done tell is = record { taken = taken; count = refl; all = is; text = refl }
 
   -- the next epoch by its verdict
-  by_verdict : (more : Judged)
+  by_verdict : (tell : EpochText) (more : Judged)
       → judged header.verifiers courses ≡ behind so_far.count (judged_by epoch (verdict_at scheme header all so_far.count) more)
       → (verdict : Verdict) → verdict_at scheme header all so_far.count ≡ verdict
-      → Tells scheme header all so_far (turn_by so_far runs epoch verdict)
-  by_verdict more next Balanced is = certified is
-  by_verdict more next (Unbalanced added evicted) is =
+      → Tells tell scheme header all so_far (turn_by tell so_far runs epoch verdict)
+  by_verdict tell more next Balanced is = certified tell is
+  by_verdict tell more next (Unbalanced added evicted) is =
       let uneven : Uneven = record { epoch = epoch; added = added; evicted = evicted } in
       let now : Judged = record so_far { unbalanced = Some uneven } in
       let still : HaveTaken scheme header all now runs = record {
@@ -138,7 +138,7 @@ module _ (scheme : Scheme) (header : Header) (log : List ℕ) (logs : List (List
         uneven = (refl, is);
       } in
       record { taken = still; count = refl; all = uneven-judged scheme header all now runs uneven still refl; text = refl }
-  by_verdict more next (Missing verifier) is =
+  by_verdict tell more next (Missing verifier) is =
       let same : so_far.count ≡ so_far.count + 0 = omega arith in
       record {
         taken = taken;
@@ -150,26 +150,26 @@ module _ (scheme : Scheme) (header : Header) (log : List ℕ) (logs : List (List
       }
 
   -- the next epoch by the parts of the first run
-  by_parts : (ps : List Part) → drop so_far.count parts ≡ ps
-      → Tells scheme header all so_far (turn_at so_far runs (option_map (λ part. part.epoch) (slice_get ps 0)))
-  by_parts [] is =
-      done (judgement so_far.count None refl even ∙ sym (next-tells scheme header log logs so_far runs taken [] is))
-  by_parts (part ∷ ps) is =
+  by_parts : (tell : EpochText) (ps : List Part) → drop so_far.count parts ≡ ps
+      → Tells tell scheme header all so_far (turn_at tell so_far runs (option_map (λ part. part.epoch) (slice_get ps 0)))
+  by_parts tell [] is =
+      done tell (judgement so_far.count None refl even ∙ sym (next-tells scheme header log logs so_far runs taken [] is))
+  by_parts tell (part ∷ ps) is =
       let next = next-tells scheme header log logs so_far runs taken (part ∷ ps) is in
-      subst (λ (e : ℕ). Tells scheme header all so_far (turn_by so_far runs e (verdict_of (length runs) e (parts_at 0 (courses_in runs)))))
+      subst (λ (e : ℕ). Tells tell scheme header all so_far (turn_by tell so_far runs e (verdict_of (length runs) e (parts_at 0 (courses_in runs)))))
       (sym next.0)
-      (subst (λ (v : Verdict). Tells scheme header all so_far (turn_by so_far runs epoch v)) (sym verdict_is)
-      (by_verdict next.1.0 next.1.1 (verdict_at scheme header all so_far.count) refl))
+      (subst (λ (v : Verdict). Tells tell scheme header all so_far (turn_by tell so_far runs epoch v)) (sym verdict_is)
+      (by_verdict tell next.1.0 next.1.1 (verdict_at scheme header all so_far.count) refl))
 
 -- One turn: the next epoch is certified, or all that is certified is counted.
-pub turn-tells : (scheme : Scheme) (header : Header) (logs : List (List ℕ)) (so_far : Judged) (runs : List (Progress Operation))
+pub turn-tells : (tell : EpochText) (scheme : Scheme) (header : Header) (logs : List (List ℕ)) (so_far : Judged) (runs : List (Progress Operation))
     → HaveTaken scheme header logs so_far runs → so_far.unbalanced ≡ None
-    → Tells scheme header logs so_far (turn so_far runs)
-turn-tells scheme header [] so_far runs taken even = absurd (omega (arith, taken.whole, taken.header_good.some_verifiers))
-turn-tells scheme header (log ∷ logs) so_far runs taken even =
-    subst (λ (o : Option ℕ). Tells scheme header (log ∷ logs) so_far (turn_at so_far runs o))
+    → Tells tell scheme header logs so_far (turn tell so_far runs)
+turn-tells tell scheme header [] so_far runs taken even = absurd (omega (arith, taken.whole, taken.header_good.some_verifiers))
+turn-tells tell scheme header (log ∷ logs) so_far runs taken even =
+    subst (λ (o : Option ℕ). Tells tell scheme header (log ∷ logs) so_far (turn_at tell so_far runs o))
     (sym (epoch_is scheme header log logs so_far runs taken even))
-    (by_parts scheme header log logs so_far runs taken even (drop so_far.count (run_of scheme header 0 log).course.parts) refl)
+    (by_parts scheme header log logs so_far runs taken even tell (drop so_far.count (run_of scheme header 0 log).course.parts) refl)
 
 -- The parts of the next epoch can be judged.
 pub next-judged : (so_far : Judged) (runs : List (Progress Operation)) → HaveLogs so_far runs
@@ -220,14 +220,14 @@ pub with_text : (t : Turned) (more : Bool) (now : Judged) (runs : List (Progress
 with_text t more now runs text is =
     is ∙ ap (λ (line : List ℕ). record { more = more; judged = now; runs = runs; text = line }) (sym (ap (λ (u : Turned). u.text) is))
 
-module _ (so_far : Judged) (runs : List FedRun) (found : Option ℕ) (epoch : ℕ) (parts : List Part) (verdict : Verdict)
+module _ (tell : EpochText) (so_far : Judged) (runs : List FedRun) (found : Option ℕ) (epoch : ℕ) (parts : List Part) (verdict : Verdict)
     (is : found ≡ Some epoch) (next : found ≡ next_epoch (runs_of runs)) (gathered : parts ≡ parts_at 0 (fed_courses runs))
     (judged_is : verdict ≡ verdict_of (length runs) epoch parts) where
   -- by the verdict that was found
-  pub turn-is : turn so_far (runs_of runs) ≡ turn_by so_far (runs_of runs) epoch verdict
+  pub turn-is : turn tell so_far (runs_of runs) ≡ turn_by tell so_far (runs_of runs) epoch verdict
   turn-is =
-      ap (turn_at so_far (runs_of runs)) (sym next ∙ is)
-      ∙ ap (turn_by so_far (runs_of runs) epoch)
+      ap (turn_at tell so_far (runs_of runs)) (sym next ∙ is)
+      ∙ ap (turn_by tell so_far (runs_of runs) epoch)
       (ap (λ (n : ℕ). verdict_of n epoch (parts_at 0 (courses_in (runs_of runs)))) (runs_many runs)
       ∙ ap (λ (courses : List (Course Operation)). verdict_of (length runs) epoch (parts_at 0 courses)) (courses_same runs)
       ∙ ap (verdict_of (length runs) epoch) (sym gathered)
@@ -235,38 +235,38 @@ module _ (so_far : Judged) (runs : List FedRun) (found : Option ℕ) (epoch : �
 
   -- another one leaves the runs
   pub turn-other : (now : Judged) (found_so : Verdict) → so_far ≡ now → verdict ≡ found_so
-      → turn so_far (runs_of runs) ≡ turn_by now (runs_of runs) epoch found_so
+      → turn tell so_far (runs_of runs) ≡ turn_by tell now (runs_of runs) epoch found_so
   turn-other now found_so same is_so =
-      turn-is ∙ ap (turn_by so_far (runs_of runs) epoch) is_so ∙ ap (λ (j : Judged). turn_by j (runs_of runs) epoch found_so) same
+      turn-is ∙ ap (turn_by tell so_far (runs_of runs) epoch) is_so ∙ ap (λ (j : Judged). turn_by tell j (runs_of runs) epoch found_so) same
 
   -- a balanced one
   pub turn-balanced : (now : Judged) (count : ℕ) (left : List (Progress Operation)) (operations : List Operation) → so_far ≡ now → count ≡ suc now.count → verdict ≡ Balanced
       → left ≡ map (λ fed. left_of epoch fed.run) runs → operations ≡ merged_up_to epoch (operations_among (fed_courses runs))
-      → turn so_far (runs_of runs)
-      ≡ record { more = true; judged = record { count = count; unbalanced = now.unbalanced }; runs = left; text = epoch_text epoch operations }
+      → turn tell so_far (runs_of runs)
+      ≡ record { more = true; judged = record { count = count; unbalanced = now.unbalanced }; runs = left; text = tell epoch operations }
   turn-balanced now count left operations same counted balanced left_is ops_are =
-      turn-is ∙ ap (turn_by so_far (runs_of runs) epoch) balanced
+      turn-is ∙ ap (turn_by tell so_far (runs_of runs) epoch) balanced
       ∙ ap (λ (rs : List (Progress Operation)). record {
         more = true;
         judged = record so_far { count = suc so_far.count };
         runs = rs;
-        text = epoch_text epoch (merged_up_to epoch (operations_among (courses_in (runs_of runs))));
+        text = tell epoch (merged_up_to epoch (operations_among (courses_in (runs_of runs))));
       })
       (left_same epoch runs ∙ sym left_is)
       ∙ ap (λ (ops : List Operation). record {
         more = true;
         judged = record so_far { count = suc so_far.count };
         runs = left;
-        text = epoch_text epoch ops;
+        text = tell epoch ops;
       })
       (ap (λ (courses : List (Course Operation)). merged_up_to epoch (operations_among courses)) (courses_same runs) ∙ sym ops_are)
-      ∙ ap (λ (j : Judged). record { more = true; judged = record j { count = suc j.count }; runs = left; text = epoch_text epoch operations }) same
-      ∙ ap (λ (n : ℕ). record { more = true; judged = record now { count = n }; runs = left; text = epoch_text epoch operations }) (sym counted)
+      ∙ ap (λ (j : Judged). record { more = true; judged = record j { count = suc j.count }; runs = left; text = tell epoch operations }) same
+      ∙ ap (λ (n : ℕ). record { more = true; judged = record now { count = n }; runs = left; text = tell epoch operations }) (sym counted)
 
 -- where there is no next epoch
-pub turn-none : (so_far : Judged) (runs : List (Progress Operation)) (found : Option ℕ) → found ≡ None → found ≡ next_epoch runs
-    → turn so_far runs ≡ no_turn so_far runs
-turn-none so_far runs found is next = ap (turn_at so_far runs) (sym next ∙ is)
+pub turn-none : (tell : EpochText) (so_far : Judged) (runs : List (Progress Operation)) (found : Option ℕ) → found ≡ None → found ≡ next_epoch runs
+    → turn tell so_far runs ≡ no_turn so_far runs
+turn-none tell so_far runs found is next = ap (turn_at tell so_far runs) (sym next ∙ is)
 
 -- ---- an end comes
 
@@ -340,24 +340,24 @@ ok_holds P (Err fault) is holds = absurd (false≢true (sym is))
 -- ---- turn after turn
 
 -- a turn that certified an epoch
-pub certified-turn : (scheme : Scheme) (header : Header) (logs : List (List ℕ)) (so_far now : Judged) (runs next : List (Progress Operation)) (more : Bool)
+pub certified-turn : (tell : EpochText) (scheme : Scheme) (header : Header) (logs : List (List ℕ)) (so_far now : Judged) (runs next : List (Progress Operation)) (more : Bool)
     (text : List ℕ) → HaveTaken scheme header logs so_far runs → so_far.unbalanced ≡ None
-    → turn so_far runs ≡ record { more = more; judged = now; runs = next; text = text } → more ≡ true
-    → IsCertified scheme header logs so_far (record { more = true; judged = now; runs = next; text = text })
-certified-turn scheme header logs so_far now runs next more text taken even is is_more =
-    subst (Tells scheme header logs so_far)
+    → turn tell so_far runs ≡ record { more = more; judged = now; runs = next; text = text } → more ≡ true
+    → IsCertified tell scheme header logs so_far (record { more = true; judged = now; runs = next; text = text })
+certified-turn tell scheme header logs so_far now runs next more text taken even is is_more =
+    subst (Tells tell scheme header logs so_far)
     (is ∙ ap (λ (b : Bool). record { more = b; judged = now; runs = next; text = text }) is_more)
-    (turn-tells scheme header logs so_far runs taken even)
+    (turn-tells tell scheme header logs so_far runs taken even)
 
 -- and the last
-pub done-turn : (scheme : Scheme) (header : Header) (logs : List (List ℕ)) (so_far now : Judged) (runs next : List (Progress Operation)) (more : Bool)
+pub done-turn : (tell : EpochText) (scheme : Scheme) (header : Header) (logs : List (List ℕ)) (so_far now : Judged) (runs next : List (Progress Operation)) (more : Bool)
     (text : List ℕ) → HaveTaken scheme header logs so_far runs → so_far.unbalanced ≡ None
-    → turn so_far runs ≡ record { more = more; judged = now; runs = next; text = text } → more ≡ false
+    → turn tell so_far runs ≡ record { more = more; judged = now; runs = next; text = text } → more ≡ false
     → IsDone scheme header logs so_far (record { more = false; judged = now; runs = next; text = text })
-done-turn scheme header logs so_far now runs next more text taken even is not_more =
-    subst (Tells scheme header logs so_far)
+done-turn tell scheme header logs so_far now runs next more text taken even is not_more =
+    subst (Tells tell scheme header logs so_far)
     (is ∙ ap (λ (b : Bool). record { more = b; judged = now; runs = next; text = text }) not_more)
-    (turn-tells scheme header logs so_far runs taken even)
+    (turn-tells tell scheme header logs so_far runs taken even)
 
 -- where an epoch is unbalanced nothing is left to judge
 pub same-judged : (scheme : Scheme) (header : Header) (logs : List (List ℕ)) (so_far : Judged) (runs : List (Progress Operation)) (now : Judged) (uneven : Uneven)
@@ -367,34 +367,34 @@ same-judged scheme header logs so_far runs now uneven taken same is =
     uneven-judged scheme header logs so_far runs uneven taken (sym (ap (λ (j : Judged). j.unbalanced) same) ∙ is)
 
 -- the lines of one epoch more
-pub lines-step : (courses : List (Course Operation)) (first start count next : ℕ) (text line : List ℕ) → start ≤ count → next ≡ suc count
-    → text ≡ lines_from courses (first + start) (count - start) → line ≡ lines_told courses (first + count)
-    → text ++ line ≡ lines_from courses (first + start) (next - start)
-lines-step courses first start count next text line within is so_far own =
+pub lines-step : (tell : EpochText) (courses : List (Course Operation)) (first start count next : ℕ) (text line : List ℕ) → start ≤ count → next ≡ suc count
+    → text ≡ lines_from tell courses (first + start) (count - start) → line ≡ lines_told tell courses (first + count)
+    → text ++ line ≡ lines_from tell courses (first + start) (next - start)
+lines-step tell courses first start count next text line within is so_far own =
     let at : first + count ≡ (first + start) + (count - start) = omega (arith, within) in
     let many : suc (count - start) ≡ next - start = omega (arith, within, is) in
     ap (λ (t : List ℕ). t ++ line) so_far
-    ∙ ap (λ (l : List ℕ). lines_from courses (first + start) (count - start) ++ l) (own ∙ ap (lines_told courses) at)
-    ∙ sym (lines-more courses (first + start) (count - start))
-    ∙ ap (lines_from courses (first + start)) many
+    ∙ ap (λ (l : List ℕ). lines_from tell courses (first + start) (count - start) ++ l) (own ∙ ap (lines_told tell courses) at)
+    ∙ sym (lines-more tell courses (first + start) (count - start))
+    ∙ ap (lines_from tell courses (first + start)) many
 
 -- the lines of so many epochs are a front of those of more
-lines_front : (courses : List (Course Operation)) (epoch start count all : ℕ) → start ≤ count → count ≤ all
-    → (more : List ℕ) × (lines_from courses epoch (count - start) ++ more ≡ lines_from courses epoch (all - start))
-lines_front courses epoch start count all within below =
+lines_front : (tell : EpochText) (courses : List (Course Operation)) (epoch start count all : ℕ) → start ≤ count → count ≤ all
+    → (more : List ℕ) × (lines_from tell courses epoch (count - start) ++ more ≡ lines_from tell courses epoch (all - start))
+lines_front tell courses epoch start count all within below =
     let sum : (count - start) + (all - count) ≡ all - start = omega (arith, within, below) in (
-      lines_from courses (epoch + (count - start)) (all - count),
-      sym (lines-behind courses epoch (count - start) (all - count)) ∙ ap (lines_from courses epoch) sum,
+      lines_from tell courses (epoch + (count - start)) (all - count),
+      sym (lines-behind tell courses epoch (count - start) (all - count)) ∙ ap (lines_from tell courses epoch) sum,
     )
 
 -- What was written and what the turn writes are a front of all lines.
-pub turn-front : (scheme : Scheme) (header : Header) (logs : List (List ℕ)) (so_far : Judged) (runs : List (Progress Operation)) (start : ℕ) (text : List ℕ)
+pub turn-front : (tell : EpochText) (scheme : Scheme) (header : Header) (logs : List (List ℕ)) (so_far : Judged) (runs : List (Progress Operation)) (start : ℕ) (text : List ℕ)
     → HaveTaken scheme header logs so_far runs → so_far.unbalanced ≡ None → start ≤ so_far.count
-    → text ≡ lines_from (courses_of scheme header logs) (header.first + start) (so_far.count - start)
-    → (more : List ℕ) × ((text ++ (turn so_far runs).text) ++ more
-    ≡ lines_from (courses_of scheme header logs) (header.first + start) ((judged header.verifiers (courses_of scheme header logs)).count - start))
-turn-front scheme header logs so_far runs start text taken even within so_far_is =
-    go (turn so_far runs).more refl (turn-tells scheme header logs so_far runs taken even)
+    → text ≡ lines_from tell (courses_of scheme header logs) (header.first + start) (so_far.count - start)
+    → (more : List ℕ) × ((text ++ (turn tell so_far runs).text) ++ more
+    ≡ lines_from tell (courses_of scheme header logs) (header.first + start) ((judged header.verifiers (courses_of scheme header logs)).count - start))
+turn-front tell scheme header logs so_far runs start text taken even within so_far_is =
+    go (turn tell so_far runs).more refl (turn-tells tell scheme header logs so_far runs taken even)
   where
     courses : List (Course Operation)
     courses = courses_of scheme header logs
@@ -402,19 +402,19 @@ turn-front scheme header logs so_far runs start text taken even within so_far_is
     all : ℕ
     all = (judged header.verifiers courses).count
 
-    go : (b : Bool) → (turn so_far runs).more ≡ b → TellsBy b scheme header logs so_far (turn so_far runs)
-        → (more : List ℕ) × ((text ++ (turn so_far runs).text) ++ more ≡ lines_from courses (header.first + start) (all - start))
+    go : (b : Bool) → (turn tell so_far runs).more ≡ b → TellsBy tell b scheme header logs so_far (turn tell so_far runs)
+        → (more : List ℕ) × ((text ++ (turn tell so_far runs).text) ++ more ≡ lines_from tell courses (header.first + start) (all - start))
     go true is tells =
-        let bound = counted-within scheme header logs (turn so_far runs).judged (turn so_far runs).runs tells.taken in
-        let rest = lines_front courses (header.first + start) start (turn so_far runs).judged.count all (omega (arith, within, tells.count)) bound in (
+        let bound = counted-within scheme header logs (turn tell so_far runs).judged (turn tell so_far runs).runs tells.taken in
+        let rest = lines_front tell courses (header.first + start) start (turn tell so_far runs).judged.count all (omega (arith, within, tells.count)) bound in (
           rest.0,
           ap (λ (t : List ℕ). t ++ rest.0)
-              (lines-step courses header.first start so_far.count (turn so_far runs).judged.count text (turn so_far runs).text within tells.count so_far_is tells.text)
+              (lines-step tell courses header.first start so_far.count (turn tell so_far runs).judged.count text (turn tell so_far runs).text within tells.count so_far_is tells.text)
               ∙ rest.1,
         )
     go false is tells =
         let bound = counted-within scheme header logs so_far runs taken in
-        let rest = lines_front courses (header.first + start) start so_far.count all within bound in (
+        let rest = lines_front tell courses (header.first + start) start so_far.count all within bound in (
           rest.0,
           ap (λ (t : List ℕ). (text ++ t) ++ rest.0) tells.text
               ∙ ap (λ (t : List ℕ). t ++ rest.0) (append-nil text ∙ so_far_is)

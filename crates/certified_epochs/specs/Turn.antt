@@ -11,7 +11,7 @@ use Rattle.verifier_run.specs.Course.{Course}
 use Rattle.verifier_run.specs.Progress.{Progress, ended}
 use Rattle.verifier_run.specs.Taken.{left_of}
 use Rattle.bundle_report.specs.declared.judged.Judged.{Judged}
-use Rattle.bundle_report.specs.Report.{epoch_text}
+use Rattle.bundle_report.specs.Report.{EpochText}
 use Rattle.bundle_report.specs.RunReport.{parts_at, operations_among}
 use Rattle.bundle_report.specs.Judged.{first_parts}
 use Rattle.certified_epochs.specs.declared.fed_run.FedRun.{FedRun}
@@ -51,23 +51,23 @@ pub record Turned : Type 0 where
 abbrev pub no_turn : Judged → List (Progress Operation) → Turned
 no_turn judged runs = record { more = false; judged = judged; runs = runs; text = [] }
 
--- the next epoch by its verdict: a balanced one is counted, written and taken out of the runs
-abbrev pub turn_by : Judged → List (Progress Operation) → ℕ → Verdict → Turned
-turn_by judged runs epoch verdicts.Balanced = record {
+-- the next epoch by its verdict: a balanced one is counted, told and taken out of the runs
+abbrev pub turn_by : EpochText → Judged → List (Progress Operation) → ℕ → Verdict → Turned
+turn_by tell judged runs epoch verdicts.Balanced = record {
   more = true;
   judged = record judged { count = suc judged.count };
   runs = map (left_of epoch) runs;
-  text = epoch_text epoch (merged_up_to epoch (operations_among (courses_in runs)));
+  text = tell epoch (merged_up_to epoch (operations_among (courses_in runs)));
 }
-turn_by judged runs epoch (verdicts.Unbalanced added evicted) =
+turn_by tell judged runs epoch (verdicts.Unbalanced added evicted) =
     no_turn (record judged { unbalanced = Some (record { epoch = epoch; added = added; evicted = evicted }) }) runs
-turn_by judged runs epoch (verdicts.Missing verifier) = no_turn judged runs
+turn_by tell judged runs epoch (verdicts.Missing verifier) = no_turn judged runs
 
 -- the next epoch, if the first run has sealed one
-abbrev pub turn_at : Judged → List (Progress Operation) → Option ℕ → Turned
-turn_at judged runs None = no_turn judged runs
-turn_at judged runs (Some epoch) = turn_by judged runs epoch (verdict_of (length runs) epoch (parts_at 0 (courses_in runs)))
+abbrev pub turn_at : EpochText → Judged → List (Progress Operation) → Option ℕ → Turned
+turn_at tell judged runs None = no_turn judged runs
+turn_at tell judged runs (Some epoch) = turn_by tell judged runs epoch (verdict_of (length runs) epoch (parts_at 0 (courses_in runs)))
 
 -- One turn, where no epoch is unbalanced so far.
-abbrev pub turn : Judged → List (Progress Operation) → Turned
-turn judged runs = turn_at judged runs (next_epoch runs)
+abbrev pub turn : EpochText → Judged → List (Progress Operation) → Turned
+turn tell judged runs = turn_at tell judged runs (next_epoch runs)

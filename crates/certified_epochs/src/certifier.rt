@@ -17,16 +17,19 @@ ghost use Rattle.stamp_order.specs.Merged.{merged, up_to};
 ghost use Rattle.stamp_order.specs.Operations.{moment_of, merged_up_to};
 ghost use Rattle.verifier_run.specs.Taken.{left_of};
 ghost use Rattle.bundle_report.specs.RunReport.{operations_among};
+ghost use Rattle.certified_epochs.specs.Telling.{text_by};
 ghost use Rattle.certified_epochs.specs.Turn.{AreFed, next_epoch, parts_left, turn};
 
 use crate::ending::{end_of, first_refused};
 use crate::fed_run::FedRun;
 use crate::gathering::gather;
 use crate::lines::write_epoch_lines;
+use crate::telling::Telling;
 use bundle_report::{Judged, ReportStop, Uneven};
 use epoch_gather::{Verdict, verdict};
 use fv_outside::Sink;
 use multiset_sum::Part;
+use record_hash::Digests;
 use record_text::Operation;
 use report_text::{BundleEnd, Page, write_last};
 use stamp_order::Moment;
@@ -78,7 +81,12 @@ impl Certifier {
     /// these epochs out of the runs. Where a run is starved that is want of memory, and nothing is written.
     ///
     /// After want of memory or where the sink failed it holds a front of these lines, and the certifier is of no more use.
-    pub fn certify<O: Sink>(&mut self, runs: &mut [FedRun], out: &mut O) -> Result<(), ReportStop>
+    pub fn certify<D: Digests, O: Sink>(
+        &mut self,
+        runs: &mut [FedRun],
+        telling: &Telling<D>,
+        out: &mut O,
+    ) -> Result<(), ReportStop>
         requires few { length runs.old ≤ 64 }
         requires logs { AreFed runs.old → HaveLogs self.old (map (λ fed. fed.run) runs.old) }
 
@@ -92,13 +100,13 @@ impl Certifier {
         ensures lines { (scheme : Scheme) (header : Header) (logs : List (List ℕ))
             → HaveTaken scheme header logs self.old (map (λ fed. fed.run) runs.old)
             → OnOk result (Grows (O.held out.old) (O.held out.new)
-            (lines_from (courses_of scheme header logs) (header.first + self.old.count) (self.new.count - self.old.count))) }
+            (lines_from (text_by D.functions telling.now) (courses_of scheme header logs) (header.first + self.old.count) (self.new.count - self.old.count))) }
 
         // Where it stops, the sink took a front of the lines of what they certify.
         ensures front { (scheme : Scheme) (header : Header) (logs : List (List ℕ))
             → HaveTaken scheme header logs self.old (map (λ fed. fed.run) runs.old)
             → OnErr result (GrowsByFront (O.held out.old) (O.held out.new)
-            (lines_from (courses_of scheme header logs) (header.first + self.old.count)
+            (lines_from (text_by D.functions telling.now) (courses_of scheme header logs) (header.first + self.old.count)
             ((judged header.verifiers (courses_of scheme header logs)).count - self.old.count))) }
 
         // With an answer, no run was starved; where one was, nothing is written.
@@ -116,7 +124,7 @@ impl Certifier {
         }
         let mut page = Page::new();
         'epochs: loop {
-            if !self.certify_next(runs, &mut page, out)? {
+            if !self.certify_next(runs, telling, &mut page, out)? {
                 break;
             }
         }
@@ -160,19 +168,20 @@ impl Certifier {
     }
 
     // Writes the lines of the next epoch, if it is certified, and answers whether it is.
-    fn certify_next<O: Sink>(
+    fn certify_next<D: Digests, O: Sink>(
         &mut self,
         runs: &mut [FedRun],
+        telling: &Telling<D>,
         page: &mut Page,
         out: &mut O,
     ) -> Result<bool, ReportStop>
         requires few { length runs.old ≤ 64 }
         requires even { self.old.unbalanced ≡ None }
         requires logs { HaveLogs self.old (map (λ fed. fed.run) runs.old) }
-        ensures turned { IfOk result (λ more. turn self.old (map (λ fed. fed.run) runs.old)
-            ≡ record { more = more; judged = self.new; runs = map (λ fed. fed.run) runs.new; text = (turn self.old (map (λ fed. fed.run) runs.old)).text }) }
-        ensures text { OnOk result (Passes (O.held out.old) page.old (turn self.old (map (λ fed. fed.run) runs.old)).text (O.held out.new) page.new) }
-        ensures front { OnErr result (GrowsByFront (O.held out.old) (O.held out.new) (page.old ++ (turn self.old (map (λ fed. fed.run) runs.old)).text)) }
+        ensures turned { IfOk result (λ more. turn (text_by D.functions telling.now) self.old (map (λ fed. fed.run) runs.old)
+            ≡ record { more = more; judged = self.new; runs = map (λ fed. fed.run) runs.new; text = (turn (text_by D.functions telling.now) self.old (map (λ fed. fed.run) runs.old)).text }) }
+        ensures text { OnOk result (Passes (O.held out.old) page.old (turn (text_by D.functions telling.now) self.old (map (λ fed. fed.run) runs.old)).text (O.held out.new) page.new) }
+        ensures front { OnErr result (GrowsByFront (O.held out.old) (O.held out.new) (page.old ++ (turn (text_by D.functions telling.now) self.old (map (λ fed. fed.run) runs.old)).text)) }
         ensures fed { AreFed runs.old → AreFed runs.new }
         ensures less { result ≡ Ok true → parts_left runs.new < parts_left runs.old }
         ensures len { length runs.new ≡ length runs.old }
@@ -196,7 +205,7 @@ impl Certifier {
             Verdict::Missing(_) => return Ok(false),
         }
         take(&mut self.operations, runs, epoch)?;
-        if write_epoch_lines(epoch, &self.operations, page, out).is_err() {
+        if write_epoch_lines(telling, epoch, &self.operations, page, out).is_err() {
             return Err(ReportStop::WriteFault);
         }
         self.judged.count = one_more(self.judged.count, epoch);

@@ -1,5 +1,5 @@
 -- The runs of all logs can be judged, and tell how the report ends.
-use Rattle.std.proofs.Common.{◌≡◌, ℕ, ◌≤◌, List, length, map, Option, Some, Result, Ok, Err, IfOk, sym, ◌∙◌, ap, subst, arith}
+use Rattle.std.proofs.Common.{◌≡◌, false, ℕ, ◌≤◌, List, length, map, Option, Some, Result, Ok, Err, IfOk, sym, ◌∙◌, ap, subst, arith}
 use Rattle.std.proofs.lemmas.List.{length-map}
 use Rattle.record_hash.specs.Functions.{DigestFunctions}
 use Rattle.lamport_clocks.specs.declared.header.Header.{Header}
@@ -41,10 +41,10 @@ pub status_kept : {A : Type 0} (keeps : Event → List A) (functions : DigestFun
     → found ≡ Some header → IsHeader header → length logs ≡ header.verifiers
     → let courses = courses_keeping keeps (scheme_of functions header) header 0 logs in
     status_of (end_of_runs courses bad)
-    ≡ (answer_at functions found logs bad).status
+    ≡ (answer_at false functions found logs bad).status
 status_kept keeps functions found header logs bad is good whole =
     ap status_of (end-keeping keeps (scheme_of functions header) header logs good whole bad)
-    ∙ sym (ap (λ (o : Option Header). (answer_at functions o logs bad).status) is)
+    ∙ sym (ap (λ (o : Option Header). (answer_at false functions o logs bad).status) is)
 
 -- what ends so has its status
 pub status_told : {X E : Type 0} (end_of : X → BundleEnd) (result : Result X E) (end : BundleEnd) (status : Status) → status_of end ≡ status

@@ -1,5 +1,5 @@
 -- How a check ends behind a batch.
-use Rattle.std.proofs.Common.{◌≡◌, ℕ, ◌+◌, ◌-◌, ◌<◌, ◌≤◌, min, List, [], length, take, Option, None, Some, IfSome, Result, Ok, Err, refl, sym, ap, subst, length-drop, arith}
+use Rattle.std.proofs.Common.{◌≡◌, Bool, ℕ, ◌+◌, ◌-◌, ◌<◌, ◌≤◌, min, List, [], length, take, Option, None, Some, IfSome, Result, Ok, Err, refl, sym, ap, subst, length-drop, arith}
 use Rattle.fv_outside.specs.Consumed.{StopsAtEnd, EndsBehind, TookAtMost, TookJust, TookToEnd, most_behind}
 use Rattle.fv_outside.specs.Faults.{Rose}
 use Rattle.fv_outside.specs.Written.{Grows, GrowsByFront}
@@ -22,6 +22,7 @@ use Rattle.bundle_report.specs.declared.report_stop.ReportStop.{ReportStop}
 use Rattle.bundle_report.specs.declared.report_stop.ReportStop.TheVariants as writes
 use Rattle.bundle_report.specs.Logs.{joined_from}
 use Rattle.bundle_report.specs.Logged.{Logged, logged_of}
+use Rattle.bundle_report.specs.Report.{told_by}
 use Rattle.bundle_report.specs.Answer.{answer_by, check_answer}
 use Rattle.want_of_memory.specs.declared.memory.Memory.{Memory}
 use Rattle.check_core.specs.declared.batch.Filled.{Filled}
@@ -114,37 +115,37 @@ module _ (limit : ℕ) (left left_now left_then : Option (List ℕ)) (faults fau
 
 -- ---- where it stops
 
-module _ (functions : DigestFunctions) (header : Header) (limit : ℕ) (left left_then : Option (List ℕ)) (faults faults_then : ℕ) (all : List (List ℕ))
+module _ (receipts : Bool) (functions : DigestFunctions) (header : Header) (limit : ℕ) (left left_then : Option (List ℕ)) (faults faults_then : ℕ) (all : List (List ℕ))
     (new : Reading) (known : new.progress.header ≡ Some header) (means : ReadsAs new.taken left logged_of (behind_at all new)) (writing : Writing) where
   abbrev Answers : Status → Type 0
   Answers result =
-      AnswersTo (check_answer functions) reading_end limit result
+      AnswersTo (check_answer receipts functions) reading_end limit result
       (record { left = left; left_after = left_then; faults = faults; faults_after = faults_then }) writing
 
   -- where memory was wanting, or the sink failed
   pub stop_answers : (stop : ReportStop) → Took limit left left_then new → IsHeader header → length all ≡ header.verifiers
-      → GrowsByFront writing.held writing.held_after (lines_due functions header all)
+      → GrowsByFront writing.held writing.held_after (lines_due (told_by receipts functions header) functions header all)
       → (stop ≡ writes.WriteFault → Rose writing.faults writing.faults_after)
       → Answers (checking_stopped limit (stop_by_writing stop))
   stop_answers writes.Memory took good whole front rose =
-      answers-memory (check_answer functions) reading_end limit _ writing
-      (of_taken (λ bytes. GrowsByFront writing.held writing.held_after (check_answer functions bytes).due) limit took.count new.taken left left_then took.took took.read
-      (reads_taken (λ (logged : Logged). GrowsByFront writing.held writing.held_after (answer_by functions logged).due) new.taken left logged_of (behind_at all new) means
-      (due_front functions header all new known writing.held writing.held_after good whole front [])))
+      answers-memory (check_answer receipts functions) reading_end limit _ writing
+      (of_taken (λ bytes. GrowsByFront writing.held writing.held_after (check_answer receipts functions bytes).due) limit took.count new.taken left left_then took.took took.read
+      (reads_taken (λ (logged : Logged). GrowsByFront writing.held writing.held_after (answer_by receipts functions logged).due) new.taken left logged_of (behind_at all new) means
+      (due_front receipts functions header all new known writing.held writing.held_after good whole front [])))
       (TookAtMost-from_read took.count (limit + 1) left left_then took.took took.most) took.stops
   stop_answers writes.WriteFault took good whole front rose =
-      answers-write_fault (check_answer functions) reading_end limit _ writing
-      (reads_all (λ (logged : Logged). GrowsByFront writing.held writing.held_after (answer_by functions logged).text) new.taken left logged_of (behind_at all new) means
-      (λ more. text_front functions header all new known writing.held writing.held_after good whole front more))
+      answers-write_fault (check_answer receipts functions) reading_end limit _ writing
+      (reads_all (λ (logged : Logged). GrowsByFront writing.held writing.held_after (answer_by receipts functions logged).text) new.taken left logged_of (behind_at all new) means
+      (λ more. text_front receipts functions header all new known writing.held writing.held_after good whole front more))
       (TookAtMost-from_read took.count (limit + 1) left left_then took.took took.most) took.stops (rose refl)
 
   -- what was due was written, by the bytes that were taken
   pub due_taken : (ahead new []).frames ≡ [] → joined_from 0 all [] ≡ all
-      → Grows writing.held writing.held_after (lines_due functions header all)
-      → IfSome left (λ bytes. Grows writing.held writing.held_after (check_answer functions (take new.taken bytes)).due)
+      → Grows writing.held writing.held_after (lines_due (told_by receipts functions header) functions header all)
+      → IfSome left (λ bytes. Grows writing.held writing.held_after (check_answer receipts functions (take new.taken bytes)).due)
   due_taken none same written =
-      reads_taken (λ (logged : Logged). Grows writing.held writing.held_after (answer_by functions logged).due) new.taken left logged_of (behind_at all new) means
-      (subst (Grows writing.held writing.held_after) (sym (due_spent functions header all new known none same)) written)
+      reads_taken (λ (logged : Logged). Grows writing.held writing.held_after (answer_by receipts functions logged).due) new.taken left logged_of (behind_at all new) means
+      (subst (Grows writing.held writing.held_after) (sym (due_spent receipts functions header all new known none same)) written)
 
   -- ---- at the end
 
@@ -155,15 +156,15 @@ module _ (functions : DigestFunctions) (header : Header) (limit : ℕ) (left lef
   -- with an answer
   pub end_answers : (bad : Option ℕ) (end : BundleEnd) → HasRead new.taken left left_then → new.taken ≤ limit
       → IfSome left_then (λ rest. ended bad ≡ behind_at all new rest) → TookToEnd reading_end left left_then → StopsAtEnd reading_end left left_then
-      → status_of end ≡ (answer_by functions (ended bad)).status
-      → Grows writing.held writing.held_after (answer_by functions (ended bad)).text
+      → status_of end ≡ (answer_by receipts functions (ended bad)).status
+      → Grows writing.held writing.held_after (answer_by receipts functions (ended bad)).text
       → Answers (status_of end)
   end_answers bad end took within is reached stops status text =
-      answers-end (check_answer functions) reading_end limit _ writing (status_of end) (is_end end)
-      (ReadsAs-back (λ (logged : Logged). status_of end ≡ (answer_by functions logged).status) new.taken left left_then logged_of (behind_at all new) took means
-      (same_left (λ (logged : Logged). status_of end ≡ (answer_by functions logged).status) (ended bad) left_then (behind_at all new) is status))
-      (ReadsAs-back (λ (logged : Logged). Grows writing.held writing.held_after (answer_by functions logged).text) new.taken left left_then logged_of (behind_at all new) took means
-      (same_left (λ (logged : Logged). Grows writing.held writing.held_after (answer_by functions logged).text) (ended bad) left_then (behind_at all new) is text))
+      answers-end (check_answer receipts functions) reading_end limit _ writing (status_of end) (is_end end)
+      (ReadsAs-back (λ (logged : Logged). status_of end ≡ (answer_by receipts functions logged).status) new.taken left left_then logged_of (behind_at all new) took means
+      (same_left (λ (logged : Logged). status_of end ≡ (answer_by receipts functions logged).status) (ended bad) left_then (behind_at all new) is status))
+      (ReadsAs-back (λ (logged : Logged). Grows writing.held writing.held_after (answer_by receipts functions logged).text) new.taken left left_then logged_of (behind_at all new) took means
+      (same_left (λ (logged : Logged). Grows writing.held writing.held_after (answer_by receipts functions logged).text) (ended bad) left_then (behind_at all new) is text))
       (TookAtMost-from_read new.taken limit left left_then took within) reached stops
     where
       is_end : (end : BundleEnd) → IsEnd (status_of end)
@@ -175,47 +176,47 @@ module _ (functions : DigestFunctions) (header : Header) (limit : ℕ) (left lef
   -- where the sink failed at the last line
   pub last_answers : (bad : Option ℕ) → HasRead new.taken left left_then → new.taken ≤ limit
       → IfSome left_then (λ rest. ended bad ≡ behind_at all new rest) → StopsAtEnd reading_end left left_then
-      → GrowsByFront writing.held writing.held_after (answer_by functions (ended bad)).text
+      → GrowsByFront writing.held writing.held_after (answer_by receipts functions (ended bad)).text
       → Rose writing.faults writing.faults_after
       → Answers statuses.WriteFault
   last_answers bad took within is stops front rose =
-      answers-write_fault (check_answer functions) reading_end limit _ writing
-      (ReadsAs-back (λ (logged : Logged). GrowsByFront writing.held writing.held_after (answer_by functions logged).text) new.taken left left_then logged_of (behind_at all new) took means
-      (same_left (λ (logged : Logged). GrowsByFront writing.held writing.held_after (answer_by functions logged).text) (ended bad) left_then (behind_at all new) is front))
+      answers-write_fault (check_answer receipts functions) reading_end limit _ writing
+      (ReadsAs-back (λ (logged : Logged). GrowsByFront writing.held writing.held_after (answer_by receipts functions logged).text) new.taken left left_then logged_of (behind_at all new) took means
+      (same_left (λ (logged : Logged). GrowsByFront writing.held writing.held_after (answer_by receipts functions logged).text) (ended bad) left_then (behind_at all new) is front))
       (TookAtMost-from_read new.taken (limit + 1) left left_then took (omega (arith, within))) stops rose
 
 -- ---- where reading stops
 
 -- where the source failed, or gave too much
-pub cut_answers : (functions : DigestFunctions) (limit : ℕ) (left left_then : Option (List ℕ)) (faults faults_then : ℕ) (new : Reading) (writing : Writing)
+pub cut_answers : (receipts : Bool) (functions : DigestFunctions) (limit : ℕ) (left left_then : Option (List ℕ)) (faults faults_then : ℕ) (new : Reading) (writing : Writing)
     (stop : SourceStop) → Took limit left left_then new
-    → IfSome left (λ bytes. Grows writing.held writing.held_after (check_answer functions (take new.taken bytes)).due)
+    → IfSome left (λ bytes. Grows writing.held writing.held_after (check_answer receipts functions (take new.taken bytes)).due)
     → (stop ≡ sources.ReadFault → Rose faults faults_then)
     → (stop ≡ sources.ReadFault → TookAtMost limit left left_then)
     → (stop ≡ sources.InputLimit → TookJust (limit + 1) left left_then)
     → (stop ≡ sources.InputLimit → EndsBehind reading_end limit left)
-    → AnswersTo (check_answer functions) reading_end limit (checking_stopped limit (stop_by_reading stop))
+    → AnswersTo (check_answer receipts functions) reading_end limit (checking_stopped limit (stop_by_reading stop))
     (record { left = left; left_after = left_then; faults = faults; faults_after = faults_then }) writing
-cut_answers functions limit left left_then faults faults_then new writing sources.ReadFault took due rose within just behind =
-    answers-read_fault (check_answer functions) reading_end limit _ writing
-    (of_taken (λ bytes. Grows writing.held writing.held_after (check_answer functions bytes).due) limit took.count new.taken left left_then took.took took.read due)
+cut_answers receipts functions limit left left_then faults faults_then new writing sources.ReadFault took due rose within just behind =
+    answers-read_fault (check_answer receipts functions) reading_end limit _ writing
+    (of_taken (λ bytes. Grows writing.held writing.held_after (check_answer receipts functions bytes).due) limit took.count new.taken left left_then took.took took.read due)
     (within refl) took.stops (rose refl)
-cut_answers functions limit left left_then faults faults_then new writing sources.InputLimit took due rose within just behind =
-    answers-limit (check_answer functions) reading_end limit _ writing
-    (of_taken (λ bytes. Grows writing.held writing.held_after (check_answer functions bytes).due) limit took.count new.taken left left_then took.took took.read due)
+cut_answers receipts functions limit left left_then faults faults_then new writing sources.InputLimit took due rose within just behind =
+    answers-limit (check_answer receipts functions) reading_end limit _ writing
+    (of_taken (λ bytes. Grows writing.held writing.held_after (check_answer receipts functions bytes).due) limit took.count new.taken left left_then took.took took.read due)
     (just refl) took.stops (behind refl)
 
 -- ---- nothing more was read, or not to the end of a batch
 
 -- memory was wanting where so many bytes were taken, and what was written is a front of what is due, whatever follows
-pub memory_answers : (functions : DigestFunctions) (limit count taken : ℕ) (left left_then : Option (List ℕ)) (faults faults_then : ℕ) (logs : List (List ℕ)) (reading : Reading)
+pub memory_answers : (receipts : Bool) (functions : DigestFunctions) (limit count taken : ℕ) (left left_then : Option (List ℕ)) (faults faults_then : ℕ) (logs : List (List ℕ)) (reading : Reading)
     (writing : Writing) → ReadsAs count left logged_of (behind_at logs reading) → count ≤ taken → HasRead taken left left_then → taken ≤ limit
     → StopsAtEnd reading_end left left_then
-    → ((more : List ℕ) → GrowsByFront writing.held writing.held_after (answer_by functions (behind_at logs reading more)).due)
-    → AnswersTo (check_answer functions) reading_end limit statuses.Memory
+    → ((more : List ℕ) → GrowsByFront writing.held writing.held_after (answer_by receipts functions (behind_at logs reading more)).due)
+    → AnswersTo (check_answer receipts functions) reading_end limit statuses.Memory
     (record { left = left; left_after = left_then; faults = faults; faults_after = faults_then }) writing
-memory_answers functions limit count taken left left_then faults faults_then logs reading writing means below took within stops front =
-    answers-memory (check_answer functions) reading_end limit _ writing
-    (of_taken (λ bytes. GrowsByFront writing.held writing.held_after (check_answer functions bytes).due) limit taken taken left left_then took (omega (arith, within))
-    (reads_on (λ (logged : Logged). GrowsByFront writing.held writing.held_after (answer_by functions logged).due) count taken left logged_of (behind_at logs reading) means below front))
+memory_answers receipts functions limit count taken left left_then faults faults_then logs reading writing means below took within stops front =
+    answers-memory (check_answer receipts functions) reading_end limit _ writing
+    (of_taken (λ bytes. GrowsByFront writing.held writing.held_after (check_answer receipts functions bytes).due) limit taken taken left left_then took (omega (arith, within))
+    (reads_on (λ (logged : Logged). GrowsByFront writing.held writing.held_after (answer_by receipts functions logged).due) count taken left logged_of (behind_at logs reading) means below front))
     (TookAtMost-from_read taken (limit + 1) left left_then took (omega (arith, within))) stops

@@ -22,6 +22,7 @@ use Rattle.verifier_run.proofs.RunLaws.{fed_goes_on}
 use Rattle.bundle_report.specs.declared.judged.Judged.{Judged}
 use Rattle.bundle_report.specs.Logs.{joined_from, logs_so_far}
 use Rattle.bundle_report.specs.Logged.{behind, logged_of}
+use Rattle.bundle_report.specs.Report.{EpochText, told_by}
 use Rattle.bundle_report.specs.Answer.{answer_at, answer_by}
 use Rattle.report_text.specs.Answer.{Answer}
 use Rattle.bundle_report.specs.RunReport.{courses_of}
@@ -118,55 +119,60 @@ module _ (left left_now : Option (List ℕ)) (faults faults_now : ℕ) (logs : L
 
 -- ---- what is due
 
-module _ (functions : DigestFunctions) (header : Header) (logs : List (List ℕ)) (reading : Reading) (known : reading.progress.header ≡ Some header) where
+module _ (receipts : Bool) (functions : DigestFunctions) (header : Header) (logs : List (List ℕ)) (reading : Reading)
+    (known : reading.progress.header ≡ Some header) where
+  -- what is written of an epoch
+  abbrev tell : EpochText
+  tell = told_by receipts functions header
+
   -- the logs with what is ahead
   abbrev all : List ℕ → List (List ℕ)
   all more = joined_from 0 logs (ahead reading more).frames
 
   abbrev answered : List ℕ → Answer
-  answered more = answer_at functions (Some header) (all more) (ahead reading more).bad
+  answered more = answer_at receipts functions (Some header) (all more) (ahead reading more).bad
 
-  answer_ahead : (more : List ℕ) → answer_by functions (behind_at logs reading more) ≡ answered more
+  answer_ahead : (more : List ℕ) → answer_by receipts functions (behind_at logs reading more) ≡ answered more
   answer_ahead more =
       let rest = ahead reading more in
-      ap (λ (h : Option Header). answer_at functions rest.header (joined_from 0 (logs_so_far h logs rest.header) rest.frames) rest.bad) known
-      ∙ ap (λ (h : Option Header). answer_at functions h (all more) rest.bad) (ahead_header reading header more known)
+      ap (λ (h : Option Header). answer_at receipts functions rest.header (joined_from 0 (logs_so_far h logs rest.header) rest.frames) rest.bad) known
+      ∙ ap (λ (h : Option Header). answer_at receipts functions h (all more) rest.bad) (ahead_header reading header more known)
 
-  pub due_ahead : (more : List ℕ) → (answer_by functions (behind_at logs reading more)).due ≡ lines_due functions header (all more)
+  pub due_ahead : (more : List ℕ) → (answer_by receipts functions (behind_at logs reading more)).due ≡ lines_due tell functions header (all more)
   due_ahead more = ap (λ (a : Answer). a.due) (answer_ahead more)
 
   -- where no frame is ahead
   pub due_spent : (ahead reading []).frames ≡ [] → joined_from 0 logs [] ≡ logs
-      → (answer_by functions (behind_at logs reading [])).due ≡ lines_due functions header logs
+      → (answer_by receipts functions (behind_at logs reading [])).due ≡ lines_due tell functions header logs
   due_spent none same =
-      due_ahead [] ∙ ap (λ (frames : List Frame). lines_due functions header (joined_from 0 logs frames)) none
-      ∙ ap (lines_due functions header) same
+      due_ahead [] ∙ ap (λ (frames : List Frame). lines_due tell functions header (joined_from 0 logs frames)) none
+      ∙ ap (lines_due tell functions header) same
 
   -- What was counted is a front of what is due, whatever follows.
   pub counted_front : (so_far : Judged) (runs : List FedRun) (held held_now : Option (List ℕ)) → AreChecked functions header logs so_far runs
-      → Grows held held_now (lines_counted functions header logs so_far)
-      → (more : List ℕ) → GrowsByFront held held_now (answer_by functions (behind_at logs reading more)).due
+      → Grows held held_now (lines_counted tell functions header logs so_far)
+      → (more : List ℕ) → GrowsByFront held held_now (answer_by receipts functions (behind_at logs reading more)).due
   counted_front so_far runs held held_now checked written more =
-      let front = lines-front (scheme_of functions header) header logs so_far (map (λ fed. fed.run) runs) (ahead reading more).frames checked in
+      let front = lines-front tell (scheme_of functions header) header logs so_far (map (λ fed. fed.run) runs) (ahead reading more).frames checked in
       subst (GrowsByFront held held_now) (front.1 ∙ sym (due_ahead more))
-      (GrowsByFront-more held held_now (lines_counted functions header logs so_far) front.0 (GrowsByFront-whole _ _ _ written))
+      (GrowsByFront-more held held_now (lines_counted tell functions header logs so_far) front.0 (GrowsByFront-whole _ _ _ written))
 
   -- So is a front of what is due by the logs so far, and of the whole text.
   pub due_front : (held held_now : Option (List ℕ)) → IsHeader header → length logs ≡ header.verifiers
-      → GrowsByFront held held_now (lines_due functions header logs)
-      → (more : List ℕ) → GrowsByFront held held_now (answer_by functions (behind_at logs reading more)).due
+      → GrowsByFront held held_now (lines_due tell functions header logs)
+      → (more : List ℕ) → GrowsByFront held held_now (answer_by receipts functions (behind_at logs reading more)).due
   due_front held held_now good whole written more =
-      let front = due-stays (scheme_of functions header) header logs (ahead reading more).frames good whole in
-      subst (GrowsByFront held held_now) (front.1 ∙ sym (due_ahead more)) (GrowsByFront-more held held_now (lines_due functions header logs) front.0 written)
+      let front = due-stays tell (scheme_of functions header) header logs (ahead reading more).frames good whole in
+      subst (GrowsByFront held held_now) (front.1 ∙ sym (due_ahead more)) (GrowsByFront-more held held_now (lines_due tell functions header logs) front.0 written)
 
   pub text_front : (held held_now : Option (List ℕ)) → IsHeader header → length logs ≡ header.verifiers
-      → GrowsByFront held held_now (lines_due functions header logs)
-      → (more : List ℕ) → GrowsByFront held held_now (answer_by functions (behind_at logs reading more)).text
+      → GrowsByFront held held_now (lines_due tell functions header logs)
+      → (more : List ℕ) → GrowsByFront held held_now (answer_by receipts functions (behind_at logs reading more)).text
   text_front held held_now good whole written more =
-      let front = due-stays (scheme_of functions header) header logs (ahead reading more).frames good whole in
+      let front = due-stays tell (scheme_of functions header) header logs (ahead reading more).frames good whole in
       subst (GrowsByFront held held_now) (sym (ap (λ (a : Answer). a.text) (answer_ahead more)))
-      (GrowsByFront-more held held_now (lines_due functions header (all more)) _
-      (subst (GrowsByFront held held_now) front.1 (GrowsByFront-more held held_now (lines_due functions header logs) front.0 written)))
+      (GrowsByFront-more held held_now (lines_due tell functions header (all more)) _
+      (subst (GrowsByFront held held_now) front.1 (GrowsByFront-more held held_now (lines_due tell functions header logs) front.0 written)))
 
 -- ---- what a batch brings
 
@@ -179,7 +185,7 @@ fed_checked functions header logs frames so_far runs runs_fed checked is =
     subst (HaveTaken (scheme_of functions header) header (joined_from 0 logs frames) so_far) (sym is)
     (taken-more (scheme_of functions header) header logs so_far (map (λ fed. fed.run) runs) frames checked)
 
-module _ (functions : DigestFunctions) (header : Header) (logs : List (List ℕ)) (frames : List Frame) (so_far : Judged) (runs : List FedRun)
+module _ (tell : EpochText) (functions : DigestFunctions) (header : Header) (logs : List (List ℕ)) (frames : List Frame) (so_far : Judged) (runs : List FedRun)
     (checked : AreChecked functions header logs so_far runs) where
   abbrev more_logs : List (List ℕ)
   more_logs = joined_from 0 logs frames
@@ -192,48 +198,48 @@ module _ (functions : DigestFunctions) (header : Header) (logs : List (List ℕ)
 
   -- what was counted, and the lines behind it up to so many epochs
   lines_to : (count : ℕ) → so_far.count ≤ count
-      → lines_counted functions header logs so_far ++ lines_from courses (header.first + so_far.count) (count - so_far.count)
-      ≡ lines_from courses header.first count
+      → lines_counted tell functions header logs so_far ++ lines_from tell courses (header.first + so_far.count) (count - so_far.count)
+      ≡ lines_from tell courses header.first count
   lines_to count within =
       let sum : so_far.count + (count - so_far.count) ≡ count = omega (arith, within) in
-      ap (λ (text : List ℕ). text ++ lines_from courses (header.first + so_far.count) (count - so_far.count))
-      (sym (lines-taken own_scheme header logs so_far (map (λ fed. fed.run) runs) frames checked))
-      ∙ sym (lines-behind courses header.first so_far.count (count - so_far.count))
-      ∙ ap (lines_from courses header.first) sum
+      ap (λ (text : List ℕ). text ++ lines_from tell courses (header.first + so_far.count) (count - so_far.count))
+      (sym (lines-taken tell own_scheme header logs so_far (map (λ fed. fed.run) runs) frames checked))
+      ∙ sym (lines-behind tell courses header.first so_far.count (count - so_far.count))
+      ∙ ap (lines_from tell courses header.first) sum
 
   -- all that is due was written
   pub due_more : (now : Judged) (runs_fed runs_now : List FedRun) (held before after : Option (List ℕ))
       → AreChecked functions header more_logs so_far runs_fed → AreChecked functions header more_logs now runs_now
       → now ≡ judged header.verifiers courses
-      → Grows held before (lines_counted functions header logs so_far)
-      → Grows before after (lines_from courses (header.first + so_far.count) (now.count - so_far.count))
-      → Grows held after (lines_due functions header more_logs)
+      → Grows held before (lines_counted tell functions header logs so_far)
+      → Grows before after (lines_from tell courses (header.first + so_far.count) (now.count - so_far.count))
+      → Grows held after (lines_due tell functions header more_logs)
   due_more now runs_fed runs_now held before after checked_fed checked_now all written more =
       let within = counted-within own_scheme header more_logs so_far (map (λ fed. fed.run) runs_fed) checked_fed in
       subst (Grows held after)
       (lines_to now.count (omega (arith, within, ap (λ (j : Judged). j.count) all))
-      ∙ lines-due own_scheme header more_logs now (map (λ fed. fed.run) runs_now) checked_now all)
+      ∙ lines-due tell own_scheme header more_logs now (map (λ fed. fed.run) runs_now) checked_now all)
       (Grows-then held before after _ _ written more)
 
   -- a front of it was
   pub front_more : (runs_fed : List FedRun) (held before after : Option (List ℕ)) → AreChecked functions header more_logs so_far runs_fed
-      → Grows held before (lines_counted functions header logs so_far)
-      → GrowsByFront before after (lines_from courses (header.first + so_far.count) ((judged header.verifiers courses).count - so_far.count))
-      → GrowsByFront held after (lines_due functions header more_logs)
+      → Grows held before (lines_counted tell functions header logs so_far)
+      → GrowsByFront before after (lines_from tell courses (header.first + so_far.count) ((judged header.verifiers courses).count - so_far.count))
+      → GrowsByFront held after (lines_due tell functions header more_logs)
   front_more runs_fed held before after checked_fed written front =
       let within = counted-within own_scheme header more_logs so_far (map (λ fed. fed.run) runs_fed) checked_fed in
       subst (GrowsByFront held after)
-      (lines_to (judged header.verifiers courses).count within ∙ lines-certified own_scheme header more_logs checked_fed.header_good checked_fed.whole)
+      (lines_to (judged header.verifiers courses).count within ∙ lines-certified tell own_scheme header more_logs checked_fed.header_good checked_fed.whole)
       (GrowsByFront-then held before after _ _ written front)
 
   -- or nothing more
-  pub front_none : (held before after : Option (List ℕ)) → Grows held before (lines_counted functions header logs so_far) → after ≡ before
-      → GrowsByFront held after (lines_due functions header more_logs)
+  pub front_none : (held before after : Option (List ℕ)) → Grows held before (lines_counted tell functions header logs so_far) → after ≡ before
+      → GrowsByFront held after (lines_due tell functions header more_logs)
   front_none held before after written same =
-      let front = lines-front own_scheme header logs so_far (map (λ fed. fed.run) runs) frames checked in
-      subst (λ (now : Option (List ℕ)). GrowsByFront held now (lines_due functions header more_logs)) (sym same)
+      let front = lines-front tell own_scheme header logs so_far (map (λ fed. fed.run) runs) frames checked in
+      subst (λ (now : Option (List ℕ)). GrowsByFront held now (lines_due tell functions header more_logs)) (sym same)
       (subst (GrowsByFront held before) front.1
-      (GrowsByFront-more held before (lines_counted functions header logs so_far) front.0 (GrowsByFront-whole _ _ _ written)))
+      (GrowsByFront-more held before (lines_counted tell functions header logs so_far) front.0 (GrowsByFront-whole _ _ _ written)))
 
 -- whether a run was starved
 pub fed_or_not : (runs : List FedRun) → AreFed runs ⊎ (AreFed runs → ⊥)

@@ -8,6 +8,7 @@ use Rattle.bundle_frames.specs.Extent.{reading_end}
 use Rattle.bundle_frames.specs.Reading.{Reading, end_ahead, HasRead, ReadsAs}
 use Rattle.bundle_report.specs.declared.judged.Judged.{Judged}
 use Rattle.bundle_report.specs.Logged.{logged_of}
+use Rattle.bundle_report.specs.Report.{EpochText}
 use Rattle.bundle_report.specs.BundleReport.{certified_lines, histories_at}
 use Rattle.bundle_report.specs.RunReport.{courses_of}
 use Rattle.bundle_report.specs.SoFar.{HaveTaken, lines_from}
@@ -29,9 +30,9 @@ abbrev pub AreChecked : DigestFunctions → Header → List (List ℕ) → Judge
 AreChecked functions header logs so_far runs = HaveTaken (scheme_of functions header) header logs so_far (map (λ fed. fed.run) runs)
 
 -- the lines of the epochs that are counted
-abbrev pub lines_counted : DigestFunctions → Header → List (List ℕ) → Judged → List ℕ
-lines_counted functions header logs so_far = lines_from (courses_of (scheme_of functions header) header logs) header.first so_far.count
+abbrev pub lines_counted : EpochText → DigestFunctions → Header → List (List ℕ) → Judged → List ℕ
+lines_counted tell functions header logs so_far = lines_from tell (courses_of (scheme_of functions header) header logs) header.first so_far.count
 
 -- the lines of all epochs that logs certify
-abbrev pub lines_due : DigestFunctions → Header → List (List ℕ) → List ℕ
-lines_due functions header logs = certified_lines (scheme_of functions header) header (histories_at (scheme_of functions header) header logs)
+abbrev pub lines_due : EpochText → DigestFunctions → Header → List (List ℕ) → List ℕ
+lines_due tell functions header logs = certified_lines tell (scheme_of functions header) header (histories_at (scheme_of functions header) header logs)

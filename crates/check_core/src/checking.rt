@@ -15,6 +15,7 @@ ghost use Rattle.bundle_report.specs.Headline.{IsSound};
 ghost use Rattle.bundle_report.specs.Answer.{check_answer, no_answer};
 ghost use Rattle.bundle_report.specs.RunReport.{courses_of};
 ghost use Rattle.bundle_report.specs.Judged.{judged};
+ghost use Rattle.certified_epochs.specs.Telling.{text_by};
 ghost use Rattle.check_core.specs.Batch.{bytes_of};
 ghost use Rattle.check_core.specs.Outcomes.{IsCheckStatus};
 ghost use Rattle.check_core.specs.Stops.{check_status};
@@ -26,7 +27,7 @@ use crate::opening::open_runs;
 use crate::stops::CheckStop;
 use bundle_frames::{BundleReader, Next};
 use bundle_report::{ReportStop, digests_have_32_bytes};
-use certified_epochs::{Certifier, FedRun};
+use certified_epochs::{Certifier, FedRun, Telling};
 use fv_outside::{Sink, Source};
 use lamport_clocks::Header;
 use record_hash::Digests;
@@ -35,7 +36,8 @@ use std::alloc::Global;
 use std::thread::Threads;
 
 /// Reads a bundle of no more than so many bytes, some frames at a time, runs its logs side by side, and writes the
-/// lines of each epoch as soon as it is certified. Where reading stops before the end, what was read is certified first.
+/// lines of each epoch, with receipts or without, as soon as it is certified. Where reading stops before the end, what was
+/// read is certified first.
 pub fn check<R: Threads + Sync, D: Digests + Sync, S: Source, O: Sink>(
     rt: &R,
     alloc: Global,
@@ -43,12 +45,13 @@ pub fn check<R: Threads + Sync, D: Digests + Sync, S: Source, O: Sink>(
     limit: u64,
     source: &mut S,
     out: &mut O,
+    receipts: bool,
 ) -> Status
     requires limit { limit ≤ 2 ^ 40 }
     ensures outcomes { IsCheckStatus result }
 
     // What is written, the status, what was taken of the source, and the faults.
-    ensures answers { AnswersTo (check_answer (D.functions d.now)) reading_end limit result
+    ensures answers { AnswersTo (check_answer receipts (D.functions d.now)) reading_end limit result
         (record { left = S.left source.old; left_after = S.left source.new; faults = S.faults source.old; faults_after = S.faults source.new })
         (record { held = O.held out.old; held_after = O.held out.new; faults = O.faults out.old; faults_after = O.faults out.new }) }
 
@@ -56,7 +59,7 @@ pub fn check<R: Threads + Sync, D: Digests + Sync, S: Source, O: Sink>(
     ensures headline { IfSome (S.left source.old) (IsSound (D.functions d.now)) }
 {
     digests_have_32_bytes(d);
-    match check_bundle(rt, alloc, d, limit, source, out) {
+    match check_bundle(rt, alloc, d, limit, source, out, receipts) {
         Ok(end) => end.status(),
         Err(stop) => stop.status(limit),
     }
@@ -70,9 +73,10 @@ fn check_bundle<R: Threads + Sync, D: Digests + Sync, S: Source, O: Sink>(
     limit: u64,
     source: &mut S,
     out: &mut O,
+    receipts: bool,
 ) -> Result<BundleEnd, CheckStop>
     requires limit { limit ≤ 2 ^ 40 }
-    ensures answers { AnswersTo (check_answer (D.functions d.now)) reading_end limit (check_status limit result)
+    ensures answers { AnswersTo (check_answer receipts (D.functions d.now)) reading_end limit (check_status limit result)
         (record { left = S.left source.old; left_after = S.left source.new; faults = S.faults source.old; faults_after = S.faults source.new })
         (record { held = O.held out.old; held_after = O.held out.new; faults = O.faults out.old; faults_after = O.faults out.new }) }
 {
@@ -82,7 +86,16 @@ fn check_bundle<R: Threads + Sync, D: Digests + Sync, S: Source, O: Sink>(
         Err(stop) => return Err(CheckStop::from(stop)),
     };
     match next {
-        Next::Head(header) => check_frames(rt, alloc, d, &header, &mut reader, source, out),
+        Next::Head(header) => check_frames(
+            rt,
+            alloc,
+            d,
+            &header,
+            &mut reader,
+            source,
+            out,
+            receipts,
+        ),
         // No frame comes before the header.
         Next::Frame(_) => write_bad_header(out),
         Next::End => write_bad_header(out),
@@ -98,6 +111,7 @@ fn check_frames<R: Threads + Sync, D: Digests + Sync, S: Source, O: Sink>(
     reader: &mut BundleReader,
     source: &mut S,
     out: &mut O,
+    receipts: bool,
 ) -> Result<BundleEnd, CheckStop>
     requires header { IsHeader header.now }
     requires known { reader.old.progress.header ≡ Some header.now }
@@ -109,16 +123,17 @@ fn check_frames<R: Threads + Sync, D: Digests + Sync, S: Source, O: Sink>(
     // Of whatever the source had before, where so much of it has come and no frame yet.
     ensures answers { (left : Option (List ℕ)) (faults : ℕ)
         → HasCome left faults (empty_logs header.now.verifiers) reader.old (S.left source.old) (S.faults source.old)
-        → AnswersTo (check_answer (D.functions d.now)) reading_end reader.old.limit (check_status reader.old.limit result)
+        → AnswersTo (check_answer receipts (D.functions d.now)) reading_end reader.old.limit (check_status reader.old.limit result)
         (record { left = left; left_after = S.left source.new; faults = faults; faults_after = S.faults source.new })
         (record { held = O.held out.old; held_after = O.held out.new; faults = O.faults out.old; faults_after = O.faults out.new }) }
 {
     let mut runs = open_runs(alloc, header)?;
+    let telling = Telling::new(receipts, d, header);
     let mut certifier = Certifier::new(alloc);
     let mut batch = Batch::new(alloc);
     'batches: loop {
         let filled = batch.fill(alloc, reader, source)?;
-        take_batch(rt, d, &batch, &mut runs, &mut certifier, out)?;
+        take_batch(rt, d, &batch, &mut runs, &mut certifier, &telling, out)?;
         match filled {
             Filled::Whole => {}
             Filled::End => break,
@@ -135,6 +150,7 @@ fn take_batch<R: Threads + Sync, D: Digests + Sync, O: Sink>(
     batch: &Batch,
     runs: &mut [FedRun],
     certifier: &mut Certifier,
+    telling: &Telling<D>,
     out: &mut O,
 ) -> Result<(), ReportStop>
     requires few { length runs.old ≤ 64 }
@@ -148,11 +164,11 @@ fn take_batch<R: Threads + Sync, D: Digests + Sync, O: Sink>(
     ensures all { (header : Header) (logs : List (List ℕ)) → AreChecked (D.functions d.now) header logs certifier.old runs.old
         → OnOk result (certifier.new ≡ judged header.verifiers (courses_of (scheme_of (D.functions d.now) header) header (joined_from 0 logs batch.now))) }
     ensures due { (header : Header) (logs : List (List ℕ)) (held : Option (List ℕ)) → AreChecked (D.functions d.now) header logs certifier.old runs.old
-        → Grows held (O.held out.old) (lines_counted (D.functions d.now) header logs certifier.old)
-        → OnOk result (Grows held (O.held out.new) (lines_due (D.functions d.now) header (joined_from 0 logs batch.now))) }
+        → Grows held (O.held out.old) (lines_counted (text_by D.functions telling.now) (D.functions d.now) header logs certifier.old)
+        → OnOk result (Grows held (O.held out.new) (lines_due (text_by D.functions telling.now) (D.functions d.now) header (joined_from 0 logs batch.now))) }
     ensures front { (header : Header) (logs : List (List ℕ)) (held : Option (List ℕ)) → AreChecked (D.functions d.now) header logs certifier.old runs.old
-        → Grows held (O.held out.old) (lines_counted (D.functions d.now) header logs certifier.old)
-        → OnErr result (GrowsByFront held (O.held out.new) (lines_due (D.functions d.now) header (joined_from 0 logs batch.now))) }
+        → Grows held (O.held out.old) (lines_counted (text_by D.functions telling.now) (D.functions d.now) header logs certifier.old)
+        → OnErr result (GrowsByFront held (O.held out.new) (lines_due (text_by D.functions telling.now) (D.functions d.now) header (joined_from 0 logs batch.now))) }
     ensures weight { (bound : ℕ) → AllByRecursion (λ fed. weight fed.run ≤ bound) runs.old
         → OnOk result (AllByRecursion (λ fed. weight fed.run ≤ bound + bytes_of batch.now) runs.new) }
     ensures len { length runs.new ≡ length runs.old }
@@ -160,7 +176,7 @@ fn take_batch<R: Threads + Sync, D: Digests + Sync, O: Sink>(
     ensures never_falls { O.faults out.old ≤ O.faults out.new }
 {
     feed_batch(rt, d, batch, runs);
-    certifier.certify(runs, out)
+    certifier.certify(runs, telling, out)
 }
 
 // Writes the report of a bundle whose header is bad.

@@ -1,5 +1,5 @@
 //! What a check comes to, with nothing written.
-ghost use Rattle.std.specs.Prelude.{◌≡◌, ◌≤◌, ℕ, Some, IfOk, length, map, vec_len};
+ghost use Rattle.std.specs.Prelude.{◌≡◌, ◌≤◌, false, ℕ, Some, IfOk, length, map, vec_len};
 ghost use Rattle.merkle_records.specs.Scheme.{scheme_of};
 ghost use Rattle.lamport_clocks.specs.declared.header.Header.{Header};
 ghost use Rattle.lamport_clocks.specs.Header.{IsHeader};
@@ -44,7 +44,7 @@ pub fn conclude<T: Kept, D: Digests>(
     ensures certified { IfOk result (λ found. found.conclusion.certified
         ≡ certified_at (D.functions d.now) intake.now.header (logs_in intake.now)) }
     ensures end { IfOk result (λ found. status_of found.conclusion.end
-        ≡ (answer_by (D.functions d.now) (logged intake.now)).status) }
+        ≡ (answer_by false (D.functions d.now) (logged intake.now)).status) }
     ensures runs { (header : Header) → intake.now.header ≡ Some header → IfOk result (λ found. map (λ run. run.course) found.runs.items
         ≡ courses_keeping T.keeps (scheme_of (D.functions d.now) header) header 0 (logs_in intake.now)) }
 {

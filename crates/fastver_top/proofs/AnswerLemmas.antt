@@ -1,5 +1,5 @@
 -- What was asked is what the words ask for, and the headline of whatever a source has.
-use Rattle.std.proofs.Common.{◌≡◌, ℕ, List, Option, Some, None, IfSome, refl, sym, ◌∙◌, ap, inr, arith}
+use Rattle.std.proofs.Common.{◌≡◌, false, ℕ, List, Option, Some, None, IfSome, refl, sym, ◌∙◌, ap, inr, arith}
 use Rattle.fv_outside.specs.Consumed.{TookAtMost}
 use Rattle.record_hash.specs.ShaDigests.{sha_under}
 use Rattle.program_words.specs.declared.words.Asked.TheVariants.{Check, Audit, Run}
@@ -34,9 +34,9 @@ pub answers-nothing : (asked : Asked) (most : ℕ) (left held vault : Option (Li
     → AnswersFor asked most Memory (record { left = left; left_after = left; faults = r; faults_after = r' })
     (record { held = held; held_after = held; faults = w; faults_after = w' })
     (record { held = vault; held_after = vault; name = name; name_after = name; faults = v; faults_after = v' })
-answers-nothing (Check key) most left held vault name r r' w w' v v' = answers-none (sha_check_answer key) reading_end most left held r r' w w'
+answers-nothing (Check key) most left held vault name r r' w w' v v' = answers-none (sha_check_answer false key) reading_end most left held r r' w w'
 answers-nothing (Audit key) most left held vault name r r' w w' v v' = answers-none (sha_audit_answer key) reading_end most left held r r' w w'
 answers-nothing (Run run) most left held vault name r r' w w' v v' =
-    runs-memory (sha_under run.key) run most _ _ _ (took_none most left)
-    (cut-none (sha_under run.key) (record { vault = vault; vault_after = vault; out = held; out_after = held }) refl refl)
+    runs-memory false (sha_under run.key) run most _ _ _ (took_none most left)
+    (cut-none false (sha_under run.key) (record { vault = vault; vault_after = vault; out = held; out_after = held }) refl refl)
     (inr (record { unnamed = refl; vault = refl; out = refl }))

@@ -1,5 +1,5 @@
 -- What a run does, by how it ends.
-use Rattle.std.proofs.Common.{◌≡◌, ◌⊎◌, ℕ, ◌+◌, List, [], ◌++◌, length, Option, Some, None, Ok, Err, inl, inr, refl, sym, ◌∙◌, ap, subst}
+use Rattle.std.proofs.Common.{◌≡◌, Bool, ◌⊎◌, ℕ, ◌+◌, List, [], ◌++◌, length, Option, Some, None, Ok, Err, inl, inr, refl, sym, ◌∙◌, ap, subst}
 use Rattle.fv_outside.specs.Consumed.{TookAtMost, TookJust}
 use Rattle.fv_outside.specs.Faults.{Rose}
 use Rattle.fv_outside.specs.Written.{Grows, GrowsByFront}
@@ -14,6 +14,7 @@ use Rattle.report_text.specs.Answer.{IsEnd, Reading, Writing}
 use Rattle.report_text.specs.Ending.{status_of}
 use Rattle.report_text.specs.Status.{last_line}
 use Rattle.check_core.specs.declared.stops.ReadStop.TheVariants as reads
+use Rattle.bundle_report.specs.Report.{told_by}
 use Rattle.bundle_report.specs.Answer.{check_answer}
 use Rattle.script_text.specs.declared.fault.ScriptFault.TheVariants as faults
 use Rattle.script_text.specs.declared.task.Task.{Task}
@@ -33,14 +34,14 @@ use Rattle.fastver_top.specs.Running.{HasScript, HasBadLine, ReadsScript, script
 
 -- ---- what a check of the vault's bytes answers
 
-module _ (functions : DigestFunctions) (settings : Settings) (script : List (List Task)) (outputs : Outputs) where
+module _ (receipts : Bool) (functions : DigestFunctions) (settings : Settings) (script : List (List Task)) (outputs : Outputs) where
   -- the lines that were written
-  pub due-by-check : (end : RunEnd) → IsServed functions settings script end outputs → IsDueByCheck functions (status_at end) outputs
+  pub due-by-check : (end : RunEnd) → IsServed receipts functions settings script end outputs → IsDueByCheck receipts functions (status_at end) outputs
   due-by-check end served = record {
     bytes = served.vault.bytes;
     vault = served.vault.grown;
     out = subst (λ (lines : List ℕ). Grows outputs.out outputs.out_after (lines ++ last_line (status_at end)))
-        (sym (bundle-due functions settings.header (texts_of served.logs) served.vault.bytes served.vault.is_bundle)) served.out;
+        (sym (bundle-due receipts functions settings.header (texts_of served.logs) served.vault.bytes served.vault.is_bundle)) served.out;
   }
 
   -- no clock ended where all is done
@@ -51,8 +52,8 @@ module _ (functions : DigestFunctions) (settings : Settings) (script : List (Lis
   -- the same text and status, where all is done
   pub answer-of-check : ((logs : List (List Command)) → AreOfRun functions settings script logs None
       → end_due functions settings.header (texts_of logs) ≡ bundles.Done (length script))
-      → (end : RunEnd) (epochs : ℕ) → status_at end ≡ statuses.Done epochs → IsServed functions settings script end outputs
-      → IsAnswerOfCheck functions (status_at end) outputs
+      → (end : RunEnd) (epochs : ℕ) → status_at end ≡ statuses.Done epochs → IsServed receipts functions settings script end outputs
+      → IsAnswerOfCheck receipts functions (status_at end) outputs
   answer-of-check law end epochs done served =
       let none : served.end ≡ None = none-ended served.end (length script) epochs (sym (ap status_at served.is) ∙ done) in
       let run : AreOfRun functions settings script served.logs None = subst (AreOfRun functions settings script served.logs) none served.run in
@@ -62,26 +63,26 @@ module _ (functions : DigestFunctions) (settings : Settings) (script : List (Lis
         bytes = served.vault.bytes;
         vault = served.vault.grown;
         out = subst (Grows outputs.out outputs.out_after)
-            (ap (λ (s : Status). lines_due functions settings.header (texts_of served.logs) ++ last_line s) status
-            ∙ sym (bundle-text functions settings.header (texts_of served.logs) served.vault.bytes served.vault.is_bundle)) served.out;
-        status = bundle-end functions settings.header (texts_of served.logs) served.vault.bytes served.vault.is_bundle ∙ sym status;
+            (ap (λ (s : Status). lines_due (told_by receipts functions settings.header) functions settings.header (texts_of served.logs) ++ last_line s) status
+            ∙ sym (bundle-text receipts functions settings.header (texts_of served.logs) served.vault.bytes served.vault.is_bundle)) served.out;
+        status = bundle-end receipts functions settings.header (texts_of served.logs) served.vault.bytes served.vault.is_bundle ∙ sym status;
       }
 
 -- nothing was written
-pub cut-none : (functions : DigestFunctions) (outputs : Outputs) → outputs.vault_after ≡ outputs.vault → outputs.out_after ≡ outputs.out → IsCutOff functions outputs
-cut-none functions outputs vault out = record {
+pub cut-none : (receipts : Bool) (functions : DigestFunctions) (outputs : Outputs) → outputs.vault_after ≡ outputs.vault → outputs.out_after ≡ outputs.out → IsCutOff receipts functions outputs
+cut-none receipts functions outputs vault out = record {
   bytes = [];
   vault = Grows-same outputs.vault outputs.vault_after vault;
-  out = subst (λ (held : Option (List ℕ)). GrowsByFront outputs.out held (check_answer functions []).due) (sym out) (GrowsByFront-none outputs.out (check_answer functions []).due);
+  out = subst (λ (held : Option (List ℕ)). GrowsByFront outputs.out held (check_answer receipts functions []).due) (sym out) (GrowsByFront-none outputs.out (check_answer receipts functions []).due);
 }
 
 -- ---- how it ends
 
-module _ (functions : DigestFunctions) (run : RunWords) (most : ℕ) (reading : Reading) (writing : Writing) (keeping : Keeping) where
+module _ (receipts : Bool) (functions : DigestFunctions) (run : RunWords) (most : ℕ) (reading : Reading) (writing : Writing) (keeping : Keeping) where
   -- memory was wanting
-  pub runs-memory : TookAtMost most reading.left reading.left_after → IsCutOff functions (outputs_of writing keeping)
+  pub runs-memory : TookAtMost most reading.left reading.left_after → IsCutOff receipts functions (outputs_of writing keeping)
       → IsNamedFor run.logs keeping.name keeping.name_after ⊎ IsUntouched keeping.name keeping.name_after (outputs_of writing keeping)
-      → RunsTo functions run most statuses.Memory reading writing keeping
+      → RunsTo receipts functions run most statuses.Memory reading writing keeping
   runs-memory within cut named = record {
     served = λ end. absurd end;
     due = λ end. absurd end;
@@ -106,7 +107,7 @@ module _ (functions : DigestFunctions) (run : RunWords) (most : ℕ) (reading : 
   -- the source failed
   pub runs-read_fault : TookAtMost most reading.left reading.left_after → Rose reading.faults reading.faults_after
       → IsUntouched keeping.name keeping.name_after (outputs_of writing keeping)
-      → RunsTo functions run most statuses.ReadFault reading writing keeping
+      → RunsTo receipts functions run most statuses.ReadFault reading writing keeping
   runs-read_fault within rose untouched = record {
     served = λ end. absurd end;
     due = λ end. absurd end;
@@ -135,7 +136,7 @@ module _ (functions : DigestFunctions) (run : RunWords) (most : ℕ) (reading : 
   -- the source gave too much
   pub runs-limit : TookJust (most + 1) reading.left reading.left_after
       → IsUntouched keeping.name keeping.name_after (outputs_of writing keeping)
-      → RunsTo functions run most (statuses.InputLimit most) reading writing keeping
+      → RunsTo receipts functions run most (statuses.InputLimit most) reading writing keeping
   runs-limit just untouched = record {
     served = λ end. absurd end;
     due = λ end. absurd end;
@@ -164,7 +165,7 @@ module _ (functions : DigestFunctions) (run : RunWords) (most : ℕ) (reading : 
   -- what was read is no script
   pub runs-bad_script : (line : ℕ) (cause : Cause) → TookAtMost most reading.left reading.left_after → HasBadLine run.numbers.verifiers reading line cause
       → IsUntouched keeping.name keeping.name_after (outputs_of writing keeping)
-      → RunsTo functions run most (statuses.BadScript line cause) reading writing keeping
+      → RunsTo receipts functions run most (statuses.BadScript line cause) reading writing keeping
   runs-bad_script line cause within bad untouched = record {
     served = λ end. absurd end;
     due = λ end. absurd end;
@@ -193,9 +194,9 @@ module _ (functions : DigestFunctions) (run : RunWords) (most : ℕ) (reading : 
 
   -- the vault failed
   pub runs-vault_fault : (script : List (List Task)) → HasScript run.numbers.verifiers reading script → TookAtMost most reading.left reading.left_after
-      → IsCutOff functions (outputs_of writing keeping) → IsNamedFor run.logs keeping.name keeping.name_after ⊎ IsUntouched keeping.name keeping.name_after (outputs_of writing keeping)
+      → IsCutOff receipts functions (outputs_of writing keeping) → IsNamedFor run.logs keeping.name keeping.name_after ⊎ IsUntouched keeping.name keeping.name_after (outputs_of writing keeping)
       → Rose keeping.faults keeping.faults_after
-      → RunsTo functions run most statuses.VaultFault reading writing keeping
+      → RunsTo receipts functions run most statuses.VaultFault reading writing keeping
   runs-vault_fault script read within cut named rose = record {
     served = λ end. absurd end;
     due = λ end. absurd end;
@@ -219,9 +220,9 @@ module _ (functions : DigestFunctions) (run : RunWords) (most : ℕ) (reading : 
 
   -- the sink failed
   pub runs-write_fault : (script : List (List Task)) → HasScript run.numbers.verifiers reading script → TookAtMost most reading.left reading.left_after
-      → IsCutOff functions (outputs_of writing keeping) ⊎ IsCutAtEnd functions (settings_for run.numbers) script (outputs_of writing keeping)
+      → IsCutOff receipts functions (outputs_of writing keeping) ⊎ IsCutAtEnd receipts functions (settings_for run.numbers) script (outputs_of writing keeping)
       → IsNamedFor run.logs keeping.name keeping.name_after → Rose writing.faults writing.faults_after
-      → RunsTo functions run most statuses.WriteFault reading writing keeping
+      → RunsTo receipts functions run most statuses.WriteFault reading writing keeping
   runs-write_fault script read within cut named rose = record {
     served = λ end. absurd end;
     due = λ end. absurd end;
@@ -244,11 +245,11 @@ module _ (functions : DigestFunctions) (run : RunWords) (most : ℕ) (reading : 
       neither (inr is) = cc
 
   -- it served the script
-  pub runs-end : (result : Status) → IsEnd result → IsBehindScript result → EndsServed functions run result reading (outputs_of writing keeping)
-      → IsDueByCheck functions result (outputs_of writing keeping)
-      → ((epochs : ℕ) → result ≡ statuses.Done epochs → IsAnswerOfCheck functions result (outputs_of writing keeping))
+  pub runs-end : (result : Status) → IsEnd result → IsBehindScript result → EndsServed receipts functions run result reading (outputs_of writing keeping)
+      → IsDueByCheck receipts functions result (outputs_of writing keeping)
+      → ((epochs : ℕ) → result ≡ statuses.Done epochs → IsAnswerOfCheck receipts functions result (outputs_of writing keeping))
       → TookAtMost most reading.left reading.left_after → IsNamedFor run.logs keeping.name keeping.name_after
-      → RunsTo functions run most result reading writing keeping
+      → RunsTo receipts functions run most result reading writing keeping
   runs-end result end behind served due checked within named = record {
     served = λ _. served;
     due = λ _. due;
@@ -275,23 +276,23 @@ module _ (functions : DigestFunctions) (run : RunWords) (most : ℕ) (reading : 
   -- no script was read
   pub runs-unread : (stop : ScriptStop) → ReadsScript run.numbers.verifiers most (Err stop) reading
       → IsUntouched keeping.name keeping.name_after (outputs_of writing keeping)
-      → RunsTo functions run most (script_stopped most stop) reading writing keeping
+      → RunsTo receipts functions run most (script_stopped most stop) reading writing keeping
   runs-unread (scripts.Reading reads.Memory) read untouched =
-      runs-memory (read.within (λ is. cc)) (cut-none functions (outputs_of writing keeping) untouched.vault untouched.out) (inr untouched)
+      runs-memory (read.within (λ is. cc)) (cut-none receipts functions (outputs_of writing keeping) untouched.vault untouched.out) (inr untouched)
   runs-unread (scripts.Reading reads.ReadFault) read untouched = runs-read_fault (read.within (λ is. cc)) (read.fault refl) untouched
   runs-unread (scripts.Reading reads.InputLimit) read untouched = runs-limit (read.limit refl) untouched
   runs-unread (scripts.Script faults.Memory) read untouched =
-      runs-memory (read.within (λ is. cc)) (cut-none functions (outputs_of writing keeping) untouched.vault untouched.out) (inr untouched)
+      runs-memory (read.within (λ is. cc)) (cut-none receipts functions (outputs_of writing keeping) untouched.vault untouched.out) (inr untouched)
   runs-unread (scripts.Script (faults.BadScript line cause)) read untouched =
       runs-bad_script line cause (read.within (λ is. cc)) (read.bad line cause refl) untouched
 
   module _ (script : List (List Task)) (read : ReadsScript run.numbers.verifiers most (Ok script) reading) where
     -- it was not served to its end
-    pub runs-stopped : (stop : RoundStop) → ServesTo functions (settings_for run.numbers) script (Err stop) (outputs_of writing keeping)
+    pub runs-stopped : (stop : RoundStop) → ServesTo receipts functions (settings_for run.numbers) script (Err stop) (outputs_of writing keeping)
         → ((stop ≡ rounds.VaultFault → ⊥) → IsNamedFor run.logs keeping.name keeping.name_after)
         → IsNamedFor run.logs keeping.name keeping.name_after ⊎ IsUntouched keeping.name keeping.name_after (outputs_of writing keeping)
         → (stop ≡ rounds.VaultFault → Rose keeping.faults keeping.faults_after) → (stop ≡ rounds.WriteFault → Rose writing.faults writing.faults_after)
-        → RunsTo functions run most (run_stopped stop) reading writing keeping
+        → RunsTo receipts functions run most (run_stopped stop) reading writing keeping
     runs-stopped rounds.Memory served named first vault out = runs-memory (read.within (λ is. cc)) served first
     runs-stopped rounds.VaultFault served named first vault out = runs-vault_fault script read.script (read.within (λ is. cc)) served first (vault refl)
     runs-stopped rounds.WriteFault served named first vault out = runs-write_fault script read.script (read.within (λ is. cc)) served (named (λ is. cc)) (out refl)
@@ -299,12 +300,12 @@ module _ (functions : DigestFunctions) (run : RunWords) (most : ℕ) (reading : 
     -- it was
     pub runs-served : ((logs : List (List Command)) → AreOfRun functions (settings_for run.numbers) script logs None
         → end_due functions (settings_for run.numbers).header (texts_of logs) ≡ bundles.Done (length script))
-        → (end : RunEnd) → ServesTo functions (settings_for run.numbers) script (Ok end) (outputs_of writing keeping)
-        → IsNamedFor run.logs keeping.name keeping.name_after → RunsTo functions run most (status_at end) reading writing keeping
+        → (end : RunEnd) → ServesTo receipts functions (settings_for run.numbers) script (Ok end) (outputs_of writing keeping)
+        → IsNamedFor run.logs keeping.name keeping.name_after → RunsTo receipts functions run most (status_at end) reading writing keeping
     runs-served law end served named =
         runs-end (status_at end) (is_end end) (is_behind end) (record { script = script; read = read.script; end = end; is = refl; served = served })
-        (due-by-check functions (settings_for run.numbers) script (outputs_of writing keeping) end served)
-        (λ epochs done. answer-of-check functions (settings_for run.numbers) script (outputs_of writing keeping) law end epochs done served)
+        (due-by-check receipts functions (settings_for run.numbers) script (outputs_of writing keeping) end served)
+        (λ epochs done. answer-of-check receipts functions (settings_for run.numbers) script (outputs_of writing keeping) law end epochs done served)
         (read.within (λ is. cc)) named
       where
         is_end : (e : RunEnd) → IsEnd (status_at e)

@@ -1,5 +1,5 @@
 -- What the program answers to what it was asked.
-use Rattle.std.specs.Prelude.{◌≡◌, ◌⊎◌, ℕ, List, Option}
+use Rattle.std.specs.Prelude.{◌≡◌, ◌⊎◌, false, ℕ, List, Option}
 use Rattle.record_hash.specs.ShaDigests.{sha_under}
 use Rattle.program_words.specs.declared.words.Asked.{Asked}
 use Rattle.program_words.specs.declared.words.Asked.TheVariants.{Check, Audit, Run}
@@ -22,9 +22,9 @@ asked_key (Run run) = run.key
 -- What the program does, by what was asked, where it reads no more than so many bytes: the text and the status that a check
 -- or an audit answers to the source's bytes, and how a run serves them as a script.
 abbrev pub AnswersFor : Asked → ℕ → Status → Reading → Writing → Keeping → Type 0
-AnswersFor (Check key) most result reading writing keeping = AnswersTo (sha_check_answer key) reading_end most result reading writing
+AnswersFor (Check key) most result reading writing keeping = AnswersTo (sha_check_answer false key) reading_end most result reading writing
 AnswersFor (Audit key) most result reading writing keeping = AnswersTo (sha_audit_answer key) reading_end most result reading writing
-AnswersFor (Run run) most result reading writing keeping = RunsTo (sha_under run.key) run most result reading writing keeping
+AnswersFor (Run run) most result reading writing keeping = RunsTo false (sha_under run.key) run most result reading writing keeping
 
 -- a status that an audit can end with
 abbrev pub IsAuditStatus : Status → Type 0

@@ -1,5 +1,5 @@
 -- What an audit answers to bytes: what there is to exhibit, how the report of a check ends, and the status.
-use Rattle.std.specs.Prelude.{ℕ, List, [], ◌++◌}
+use Rattle.std.specs.Prelude.{ℕ, false, List, [], ◌++◌}
 use Rattle.record_hash.specs.Functions.{DigestFunctions}
 use Rattle.record_hash.specs.ShaDigests.{sha_under}
 use Rattle.record_text.specs.declared.exhibit.Exhibit.{Exhibit}
@@ -43,7 +43,7 @@ audit_of exhibit certified status =
 abbrev pub audit_answer_by : DigestFunctions → Logged → Answer
 audit_answer_by functions bundle =
     audit_of (exhibit_at functions bundle.header bundle.logs) (certified_at functions bundle.header bundle.logs)
-    (answer_by functions bundle).status
+    (answer_by false functions bundle).status
 
 -- What an audit answers to bytes, where the verifiers compute these functions.
 abbrev pub audit_answer : DigestFunctions → List ℕ → Answer

@@ -27,11 +27,12 @@ use verifier_threads::{RunEnd, serve_script};
 const HOST_CACHE: u32 = 128;
 
 /// Reads a script of no more than so many bytes to its end, names the vault if the words say so, and serves the script: the
-/// vault takes the bundle of the logs, and the sink its report.
+/// vault takes the bundle of the logs, and the sink its report, with receipts or without.
 pub fn run_script<D: Digests, S: Source, O: Sink, V: Vault, G: Gate>(
     alloc: Global,
     d: &D,
     run: &RunWords,
+    receipts: bool,
     limit: u64,
     source: &mut S,
     out: &mut O,
@@ -44,7 +45,7 @@ pub fn run_script<D: Digests, S: Source, O: Sink, V: Vault, G: Gate>(
     ensures outcomes { IsRunStatus result }
 
     // What was read, how it was served, what stands in vault and sink, and the faults.
-    ensures runs { RunsTo (D.functions d.now) run.now limit result
+    ensures runs { RunsTo receipts (D.functions d.now) run.now limit result
         (record { left = S.left source.old; left_after = S.left source.new; faults = S.faults source.old; faults_after = S.faults source.new })
         (record { held = O.held out.old; held_after = O.held out.new; faults = O.faults out.old; faults_after = O.faults out.new })
         (record { held = V.held vault.old; held_after = V.held vault.new; name = V.name vault.old; name_after = V.name vault.new; faults = V.faults vault.old; faults_after = V.faults vault.new }) }
@@ -60,7 +61,7 @@ pub fn run_script<D: Digests, S: Source, O: Sink, V: Vault, G: Gate>(
         Ok(requests) => requests,
         Err(stop) => return stop.status(limit),
     };
-    match serve(alloc, d, run, &requests, gate, vault, out) {
+    match serve(alloc, d, run, &requests, receipts, gate, vault, out) {
         Ok(end) => end.status(),
         Err(stop) => status_of(stop),
     }
@@ -72,6 +73,7 @@ fn serve<D: Digests, V: Vault, O: Sink, G: Gate>(
     d: &D,
     run: &RunWords,
     requests: &Requests,
+    receipts: bool,
     gate: &G,
     vault: &mut V,
     out: &mut O,
@@ -79,7 +81,7 @@ fn serve<D: Digests, V: Vault, O: Sink, G: Gate>(
     requires numbers { AreHostNumbers run.now.numbers }
     requires tasks { AreTasks run.now.numbers.verifiers requests.now }
     requires fresh { V.fresh vault.old }
-    ensures serves { ServesTo (D.functions d.now) (settings_for run.now.numbers) requests.now result
+    ensures serves { ServesTo receipts (D.functions d.now) (settings_for run.now.numbers) requests.now result
         (record { vault = V.held vault.old; vault_after = V.held vault.new; out = O.held out.old; out_after = O.held out.new }) }
     ensures named { result ≢ Err RoundStop.VaultFault → IsNamedFor run.now.logs (V.name vault.old) (V.name vault.new) }
     ensures named_first { IsNamedFor run.now.logs (V.name vault.old) (V.name vault.new) ⊎ IsUntouched (V.name vault.old) (V.name vault.new)
@@ -90,7 +92,7 @@ fn serve<D: Digests, V: Vault, O: Sink, G: Gate>(
     match name_vault(run, vault) {
         Ok(()) => {
             let settings = settings_for(&run.numbers);
-            serve_script(alloc, d, &settings, requests, gate, vault, out)
+            serve_script(alloc, d, &settings, requests, receipts, gate, vault, out)
         }
         Err(_) => Err(RoundStop::VaultFault),
     }

@@ -84,11 +84,19 @@ pub fn fastver<R: Threads + Wait + Sync, S: Source, O: Sink, V: Vault, G: Gate +
         → IfSome (S.left source.old) (CollidesFor asked) }
 {
     match read_words(alloc, words) {
-        Ok(Asked::Check(key)) => check(rt, alloc, &digests_under(&key), INPUT_LIMIT, source, out),
+        Ok(Asked::Check(key)) => check(
+            rt,
+            alloc,
+            &digests_under(&key),
+            INPUT_LIMIT,
+            source,
+            out,
+            false,
+        ),
         Ok(Asked::Audit(key)) => audit_text(alloc, &digests_under(&key), INPUT_LIMIT, source, out),
         Ok(Asked::Run(run)) => {
             let d = digests_under(&run.key);
-            run_script(alloc, &d, &run, INPUT_LIMIT, source, out, vault, gate)
+            run_script(alloc, &d, &run, false, INPUT_LIMIT, source, out, vault, gate)
         }
         Err(WordsFault::Usage) => Status::Usage,
         Err(WordsFault::Memory) => Status::Memory,

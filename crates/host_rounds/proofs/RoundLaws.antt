@@ -1,5 +1,5 @@
 -- What follows for those who serve round after round: what a check answers to the bundle, and what was written so far.
-use Rattle.std.proofs.Common.{◌≡◌, ℕ, zero, suc, List, [], ◌∷◌, ◌++◌, length, slice_get, Option, Some, refl, sym, ◌∙◌, ap, subst}
+use Rattle.std.proofs.Common.{◌≡◌, Bool, ℕ, zero, suc, List, [], ◌∷◌, ◌++◌, length, slice_get, Option, Some, refl, sym, ◌∙◌, ap, subst}
 use Rattle.fv_outside.specs.Written.{Grows, GrowsByFront}
 use Rattle.fv_outside.proofs.WrittenLaws.{GrowsByFront-whole, GrowsByFront-more}
 use Rattle.record_hash.specs.Functions.{DigestFunctions}
@@ -9,6 +9,7 @@ use Rattle.report_text.specs.Status.{last_line}
 use Rattle.report_text.specs.Ending.{status_of}
 use Rattle.bundle_report.specs.Logs.{joined_from}
 use Rattle.bundle_report.specs.Logged.{Logged}
+use Rattle.bundle_report.specs.Report.{EpochText, told_by}
 use Rattle.bundle_report.specs.Answer.{answer_by, check_answer}
 use Rattle.bundle_report.specs.RunReport.{courses_of}
 use Rattle.bundle_report.specs.SoFar.{lines_from}
@@ -20,41 +21,41 @@ use Rattle.host_rounds.proofs.BundleLemmas.{round-joined}
 
 -- ---- what a check answers to the bundle of logs
 
-module _ (functions : DigestFunctions) (header : Header) (logs : List (List ℕ)) (bytes : List ℕ) (bundle : IsBundle header logs bytes) where
-  pub bundle-due : (check_answer functions bytes).due ≡ lines_due functions header logs
-  bundle-due = ap (λ (logged : Logged). (answer_by functions logged).due) bundle.means
+module _ (receipts : Bool) (functions : DigestFunctions) (header : Header) (logs : List (List ℕ)) (bytes : List ℕ) (bundle : IsBundle header logs bytes) where
+  pub bundle-due : (check_answer receipts functions bytes).due ≡ lines_due (told_by receipts functions header) functions header logs
+  bundle-due = ap (λ (logged : Logged). (answer_by receipts functions logged).due) bundle.means
 
-  pub bundle-end : (check_answer functions bytes).status ≡ status_of (end_due functions header logs)
-  bundle-end = ap (λ (logged : Logged). (answer_by functions logged).status) bundle.means
+  pub bundle-end : (check_answer receipts functions bytes).status ≡ status_of (end_due functions header logs)
+  bundle-end = ap (λ (logged : Logged). (answer_by receipts functions logged).status) bundle.means
 
-  pub bundle-text : (check_answer functions bytes).text ≡ lines_due functions header logs ++ last_line (status_of (end_due functions header logs))
-  bundle-text = ap (λ (logged : Logged). (answer_by functions logged).text) bundle.means
+  pub bundle-text : (check_answer receipts functions bytes).text ≡ lines_due (told_by receipts functions header) functions header logs ++ last_line (status_of (end_due functions header logs))
+  bundle-text = ap (λ (logged : Logged). (answer_by receipts functions logged).text) bundle.means
 
 -- ---- what was written so far
 
 -- nothing, where no epoch is counted
-pub counted-none : (functions : DigestFunctions) (header : Header) (logs : List (List ℕ)) (so_far : RunsSoFar) → so_far.judged.count ≡ 0
-    → lines_counted functions header logs so_far ≡ []
-counted-none functions header logs so_far none = ap (lines_from (courses_of (scheme_of functions header) header logs) header.first) none
+pub counted-none : (tell : EpochText) (functions : DigestFunctions) (header : Header) (logs : List (List ℕ)) (so_far : RunsSoFar) → so_far.judged.count ≡ 0
+    → lines_counted tell functions header logs so_far ≡ []
+counted-none tell functions header logs so_far none = ap (lines_from tell (courses_of (scheme_of functions header) header logs) header.first) none
 
-module _ (functions : DigestFunctions) (header : Header) (logs : List (List ℕ)) (so_far : RunsSoFar) (have : HaveRun functions header logs so_far)
+module _ (tell : EpochText) (functions : DigestFunctions) (header : Header) (logs : List (List ℕ)) (so_far : RunsSoFar) (have : HaveRun functions header logs so_far)
     (round : List (List ℕ)) (before after : Option (List ℕ)) where
   -- the lines that are counted are a front of those that are due once a round more is taken
-  pub counted-front : Grows before after (lines_counted functions header logs so_far)
-      → GrowsByFront before after (lines_due functions header (logs_with logs round))
+  pub counted-front : Grows before after (lines_counted tell functions header logs so_far)
+      → GrowsByFront before after (lines_due tell functions header (logs_with logs round))
   counted-front written =
-      let front = lines-front (scheme_of functions header) header logs so_far.judged _ (pieces_of 0 round) have.taken in
-      subst (λ (all : List (List ℕ)). GrowsByFront before after (lines_due functions header all)) (round-joined 0 logs round)
+      let front = lines-front tell (scheme_of functions header) header logs so_far.judged _ (pieces_of 0 round) have.taken in
+      subst (λ (all : List (List ℕ)). GrowsByFront before after (lines_due tell functions header all)) (round-joined 0 logs round)
       (subst (GrowsByFront before after) front.1
-      (GrowsByFront-more before after (lines_counted functions header logs so_far) front.0 (GrowsByFront-whole before after _ written)))
+      (GrowsByFront-more before after (lines_counted tell functions header logs so_far) front.0 (GrowsByFront-whole before after _ written)))
 
   -- so is a front of those that are due
-  pub due-front : GrowsByFront before after (lines_due functions header logs)
-      → GrowsByFront before after (lines_due functions header (logs_with logs round))
+  pub due-front : GrowsByFront before after (lines_due tell functions header logs)
+      → GrowsByFront before after (lines_due tell functions header (logs_with logs round))
   due-front written =
-      let front = due-stays (scheme_of functions header) header logs (pieces_of 0 round) have.taken.header_good have.taken.whole in
-      subst (λ (all : List (List ℕ)). GrowsByFront before after (lines_due functions header all)) (round-joined 0 logs round)
-      (subst (GrowsByFront before after) front.1 (GrowsByFront-more before after (lines_due functions header logs) front.0 written))
+      let front = due-stays tell (scheme_of functions header) header logs (pieces_of 0 round) have.taken.header_good have.taken.whole in
+      subst (λ (all : List (List ℕ)). GrowsByFront before after (lines_due tell functions header all)) (round-joined 0 logs round)
+      (subst (GrowsByFront before after) front.1 (GrowsByFront-more before after (lines_due tell functions header logs) front.0 written))
 
 -- ---- logs with a round behind them
 

@@ -17,6 +17,7 @@ use Rattle.verifier_run.specs.Progress.{Progress, opening_progress, fed, weight}
 use Rattle.verifier_run.proofs.RunLaws.{fed_goes_on}
 use Rattle.bundle_report.specs.declared.judged.Judged.{Judged}
 use Rattle.bundle_report.specs.Logs.{joined_from}
+use Rattle.bundle_report.specs.Report.{EpochText}
 use Rattle.bundle_report.specs.RunReport.{courses_of}
 use Rattle.bundle_report.specs.Judged.{judged}
 use Rattle.bundle_report.specs.SoFar.{lines_from, left_from, opening_runs, runs_from, took, runs_behind, HaveTaken}
@@ -193,12 +194,12 @@ module _ (functions : DigestFunctions) (header : Header) (logs : List (List ℕ)
   }
 
   -- the lines that are counted stay
-  pub lines-stay : (round : List (List ℕ)) (now : RunsSoFar) → now.judged ≡ so_far.judged
-      → lines_counted functions header (logs_with logs round) now ≡ lines_counted functions header logs so_far
-  lines-stay round now same =
-      ap (λ (j : Judged). lines_from (courses_of own_scheme header (logs_with logs round)) header.first j.count) same
-      ∙ ap (λ (all : List (List ℕ)). lines_from (courses_of own_scheme header all) header.first so_far.judged.count) (sym (round-joined 0 logs round))
-      ∙ lines-taken own_scheme header logs so_far.judged (map (λ fed. fed.run) so_far.runs) (pieces_of 0 round) have.taken
+  pub lines-stay : (tell : EpochText) (round : List (List ℕ)) (now : RunsSoFar) → now.judged ≡ so_far.judged
+      → lines_counted tell functions header (logs_with logs round) now ≡ lines_counted tell functions header logs so_far
+  lines-stay tell round now same =
+      ap (λ (j : Judged). lines_from tell (courses_of own_scheme header (logs_with logs round)) header.first j.count) same
+      ∙ ap (λ (all : List (List ℕ)). lines_from tell (courses_of own_scheme header all) header.first so_far.judged.count) (sym (round-joined 0 logs round))
+      ∙ lines-taken tell own_scheme header logs so_far.judged (map (λ fed. fed.run) so_far.runs) (pieces_of 0 round) have.taken
 
   -- ---- certifying
 
@@ -206,23 +207,23 @@ module _ (functions : DigestFunctions) (header : Header) (logs : List (List ℕ)
   courses = courses_of own_scheme header logs
 
   -- what was counted, and the lines behind it up to so many epochs
-  lines_to : (count : ℕ) → so_far.judged.count ≤ count
-      → lines_counted functions header logs so_far ++ lines_from courses (header.first + so_far.judged.count) (count - so_far.judged.count)
-      ≡ lines_from courses header.first count
-  lines_to count within =
+  lines_to : (tell : EpochText) (count : ℕ) → so_far.judged.count ≤ count
+      → lines_counted tell functions header logs so_far ++ lines_from tell courses (header.first + so_far.judged.count) (count - so_far.judged.count)
+      ≡ lines_from tell courses header.first count
+  lines_to tell count within =
       let sum : so_far.judged.count + (count - so_far.judged.count) ≡ count = omega (arith, within) in
-      sym (lines-behind courses header.first so_far.judged.count (count - so_far.judged.count)) ∙ ap (lines_from courses header.first) sum
+      sym (lines-behind tell courses header.first so_far.judged.count (count - so_far.judged.count)) ∙ ap (lines_from tell courses header.first) sum
 
   within_all : so_far.judged.count ≤ (judged header.verifiers courses).count
   within_all = counted-within own_scheme header logs so_far.judged (map (λ fed. fed.run) so_far.runs) have.taken
 
   -- a front of what is due was written
-  pub front-due : (held before after : Option (List ℕ)) → Grows held before (lines_counted functions header logs so_far)
-      → GrowsByFront before after (lines_from courses (header.first + so_far.judged.count) ((judged header.verifiers courses).count - so_far.judged.count))
-      → GrowsByFront held after (lines_due functions header logs)
-  front-due held before after written front =
+  pub front-due : (tell : EpochText) (held before after : Option (List ℕ)) → Grows held before (lines_counted tell functions header logs so_far)
+      → GrowsByFront before after (lines_from tell courses (header.first + so_far.judged.count) ((judged header.verifiers courses).count - so_far.judged.count))
+      → GrowsByFront held after (lines_due tell functions header logs)
+  front-due tell held before after written front =
       subst (GrowsByFront held after)
-      (lines_to (judged header.verifiers courses).count within_all ∙ lines-certified own_scheme header logs have.taken.header_good have.taken.whole)
+      (lines_to tell (judged header.verifiers courses).count within_all ∙ lines-certified tell own_scheme header logs have.taken.header_good have.taken.whole)
       (GrowsByFront-then held before after _ _ written front)
 
   module _ (now : RunsSoFar) (taken : HaveTaken own_scheme header logs now.judged (map (λ fed. fed.run) now.runs)) where
@@ -233,17 +234,17 @@ module _ (functions : DigestFunctions) (header : Header) (logs : List (List ℕ)
       few = subst (λ (bytes : ℕ). AllByRecursion (λ fed. weight fed.run ≤ bytes) now.runs) (sym same) (runs_weights functions header logs so_far now have taken);
     }
 
-    pub counted-due : now.judged ≡ judged header.verifiers courses → lines_counted functions header logs now ≡ lines_due functions header logs
-    counted-due all = lines-due own_scheme header logs now.judged (map (λ fed. fed.run) now.runs) taken all
+    pub counted-due : (tell : EpochText) → now.judged ≡ judged header.verifiers courses → lines_counted tell functions header logs now ≡ lines_due tell functions header logs
+    counted-due tell all = lines-due tell own_scheme header logs now.judged (map (λ fed. fed.run) now.runs) taken all
 
     -- all that is due was written
-    pub all-due : (held before after : Option (List ℕ)) → now.judged ≡ judged header.verifiers courses
-        → Grows held before (lines_counted functions header logs so_far)
-        → Grows before after (lines_from courses (header.first + so_far.judged.count) (now.judged.count - so_far.judged.count))
-        → Grows held after (lines_due functions header logs)
-    all-due held before after all written more =
+    pub all-due : (tell : EpochText) (held before after : Option (List ℕ)) → now.judged ≡ judged header.verifiers courses
+        → Grows held before (lines_counted tell functions header logs so_far)
+        → Grows before after (lines_from tell courses (header.first + so_far.judged.count) (now.judged.count - so_far.judged.count))
+        → Grows held after (lines_due tell functions header logs)
+    all-due tell held before after all written more =
         subst (Grows held after)
-        (lines_to now.judged.count (omega (arith, within_all, ap (λ (j : Judged). j.count) all)) ∙ counted-due all)
+        (lines_to tell now.judged.count (omega (arith, within_all, ap (λ (j : Judged). j.count) all)) ∙ counted-due tell all)
         (Grows-then held before after _ _ written more)
 
 -- ---- the runs before the first round

@@ -10,6 +10,7 @@ use Rattle.record_text.specs.Format.{format_of}
 use Rattle.report_text.specs.declared.ending.BundleEnd.{BundleEnd}
 use Rattle.verifier_run.specs.Progress.{weight}
 use Rattle.bundle_report.specs.declared.judged.Judged.{Judged}
+use Rattle.bundle_report.specs.Report.{EpochText}
 use Rattle.bundle_report.specs.BundleReport.{certified_lines, histories_at, end_of}
 use Rattle.bundle_report.specs.Judged.{judged}
 use Rattle.bundle_report.specs.RunReport.{courses_of}
@@ -44,12 +45,12 @@ abbrev pub AllCounted : DigestFunctions → Header → List (List ℕ) → RunsS
 AllCounted functions header logs so_far = so_far.judged ≡ judged header.verifiers (courses_of (scheme_of functions header) header logs)
 
 -- the lines of the epochs that are counted
-abbrev pub lines_counted : DigestFunctions → Header → List (List ℕ) → RunsSoFar → List ℕ
-lines_counted functions header logs so_far = lines_from (courses_of (scheme_of functions header) header logs) header.first so_far.judged.count
+abbrev pub lines_counted : EpochText → DigestFunctions → Header → List (List ℕ) → RunsSoFar → List ℕ
+lines_counted tell functions header logs so_far = lines_from tell (courses_of (scheme_of functions header) header logs) header.first so_far.judged.count
 
 -- the lines of all epochs that logs certify
-abbrev pub lines_due : DigestFunctions → Header → List (List ℕ) → List ℕ
-lines_due functions header logs = certified_lines (scheme_of functions header) header (histories_at (scheme_of functions header) header logs)
+abbrev pub lines_due : EpochText → DigestFunctions → Header → List (List ℕ) → List ℕ
+lines_due tell functions header logs = certified_lines tell (scheme_of functions header) header (histories_at (scheme_of functions header) header logs)
 
 -- how the report of logs ends, with nothing bad in their bundle
 abbrev pub end_due : DigestFunctions → Header → List (List ℕ) → BundleEnd

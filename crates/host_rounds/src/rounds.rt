@@ -9,6 +9,8 @@ ghost use Rattle.report_text.specs.Ending.{status_of};
 ghost use Rattle.report_text.specs.Status.{last_line};
 ghost use Rattle.bundle_frames.specs.Bundle.{header_text};
 ghost use Rattle.bundle_report.specs.Logs.{empty_logs};
+ghost use Rattle.bundle_report.specs.Report.{EpochText};
+ghost use Rattle.certified_epochs.specs.Telling.{text_by};
 ghost use Rattle.host_log.specs.Frames.{pieces_text};
 ghost use Rattle.host_rounds.specs.Round.{logs_with, pieces_of};
 ghost use Rattle.host_rounds.specs.Bundle.{HasFront};
@@ -20,7 +22,7 @@ use crate::laws::rounds_make_a_bundle;
 use crate::opening::open_runs;
 use crate::stops::RoundStop;
 use bundle_frames::write_header;
-use certified_epochs::{Certifier, FedRun};
+use certified_epochs::{Certifier, FedRun, Telling};
 use fv_outside::Sink;
 use host_log::LogBuffer;
 use lamport_clocks::Header;
@@ -92,8 +94,8 @@ impl Rounds {
             → Keeps (D.functions d.now) header before self.old held (V.held vault.old)
             → OnOk result (Keeps (D.functions d.now) header (logs_with before logs.now) self.new held (V.held vault.new)) }
         ensures counted { OnOk result (self.new.judged ≡ self.old.judged) }
-        ensures lines { (functions : DigestFunctions) (header : Header) (before : List (List ℕ)) → HaveRun functions header before self.old
-            → OnOk result (lines_counted functions header (logs_with before logs.now) self.new ≡ lines_counted functions header before self.old) }
+        ensures lines { (tell : EpochText) (functions : DigestFunctions) (header : Header) (before : List (List ℕ)) → HaveRun functions header before self.old
+            → OnOk result (lines_counted tell functions header (logs_with before logs.now) self.new ≡ lines_counted tell functions header before self.old) }
         ensures runs { OnOk result (length self.new.runs ≡ length self.old.runs) }
 
         // Where it stops, the vault has a front of their bundle; at want of memory that may be the whole. What it had before
@@ -116,7 +118,11 @@ impl Rounds {
     }
 
     /// Writes the lines of all epochs that the runs now certify and that are not written yet.
-    pub fn certify<O: Sink>(&mut self, out: &mut O) -> Result<(), RoundStop>
+    pub fn certify<D: Digests, O: Sink>(
+        &mut self,
+        telling: &Telling<D>,
+        out: &mut O,
+    ) -> Result<(), RoundStop>
         requires runs { HaveRunSome self.old }
         ensures runs { (functions : DigestFunctions) (header : Header) (logs : List (List ℕ)) → HaveRun functions header logs self.old
             → OnOk result (HaveRun functions header logs self.new) }
@@ -125,21 +131,21 @@ impl Rounds {
 
         // Of a sink that grew by the lines of the epochs that were counted: it grew by all lines that are due.
         ensures due { (functions : DigestFunctions) (header : Header) (logs : List (List ℕ)) (held : Option (List ℕ))
-            → HaveRun functions header logs self.old → Grows held (O.held out.old) (lines_counted functions header logs self.old)
-            → OnOk result (Grows held (O.held out.new) (lines_due functions header logs)) }
-        ensures counted { (functions : DigestFunctions) (header : Header) (logs : List (List ℕ)) → HaveRun functions header logs self.old
-            → OnOk result (lines_counted functions header logs self.new ≡ lines_due functions header logs) }
+            → HaveRun functions header logs self.old → Grows held (O.held out.old) (lines_counted (text_by D.functions telling.now) functions header logs self.old)
+            → OnOk result (Grows held (O.held out.new) (lines_due (text_by D.functions telling.now) functions header logs)) }
+        ensures counted { (tell : EpochText) (functions : DigestFunctions) (header : Header) (logs : List (List ℕ)) → HaveRun functions header logs self.old
+            → OnOk result (lines_counted tell functions header logs self.new ≡ lines_due tell functions header logs) }
         ensures len { length self.new.runs ≡ length self.old.runs }
 
         // Where it stops, by a front of them.
         ensures front { (functions : DigestFunctions) (header : Header) (logs : List (List ℕ)) (held : Option (List ℕ))
-            → HaveRun functions header logs self.old → Grows held (O.held out.old) (lines_counted functions header logs self.old)
-            → OnErr result (GrowsByFront held (O.held out.new) (lines_due functions header logs)) }
+            → HaveRun functions header logs self.old → Grows held (O.held out.old) (lines_counted (text_by D.functions telling.now) functions header logs self.old)
+            → OnErr result (GrowsByFront held (O.held out.new) (lines_due (text_by D.functions telling.now) functions header logs)) }
         ensures stop { result ≢ Err RoundStop.VaultFault }
         ensures write_fault { result ≡ Err RoundStop.WriteFault → Rose (O.faults out.old) (O.faults out.new) }
         ensures never_falls { O.faults out.old ≤ O.faults out.new }
     {
-        self.certifier.certify(&mut self.runs, out)?;
+        self.certifier.certify(&mut self.runs, telling, out)?;
         Ok(())
     }
 

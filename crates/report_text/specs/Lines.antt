@@ -3,7 +3,9 @@ use Rattle.std.specs.Prelude.{ℕ, Bool, true, false, List, [], ◌∷◌, ◌++
 use Rattle.std.specs.Fmt.{decimal}
 use Rattle.hex.specs.Hex.{encode_lower}
 use Rattle.lamport_clocks.specs.declared.stamp.Stamp.{Stamp}
+use Rattle.record_hash.specs.Functions.{DigestFunctions}
 use Rattle.record_text.specs.declared.operation.Operation.{Operation}
+use Rattle.receipts.specs.Receipts.{receipt_text, certificate_text, tagged}
 
 -- the end of a line
 abbrev pub line_end : List ℕ
@@ -31,3 +33,11 @@ command_words true = codes " put "
 -- when, by which verifier, what was done, to which key, with which value
 abbrev pub operation_line : Operation → List ℕ
 operation_line op = stamp_words op.stamp ++ codes " v" ++ decimal op.verifier ++ command_words op.put ++ decimal op.key ++ codes " " ++ blob_words op.value ++ line_end
+
+-- the receipt of an operation: its text and the text's tag, as lower-case digits
+abbrev pub receipt_line : DigestFunctions → Operation → List ℕ
+receipt_line functions op = codes "receipt " ++ encode_lower (tagged functions (receipt_text op)) ++ line_end
+
+-- the certificate of the epochs from the first up to the last: its text and the text's tag, as lower-case digits
+abbrev pub certificate_line : DigestFunctions → ℕ → ℕ → List ℕ
+certificate_line functions first last = codes "certificate " ++ encode_lower (tagged functions (certificate_text first last)) ++ line_end

@@ -5,7 +5,6 @@ ghost use Rattle.hex.specs.Hex.{encode_lower};
 ghost use Rattle.arrayvec.specs.ArrayVec.{array_vec_len};
 
 use arrayvec::ArrayVec;
-use record_text::LONGEST_ELEMENT_TEXT;
 
 /// Adds a text.
 pub(crate) fn push_text<const ROOM: usize>(line: &mut ArrayVec<u8, ROOM>, text: &[u8])
@@ -26,14 +25,13 @@ pub(crate) fn push_decimal<const ROOM: usize>(line: &mut ArrayVec<u8, ROOM>, num
     push_text(line, buffer.format(number).as_bytes());
 }
 
-/// Adds bytes, at most those of an element's text, as lower-case digits.
+/// Adds bytes as lower-case digits.
 pub(crate) fn push_hex<const ROOM: usize>(line: &mut ArrayVec<u8, ROOM>, bytes: &[u8])
-    requires few { length bytes.now ≤ LONGEST_ELEMENT_TEXT }
     requires room { array_vec_len line.old + 2 * length bytes.now ≤ ROOM }
     ensures appended { line.new.items ≡ line.old.items ++ encode_lower bytes.now }
     ensures len { array_vec_len line.new ≡ array_vec_len line.old + 2 * length bytes.now }
 {
-    let mut digits = [0; 2 * LONGEST_ELEMENT_TEXT];
+    let mut digits = [0; ROOM];
     encode(bytes, &mut digits[..2 * bytes.len()]);
     push_text(line, &digits[..2 * bytes.len()]);
 }

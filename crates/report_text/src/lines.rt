@@ -12,10 +12,15 @@ use crate::status::Status;
 use arrayvec::ArrayVec;
 use fv_outside::{Failed, Sink, write_all};
 use lamport_clocks::Stamp;
+use receipts::{certificate, issue};
+use record_hash::Digests;
 use record_text::{Blob, Operation};
 
-/// Room for the longest line, and a little more.
+/// Room for the longest line but that of a receipt, and a little more.
 pub const LONGEST_LINE: usize = 224;
+
+/// Room for the line of the longest receipt, and a little more.
+pub const RECEIPT_LINE_ROOM: usize = 264;
 
 /// The head line of a certified epoch with so many operations.
 pub fn epoch_line(epoch: u32, count: u64) -> ArrayVec<u8, LONGEST_LINE>
@@ -42,6 +47,32 @@ pub fn operation_line(op: &Operation) -> ArrayVec<u8, LONGEST_LINE>
     push_decimal(&mut line, op.key);
     push_text(&mut line, b" ");
     push_blob(&mut line, &op.value);
+    push_text(&mut line, b"\n");
+    line
+}
+
+/// The line of an operation's receipt.
+pub fn receipt_line<D: Digests>(digests: &D, op: &Operation) -> ArrayVec<u8, RECEIPT_LINE_ROOM>
+    ensures text { result.items ≡ words.receipt_line (D.functions digests.now) op.now }
+{
+    let mut line = ArrayVec::new();
+    push_text(&mut line, b"receipt ");
+    push_hex(&mut line, issue(digests, op).as_slice());
+    push_text(&mut line, b"\n");
+    line
+}
+
+/// The line of the certificate of the epochs from the first up to the last.
+pub fn certificate_line<D: Digests>(
+    digests: &D,
+    first: u32,
+    last: u32,
+) -> ArrayVec<u8, LONGEST_LINE>
+    ensures text { result.items ≡ words.certificate_line (D.functions digests.now) first last }
+{
+    let mut line = ArrayVec::new();
+    push_text(&mut line, b"certificate ");
+    push_hex(&mut line, certificate(digests, first, last).as_slice());
     push_text(&mut line, b"\n");
     line
 }

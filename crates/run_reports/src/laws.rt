@@ -17,6 +17,7 @@ ghost use Rattle.host_core.specs.World.{logs_of, worker_at};
 ghost use Rattle.host_core.specs.WorldEvent.{HasAdvanced, IsPhaseOver};
 ghost use Rattle.host_core.specs.Deeds.{answers_in};
 ghost use Rattle.host_core.specs.Core.{histories};
+ghost use Rattle.bundle_report.specs.Report.{EpochText};
 ghost use Rattle.host_rounds.specs.SoFar.{lines_due, end_due};
 ghost use Rattle.run_reports.specs.Runs.{texts_of, HoldsOfRuns};
 
@@ -49,7 +50,7 @@ pub fn a_check_of_the_logs_ends_as_the_host_promises()
 /// with no commands are such logs.
 pub fn logs_of_no_bytes_certify_nothing()
     ensures end { (functions : DigestFunctions) (header : Header) → end_due functions header (replicate header.verifiers []) ≡ Done 0 }
-    ensures lines { (functions : DigestFunctions) (header : Header) → lines_due functions header (replicate header.verifiers []) ≡ [] }
+    ensures lines { (tell : EpochText) (functions : DigestFunctions) (header : Header) → lines_due tell functions header (replicate header.verifiers []) ≡ [] }
     ensures texts { (count : ℕ) → texts_of (replicate count []) ≡ replicate count [] }
 {}
 

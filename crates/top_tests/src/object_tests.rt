@@ -157,13 +157,13 @@ fn no_more_is_read_than_the_limit(rt: HostRuntime) -> Result<(), Fail> {
     for piece in [1, 40, 1000] {
         let mut source = MemorySource::new(rt.alloc(), &bytes, piece, &[])?;
         let mut out = MemorySink::new(rt.alloc(), 10_000, piece, &[])?;
-        let status = check(&rt, rt.alloc(), &d, 50, &mut source, &mut out);
+        let status = check(&rt, rt.alloc(), &d, 50, &mut source, &mut out, false);
         assert!(rt; out.bytes().is_empty());
         assert_eq!(rt; status, Status::InputLimit { taken: 50 });
         assert_eq!(rt; source.left().len(), 65);
         let mut source = MemorySource::new(rt.alloc(), &bytes, piece, &[])?;
         let mut out = MemorySink::new(rt.alloc(), 10_000, piece, &[])?;
-        let status = check(&rt, rt.alloc(), &d, 116, &mut source, &mut out);
+        let status = check(&rt, rt.alloc(), &d, 116, &mut source, &mut out, false);
         assert_eq!(rt; out.bytes(), REPORT.as_bytes());
         assert_eq!(rt; status, Status::Done { epochs: 1 });
         assert_eq!(rt; source.left().len(), 0);
@@ -187,14 +187,14 @@ fn nothing_is_read_behind_what_is_bad(rt: HostRuntime) -> Result<(), Fail> {
     ] {
         let mut source = MemorySource::new(rt.alloc(), &bytes, piece, &[])?;
         let mut out = MemorySink::new(rt.alloc(), 10_000, piece, &[])?;
-        let status = check(&rt, rt.alloc(), &d, limit, &mut source, &mut out);
+        let status = check(&rt, rt.alloc(), &d, limit, &mut source, &mut out, false);
         assert_eq!(rt; out.bytes(), report.as_bytes());
         assert_eq!(rt; status, Status::BadBundle { offset: 116 });
         assert_eq!(rt; source.left().len(), left);
     }
     let mut source = MemorySource::new(rt.alloc(), &bytes, 1000, &[])?;
     let mut out = MemorySink::new(rt.alloc(), 10_000, 1000, &[])?;
-    let status = check(&rt, rt.alloc(), &d, 121, &mut source, &mut out);
+    let status = check(&rt, rt.alloc(), &d, 121, &mut source, &mut out, false);
     assert_eq!(rt; status, Status::InputLimit { taken: 121 });
     assert_eq!(rt; out.bytes(), LINES.as_bytes());
     assert_eq!(rt; source.left().len(), 100);
@@ -217,7 +217,7 @@ fn a_failed_read_is_the_last(rt: HostRuntime) -> Result<(), Fail> {
     ] {
         let mut source = MemorySource::new(rt.alloc(), &bytes, 10, &[first, second])?;
         let mut out = MemorySink::new(rt.alloc(), 10_000, 10, &[])?;
-        let status = check(&rt, rt.alloc(), &d, 1 << 40, &mut source, &mut out);
+        let status = check(&rt, rt.alloc(), &d, 1 << 40, &mut source, &mut out, false);
         assert_eq!(rt; status, Status::ReadFault);
         assert_eq!(rt; source.faults(), 1);
         assert_eq!(rt; source.left().len(), left);

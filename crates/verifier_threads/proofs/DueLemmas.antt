@@ -1,5 +1,5 @@
 -- What the bundle of logs certifies stays due, whatever bytes follow it.
-use Rattle.std.proofs.Common.{◌≡◌, ℕ, zero, suc, ◌+◌, ◌^◌, ◌<◌, ◌≤◌, List, [], ◌∷◌, ◌++◌, length, drop, Option, Some, None, refl, sym, ◌∙◌, ap, subst, append_assoc, length-append, arith}
+use Rattle.std.proofs.Common.{◌≡◌, Bool, ℕ, zero, suc, ◌+◌, ◌^◌, ◌<◌, ◌≤◌, List, [], ◌∷◌, ◌++◌, length, drop, Option, Some, None, refl, sym, ◌∙◌, ap, subst, append_assoc, length-append, arith}
 use Rattle.std.proofs.Math.Seq.{drop-append_seam}
 use Rattle.std.specs.List.{flat_map, AllByRecursion}
 use Rattle.std.proofs.lemmas.List.{length-drop}
@@ -11,6 +11,7 @@ use Rattle.merkle_records.specs.Scheme.{scheme_of}
 use Rattle.bundle_frames.specs.Bundle.{Frame, Frames, Bundle, IsFrame, header_bytes, header_text, header_in, longest_body, frame_in, frame_text, frame_bytes, frames_behind, with_frame, frames_up_to, frames_from, bundle_of, bundle_behind, body_for, log_of}
 use Rattle.bundle_report.specs.Logs.{empty_logs, joined_from}
 use Rattle.bundle_report.specs.Logged.{Logged, behind, logged_of}
+use Rattle.bundle_report.specs.Report.{told_by}
 use Rattle.bundle_report.specs.Answer.{answer_by, check_answer}
 use Rattle.bundle_report.proofs.DueLaws.{due-stays}
 use Rattle.host_log.specs.Frames.{frames_of, texts_of, frames_text, frames_of_pieces, pieces_text}
@@ -131,9 +132,9 @@ abbrev bundle_with : Header → Frames → Bundle
 bundle_with header found = record { header = Some header; frames = found.frames; bad = found.bad }
 
 module _ (enough : AreEnough) (back : AreReadBack) (heads : HeadsAreRead) (are : AreFrames) (keep : KeepLogs) where
-  pub what-stays_due : (functions : DigestFunctions) (header : Header) (logs : List (List ℕ)) (bytes more : List ℕ) → IsBundle header logs bytes
-      → (rest : List ℕ) × ((check_answer functions (bytes ++ more)).due ≡ lines_due functions header logs ++ rest)
-  what-stays_due functions header logs bytes more bundle =
+  pub what-stays_due : (receipts : Bool) (functions : DigestFunctions) (header : Header) (logs : List (List ℕ)) (bytes more : List ℕ) → IsBundle header logs bytes
+      → (rest : List ℕ) × ((check_answer receipts functions (bytes ++ more)).due ≡ lines_due (told_by receipts functions header) functions header logs ++ rest)
+  what-stays_due receipts functions header logs bytes more bundle =
       let frames = frames_of_pieces bundle.pieces in
       let empty = empty_logs header.verifiers in
       let behind_it = texts_of frames ++ more in
@@ -151,9 +152,9 @@ module _ (enough : AreEnough) (back : AreReadBack) (heads : HeadsAreRead) (are :
       ∙ ap (λ (front : List (List ℕ)). joined_from 0 front found.0.frames)
       (joined-same 0 empty frames bundle.pieces (λ verifier. keep verifier bundle.pieces) ∙ sym bundle.logs_are) in
       let whole : length logs ≡ header.verifiers = ap length bundle.logs_are ∙ joined-length 0 empty bundle.pieces ∙ empty-length header.verifiers in
-      let stays = due-stays (scheme_of functions header) header logs found.0.frames bundle.header_good whole in (
+      let stays = due-stays (told_by receipts functions header) (scheme_of functions header) header logs found.0.frames bundle.header_good whole in (
         stays.0,
-        ap (λ (b : Bundle). (answer_by functions (behind None [] b)).due) is
-            ∙ ap (lines_due functions header) logs_are
+        ap (λ (b : Bundle). (answer_by receipts functions (behind None [] b)).due) is
+            ∙ ap (lines_due (told_by receipts functions header) functions header) logs_are
             ∙ sym stays.1,
       )

@@ -1,5 +1,5 @@
 -- Where a run ends: what is served, and what its report says.
-use Rattle.std.proofs.Common.{◌≡◌, ◌^◌, ◌-◌, ℕ, zero, suc, ◌<◌, ◌≤◌, false, List, [], ◌∷◌, ◌++◌, length, map, get_or, replicate, Option, Some, None, inl, inr, refl, sym, ◌∙◌, ap, subst, arith}
+use Rattle.std.proofs.Common.{◌≡◌, Bool, ◌^◌, ◌-◌, ℕ, zero, suc, ◌<◌, ◌≤◌, false, List, [], ◌∷◌, ◌++◌, length, map, get_or, replicate, Option, Some, None, inl, inr, refl, sym, ◌∙◌, ap, subst, arith}
 use Rattle.std.specs.List.{AllByRecursion}
 use Rattle.std.proofs.lemmas.List.{length-map, length-replicate}
 use Rattle.fv_outside.specs.Written.{Grows, GrowsByFront}
@@ -17,6 +17,7 @@ use Rattle.report_text.specs.Ending.{status_of}
 use Rattle.report_text.specs.Status.{last_line}
 use Rattle.merkle_records.specs.Scheme.{scheme_of}
 use Rattle.bundle_report.specs.Logs.{empty_logs}
+use Rattle.bundle_report.specs.Report.{told_by}
 use Rattle.bundle_report.specs.Answer.{check_answer}
 use Rattle.bundle_report.proofs.DueLaws.{lines-due}
 use Rattle.host_core.specs.Host.{Host}
@@ -88,11 +89,11 @@ pub record IsRunningFrom (functions : DigestFunctions) (settings : Settings) (sc
   pub count : length world.workers ≡ settings.header.verifiers
 
 -- the run before its first phase
-pub running-new : (functions : DigestFunctions) (settings : Settings) (script : List (List Task)) (world : World Content) (rounds : RunsSoFar) (vault vault_after out : Option (List ℕ))
+pub running-new : (receipts : Bool) (functions : DigestFunctions) (settings : Settings) (script : List (List Task)) (world : World Content) (rounds : RunsSoFar) (vault vault_after out : Option (List ℕ))
     → IsRunningFrom functions settings script world → Keeps functions settings.header (empty_logs settings.header.verifiers) rounds vault vault_after
     → rounds.judged.count ≡ 0
-    → IsRunning functions settings script world rounds None (record { vault = vault; vault_after = vault_after; out = out; out_after = out })
-running-new functions settings script world rounds vault vault_after out from keeps none' =
+    → IsRunning receipts functions settings script world rounds None (record { vault = vault; vault_after = vault_after; out = out; out_after = out })
+running-new receipts functions settings script world rounds vault vault_after out from keeps none' =
     let host = shipped_host functions settings script in
     let logs = replicate settings.header.verifiers [] in
     let texts = texts-none settings.header.verifiers in
@@ -106,7 +107,7 @@ running-new functions settings script world rounds vault vault_after out from ke
           (sym (ap (λ (workers : List Worker). record world { workers = workers }) (before_each-none settings.header.verifiers world.workers) ∙ from.is))
           (leads-none host (set_up host));
       keeps = subst (λ (all : List (List ℕ)). Keeps functions settings.header all rounds vault vault_after) (sym texts) keeps;
-      written = subst (Grows out out) (sym (counted-none functions settings.header (texts_of logs) rounds none')) (Grows-nil out);
+      written = subst (Grows out out) (sym (counted-none (told_by receipts functions settings.header) functions settings.header (texts_of logs) rounds none')) (Grows-nil out);
     }
 
 -- ---- the script's turns
@@ -137,8 +138,8 @@ ChecksAsDone = (functions : DigestFunctions) (settings : Settings) (script : Lis
     → end_due host.functions host.header (texts_of (logs_of (run_events host (set_up host) events)))
     ≡ Done (suc (run_events host (set_up host) events).phase)
 
-module _ (functions : DigestFunctions) (settings : Settings) (script : List (List Task)) (world : World Content) (rounds : RunsSoFar)
-    (end : Option ClockEnd) (outputs : Outputs) (running : IsRunning functions settings script world rounds end outputs)
+module _ (receipts : Bool) (functions : DigestFunctions) (settings : Settings) (script : List (List Task)) (world : World Content) (rounds : RunsSoFar)
+    (end : Option ClockEnd) (outputs : Outputs) (running : IsRunning receipts functions settings script world rounds end outputs)
     (at : IsAtEnd (shipped_host functions settings script) world end) where
   abbrev own_host : Host Content Request
   own_host = shipped_host functions settings script
@@ -182,45 +183,45 @@ module _ (functions : DigestFunctions) (settings : Settings) (script : List (Lis
 
   module _ (all : AllCounted functions settings.header (texts_of running.logs) rounds) where
     -- all that is due is written
-    due-written : Grows outputs.out outputs.out_after (lines_due functions settings.header (texts_of running.logs))
+    due-written : Grows outputs.out outputs.out_after (lines_due (told_by receipts functions settings.header) functions settings.header (texts_of running.logs))
     due-written =
         subst (Grows outputs.out outputs.out_after)
-        (lines-due (scheme_of functions settings.header) settings.header (texts_of running.logs) rounds.judged (map (λ fed. fed.run) rounds.runs) running.keeps.runs.taken all)
+        (lines-due (told_by receipts functions settings.header) (scheme_of functions settings.header) settings.header (texts_of running.logs) rounds.judged (map (λ fed. fed.run) rounds.runs) running.keeps.runs.taken all)
         running.written
 
     -- the last line is written
     pub ended-served : (out' : Option (List ℕ)) (result : RunEnd) → result ≡ end_by (length script) end
         → Grows outputs.out_after out' (last_line (status_at result))
-        → IsServed functions settings script result (record outputs { out_after = out' })
+        → IsServed receipts functions settings script result (record outputs { out_after = out' })
     ended-served out' result is written = record {
       logs = running.logs;
       end = end;
       run = ended-run;
       is = is;
       vault = running.keeps.vault;
-      out = Grows-then outputs.out outputs.out_after out' (lines_due functions settings.header (texts_of running.logs)) (last_line (status_at result)) due-written written;
+      out = Grows-then outputs.out outputs.out_after out' (lines_due (told_by receipts functions settings.header) functions settings.header (texts_of running.logs)) (last_line (status_at result)) due-written written;
     }
 
     -- or a front of it
     pub ended-cut : (out' : Option (List ℕ)) → GrowsByFront outputs.out_after out' (last_line (status_at (end_by (length script) end)))
-        → IsCutAtEnd functions settings script (record outputs { out_after = out' })
+        → IsCutAtEnd receipts functions settings script (record outputs { out_after = out' })
     ended-cut out' written = record {
       logs = running.logs;
       end = end;
       run = ended-run;
       vault = running.keeps.vault;
-      out = GrowsByFront-then outputs.out outputs.out_after out' (lines_due functions settings.header (texts_of running.logs)) (last_line (status_at (end_by (length script) end))) due-written written;
+      out = GrowsByFront-then outputs.out outputs.out_after out' (lines_due (told_by receipts functions settings.header) functions settings.header (texts_of running.logs)) (last_line (status_at (end_by (length script) end))) due-written written;
     }
 
 -- ---- before the first phase
 
 -- a front of something is in the vault, and nothing is written
-pub opening-cut : (functions : DigestFunctions) (vault vault_after out : Option (List ℕ)) (text : List ℕ) → GrowsByFront vault vault_after text
-    → IsCutOff functions (record { vault = vault; vault_after = vault_after; out = out; out_after = out })
-opening-cut functions vault vault_after out text grown = record {
+pub opening-cut : (receipts : Bool) (functions : DigestFunctions) (vault vault_after out : Option (List ℕ)) (text : List ℕ) → GrowsByFront vault vault_after text
+    → IsCutOff receipts functions (record { vault = vault; vault_after = vault_after; out = out; out_after = out })
+opening-cut receipts functions vault vault_after out text grown = record {
   bytes = grown.front;
   vault = grown.grown;
-  out = GrowsByFront-none out (check_answer functions grown.front).due;
+  out = GrowsByFront-none out (check_answer receipts functions grown.front).due;
 }
 
 -- as many workers as verifiers
@@ -245,6 +246,6 @@ turns-now old now phase same tasks count =
     (subst (AreTasks old.settings.header.verifiers) (sym same.requests) tasks)))
 
 -- as many workers as verifiers, where the run goes on
-pub runs-workers : {D : Type 0} (functions : D → DigestFunctions) (runner : Runner D) (outputs : Outputs) → Runs functions runner outputs
+pub runs-workers : (receipts : Bool) {D : Type 0} (functions : D → DigestFunctions) (runner : Runner D) (outputs : Outputs) → Runs receipts functions runner outputs
     → length runner.world.workers.items ≡ runner.world.settings.header.verifiers
-runs-workers functions runner outputs runs = running-workers _ _ _ (shown_world runner.world) runner.rounds runner.end outputs runs.running
+runs-workers receipts functions runner outputs runs = running-workers _ _ _ _ (shown_world runner.world) runner.rounds runner.end outputs runs.running

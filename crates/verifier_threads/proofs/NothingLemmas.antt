@@ -1,5 +1,5 @@
 -- A run whose counters don't suffice for the setup: nothing is logged.
-use Rattle.std.proofs.Common.{◌≡◌, ℕ, zero, suc, ◌<◌, ◌≤◌, List, [], ◌∷◌, ◌++◌, length, replicate, Option, Some, None, Err, inr, refl, sym, ◌∙◌, ap, subst, arith}
+use Rattle.std.proofs.Common.{◌≡◌, Bool, ℕ, zero, suc, ◌<◌, ◌≤◌, List, [], ◌∷◌, ◌++◌, length, replicate, Option, Some, None, Err, inr, refl, sym, ◌∙◌, ap, subst, arith}
 use Rattle.fv_outside.specs.Written.{Grows, GrowsByFront}
 use Rattle.fv_outside.proofs.WrittenLaws.{GrowsByFront-none}
 use Rattle.record_hash.specs.Functions.{DigestFunctions}
@@ -7,6 +7,7 @@ use Rattle.lamport_clocks.specs.declared.header.Header.{Header}
 use Rattle.log_codec.specs.declared.command.Command.{Command}
 use Rattle.report_text.specs.Status.{last_line}
 use Rattle.bundle_report.specs.Logs.{empty_logs}
+use Rattle.bundle_report.specs.Report.{EpochText, told_by}
 use Rattle.bundle_report.specs.Answer.{check_answer}
 use Rattle.script_text.specs.declared.task.Task.{Task}
 use Rattle.host_world.specs.declared.fault.ClockEnd.{ClockEnd}
@@ -19,7 +20,7 @@ use Rattle.verifier_threads.specs.Serving.{Outputs, IsServed, IsCutOff, IsCutAtE
 use Rattle.verifier_threads.proofs.RunningLemmas.{stops-so}
 
 abbrev pub NothingIsDue : Type 0
-NothingIsDue = (functions : DigestFunctions) (header : Header) → lines_due functions header (replicate header.verifiers []) ≡ []
+NothingIsDue = (tell : EpochText) (functions : DigestFunctions) (header : Header) → lines_due tell functions header (replicate header.verifiers []) ≡ []
 
 abbrev pub NoTexts : Type 0
 NoTexts = (count : ℕ) → texts_of (replicate count []) ≡ replicate count []
@@ -29,17 +30,17 @@ empty-are zero = refl
 empty-are (suc count) = ap (λ (rest : List (List ℕ)). [] ∷ rest) (empty-are count)
 
 -- the vault has a front of the header, and nothing is written
-pub header-cut : (functions : DigestFunctions) (settings : Settings) (script : List (List Task)) (stop : RoundStop) (vault vault_after out : Option (List ℕ)) (text : List ℕ)
+pub header-cut : (receipts : Bool) (functions : DigestFunctions) (settings : Settings) (script : List (List Task)) (stop : RoundStop) (vault vault_after out : Option (List ℕ)) (text : List ℕ)
     → GrowsByFront vault vault_after text
-    → ServesTo functions settings script (Err stop) (record { vault = vault; vault_after = vault_after; out = out; out_after = out })
-header-cut functions settings script stop vault vault_after out text grown =
-    stops-so functions settings script stop _ (record {
+    → ServesTo receipts functions settings script (Err stop) (record { vault = vault; vault_after = vault_after; out = out; out_after = out })
+header-cut receipts functions settings script stop vault vault_after out text grown =
+    stops-so receipts functions settings script stop _ (record {
       bytes = grown.front;
       vault = grown.grown;
-      out = GrowsByFront-none out (check_answer functions grown.front).due;
+      out = GrowsByFront-none out (check_answer receipts functions grown.front).due;
     })
 
-module _ (none_due : NothingIsDue) (no_texts : NoTexts) (functions : DigestFunctions) (settings : Settings) (script : List (List Task))
+module _ (none_due : NothingIsDue) (no_texts : NoTexts) (receipts : Bool) (functions : DigestFunctions) (settings : Settings) (script : List (List Task))
     (short : settings.header.end < settings.shards) where
   abbrev no_logs : List (List Command)
   no_logs = replicate settings.header.verifiers []
@@ -54,16 +55,16 @@ module _ (none_due : NothingIsDue) (no_texts : NoTexts) (functions : DigestFunct
       → HasBundle settings.header (texts_of no_logs) vault vault_after
   has_header vault vault_after has = subst (λ (all : List (List ℕ)). HasBundle settings.header all vault vault_after) texts_are has
 
-  report_is : (end : RunEnd) → report_of functions settings.header no_logs end ≡ last_line (status_at end)
+  report_is : (end : RunEnd) → report_of receipts functions settings.header no_logs end ≡ last_line (status_at end)
   report_is end =
-      ap (λ (all : List (List ℕ)). lines_due functions settings.header all ++ last_line (status_at end)) (no_texts settings.header.verifiers)
-      ∙ ap (λ (text : List ℕ). text ++ last_line (status_at end)) (none_due functions settings.header)
+      ap (λ (all : List (List ℕ)). lines_due (told_by receipts functions settings.header) functions settings.header all ++ last_line (status_at end)) (no_texts settings.header.verifiers)
+      ∙ ap (λ (text : List ℕ). text ++ last_line (status_at end)) (none_due (told_by receipts functions settings.header) functions settings.header)
 
   -- its last line is written
   pub nothing-served : (end : ClockEnd) (vault vault_after out out_after : Option (List ℕ)) → end ≡ setup_end settings
       → HasBundle settings.header (empty_logs settings.header.verifiers) vault vault_after
       → Grows out out_after (last_line (status_at (end_by 0 (Some end))))
-      → IsServed functions settings script (end_by 0 (Some end)) (record { vault = vault; vault_after = vault_after; out = out; out_after = out_after })
+      → IsServed receipts functions settings script (end_by 0 (Some end)) (record { vault = vault; vault_after = vault_after; out = out; out_after = out_after })
   nothing-served end vault vault_after out out_after is has written = record {
     logs = no_logs;
     end = Some (setup_end settings);
@@ -77,7 +78,7 @@ module _ (none_due : NothingIsDue) (no_texts : NoTexts) (functions : DigestFunct
   pub nothing-cut : (end : ClockEnd) (vault vault_after out out_after : Option (List ℕ)) → end ≡ setup_end settings
       → HasBundle settings.header (empty_logs settings.header.verifiers) vault vault_after
       → GrowsByFront out out_after (last_line (status_at (end_by 0 (Some end))))
-      → IsCutAtEnd functions settings script (record { vault = vault; vault_after = vault_after; out = out; out_after = out_after })
+      → IsCutAtEnd receipts functions settings script (record { vault = vault; vault_after = vault_after; out = out; out_after = out_after })
   nothing-cut end vault vault_after out out_after is has written = record {
     logs = no_logs;
     end = Some (setup_end settings);

@@ -1,11 +1,12 @@
 -- What all workers logged is passed on to the vault and to the runs.
-use Rattle.std.proofs.Common.{◌≡◌, ℕ, suc, ◌≤◌, List, [], ◌∷◌, length, map, Option, Result, Ok, Err, OnOk, OnErr, refl, sym, ◌∙◌, ap, subst, arith}
+use Rattle.std.proofs.Common.{◌≡◌, Bool, ℕ, suc, ◌≤◌, List, [], ◌∷◌, length, map, Option, Result, Ok, Err, OnOk, OnErr, refl, sym, ◌∙◌, ap, subst, arith}
 use Rattle.std.proofs.lemmas.List.{length-map}
 use Rattle.fv_outside.specs.Written.{Grows, GrowsByFront}
 use Rattle.fv_outside.proofs.WrittenLaws.{GrowsByFront-none}
 use Rattle.record_hash.specs.Functions.{DigestFunctions}
 use Rattle.lamport_clocks.specs.declared.header.Header.{Header}
 use Rattle.merkle_records.specs.Scheme.{Scheme, scheme_of}
+use Rattle.bundle_report.specs.Report.{told_by}
 use Rattle.bundle_report.specs.SoFar.{runs_from}
 use Rattle.record_text.specs.declared.request.Request.{Request}
 use Rattle.host_core.specs.Host.{Host}
@@ -66,32 +67,32 @@ run-count functions header logs so_far have =
 
 -- ---- a round
 
-module _ (functions : DigestFunctions) (settings : Settings) (script : List (List Task)) (world : World Content) (rounds : RunsSoFar)
-    (end : Option ClockEnd) (outputs : Outputs) (running : IsRunning functions settings script world rounds end outputs) where
+module _ (receipts : Bool) (functions : DigestFunctions) (settings : Settings) (script : List (List Task)) (world : World Content) (rounds : RunsSoFar)
+    (end : Option ClockEnd) (outputs : Outputs) (running : IsRunning receipts functions settings script world rounds end outputs) where
   -- the vault and the runs take it
   pub running-taken : (later : World Content) (round : List (List ℕ)) (rounds' : RunsSoFar) (vault' : Option (List ℕ))
       → later ≡ all_handed_out world → round ≡ texts_of (logs_of world)
       → Keeps functions settings.header (logs_with (texts_of running.logs) round) rounds' outputs.vault vault'
-      → lines_counted functions settings.header (logs_with (texts_of running.logs) round) rounds' ≡ lines_counted functions settings.header (texts_of running.logs) rounds
-      → IsRunning functions settings script later rounds' end (record outputs { vault_after = vault' })
+      → lines_counted (told_by receipts functions settings.header) functions settings.header (logs_with (texts_of running.logs) round) rounds' ≡ lines_counted (told_by receipts functions settings.header) functions settings.header (texts_of running.logs) rounds
+      → IsRunning receipts functions settings script later rounds' end (record outputs { vault_after = vault' })
   running-taken later round rounds' vault' world_is round_is keeps lines =
-      subst (λ (w : World Content). IsRunning functions settings script w rounds' end (record outputs { vault_after = vault' })) (sym world_is)
-      (running-handed functions settings script world rounds end outputs running rounds' (record outputs { vault_after = vault' })
+      subst (λ (w : World Content). IsRunning receipts functions settings script w rounds' end (record outputs { vault_after = vault' })) (sym world_is)
+      (running-handed receipts functions settings script world rounds end outputs running rounds' (record outputs { vault_after = vault' })
       (subst (λ (all : List (List ℕ)). Keeps functions settings.header (logs_with (texts_of running.logs) all) rounds' outputs.vault vault') round_is keeps)
-      (subst (λ (all : List (List ℕ)). Grows outputs.out outputs.out_after (lines_counted functions settings.header (logs_with (texts_of running.logs) all) rounds')) round_is
+      (subst (λ (all : List (List ℕ)). Grows outputs.out outputs.out_after (lines_counted (told_by receipts functions settings.header) functions settings.header (logs_with (texts_of running.logs) all) rounds')) round_is
       (subst (Grows outputs.out outputs.out_after) (sym lines) running.written)))
 
   -- or the vault takes a front of something and there it stops
   pub running-cut : StaysDue → (vault' : Option (List ℕ)) (text : List ℕ) → GrowsByFront outputs.vault_after vault' text
-      → IsCutOff functions (record outputs { vault_after = vault' })
+      → IsCutOff receipts functions (record outputs { vault_after = vault' })
   running-cut stays vault' text grown =
-      cut-due stays functions settings.header (texts_of running.logs) outputs.vault outputs.vault_after vault' outputs.out outputs.out_after text
+      cut-due stays receipts functions settings.header (texts_of running.logs) outputs.vault outputs.vault_after vault' outputs.out outputs.out_after text
       running.keeps.vault grown
-      (counted-due stays functions settings.header (texts_of running.logs) rounds outputs.out outputs.out_after running.keeps.runs running.written)
+      (counted-due stays receipts functions settings.header (texts_of running.logs) rounds outputs.out outputs.out_after running.keeps.runs running.written)
 
 -- ---- runners
 
-module _ {D : Type 0} (functions : D → DigestFunctions) (old : Runner D) (outputs : Outputs) (runs : Runs functions old outputs) where
+module _ (receipts : Bool) {D : Type 0} (functions : D → DigestFunctions) (old : Runner D) (outputs : Outputs) (runs : Runs receipts functions old outputs) where
   abbrev pub host_now : Host Content Request
   host_now = host_of (functions (digests_of old.world)) old.world
 
@@ -101,46 +102,46 @@ module _ {D : Type 0} (functions : D → DigestFunctions) (old : Runner D) (outp
     runs.running.logs,
     record {
       each = runs.running.each;
-      behind = running-behind _ _ _ (shown_world old.world) old.rounds old.end outputs runs.running;
+      behind = running-behind _ _ _ _ (shown_world old.world) old.rounds old.end outputs runs.running;
     },
   )
 
   -- by other names of what is held
   pub runs-at : (vault out : Option (List ℕ)) → outputs.vault_after ≡ vault → outputs.out_after ≡ out
-      → Runs functions old (record outputs { vault_after = vault; out_after = out })
+      → Runs receipts functions old (record outputs { vault_after = vault; out_after = out })
   runs-at vault out vault_is out_is =
-      subst (λ (o : Option (List ℕ)). Runs functions old (record outputs { vault_after = vault; out_after = o })) out_is
-      (subst (λ (v : Option (List ℕ)). Runs functions old (record outputs { vault_after = v })) vault_is runs)
+      subst (λ (o : Option (List ℕ)). Runs receipts functions old (record outputs { vault_after = vault; out_after = o })) out_is
+      (subst (λ (v : Option (List ℕ)). Runs receipts functions old (record outputs { vault_after = v })) vault_is runs)
 
   -- events lead its world on
   pub runs-led : (world : code.World D) (next end : Option ClockEnd) → AreOfOneHost old.world world
       → Leads host_now (shown_world old.world) (shown_world world) next → end ≡ first_of old.end next
-      → Runs functions (record old { world = world; end = end }) outputs
+      → Runs receipts functions (record old { world = world; end = end }) outputs
   runs-led world next end same way is = record {
     running =
         of_one_host functions old.world world same
-        (λ (f : DigestFunctions) (settings : Settings) (script : List (List Task)). IsRunning f settings script (shown_world world) old.rounds end outputs)
-        (subst (λ (e : Option ClockEnd). IsRunning (functions (digests_of old.world)) old.world.settings (requests_of old.world) (shown_world world) old.rounds e outputs) (sym is)
-        (running-led _ _ _ (shown_world old.world) old.rounds old.end outputs runs.running (shown_world world) next way));
+        (λ (f : DigestFunctions) (settings : Settings) (script : List (List Task)). IsRunning receipts f settings script (shown_world world) old.rounds end outputs)
+        (subst (λ (e : Option ClockEnd). IsRunning receipts (functions (digests_of old.world)) old.world.settings (requests_of old.world) (shown_world world) old.rounds e outputs) (sym is)
+        (running-led _ _ _ _ (shown_world old.world) old.rounds old.end outputs runs.running (shown_world world) next way));
     buffers = runs.buffers ∙ sym (leads-length host_now (shown_world old.world) (shown_world world) next way);
   }
 
   -- it stops with nothing written since
   pub runs-cut : StaysDue → (vault out : Option (List ℕ)) → outputs.vault_after ≡ vault → outputs.out_after ≡ out
-      → IsCutOff (functions (digests_of old.world)) (record outputs { vault_after = vault; out_after = out })
+      → IsCutOff receipts (functions (digests_of old.world)) (record outputs { vault_after = vault; out_after = out })
   runs-cut stays vault out vault_is out_is =
-      subst (λ (o : Option (List ℕ)). IsCutOff (functions (digests_of old.world)) (record outputs { vault_after = vault; out_after = o })) out_is
-      (running-cut _ _ _ (shown_world old.world) old.rounds old.end outputs runs.running stays vault []
+      subst (λ (o : Option (List ℕ)). IsCutOff receipts (functions (digests_of old.world)) (record outputs { vault_after = vault; out_after = o })) out_is
+      (running-cut _ _ _ _ (shown_world old.world) old.rounds old.end outputs runs.running stays vault []
       (subst (λ (v : Option (List ℕ)). GrowsByFront outputs.vault_after v []) vault_is (GrowsByFront-none outputs.vault_after [])))
 
   -- what its logs certify is counted and written
   pub runs-certified : (rounds' : RunsSoFar) (out : Option (List ℕ))
       → HaveRun (functions (digests_of old.world)) old.world.settings.header (texts_of runs.running.logs) rounds'
       → AllCounted (functions (digests_of old.world)) old.world.settings.header (texts_of runs.running.logs) rounds'
-      → lines_counted (functions (digests_of old.world)) old.world.settings.header (texts_of runs.running.logs) rounds'
-      ≡ lines_due (functions (digests_of old.world)) old.world.settings.header (texts_of runs.running.logs)
-      → Grows outputs.out out (lines_due (functions (digests_of old.world)) old.world.settings.header (texts_of runs.running.logs))
-      → RunsWhole functions (record old { rounds = rounds' }) (record outputs { out_after = out })
+      → lines_counted (told_by receipts (functions (digests_of old.world)) old.world.settings.header) (functions (digests_of old.world)) old.world.settings.header (texts_of runs.running.logs) rounds'
+      ≡ lines_due (told_by receipts (functions (digests_of old.world)) old.world.settings.header) (functions (digests_of old.world)) old.world.settings.header (texts_of runs.running.logs)
+      → Grows outputs.out out (lines_due (told_by receipts (functions (digests_of old.world)) old.world.settings.header) (functions (digests_of old.world)) old.world.settings.header (texts_of runs.running.logs))
+      → RunsWhole receipts functions (record old { rounds = rounds' }) (record outputs { out_after = out })
   runs-certified rounds' out have all counted written = record {
     runs = record {
       running = record {
@@ -160,8 +161,8 @@ module _ {D : Type 0} (functions : D → DigestFunctions) (old : Runner D) (outp
 
   -- or a front of it is written
   pub runs-cut_lines : StaysDue → (out : Option (List ℕ))
-      → GrowsByFront outputs.out out (lines_due (functions (digests_of old.world)) old.world.settings.header (texts_of runs.running.logs))
-      → IsCutOff (functions (digests_of old.world)) (record outputs { out_after = out })
+      → GrowsByFront outputs.out out (lines_due (told_by receipts (functions (digests_of old.world)) old.world.settings.header) (functions (digests_of old.world)) old.world.settings.header (texts_of runs.running.logs))
+      → IsCutOff receipts (functions (digests_of old.world)) (record outputs { out_after = out })
   runs-cut_lines stays out written =
-      cut-due stays (functions (digests_of old.world)) old.world.settings.header (texts_of runs.running.logs) outputs.vault outputs.vault_after outputs.vault_after
+      cut-due stays receipts (functions (digests_of old.world)) old.world.settings.header (texts_of runs.running.logs) outputs.vault outputs.vault_after outputs.vault_after
       outputs.out out [] runs.running.keeps.vault (GrowsByFront-none outputs.vault_after []) written

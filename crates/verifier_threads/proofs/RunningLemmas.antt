@@ -1,5 +1,5 @@
 -- A run goes on: events lead on, logs are handed out, and where it stops it is cut off.
-use Rattle.std.proofs.Common.{◌≡◌, ◌⊎◌, inl, inr, ℕ, suc, ◌<◌, ◌≤◌, List, [], ◌∷◌, ◌++◌, length, map, Option, Some, None, Result, Ok, Err, IfOk, OnErr, refl, sym, ◌∙◌, ap, subst, arith}
+use Rattle.std.proofs.Common.{◌≡◌, Bool, ◌⊎◌, inl, inr, ℕ, suc, ◌<◌, ◌≤◌, List, [], ◌∷◌, ◌++◌, length, map, Option, Some, None, Result, Ok, Err, IfOk, OnErr, refl, sym, ◌∙◌, ap, subst, arith}
 use Rattle.std.proofs.lemmas.List.{length-map, append-nil}
 use Rattle.fv_outside.specs.Written.{Grows, GrowsByFront}
 use Rattle.fv_outside.proofs.WrittenLaws.{Grows-then, GrowsByFront-whole, GrowsByFront-more, GrowsByFront-none}
@@ -9,6 +9,7 @@ use Rattle.record_text.specs.Format.{short_keys}
 use Rattle.lamport_clocks.specs.declared.header.Header.{Header}
 use Rattle.log_codec.specs.declared.command.Command.{Command}
 use Rattle.log_codec.specs.Log.{log_text}
+use Rattle.bundle_report.specs.Report.{told_by}
 use Rattle.bundle_report.specs.Answer.{check_answer}
 use Rattle.host_core.specs.Host.{Host}
 use Rattle.host_core.specs.World.{Worker, World, logs_of, set_up}
@@ -73,8 +74,8 @@ leads-length {C} host world later end way = ap (λ (w : World C). length w.worke
 
 -- ---- a run goes on
 
-module _ (functions : DigestFunctions) (settings : Settings) (script : List (List Task)) (world : World Content) (rounds : RunsSoFar)
-    (end : Option ClockEnd) (outputs : Outputs) (running : IsRunning functions settings script world rounds end outputs) where
+module _ (receipts : Bool) (functions : DigestFunctions) (settings : Settings) (script : List (List Task)) (world : World Content) (rounds : RunsSoFar)
+    (end : Option ClockEnd) (outputs : Outputs) (running : IsRunning receipts functions settings script world rounds end outputs) where
   abbrev own_host : Host Content Request
   own_host = shipped_host functions settings script
 
@@ -95,7 +96,7 @@ module _ (functions : DigestFunctions) (settings : Settings) (script : List (Lis
 
   -- events lead on
   pub running-led : (later : World Content) (next : Option ClockEnd) → Leads own_host world later next
-      → IsRunning functions settings script later rounds (first_of end next) outputs
+      → IsRunning receipts functions settings script later rounds (first_of end next) outputs
   running-led later next way = record {
     settings_fit = running.settings_fit;
     counters = running.counters;
@@ -111,8 +112,8 @@ module _ (functions : DigestFunctions) (settings : Settings) (script : List (Lis
   -- logs are handed out
   pub running-handed : (rounds' : RunsSoFar) (outputs' : Outputs)
       → Keeps functions settings.header (logs_with (texts_of running.logs) (texts_of (logs_of world))) rounds' outputs'.vault outputs'.vault_after
-      → Grows outputs'.out outputs'.out_after (lines_counted functions settings.header (logs_with (texts_of running.logs) (texts_of (logs_of world))) rounds')
-      → IsRunning functions settings script (all_handed_out world) rounds' end outputs'
+      → Grows outputs'.out outputs'.out_after (lines_counted (told_by receipts functions settings.header) functions settings.header (logs_with (texts_of running.logs) (texts_of (logs_of world))) rounds')
+      → IsRunning receipts functions settings script (all_handed_out world) rounds' end outputs'
   running-handed rounds' outputs' keeps written =
       let logs = logged_with running.logs (logs_of world) in
       let texts : logs_with (texts_of running.logs) (texts_of (logs_of world)) ≡ texts_of logs = sym (logged_with-texts running.logs (logs_of world)) in
@@ -124,48 +125,48 @@ module _ (functions : DigestFunctions) (settings : Settings) (script : List (Lis
         each = logged_with-length running.logs (logs_of world) ∙ running.each ∙ sym (length-map world.workers with_no_log);
         way = subst (λ (w : World Content). Leads own_host (set_up own_host) w end) (sym (with_logs-handed running.logs world running.each)) running.way;
         keeps = subst (λ (all : List (List ℕ)). Keeps functions settings.header all rounds' outputs'.vault outputs'.vault_after) texts keeps;
-        written = subst (λ (all : List (List ℕ)). Grows outputs'.out outputs'.out_after (lines_counted functions settings.header all rounds')) texts written;
+        written = subst (λ (all : List (List ℕ)). Grows outputs'.out outputs'.out_after (lines_counted (told_by receipts functions settings.header) functions settings.header all rounds')) texts written;
       }
 
 -- ---- where it stops
 
 -- what the vault's bytes certify, whatever follows them
 abbrev pub StaysDue : Type 0
-StaysDue = (functions : DigestFunctions) (header : Header) (logs : List (List ℕ)) (bytes more : List ℕ) → IsBundle header logs bytes
-    → (rest : List ℕ) × ((check_answer functions (bytes ++ more)).due ≡ lines_due functions header logs ++ rest)
+StaysDue = (receipts : Bool) (functions : DigestFunctions) (header : Header) (logs : List (List ℕ)) (bytes more : List ℕ) → IsBundle header logs bytes
+    → (rest : List ℕ) × ((check_answer receipts functions (bytes ++ more)).due ≡ lines_due (told_by receipts functions header) functions header logs ++ rest)
 
-module _ (stays : StaysDue) (functions : DigestFunctions) (header : Header) (logs : List (List ℕ)) where
+module _ (stays : StaysDue) (receipts : Bool) (functions : DigestFunctions) (header : Header) (logs : List (List ℕ)) where
   -- a front of what is due was written, and the vault has the bundle and a front of something more
   pub cut-due : (vault vault_now vault_after out out_after : Option (List ℕ)) (text : List ℕ) → HasBundle header logs vault vault_now
-      → GrowsByFront vault_now vault_after text → GrowsByFront out out_after (lines_due functions header logs)
-      → IsCutOff functions (record { vault = vault; vault_after = vault_after; out = out; out_after = out_after })
+      → GrowsByFront vault_now vault_after text → GrowsByFront out out_after (lines_due (told_by receipts functions header) functions header logs)
+      → IsCutOff receipts functions (record { vault = vault; vault_after = vault_after; out = out; out_after = out_after })
   cut-due vault vault_now vault_after out out_after text has grown written =
-      let due = stays functions header logs has.bytes grown.front has.is_bundle in
+      let due = stays receipts functions header logs has.bytes grown.front has.is_bundle in
       record {
         bytes = has.bytes ++ grown.front;
         vault = Grows-then vault vault_now vault_after has.bytes grown.front has.grown grown.grown;
-        out = subst (GrowsByFront out out_after) (sym due.1) (GrowsByFront-more out out_after (lines_due functions header logs) due.0 written);
+        out = subst (GrowsByFront out out_after) (sym due.1) (GrowsByFront-more out out_after (lines_due (told_by receipts functions header) functions header logs) due.0 written);
       }
 
   -- the lines of what is counted were
   pub counted-due : (so_far : RunsSoFar) (out out_after : Option (List ℕ)) → HaveRun functions header logs so_far
-      → Grows out out_after (lines_counted functions header logs so_far) → GrowsByFront out out_after (lines_due functions header logs)
+      → Grows out out_after (lines_counted (told_by receipts functions header) functions header logs so_far) → GrowsByFront out out_after (lines_due (told_by receipts functions header) functions header logs)
   counted-due so_far out out_after have written =
-      subst (λ (all : List (List ℕ)). GrowsByFront out out_after (lines_due functions header all)) (logs_with-none logs)
-      (counted-front functions header logs so_far have [] out out_after written)
+      subst (λ (all : List (List ℕ)). GrowsByFront out out_after (lines_due (told_by receipts functions header) functions header all)) (logs_with-none logs)
+      (counted-front (told_by receipts functions header) functions header logs so_far have [] out out_after written)
 
 -- a run that was cut off stops so, whatever the reason
-pub stops-so : (functions : DigestFunctions) (settings : Settings) (script : List (List Task)) (stop : RoundStop) (outputs : Outputs)
-    → IsCutOff functions outputs → ServesTo functions settings script (Err stop) outputs
-stops-so functions settings script stops.Memory outputs cut = cut
-stops-so functions settings script stops.VaultFault outputs cut = cut
-stops-so functions settings script stops.WriteFault outputs cut = inl cut
+pub stops-so : (receipts : Bool) (functions : DigestFunctions) (settings : Settings) (script : List (List Task)) (stop : RoundStop) (outputs : Outputs)
+    → IsCutOff receipts functions outputs → ServesTo receipts functions settings script (Err stop) outputs
+stops-so receipts functions settings script stops.Memory outputs cut = cut
+stops-so receipts functions settings script stops.VaultFault outputs cut = cut
+stops-so receipts functions settings script stops.WriteFault outputs cut = inl cut
 
 -- a run that was cut off at its end stops because the sink failed
-pub ends-so : (functions : DigestFunctions) (settings : Settings) (script : List (List Task)) (stop : RoundStop) (outputs : Outputs)
-    → stop ≡ stops.WriteFault → IsCutAtEnd functions settings script outputs → ServesTo functions settings script (Err stop) outputs
-ends-so functions settings script stop outputs is cut =
-    subst (λ (s : RoundStop). ServesTo functions settings script (Err s) outputs) (sym is) (inr cut)
+pub ends-so : (receipts : Bool) (functions : DigestFunctions) (settings : Settings) (script : List (List Task)) (stop : RoundStop) (outputs : Outputs)
+    → stop ≡ stops.WriteFault → IsCutAtEnd receipts functions settings script outputs → ServesTo receipts functions settings script (Err stop) outputs
+ends-so receipts functions settings script stop outputs is cut =
+    subst (λ (s : RoundStop). ServesTo receipts functions settings script (Err s) outputs) (sym is) (inr cut)
 
 pub stop-is : {A : Type 0} (result : Result A RoundStop) (stop : RoundStop) → result ≡ Err stop → result ≡ Err stops.WriteFault → stop ≡ stops.WriteFault
 stop-is result stop is fault = cc
@@ -175,12 +176,12 @@ pub err-of : {A B : Type 0} (a b : RoundStop) → (let one : Result A RoundStop 
 err-of {A} {B} a b is = let same : a ≡ b = cc in ap (λ (e : RoundStop). Err e) same
 
 -- a run that came to its end ends so
-pub finishes-so : (functions : DigestFunctions) (settings : Settings) (script : List (List Task)) (result : Result RunEnd RoundStop) (outputs : Outputs)
-    → IfOk result (λ end. IsServed functions settings script end outputs) → OnErr result (IsCutAtEnd functions settings script outputs)
-    → OnErr result (result ≡ Err stops.WriteFault) → ServesTo functions settings script result outputs
-finishes-so functions settings script (Ok end) outputs served cut stop = served
-finishes-so functions settings script (Err fault) outputs served cut stop =
-    ends-so functions settings script fault outputs (stop-is {A = RunEnd} (Err fault) fault refl stop) cut
+pub finishes-so : (receipts : Bool) (functions : DigestFunctions) (settings : Settings) (script : List (List Task)) (result : Result RunEnd RoundStop) (outputs : Outputs)
+    → IfOk result (λ end. IsServed receipts functions settings script end outputs) → OnErr result (IsCutAtEnd receipts functions settings script outputs)
+    → OnErr result (result ≡ Err stops.WriteFault) → ServesTo receipts functions settings script result outputs
+finishes-so receipts functions settings script (Ok end) outputs served cut stop = served
+finishes-so receipts functions settings script (Err fault) outputs served cut stop =
+    ends-so receipts functions settings script fault outputs (stop-is {A = RunEnd} (Err fault) fault refl stop) cut
 
 -- what is said of the one host's world is said of the other's
 pub host-back : {D : Type 0} (a b : code.World D) → AreOfOneHost a b → AreOfOneHost b a

@@ -1,9 +1,10 @@
 -- How a run stands between two calls: its world, the vault, what the verifiers read, and what is written.
-use Rattle.std.specs.Prelude.{◌≡◌, ◌≢◌, ◌⊎◌, ℕ, suc, ◌<◌, ◌≤◌, List, [], ◌∷◌, ◌++◌, length, map, Option, Some, None}
+use Rattle.std.specs.Prelude.{◌≡◌, ◌≢◌, ◌⊎◌, Bool, ℕ, suc, ◌<◌, ◌≤◌, List, [], ◌∷◌, ◌++◌, length, map, Option, Some, None}
 use Rattle.std.specs.List.{AllByRecursion}
 use Rattle.fv_outside.specs.Written.{Grows}
 use Rattle.record_hash.specs.Functions.{DigestFunctions}
 use Rattle.log_codec.specs.declared.command.Command.{Command}
+use Rattle.bundle_report.specs.Report.{told_by}
 use Rattle.host_core.specs.Host.{Host}
 use Rattle.host_core.specs.World as machine
 use Rattle.host_shard.specs.Content.{Content}
@@ -41,8 +42,8 @@ logged_with (log ∷ logs) (next ∷ round) = (log ++ next) ∷ logged_with logs
 
 -- Events lead from the setup to this world with the logs in front that were handed out, and this is the first end of a
 -- clock that they come to. The vault has the bundle of these logs and the verifiers' runs have taken them, and what is
--- written is the lines of the epochs that are counted.
-pub record IsRunning (functions : DigestFunctions) (settings : Settings) (script : List (List Task)) (world : machine.World Content) (rounds : RunsSoFar) (end : Option ClockEnd) (outputs : Outputs) : Type 0 where
+-- written is the lines of the epochs that are counted, with receipts or without.
+pub record IsRunning (receipts : Bool) (functions : DigestFunctions) (settings : Settings) (script : List (List Task)) (world : machine.World Content) (rounds : RunsSoFar) (end : Option ClockEnd) (outputs : Outputs) : Type 0 where
   pub settings_fit : IsSettings settings
   pub counters : settings.shards ≤ settings.header.end
   pub keys : AreInRange script
@@ -50,30 +51,30 @@ pub record IsRunning (functions : DigestFunctions) (settings : Settings) (script
   pub each : length logs ≡ length world.workers
   pub way : Leads (shipped_host functions settings script) (machine.set_up (shipped_host functions settings script)) (with_logs logs world) end
   pub keeps : Keeps functions settings.header (texts_of logs) rounds outputs.vault outputs.vault_after
-  pub written : Grows outputs.out outputs.out_after (lines_counted functions settings.header (texts_of logs) rounds)
+  pub written : Grows outputs.out outputs.out_after (lines_counted (told_by receipts functions settings.header) functions settings.header (texts_of logs) rounds)
 
 -- So runs a runner of the code, which has a buffer for each worker.
-pub record Runs {D : Type 0} (functions : D → DigestFunctions) (runner : Runner D) (outputs : Outputs) : Type 0 where
-  pub running : IsRunning (functions (digests_of runner.world)) runner.world.settings (requests_of runner.world) (shown_world runner.world) runner.rounds runner.end outputs
+pub record Runs (receipts : Bool) {D : Type 0} (functions : D → DigestFunctions) (runner : Runner D) (outputs : Outputs) : Type 0 where
+  pub running : IsRunning receipts (functions (digests_of runner.world)) runner.world.settings (requests_of runner.world) (shown_world runner.world) runner.rounds runner.end outputs
   pub buffers : length runner.buffers.items ≡ length runner.world.workers.items
 
 -- The same, and each epoch that the logs certify is counted.
-pub record RunsWhole {D : Type 0} (functions : D → DigestFunctions) (runner : Runner D) (outputs : Outputs) : Type 0 where
-  pub runs : Runs functions runner outputs
+pub record RunsWhole (receipts : Bool) {D : Type 0} (functions : D → DigestFunctions) (runner : Runner D) (outputs : Outputs) : Type 0 where
+  pub runs : Runs receipts functions runner outputs
   pub all : AllCounted (functions (digests_of runner.world)) runner.world.settings.header (texts_of runs.running.logs) runner.rounds
 
--- So it runs, whatever the vault and the sink held before, where the vault now holds this.
+-- So it runs, with receipts or without and whatever the vault and the sink held before, where the vault now holds this.
 abbrev pub IsUnderWay : {D : Type 0} → (D → DigestFunctions) → Runner D → Option (List ℕ) → Type 0
-IsUnderWay functions runner held = (outputs : Outputs) × Runs functions runner outputs × (outputs.vault_after ≡ held)
+IsUnderWay functions runner held = (receipts : Bool) × (outputs : Outputs) × Runs receipts functions runner outputs × (outputs.vault_after ≡ held)
 
--- the same where the sink now holds this
-abbrev pub IsUnderWayWith : {D : Type 0} → (D → DigestFunctions) → Runner D → Option (List ℕ) → Option (List ℕ) → Type 0
-IsUnderWayWith functions runner held out =
-    (outputs : Outputs) × Runs functions runner outputs × (outputs.vault_after ≡ held) × (outputs.out_after ≡ out)
+-- the same with receipts, or without, where the sink now holds this
+abbrev pub IsUnderWayWith : Bool → {D : Type 0} → (D → DigestFunctions) → Runner D → Option (List ℕ) → Option (List ℕ) → Type 0
+IsUnderWayWith receipts functions runner held out =
+    (outputs : Outputs) × Runs receipts functions runner outputs × (outputs.vault_after ≡ held) × (outputs.out_after ≡ out)
 
 -- so it runs, with all counted that its logs certify
 abbrev pub IsUnderWayWhole : {D : Type 0} → (D → DigestFunctions) → Runner D → Type 0
-IsUnderWayWhole functions runner = (outputs : Outputs) × RunsWhole functions runner outputs
+IsUnderWayWhole functions runner = (receipts : Bool) × (outputs : Outputs) × RunsWhole receipts functions runner outputs
 
 -- ---- where it stands
 

@@ -1,5 +1,5 @@
 -- A script that is served: the logs of its workers, the bundle of them in the vault, and the report in the sink.
-use Rattle.std.specs.Prelude.{◌≡◌, ◌⊎◌, ℕ, ◌<◌, ◌≤◌, List, [], ◌++◌, length, map, replicate, Option, Some, None, Result, Ok, Err}
+use Rattle.std.specs.Prelude.{◌≡◌, ◌⊎◌, Bool, ℕ, ◌<◌, ◌≤◌, List, [], ◌++◌, length, map, replicate, Option, Some, None, Result, Ok, Err}
 use Rattle.fv_outside.specs.Written.{Grows, GrowsByFront}
 use Rattle.lamport_clocks.specs.declared.header.Header.{Header}
 use Rattle.record_hash.specs.Functions.{DigestFunctions}
@@ -9,6 +9,7 @@ use Rattle.log_codec.specs.Log.{log_text}
 use Rattle.report_text.specs.declared.status.Status.{Status}
 use Rattle.report_text.specs.declared.status.Status.TheVariants as statuses
 use Rattle.report_text.specs.Status.{last_line}
+use Rattle.bundle_report.specs.Report.{told_by}
 use Rattle.bundle_report.specs.Answer.{check_answer}
 use Rattle.host_core.specs.World.{World, logs_of, set_up}
 use Rattle.host_shard.specs.Content.{Content}
@@ -65,9 +66,9 @@ module _ (functions : DigestFunctions) (settings : Settings) (script : List (Lis
 
 -- ---- vault and report
 
--- the report: the lines that the logs certify, and how the run ends
-abbrev pub report_of : DigestFunctions → Header → List (List Command) → RunEnd → List ℕ
-report_of functions header logs end = lines_due functions header (texts_of logs) ++ last_line (status_at end)
+-- the report: the lines that the logs certify, with receipts or without, and how the run ends
+abbrev pub report_of : Bool → DigestFunctions → Header → List (List Command) → RunEnd → List ℕ
+report_of receipts functions header logs end = lines_due (told_by receipts functions header) functions header (texts_of logs) ++ last_line (status_at end)
 
 -- What a vault held before and holds now, and a sink.
 pub record Outputs : Type 0 where
@@ -77,31 +78,31 @@ pub record Outputs : Type 0 where
   pub out_after : Option (List ℕ)
 
 -- The script is served: the vault took the bundle of the logs, and the sink their report.
-pub record IsServed (functions : DigestFunctions) (settings : Settings) (script : List (List Task)) (result : RunEnd) (outputs : Outputs) : Type 0 where
+pub record IsServed (receipts : Bool) (functions : DigestFunctions) (settings : Settings) (script : List (List Task)) (result : RunEnd) (outputs : Outputs) : Type 0 where
   pub logs : List (List Command)
   pub end : Option ClockEnd
   pub run : AreOfRun functions settings script logs end
   pub is : result ≡ end_by (length script) end
   pub vault : HasBundle settings.header (texts_of logs) outputs.vault outputs.vault_after
-  pub out : Grows outputs.out outputs.out_after (report_of functions settings.header logs result)
+  pub out : Grows outputs.out outputs.out_after (report_of receipts functions settings.header logs result)
 
 -- It stopped before: the sink took a front of the lines that the bytes in the vault certify.
-pub record IsCutOff (functions : DigestFunctions) (outputs : Outputs) : Type 0 where
+pub record IsCutOff (receipts : Bool) (functions : DigestFunctions) (outputs : Outputs) : Type 0 where
   pub bytes : List ℕ
   pub vault : Grows outputs.vault outputs.vault_after bytes
-  pub out : GrowsByFront outputs.out outputs.out_after (check_answer functions bytes).due
+  pub out : GrowsByFront outputs.out outputs.out_after (check_answer receipts functions bytes).due
 
 -- It stopped at the last line: all is served, and the sink took a front of the report.
-pub record IsCutAtEnd (functions : DigestFunctions) (settings : Settings) (script : List (List Task)) (outputs : Outputs) : Type 0 where
+pub record IsCutAtEnd (receipts : Bool) (functions : DigestFunctions) (settings : Settings) (script : List (List Task)) (outputs : Outputs) : Type 0 where
   pub logs : List (List Command)
   pub end : Option ClockEnd
   pub run : AreOfRun functions settings script logs end
   pub vault : HasBundle settings.header (texts_of logs) outputs.vault outputs.vault_after
-  pub out : GrowsByFront outputs.out outputs.out_after (report_of functions settings.header logs (end_by (length script) end))
+  pub out : GrowsByFront outputs.out outputs.out_after (report_of receipts functions settings.header logs (end_by (length script) end))
 
 -- What stands where a run ends, and where it stops.
-abbrev pub ServesTo : DigestFunctions → Settings → List (List Task) → Result RunEnd RoundStop → Outputs → Type 0
-ServesTo functions settings script (Ok result) outputs = IsServed functions settings script result outputs
-ServesTo functions settings script (Err stops.Memory) outputs = IsCutOff functions outputs
-ServesTo functions settings script (Err stops.VaultFault) outputs = IsCutOff functions outputs
-ServesTo functions settings script (Err stops.WriteFault) outputs = IsCutOff functions outputs ⊎ IsCutAtEnd functions settings script outputs
+abbrev pub ServesTo : Bool → DigestFunctions → Settings → List (List Task) → Result RunEnd RoundStop → Outputs → Type 0
+ServesTo receipts functions settings script (Ok result) outputs = IsServed receipts functions settings script result outputs
+ServesTo receipts functions settings script (Err stops.Memory) outputs = IsCutOff receipts functions outputs
+ServesTo receipts functions settings script (Err stops.VaultFault) outputs = IsCutOff receipts functions outputs
+ServesTo receipts functions settings script (Err stops.WriteFault) outputs = IsCutOff receipts functions outputs ⊎ IsCutAtEnd receipts functions settings script outputs

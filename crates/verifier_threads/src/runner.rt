@@ -1,7 +1,9 @@
 //! A run of a script: its world, phase by phase, and what becomes of the logs.
-ghost use Rattle.std.specs.Prelude.{◌≡◌, ◌≢◌, ◌↔◌, ◌⊎◌, ◌≤◌, ◌<◌, ℕ, suc, true, false, List, Option, None, length, OnOk, OnErr, IfOk, Err};
+ghost use Rattle.std.specs.Prelude.{◌≡◌, ◌≢◌, ◌↔◌, ◌⊎◌, ◌≤◌, ◌<◌, Bool, ℕ, suc, true, false, List, Option, None, length, OnOk, OnErr, IfOk, Err};
 ghost use Rattle.std.specs.List.{AllByRecursion};
 ghost use Rattle.fv_outside.specs.Faults.{Rose};
+ghost use Rattle.bundle_report.specs.Report.{told_by};
+ghost use Rattle.certified_epochs.specs.Telling.{text_by};
 ghost use Rattle.host_core.specs.World.{set_up};
 ghost use Rattle.host_core.specs.WorldEvent.{IsLast};
 ghost use Rattle.host_world.specs.Settings.{IsSettings};
@@ -15,6 +17,7 @@ ghost use Rattle.verifier_threads.specs.Running.{Runs, RunsWhole, IsUnderWay, Is
 use crate::ending::RunEnd;
 use crate::handing::hand_out_all;
 use crate::laws::what_is_due_stays_due;
+use certified_epochs::Telling;
 use fv_outside::{Gate, Sink};
 use host_log::LogBuffer;
 use host_rounds::{RoundStop, Rounds, write_end};
@@ -50,12 +53,12 @@ impl<'a, D: Digests> Runner<'a, D> {
         requires counters { (settings_of world).shards ≤ (settings_of world).header.end }
         requires keys { AreInRange (requests_of world) }
         requires some { 0 < length (requests_of world) }
-        ensures runs { (held : Option (List ℕ)) → IfOk result (λ runner. Runs D.functions runner
+        ensures runs { (receipts : Bool) (held : Option (List ℕ)) → IfOk result (λ runner. Runs receipts D.functions runner
             (record { vault = V.held vault.old; vault_after = V.held vault.new; out = held; out_after = held })) }
         ensures world { IfOk result (λ runner. runner.world ≡ world.entry) }
         ensures begins { IfOk result (λ runner. IsAtPhase (host_of (D.functions (digests_of world.entry)) world.entry)
             (shown_world world.entry) runner.end) }
-        ensures cut { (held : Option (List ℕ)) → OnErr result (IsCutOff (D.functions (digests_of world.entry))
+        ensures cut { (receipts : Bool) (held : Option (List ℕ)) → OnErr result (IsCutOff receipts (D.functions (digests_of world.entry))
             (record { vault = V.held vault.old; vault_after = V.held vault.new; out = held; out_after = held })) }
         ensures stop { result ≢ Err RoundStop.WriteFault }
         ensures vault_fault { result ≡ Err RoundStop.VaultFault → Rose (V.faults vault.old) (V.faults vault.new) }
@@ -84,13 +87,13 @@ impl<'a, D: Digests> Runner<'a, D> {
             (shown_world self.old.world) self.old.end }
         requires workers { AllByRecursion (λ turn. turn.0 < length (shown_world self.old.world).workers)
             (turns_of (host_of (D.functions (digests_of self.old.world)) self.old.world) (shown_world self.old.world).phase) }
-        ensures runs { (outputs : Outputs) → Runs D.functions self.old outputs → outputs.vault_after ≡ V.held vault.old
-            → OnOk result (Runs D.functions self.new (record outputs { vault_after = V.held vault.new })) }
+        ensures runs { (receipts : Bool) (outputs : Outputs) → Runs receipts D.functions self.old outputs → outputs.vault_after ≡ V.held vault.old
+            → OnOk result (Runs receipts D.functions self.new (record outputs { vault_after = V.held vault.new })) }
         ensures served { OnOk result (IsAtClose (host_of (D.functions (digests_of self.new.world)) self.new.world)
             (shown_world self.new.world) self.new.end) }
         ensures same_phase { OnOk result ((shown_world self.new.world).phase ≡ (shown_world self.old.world).phase) }
-        ensures cut { (outputs : Outputs) → Runs D.functions self.old outputs → outputs.vault_after ≡ V.held vault.old
-            → OnErr result (IsCutOff (D.functions (digests_of self.old.world)) (record outputs { vault_after = V.held vault.new })) }
+        ensures cut { (receipts : Bool) (outputs : Outputs) → Runs receipts D.functions self.old outputs → outputs.vault_after ≡ V.held vault.old
+            → OnErr result (IsCutOff receipts (D.functions (digests_of self.old.world)) (record outputs { vault_after = V.held vault.new })) }
         ensures host { AreOfOneHost self.old.world self.new.world }
         ensures stop { result ≢ Err RoundStop.WriteFault }
         ensures vault_fault { result ≡ Err RoundStop.VaultFault → Rose (V.faults vault.old) (V.faults vault.new) }
@@ -103,10 +106,11 @@ impl<'a, D: Digests> Runner<'a, D> {
     }
 
     /// A close, the last one or another: the workers move on to the next epoch, what they logged goes to the vault, and the
-    /// lines of all epochs that are now certified are written. A clock may end in it, and then no more can be done.
+    /// lines of all epochs that are now certified are written, with receipts or without. A clock may end in it, and then no more can be done.
     pub(crate) fn close_epoch<V: Sink, O: Sink>(
         &mut self,
         last: bool,
+        receipts: bool,
         vault: &mut V,
         out: &mut O,
     ) -> Result<(), RoundStop>
@@ -115,18 +119,18 @@ impl<'a, D: Digests> Runner<'a, D> {
             (shown_world self.old.world) self.old.end }
         requires last { (last ≡ true) ↔ IsLast (host_of (D.functions (digests_of self.old.world)) self.old.world)
             (shown_world self.old.world) }
-        ensures runs { (outputs : Outputs) → Runs D.functions self.old outputs → outputs.vault_after ≡ V.held vault.old
+        ensures runs { (outputs : Outputs) → Runs receipts D.functions self.old outputs → outputs.vault_after ≡ V.held vault.old
             → outputs.out_after ≡ O.held out.old
-            → OnOk result (RunsWhole D.functions self.new (record outputs { vault_after = V.held vault.new; out_after = O.held out.new })) }
+            → OnOk result (RunsWhole receipts D.functions self.new (record outputs { vault_after = V.held vault.new; out_after = O.held out.new })) }
         ensures ended { (last ≡ true) ⊎ (self.new.end ≢ None)
             → OnOk result (IsAtEnd (host_of (D.functions (digests_of self.new.world)) self.new.world) (shown_world self.new.world) self.new.end) }
         ensures kept { self.new.end ≡ None → self.old.end ≡ None }
         ensures opened { last ≡ false → self.new.end ≡ None
             → OnOk result (IsAtPhase (host_of (D.functions (digests_of self.new.world)) self.new.world) (shown_world self.new.world) self.new.end
             × ((shown_world self.new.world).phase ≡ suc (shown_world self.old.world).phase)) }
-        ensures cut { (outputs : Outputs) → Runs D.functions self.old outputs → outputs.vault_after ≡ V.held vault.old
+        ensures cut { (outputs : Outputs) → Runs receipts D.functions self.old outputs → outputs.vault_after ≡ V.held vault.old
             → outputs.out_after ≡ O.held out.old
-            → OnErr result (IsCutOff (D.functions (digests_of self.old.world))
+            → OnErr result (IsCutOff receipts (D.functions (digests_of self.old.world))
             (record outputs { vault_after = V.held vault.new; out_after = O.held out.new })) }
         ensures host { AreOfOneHost self.old.world self.new.world }
         ensures vault_fault { result ≡ Err RoundStop.VaultFault → Rose (V.faults vault.old) (V.faults vault.new) }
@@ -139,34 +143,36 @@ impl<'a, D: Digests> Runner<'a, D> {
         let end = close_phase(&mut self.world, last)?;
         self.end = earlier_end(self.end, end);
         self.pass_on(vault)?;
-        self.rounds.certify(out)
+        let telling = self.telling(receipts);
+        self.rounds.certify(&telling, out)
     }
 
     /// A phase and its close, which is the last one at the script's end, or where a clock ended in the phase.
     pub(crate) fn epoch<V: Sink, O: Sink, G: Gate>(
         &mut self,
         at_end: bool,
+        receipts: bool,
         gate: &G,
         vault: &mut V,
         out: &mut O,
     ) -> Result<(), RoundStop>
-        requires runs { IsUnderWayWith D.functions self.old (V.held vault.old) (O.held out.old) }
+        requires runs { IsUnderWayWith receipts D.functions self.old (V.held vault.old) (O.held out.old) }
         requires begins { IsAtPhase (host_of (D.functions (digests_of self.old.world)) self.old.world)
             (shown_world self.old.world) self.old.end }
         requires workers { AllByRecursion (λ turn. turn.0 < length (shown_world self.old.world).workers)
             (turns_of (host_of (D.functions (digests_of self.old.world)) self.old.world) (shown_world self.old.world).phase) }
         requires at_end { (at_end ≡ true) ↔ (length (requests_of self.old.world) ≤ suc (shown_world self.old.world).phase) }
-        ensures runs { (outputs : Outputs) → Runs D.functions self.old outputs → outputs.vault_after ≡ V.held vault.old
+        ensures runs { (outputs : Outputs) → Runs receipts D.functions self.old outputs → outputs.vault_after ≡ V.held vault.old
             → outputs.out_after ≡ O.held out.old
-            → OnOk result (RunsWhole D.functions self.new (record outputs { vault_after = V.held vault.new; out_after = O.held out.new })) }
+            → OnOk result (RunsWhole receipts D.functions self.new (record outputs { vault_after = V.held vault.new; out_after = O.held out.new })) }
         ensures ended { (at_end ≡ true) ⊎ (self.new.end ≢ None)
             → OnOk result (IsAtEnd (host_of (D.functions (digests_of self.new.world)) self.new.world) (shown_world self.new.world) self.new.end) }
         ensures opened { at_end ≡ false → self.new.end ≡ None
             → OnOk result (IsAtPhase (host_of (D.functions (digests_of self.new.world)) self.new.world) (shown_world self.new.world) self.new.end
             × ((shown_world self.new.world).phase ≡ suc (shown_world self.old.world).phase)) }
-        ensures cut { (outputs : Outputs) → Runs D.functions self.old outputs → outputs.vault_after ≡ V.held vault.old
+        ensures cut { (outputs : Outputs) → Runs receipts D.functions self.old outputs → outputs.vault_after ≡ V.held vault.old
             → outputs.out_after ≡ O.held out.old
-            → OnErr result (IsCutOff (D.functions (digests_of self.old.world))
+            → OnErr result (IsCutOff receipts (D.functions (digests_of self.old.world))
             (record outputs { vault_after = V.held vault.new; out_after = O.held out.new })) }
         ensures host { AreOfOneHost self.old.world self.new.world }
         ensures vault_fault { result ≡ Err RoundStop.VaultFault → Rose (V.faults vault.old) (V.faults vault.new) }
@@ -177,18 +183,18 @@ impl<'a, D: Digests> Runner<'a, D> {
     {
         self.phase(gate, vault)?;
         let last = closes_last(at_end, self.end);
-        self.close_epoch(last, vault, out)
+        self.close_epoch(last, receipts, vault, out)
     }
 
     /// Behind the last close: writes the last line of the report.
     pub(crate) fn finish<O: Sink>(&mut self, out: &mut O) -> Result<RunEnd, RoundStop>
         requires runs { IsUnderWayWhole D.functions self.old }
         requires ended { IsAtEnd (host_of (D.functions (digests_of self.old.world)) self.old.world) (shown_world self.old.world) self.old.end }
-        ensures served { (outputs : Outputs) → RunsWhole D.functions self.old outputs → outputs.out_after ≡ O.held out.old
-            → IfOk result (λ end. IsServed (D.functions (digests_of self.old.world)) (settings_of self.old.world) (requests_of self.old.world) end
+        ensures served { (receipts : Bool) (outputs : Outputs) → RunsWhole receipts D.functions self.old outputs → outputs.out_after ≡ O.held out.old
+            → IfOk result (λ end. IsServed receipts (D.functions (digests_of self.old.world)) (settings_of self.old.world) (requests_of self.old.world) end
             (record outputs { out_after = O.held out.new })) }
-        ensures cut { (outputs : Outputs) → RunsWhole D.functions self.old outputs → outputs.out_after ≡ O.held out.old
-            → OnErr result (IsCutAtEnd (D.functions (digests_of self.old.world)) (settings_of self.old.world) (requests_of self.old.world)
+        ensures cut { (receipts : Bool) (outputs : Outputs) → RunsWhole receipts D.functions self.old outputs → outputs.out_after ≡ O.held out.old
+            → OnErr result (IsCutAtEnd receipts (D.functions (digests_of self.old.world)) (settings_of self.old.world) (requests_of self.old.world)
             (record outputs { out_after = O.held out.new })) }
         ensures stop { OnErr result (result ≡ Err RoundStop.WriteFault) }
         ensures write_fault { OnErr result (Rose (O.faults out.old) (O.faults out.new)) }
@@ -208,15 +214,26 @@ impl<'a, D: Digests> Runner<'a, D> {
         }
     }
 
+    // How the epochs of its report are told.
+    fn telling(&self, receipts: bool) -> Telling<'a, D>
+        ensures text { text_by D.functions result ≡ told_by receipts (D.functions (digests_of self.now.world)) self.now.world.settings.header }
+    {
+        Telling::new(
+            receipts,
+            self.world.digests(),
+            &self.world.settings().header,
+        )
+    }
+
     // Hands out what all workers logged: it goes to the vault, and the verifiers' runs take it.
     fn pass_on<V: Sink>(&mut self, vault: &mut V) -> Result<(), RoundStop>
         requires runs { IsUnderWay D.functions self.old (V.held vault.old) }
-        ensures runs { (outputs : Outputs) → Runs D.functions self.old outputs → outputs.vault_after ≡ V.held vault.old
-            → OnOk result (Runs D.functions self.new (record outputs { vault_after = V.held vault.new })) }
+        ensures runs { (receipts : Bool) (outputs : Outputs) → Runs receipts D.functions self.old outputs → outputs.vault_after ≡ V.held vault.old
+            → OnOk result (Runs receipts D.functions self.new (record outputs { vault_after = V.held vault.new })) }
         ensures handed { OnOk result (shown_world self.new.world ≡ all_handed_out (shown_world self.old.world)) }
         ensures end { self.new.end ≡ self.old.end }
-        ensures cut { (outputs : Outputs) → Runs D.functions self.old outputs → outputs.vault_after ≡ V.held vault.old
-            → OnErr result (IsCutOff (D.functions (digests_of self.old.world)) (record outputs { vault_after = V.held vault.new })) }
+        ensures cut { (receipts : Bool) (outputs : Outputs) → Runs receipts D.functions self.old outputs → outputs.vault_after ≡ V.held vault.old
+            → OnErr result (IsCutOff receipts (D.functions (digests_of self.old.world)) (record outputs { vault_after = V.held vault.new })) }
         ensures host { AreOfOneHost self.old.world self.new.world }
         ensures stop { result ≢ Err RoundStop.WriteFault }
         ensures vault_fault { result ≡ Err RoundStop.VaultFault → Rose (V.faults vault.old) (V.faults vault.new) }

@@ -1,5 +1,5 @@
 //! A script that is served, from the setup to the last line of the report.
-ghost use Rattle.std.specs.Prelude.{◌≡◌, ◌≢◌, ◌↔◌, ◌⊎◌, ◌≤◌, ◌<◌, ℕ, suc, true, List, Option, None, length, OnOk, OnErr, Err};
+ghost use Rattle.std.specs.Prelude.{◌≡◌, ◌≢◌, ◌↔◌, ◌⊎◌, ◌≤◌, ◌<◌, Bool, ℕ, suc, true, List, Option, None, length, OnOk, OnErr, Err};
 ghost use Rattle.fv_outside.specs.Faults.{Rose};
 ghost use Rattle.record_hash.specs.Functions.{DigestFunctions};
 ghost use Rattle.script_text.specs.Text.{AreTasks};
@@ -23,7 +23,8 @@ use script_text::Requests;
 use std::alloc::Global;
 
 /// Serves a script to its end, or up to where a clock ends: the workers serve it phase by phase, the vault takes the bundle
-/// of their logs, and the sink the report of what these certify. The gate is passed before each request.
+/// of their logs, and the sink the report of what these certify, with receipts or without. The gate is passed before each
+/// request.
 ///
 /// At `Ok` the whole report is written, and the answer says how it ends: where no clock ended the script is served and each
 /// of its phases certified. At an error the sink has a front of the lines that the bytes in the vault certify, or, where it
@@ -33,13 +34,14 @@ pub fn serve_script<D: Digests, V: Sink, O: Sink, G: Gate>(
     d: &D,
     settings: &Settings,
     requests: &Requests,
+    receipts: bool,
     gate: &G,
     vault: &mut V,
     out: &mut O,
 ) -> Result<RunEnd, RoundStop>
     requires settings { IsSettings settings.now }
     requires tasks { AreTasks settings.now.header.verifiers requests.now }
-    ensures serves { ServesTo (D.functions d.now) settings.now requests.now result
+    ensures serves { ServesTo receipts (D.functions d.now) settings.now requests.now result
         (record { vault = V.held vault.old; vault_after = V.held vault.new; out = O.held out.old; out_after = O.held out.new }) }
     ensures vault_fault { result ≡ Err RoundStop.VaultFault → Rose (V.faults vault.old) (V.faults vault.new) }
     ensures write_fault { result ≡ Err RoundStop.WriteFault → Rose (O.faults out.old) (O.faults out.new) }
@@ -49,7 +51,7 @@ pub fn serve_script<D: Digests, V: Sink, O: Sink, G: Gate>(
 {
     scripts_ask_for_keys_in_range();
     match World::new(alloc, d, settings, requests) {
-        Ok(world) => serve_world(alloc, world, gate, vault, out),
+        Ok(world) => serve_world(alloc, world, receipts, gate, vault, out),
         Err(WorldFault::ClockEnd(end)) => serve_nothing(alloc, settings, end, vault, out),
         Err(WorldFault::Memory) => Err(RoundStop::Memory),
     }
@@ -59,6 +61,7 @@ pub fn serve_script<D: Digests, V: Sink, O: Sink, G: Gate>(
 fn serve_world<D: Digests, V: Sink, O: Sink, G: Gate>(
     alloc: Global,
     world: World<'_, D>,
+    receipts: bool,
     gate: &G,
     vault: &mut V,
     out: &mut O,
@@ -67,7 +70,7 @@ fn serve_world<D: Digests, V: Sink, O: Sink, G: Gate>(
     requires settings { IsSettings (settings_of world) }
     requires counters { (settings_of world).shards ≤ (settings_of world).header.end }
     requires tasks { AreTasks (settings_of world).header.verifiers (requests_of world) }
-    ensures serves { ServesTo (D.functions (digests_of world.entry)) (settings_of world.entry) (requests_of world.entry) result
+    ensures serves { ServesTo receipts (D.functions (digests_of world.entry)) (settings_of world.entry) (requests_of world.entry) result
         (record { vault = V.held vault.old; vault_after = V.held vault.new; out = O.held out.old; out_after = O.held out.new }) }
     ensures vault_fault { result ≡ Err RoundStop.VaultFault → Rose (V.faults vault.old) (V.faults vault.new) }
     ensures write_fault { result ≡ Err RoundStop.WriteFault → Rose (O.faults out.old) (O.faults out.new) }
@@ -78,30 +81,31 @@ fn serve_world<D: Digests, V: Sink, O: Sink, G: Gate>(
     scripts_ask_for_keys_in_range();
     has_a_phase(world.requests());
     let mut runner = Runner::new(alloc, world, vault)?;
-    serve_phases(&mut runner, gate, vault, out)?;
+    serve_phases(&mut runner, receipts, gate, vault, out)?;
     runner.finish(out)
 }
 
 // Serves phase after phase, and closes each, until a clock ends or the script does.
 fn serve_phases<D: Digests, V: Sink, O: Sink, G: Gate>(
     runner: &mut Runner<'_, D>,
+    receipts: bool,
     gate: &G,
     vault: &mut V,
     out: &mut O,
 ) -> Result<(), RoundStop>
-    requires runs { IsUnderWayWith D.functions runner.old (V.held vault.old) (O.held out.old) }
+    requires runs { IsUnderWayWith receipts D.functions runner.old (V.held vault.old) (O.held out.old) }
     requires begins { IsAtPhase (host_of (D.functions (digests_of runner.old.world)) runner.old.world)
         (shown_world runner.old.world) runner.old.end }
     requires first { (shown_world runner.old.world).phase ≡ 0 }
     requires tasks { AreTasks (settings_of runner.old.world).header.verifiers (requests_of runner.old.world) }
-    ensures runs { (outputs : Outputs) → Runs D.functions runner.old outputs → outputs.vault_after ≡ V.held vault.old
+    ensures runs { (outputs : Outputs) → Runs receipts D.functions runner.old outputs → outputs.vault_after ≡ V.held vault.old
         → outputs.out_after ≡ O.held out.old
-        → OnOk result (RunsWhole D.functions runner.new (record outputs { vault_after = V.held vault.new; out_after = O.held out.new })) }
+        → OnOk result (RunsWhole receipts D.functions runner.new (record outputs { vault_after = V.held vault.new; out_after = O.held out.new })) }
     ensures ended { OnOk result (IsAtEnd (host_of (D.functions (digests_of runner.new.world)) runner.new.world)
         (shown_world runner.new.world) runner.new.end) }
-    ensures cut { (outputs : Outputs) → Runs D.functions runner.old outputs → outputs.vault_after ≡ V.held vault.old
+    ensures cut { (outputs : Outputs) → Runs receipts D.functions runner.old outputs → outputs.vault_after ≡ V.held vault.old
         → outputs.out_after ≡ O.held out.old
-        → OnErr result (IsCutOff (D.functions (digests_of runner.old.world))
+        → OnErr result (IsCutOff receipts (D.functions (digests_of runner.old.world))
         (record outputs { vault_after = V.held vault.new; out_after = O.held out.new })) }
     ensures host { AreOfOneHost runner.old.world runner.new.world }
     ensures vault_fault { result ≡ Err RoundStop.VaultFault → Rose (V.faults vault.old) (V.faults vault.new) }
@@ -112,12 +116,12 @@ fn serve_phases<D: Digests, V: Sink, O: Sink, G: Gate>(
 {
     let phases = runner.world.requests().len();
     for _number in 1..phases {
-        runner.epoch(false, gate, vault, out)?;
+        runner.epoch(false, receipts, gate, vault, out)?;
         if runner.end.is_some() {
             return Ok(());
         }
     }
-    runner.epoch(true, gate, vault, out)
+    runner.epoch(true, receipts, gate, vault, out)
 }
 
 // Where the counters don't suffice for the setup: the vault has the header alone, and the report its last line.
@@ -131,7 +135,7 @@ fn serve_nothing<V: Sink, O: Sink>(
     requires settings { IsSettings settings.now }
     requires unserved { settings.now.header.end < settings.now.shards }
     requires end { end ≡ setup_end settings.now }
-    ensures serves { (functions : DigestFunctions) (script : List (List Task)) → ServesTo functions settings.now script result
+    ensures serves { (receipts : Bool) (functions : DigestFunctions) (script : List (List Task)) → ServesTo receipts functions settings.now script result
         (record { vault = V.held vault.old; vault_after = V.held vault.new; out = O.held out.old; out_after = O.held out.new }) }
     ensures vault_fault { result ≡ Err RoundStop.VaultFault → Rose (V.faults vault.old) (V.faults vault.new) }
     ensures write_fault { result ≡ Err RoundStop.WriteFault → Rose (O.faults out.old) (O.faults out.new) }

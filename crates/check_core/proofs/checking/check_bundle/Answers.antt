@@ -48,10 +48,10 @@ returns-in-Err g c = record {
       } in
       let sum : new.taken ≡ old.taken + (new.taken - old.taken) = omega (arith, next.rises) in
       let sum' : limit + 1 ≡ old.taken + (new.limit + 1 - old.taken) = omega (arith, next.rises, next.within, same) in
-      subst (λ (stop : CheckStop). AnswersTo (check_answer functions) reading_end limit (checking_stopped limit stop) read wrote) (sym c.from.ensures)
-      (cut_answers functions limit left left_then faults (g.S.Source.faults c.next.new.source) new wrote c.in-Err.stop
+      subst (λ (stop : CheckStop). AnswersTo (check_answer c.args.receipts functions) reading_end limit (checking_stopped limit stop) read wrote) (sym c.from.ensures)
+      (cut_answers c.args.receipts functions limit left left_then faults (g.S.Source.faults c.next.new.source) new wrote c.in-Err.stop
       (took_first limit left left left_then faults faults _ old new come next.rises same next.within next.near (Err c.in-Err.stop) c.in-Err.stop refl next.took next.limit next.full next.beyond)
-      (due_none functions limit left left_then faults (g.S.Source.faults c.next.new.source) new
+      (due_none c.args.receipts functions limit left left_then faults (g.S.Source.faults c.next.new.source) new
       (means_none limit left faults old new opening next.rises (Err c.in-Err.stop) (λ rest. refl) next.means next.header)
       (next.stopped.no_header ∙ next.header ∙ ap (λ (r : Reading). r.progress.header) opening) wrote refl)
       (λ is. next.fault (ap Err is))
@@ -80,7 +80,7 @@ returns-in-Head g c = record {
         faults = g.O.Sink.faults c.args.out.now;
         faults_after = g.O.Sink.faults c.check_frames.new.out;
       } in
-      subst (λ (most : ℕ). AnswersTo (check_answer functions) reading_end most (check_status most c.check_frames.result) read wrote) same
+      subst (λ (most : ℕ). AnswersTo (check_answer c.args.receipts functions) reading_end most (check_status most c.check_frames.result) read wrote) same
       (c.check_frames.ensures.answers left faults
       (come-more left left faults faults _ old new come next.rises (empty_logs c.in-Head.header.verifiers) _ _
       (next.took (λ is. true≢false (ap is_ok is)))
@@ -115,7 +115,7 @@ returns g c = record {
         faults = g.O.Sink.faults c.args.out.now;
         faults_after = g.O.Sink.faults c.write_bad_header-in-End.new.out;
       } in
-      bad_answers functions limit left left_then faults (g.S.Source.faults c.next.new.source) new
+      bad_answers c.args.receipts functions limit left left_then faults (g.S.Source.faults c.next.new.source) new
       (means_none limit left faults old new opening next.rises (Ok c.in-Ok.next) (λ rest. ap (λ (n : Next). next_then (Ok n) new.progress.body rest) c.in-End.is) next.means known)
       ((next.ended ends).no_header ∙ known ∙ ap (λ (r : Reading). r.progress.header) opening) wrote
       c.write_bad_header-in-End.result c.write_bad_header-in-End.ensures.so c.write_bad_header-in-End.ensures.whole c.write_bad_header-in-End.ensures.front

@@ -3,7 +3,7 @@ use Rattle.std.specs.Prelude.{IsErrAnd}
 use Rattle.std.specs.List.{AllByRecursion}
 use Rattle.std.proofs.lemmas.List.{take_all, drop_all}
 use Rattle.want_of_memory.specs.declared.memory.Memory.{Memory}
-use Rattle.fv_outside.specs.Written.{Grows}
+use Rattle.fv_outside.specs.Written.{Grows, GrowsByFront}
 use Rattle.fv_outside.proofs.WrittenLaws.{Grows-nil, Grows-then, GrowsByFront-none, GrowsByFront-then}
 use Rattle.merkle_records.specs.Scheme.{scheme_of}
 use Rattle.bundle_frames.specs.declared.coming.SourceStop.{SourceStop}
@@ -17,6 +17,7 @@ use Rattle.bundle_report.specs.declared.judged.Judged.{Judged}
 use Rattle.bundle_report.specs.Logs.{empty_logs, joined_from}
 use Rattle.bundle_report.specs.Judged.{none_judged}
 use Rattle.bundle_report.specs.SoFar.{HaveTaken}
+use Rattle.bundle_report.specs.Report.{EpochText}
 use Rattle.bundle_report.specs.Answer.{check_answer, answer_by}
 use Rattle.bundle_report.proofs.DueLaws.{taken-none, lines-due}
 use Rattle.bundle_report.proofs.SoFarLaws.{taken-more}
@@ -26,6 +27,7 @@ use Rattle.report_text.specs.Ending.{status_of}
 use Rattle.report_text.specs.Status.{last_line}
 use Rattle.verifier_run.specs.Progress.{weight}
 use Rattle.certified_epochs.specs.declared.fed_run.FedRun.{FedRun}
+use Rattle.certified_epochs.specs.Telling.{text_by}
 use Rattle.check_core.specs.declared.batch.Filled.{Filled}
 use Rattle.check_core.specs.declared.batch.Filled.TheVariants.{Whole, End, Stopped}
 use Rattle.check_core.specs.declared.stops.CheckStop.{CheckStop}
@@ -33,7 +35,7 @@ use Rattle.check_core.specs.declared.stops.CheckStop.TheVariants as checks
 use Rattle.check_core.specs.Batch.{bytes_of}
 use Rattle.check_core.specs.Intake.{behind_at}
 use Rattle.check_core.specs.Stops.{check_status, checking_stopped, stop_by_writing}
-use Rattle.check_core.specs.Stream.{AreChecked, lines_counted}
+use Rattle.check_core.specs.Stream.{AreChecked, lines_counted, lines_due}
 use Rattle.report_text.proofs.AnsweringLaws.{rose_before}
 use Rattle.check_core.proofs.StreamLemmas.{counted_front, opening_weights, weights_room, weights_more, frames_bytes, means-more, extent-more, come-more}
 use Rattle.check_core.proofs.EndingLemmas.{memory_answers, ends_behind, took_batch, stop_answers, due_taken, cut_answers, end_answers, last_answers}
@@ -95,11 +97,11 @@ returns-in_err-runs g c = record {
         faults = g.O.Sink.faults c.args.out.now;
         faults_after = g.O.Sink.faults c.args.out.now;
       } in
-      subst (λ (r : Result BundleEnd CheckStop). AnswersTo (check_answer (g.D.Digests.functions c.args.d.now)) reading_end reader.limit (check_status reader.limit r) read wrote)
+      subst (λ (r : Result BundleEnd CheckStop). AnswersTo (check_answer c.args.receipts (g.D.Digests.functions c.args.d.now)) reading_end reader.limit (check_status reader.limit r) read wrote)
       (sym (handed_on c.from_residual.result checks.Memory c.from_residual.ensures.1))
-      (memory_answers (g.D.Digests.functions c.args.d.now) reader.limit reader.taken reader.taken left _ faults _ (empty_logs c.args.header.now.verifiers) reader wrote
+      (memory_answers c.args.receipts (g.D.Digests.functions c.args.d.now) reader.limit reader.taken reader.taken left _ faults _ (empty_logs c.args.header.now.verifiers) reader wrote
       come.means (omega arith) come.took c.requires.within (stops_near _ _ _ reading_end come.took come.near)
-      (λ more. GrowsByFront-none (g.O.Sink.held c.args.out.now) (answer_by (g.D.Digests.functions c.args.d.now) (behind_at (empty_logs c.args.header.now.verifiers) reader more)).due));
+      (λ more. GrowsByFront-none (g.O.Sink.held c.args.out.now) (answer_by c.args.receipts (g.D.Digests.functions c.args.d.now) (behind_at (empty_logs c.args.header.now.verifiers) reader more)).due));
 }
 
 pub batches-init : goal.batches-init
@@ -115,7 +117,7 @@ batches-init g c =
           subst (λ (so_far : Judged). HaveTaken (scheme_of functions header) header logs so_far (map (λ fed. fed.run) runs)) (sym c.new-certifier.ensures.none)
           (subst (HaveTaken (scheme_of functions header) header logs none_judged) (sym c.in_ok-runs.ensures.opening) (taken-none (scheme_of functions header) header c.requires.header));
       written =
-          subst (λ (so_far : Judged). Grows held held (lines_counted functions header logs so_far)) (sym c.new-certifier.ensures.none) (Grows-nil held);
+          subst (λ (so_far : Judged). Grows held held (lines_counted (text_by g.D.Digests.functions c.new-telling.result) functions header logs so_far)) (sym c.new-certifier.ensures.none) (Grows-nil held);
       weights = opening_weights header _ runs c.in_ok-runs.ensures.opening;
       few = omega (arith, c.in_ok-runs.ensures.len, c.requires.header.verifiers);
       come = λ left faults come. come;
@@ -159,12 +161,14 @@ returns-in_err-filled g c = record {
         faults = g.O.Sink.faults c.args.out.now;
         faults_after = g.O.Sink.faults c.batches.out;
       } in
-      subst (λ (r : Result BundleEnd CheckStop). AnswersTo (check_answer functions) reading_end c.args.reader.now.limit (check_status c.args.reader.now.limit r) read wrote)
+      subst (λ (r : Result BundleEnd CheckStop). AnswersTo (check_answer c.args.receipts functions) reading_end c.args.reader.now.limit (check_status c.args.reader.now.limit r) read wrote)
       (sym (handed_on c.from_residual-in_err-filled.result checks.Memory c.from_residual-in_err-filled.ensures.1))
-      (memory_answers functions c.args.reader.now.limit old.taken new.taken left _ faults _ inv.logs old wrote
+      (memory_answers c.args.receipts functions c.args.reader.now.limit old.taken new.taken left _ faults _ inv.logs old wrote
       now.means fill.rises took (omega (arith, fill.within, fill.same_limit, inv.limit))
       (stops_near _ _ _ reading_end took (near-then _ _ _ _ _ _ _ _ _ now.took now.extent fill.rises refl now.near fill.near))
-      (counted_front functions c.args.header.now inv.logs old inv.known c.batches.certifier c.batches.runs.items _ _ inv.checked inv.written));
+      (counted_front c.args.receipts functions c.args.header.now inv.logs old inv.known c.batches.certifier c.batches.runs.items _ _ inv.checked
+      (subst (λ (tell : EpochText). Grows (g.O.Sink.held c.args.out.now) (g.O.Sink.held c.batches.out) (lines_counted tell functions c.args.header.now inv.logs c.batches.certifier))
+      c.new-telling.ensures.text inv.written)));
 }
 
 pub returns-in_err-take_batch : goal.returns-in_err-take_batch
@@ -193,14 +197,15 @@ returns-in_err-take_batch g c = record {
         faults = g.O.Sink.faults c.args.out.now;
         faults_after = g.O.Sink.faults c.take_batch.new.out;
       } in
-      subst (λ (r : Result BundleEnd CheckStop). AnswersTo (check_answer functions) reading_end limit (check_status limit r) read wrote)
+      subst (λ (r : Result BundleEnd CheckStop). AnswersTo (check_answer c.args.receipts functions) reading_end limit (check_status limit r) read wrote)
       (sym (handed_on c.from_residual-in_err-take_batch.result (stop_by_writing c.in_err-take_batch.field-0.0) c.from_residual-in_err-take_batch.ensures.1))
-      (stop_answers functions header limit left (g.S.Source.left c.fill.new.source) faults (g.S.Source.faults c.fill.new.source) (joined_from 0 inv.logs frames) new
+      (stop_answers c.args.receipts functions header limit left (g.S.Source.left c.fill.new.source) faults (g.S.Source.faults c.fill.new.source) (joined_from 0 inv.logs frames) new
       (on.header ∙ inv.known) (means-more left _ faults _ inv.logs old new now fill.rises header frames inv.known on) wrote c.in_err-take_batch.field-0.0
       (took_batch limit left _ _ faults _ inv.logs old new now fill.rises (fill.same_limit ∙ inv.limit) fill.within fill.near
       c.fill.result c.in_ok-filled.filled c.in_ok-filled.was fill.took fill.limit fill.full fill.beyond)
       c.requires.header (taken-more (scheme_of functions header) header inv.logs c.batches.certifier _ frames inv.checked).whole
-      (c.in_err-take_batch.ensures.front header inv.logs (g.O.Sink.held c.args.out.now) checked inv.written)
+      (subst (λ (tell : EpochText). GrowsByFront (g.O.Sink.held c.args.out.now) (g.O.Sink.held c.take_batch.new.out) (lines_due tell functions header (joined_from 0 inv.logs frames)))
+      c.new-telling.ensures.text (c.in_err-take_batch.ensures.front header inv.logs (g.O.Sink.held c.args.out.now) checked inv.written))
       (λ is. rose_before _ _ _ inv.faults (c.take_batch.ensures.write_fault (c.in_err-take_batch.was ∙ ap Err is))));
 }
 
@@ -233,7 +238,7 @@ batches-preserved g c =
       checked = subst (λ (runs : List FedRun). AreChecked functions header all c.take_batch.new.certifier runs) (sym back) taken;
       written =
           subst (Grows (g.O.Sink.held c.args.out.now) (g.O.Sink.held c.take_batch.new.out))
-          (sym (lines-due (scheme_of functions header) header all c.take_batch.new.certifier _ taken (c.in_ok-take_batch.ensures.all header inv.logs checked)))
+          (sym (lines-due (text_by g.D.Digests.functions c.new-telling.result) (scheme_of functions header) header all c.take_batch.new.certifier _ taken (c.in_ok-take_batch.ensures.all header inv.logs checked)))
           (c.in_ok-take_batch.ensures.due header inv.logs (g.O.Sink.held c.args.out.now) checked inv.written);
       weights =
           subst (AllByRecursion (λ fed. weight fed.run ≤ new.progress.offset)) (sym back)
@@ -284,14 +289,15 @@ returns-in-Stopped g c = record {
         faults = g.O.Sink.faults c.args.out.now;
         faults_after = g.O.Sink.faults c.take_batch.new.out;
       } in
-      subst (λ (stop : CheckStop). AnswersTo (check_answer functions) reading_end limit (checking_stopped limit stop) read wrote) (sym c.from.ensures)
-      (cut_answers functions limit left (g.S.Source.left c.fill.new.source) faults (g.S.Source.faults c.fill.new.source) new wrote c.in-Stopped.stop
+      subst (λ (stop : CheckStop). AnswersTo (check_answer c.args.receipts functions) reading_end limit (checking_stopped limit stop) read wrote) (sym c.from.ensures)
+      (cut_answers c.args.receipts functions limit left (g.S.Source.left c.fill.new.source) faults (g.S.Source.faults c.fill.new.source) new wrote c.in-Stopped.stop
       (took_batch limit left _ _ faults _ inv.logs old new now fill.rises same fill.within fill.near
       c.fill.result c.in_ok-filled.filled c.in_ok-filled.was fill.took fill.limit fill.full fill.beyond)
-      (due_taken functions header limit left (g.S.Source.left c.fill.new.source) faults (g.S.Source.faults c.fill.new.source) all new
+      (due_taken c.args.receipts functions header limit left (g.S.Source.left c.fill.new.source) faults (g.S.Source.faults c.fill.new.source) all new
       (on.header ∙ inv.known) (means-more left _ faults _ inv.logs old new now fill.rises header frames inv.known on) wrote
       (c.in_ok-filled.ensures.spent (stopped_not_whole c.in_ok-filled.filled c.in-Stopped.stop c.in-Stopped.is)).no_frames (joined_none 0 all)
-      (c.in_ok-take_batch.ensures.due header inv.logs (g.O.Sink.held c.args.out.now) checked inv.written))
+      (subst (λ (tell : EpochText). Grows (g.O.Sink.held c.args.out.now) (g.O.Sink.held c.take_batch.new.out) (lines_due tell functions header all))
+      c.new-telling.ensures.text (c.in_ok-take_batch.ensures.due header inv.logs (g.O.Sink.held c.args.out.now) checked inv.written)))
       (λ is. rose_before _ _ _ now.never_falls (fill.fault (stopped ∙ ap stopped_at is)))
       (λ is. TookAtMost-from_read new.taken limit _ _ (HasRead-then _ _ _ _ _ _ now.took (fill.took (fault_no_limit c.fill.result (stopped ∙ ap stopped_at is))) sum)
       (omega (arith, fill.within, same)))
@@ -335,15 +341,16 @@ returns-in_err-finish g c = record {
         faults = g.O.Sink.faults c.args.out.now;
         faults_after = g.O.Sink.faults c.finish.new.out;
       } in
-      subst (λ (r : Result BundleEnd CheckStop). AnswersTo (check_answer functions) reading_end limit (check_status limit r) read wrote)
+      subst (λ (r : Result BundleEnd CheckStop). AnswersTo (check_answer c.args.receipts functions) reading_end limit (check_status limit r) read wrote)
       (sym (handed_on c.from_residual-in_err-finish.result (stop_by_writing c.in_err-finish.field-0.0) c.from_residual-in_err-finish.ensures.1
       ∙ ap Err (no_memory c.in_err-finish.field-0.0 (λ is. c.finish.ensures.stop (c.in_err-finish.was ∙ ap Err is)))))
-      (last_answers functions header limit left (g.S.Source.left c.fill.new.source) faults (g.S.Source.faults c.fill.new.source) all new
+      (last_answers c.args.receipts functions header limit left (g.S.Source.left c.fill.new.source) faults (g.S.Source.faults c.fill.new.source) all new
       (on.header ∙ inv.known) (means-more left _ faults _ inv.logs old new now fill.rises header frames inv.known on) wrote c.bad.result took
       (omega (arith, fill.within, fill.same_limit, inv.limit))
       (joined_end all new _ (Some header) c.bad.result (fill.end ended) (sym (on.header ∙ inv.known)) (c.bad.ensures.ahead spent.unread) whole)
       (stops_near _ _ _ reading_end took (near-then _ _ _ _ _ _ _ _ _ now.took now.extent fill.rises refl now.near fill.near))
-      (GrowsByFront-then _ _ _ _ _ (c.in_ok-take_batch.ensures.due header inv.logs (g.O.Sink.held c.args.out.now) checked inv.written)
+      (GrowsByFront-then _ _ _ _ _ (subst (λ (tell : EpochText). Grows (g.O.Sink.held c.args.out.now) (g.O.Sink.held c.take_batch.new.out) (lines_due tell functions header all))
+      c.new-telling.ensures.text (c.in_ok-take_batch.ensures.due header inv.logs (g.O.Sink.held c.args.out.now) checked inv.written))
       (c.in_err-finish.ensures.front scheme header all taken (c.in_ok-take_batch.ensures.all header inv.logs checked)))
       (let more = c.take_batch.ensures.never_falls in rose_before _ _ _ (omega (arith, inv.faults, more)) c.in_err-finish.ensures.write_fault));
 }
@@ -374,7 +381,7 @@ returns g c = record {
       let whole = (taken-more scheme header inv.logs c.batches.certifier _ frames inv.checked).whole in
       let end = c.in_ok-finish.field-0 in
       let end_is = c.in_ok-finish.ensures.end scheme header all taken (c.in_ok-take_batch.ensures.all header inv.logs checked) in
-      end_answers functions header limit left (g.S.Source.left c.fill.new.source) faults (g.S.Source.faults c.fill.new.source) all new
+      end_answers c.args.receipts functions header limit left (g.S.Source.left c.fill.new.source) faults (g.S.Source.faults c.fill.new.source) all new
       (on.header ∙ inv.known) (means-more left _ faults _ inv.logs old new now fill.rises header frames inv.known on)
       (record {
         held = g.O.Sink.held c.args.out.now;
@@ -389,6 +396,7 @@ returns g c = record {
       (extent-more left _ faults _ inv.logs old new now fill.rises on.extent) (fill.reached ended))
       (stops_near _ _ _ reading_end took (near-then _ _ _ _ _ _ _ _ _ now.took now.extent fill.rises refl now.near fill.near))
       (ap status_of end_is)
-      (Grows-then _ _ _ _ _ (c.in_ok-take_batch.ensures.due header inv.logs (g.O.Sink.held c.args.out.now) checked inv.written)
+      (Grows-then _ _ _ _ _ (subst (λ (tell : EpochText). Grows (g.O.Sink.held c.args.out.now) (g.O.Sink.held c.take_batch.new.out) (lines_due tell functions header all))
+      c.new-telling.ensures.text (c.in_ok-take_batch.ensures.due header inv.logs (g.O.Sink.held c.args.out.now) checked inv.written))
       (subst (λ (e : BundleEnd). Grows (g.O.Sink.held c.take_batch.new.out) (g.O.Sink.held c.finish.new.out) (last_line (status_of e))) end_is c.in_ok-finish.ensures.line));
 }

@@ -5,6 +5,7 @@ use Rattle.bundle_frames.specs.Extent.{IsDue}
 use Rattle.bundle_frames.specs.Progress.{position}
 use Rattle.verifier_run.specs.Progress.{weight}
 use Rattle.bundle_report.specs.Logs.{empty_logs}
+use Rattle.certified_epochs.specs.Telling.{text_by}
 use Rattle.check_core.specs.Stream.{HasCome, AreChecked, lines_counted}
 use Rattle.check_core.proofs.checking.check_frames.Given as goal
 
@@ -13,7 +14,7 @@ abbrev pub invariant-batches : goal.invariant-batches
 invariant-batches g l = record {
   logs : List (List ℕ);
   checked : AreChecked (g.D.Digests.functions l.d) l.header logs l.certifier l.runs.items;
-  written : Grows (g.O.Sink.held l.fn.out) (g.O.Sink.held l.out) (lines_counted (g.D.Digests.functions l.d) l.header logs l.certifier);
+  written : Grows (g.O.Sink.held l.fn.out) (g.O.Sink.held l.out) (lines_counted (text_by g.D.Digests.functions l.telling) (g.D.Digests.functions l.d) l.header logs l.certifier);
   weights : AllByRecursion (λ fed. weight fed.run ≤ l.reader.progress.offset) l.runs.items;
   few : vec_len l.runs ≤ 64;
   come : (left : Option (List ℕ)) (faults : ℕ)

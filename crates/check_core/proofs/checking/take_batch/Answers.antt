@@ -1,6 +1,7 @@
 use Rattle.std.proofs.Common.{ap, ⊎_elim}
 use Rattle.merkle_records.specs.Scheme.{scheme_of}
 use Rattle.bundle_report.specs.Logs.{joined_from}
+use Rattle.certified_epochs.specs.Telling.{text_by}
 use Rattle.check_core.proofs.StreamLemmas.{fed_checked, due_more, front_more, front_none, fed_or_not, ok_with, on_ok_always, err_with, on_err_always, runs_headers, runs_weights}
 use Rattle.check_core.proofs.checking.take_batch.Goals as goal
 
@@ -49,7 +50,7 @@ returns-clause-due g c = λ header logs held checked written.
     (λ all. ok_with _ _ c.certify.result (c.certify.ensures.taken (scheme_of functions header) header (joined_from 0 logs frames) fed)
     (λ now. ok_with _ _ c.certify.result (c.certify.ensures.lines (scheme_of functions header) header (joined_from 0 logs frames) fed)
     (λ more. on_ok_always _ c.certify.result
-    (due_more functions header logs frames c.args.certifier.now c.args.runs.now checked c.certify.new.self c.feed_batch.new.runs c.certify.new.runs held
+    (due_more (text_by g.D.Digests.functions c.args.telling.now) functions header logs frames c.args.certifier.now c.args.runs.now checked c.certify.new.self c.feed_batch.new.runs c.certify.new.runs held
     (g.O.Sink.held c.args.out.now) (g.O.Sink.held c.certify.new.out) fed now all written more)))))
 
 pub returns-clause-front : goal.returns-clause-front
@@ -62,10 +63,10 @@ returns-clause-front g c = λ header logs held checked written.
     let fed = fed_checked functions header logs frames c.args.certifier.now c.args.runs.now c.feed_batch.new.runs checked
     (c.feed_batch.ensures.taken header headers fine).1 in
     err_with _ _ c.certify.result (c.certify.ensures.front (scheme_of functions header) header (joined_from 0 logs frames) fed)
-    (λ front. front_more functions header logs frames c.args.certifier.now c.args.runs.now checked c.feed_batch.new.runs held
+    (λ front. front_more (text_by g.D.Digests.functions c.args.telling.now) functions header logs frames c.args.certifier.now c.args.runs.now checked c.feed_batch.new.runs held
     (g.O.Sink.held c.args.out.now) (g.O.Sink.held c.certify.new.out) fed written front))
     (λ starved. on_err_always _ c.certify.result
-    (front_none functions header logs frames c.args.certifier.now c.args.runs.now checked held (g.O.Sink.held c.args.out.now) (g.O.Sink.held c.certify.new.out) written
+    (front_none (text_by g.D.Digests.functions c.args.telling.now) functions header logs frames c.args.certifier.now c.args.runs.now checked held (g.O.Sink.held c.args.out.now) (g.O.Sink.held c.certify.new.out) written
     (ap g.O.Sink.held (c.certify.ensures.starved starved).1)))
     (fed_or_not c.feed_batch.new.runs)
 

@@ -1,4 +1,4 @@
-use Rattle.std.proofs.Common.{◌^◌, ℕ, List, subst}
+use Rattle.std.proofs.Common.{◌^◌, false, ℕ, List, subst}
 use Rattle.record_hash.specs.ShaDigests.{sha_functions}
 use Rattle.program_words.specs.declared.words.Asked.{Asked}
 use Rattle.program_words.specs.declared.words.Asked.TheVariants.{Check, Audit, Run}
@@ -37,7 +37,7 @@ returns-in-Ok-Check-clause-answers g c = λ asked known.
     } in
     let own = asked_is _ asked (Check c.in-Ok-Check.key) c.in-Ok-Check.field-0 known c.in-Ok-Check.ensures.asked c.in-Ok-Check.field-0-is in
     subst (λ (a : Asked). AnswersFor a (2 ^ 40) c.check.result read wrote kept) own
-    (subst (λ (block : List ℕ). AnswersTo (check_answer (sha_functions block)) reading_end (2 ^ 40) c.check.result read wrote)
+    (subst (λ (block : List ℕ). AnswersTo (check_answer false (sha_functions block)) reading_end (2 ^ 40) c.check.result read wrote)
     c.digests_under.ensures.value c.check.ensures.answers)
 
 pub returns-in-Ok-Audit-clause-answers : goal.returns-in-Ok-Audit-clause-answers
@@ -92,7 +92,7 @@ returns-in-Ok-Run-clause-answers g c = λ asked known.
     let run = c.in-Ok-Run.run' in
     let own = asked_is _ asked (Run run) c.in-Ok-Run.field-0 known c.in-Ok-Run.ensures.asked c.in-Ok-Run.field-0-is in
     subst (λ (a : Asked). AnswersFor a (2 ^ 40) c.run_script.result read wrote kept) own
-    (subst (λ (block : List ℕ). RunsTo (sha_functions block) run (2 ^ 40) c.run_script.result read wrote kept)
+    (subst (λ (block : List ℕ). RunsTo false (sha_functions block) run (2 ^ 40) c.run_script.result read wrote kept)
     c.digests_under-d.ensures.value c.run_script.ensures.runs)
 
 pub returns-in-Err-Memory-clause-answers : goal.returns-in-Err-Memory-clause-answers

@@ -10,26 +10,26 @@ use Rattle.verifier_threads.proofs.NothingLemmas.{nothing-served, nothing-cut, h
 use Rattle.verifier_threads.proofs.serving.serve_nothing.Goals as goal
 
 pub returns-in_err-_rounds-clause-serves : goal.returns-in_err-_rounds-clause-serves
-returns-in_err-_rounds-clause-serves g c = λ functions script.
+returns-in_err-_rounds-clause-serves g c = λ receipts functions script.
     let p = err_from_is_err_and c.from_residual.result c.from_residual.ensures.1 in
-    rw p.1 (header-cut functions c.args.settings.now script p.0 _ _ _ _ c.in_err-_rounds.ensures.front)
+    rw p.1 (header-cut receipts functions c.args.settings.now script p.0 _ _ _ _ c.in_err-_rounds.ensures.front)
 
 pub returns-in_err-write_end-clause-serves : goal.returns-in_err-write_end-clause-serves
-returns-in_err-write_end-clause-serves g c = λ functions script.
+returns-in_err-write_end-clause-serves g c = λ receipts functions script.
     let laws = c.logs_of_no_bytes_certify_nothing.ensures in
     let p = err_from_is_err_and c.from_residual-in_err-write_end.result c.from_residual-in_err-write_end.ensures.1 in
     rw p.1
-    (ends-so functions c.args.settings.now script p.0 _
+    (ends-so receipts functions c.args.settings.now script p.0 _
     (stop-is {A = RunEnd} (Err c.in_err-write_end.field-0.0) p.0 (ap (λ (e : RoundStop). Err e) (sym p.2)) (err-of _ _ c.in_err-write_end.ensures.stop))
-    (nothing-cut laws.lines laws.texts functions c.args.settings.now script c.requires.unserved c.args.end _ _ _ _ c.requires.end
+    (nothing-cut laws.lines laws.texts receipts functions c.args.settings.now script c.requires.unserved c.args.end _ _ _ _ c.requires.end
     (c.in_ok-_rounds.ensures.keeps functions).vault
     (subst (λ (s : Status). GrowsByFront (g.O.Sink.held c.args.out.now) (g.O.Sink.held c.write_end.new.out) (last_line s)) c.status.ensures.value
     c.in_err-write_end.ensures.front)))
 
 pub returns-clause-serves : goal.returns-clause-serves
-returns-clause-serves g c = λ functions script.
+returns-clause-serves g c = λ receipts functions script.
     let laws = c.logs_of_no_bytes_certify_nothing.ensures in
-    nothing-served laws.lines laws.texts functions c.args.settings.now script c.requires.unserved c.args.end _ _ _ _ c.requires.end
+    nothing-served laws.lines laws.texts receipts functions c.args.settings.now script c.requires.unserved c.args.end _ _ _ _ c.requires.end
     (c.in_ok-_rounds.ensures.keeps functions).vault
     (subst (λ (s : Status). Grows (g.O.Sink.held c.args.out.now) (g.O.Sink.held c.write_end.new.out) (last_line s)) c.status.ensures.value
     c.in_ok-write_end.ensures.line)

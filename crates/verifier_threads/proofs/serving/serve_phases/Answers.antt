@@ -25,7 +25,7 @@ loop-number-init g c = record {
   begins = c.requires.begins;
   phase = ap suc c.requires.first;
   under_way = c.requires.runs;
-  runs = λ outputs runs held written. runs-at g.D.Digests.functions c.args.runner.now outputs runs _ _ held written;
+  runs = λ outputs runs held written. runs-at c.args.receipts g.D.Digests.functions c.args.runner.now outputs runs _ _ held written;
   vault_counts = omega arith;
   out_counts = omega arith;
   name = refl;
@@ -41,7 +41,7 @@ epoch-requires g c =
     record {
       runs = inv.under_way;
       begins = inv.begins;
-      workers = turns-now old now.world (shown_world now.world).phase inv.host c.requires.tasks (runs-workers g.D.Digests.functions now inv.under_way.0 inv.under_way.1);
+      workers = turns-now old now.world (shown_world now.world).phase inv.host c.requires.tasks (runs-workers c.args.receipts g.D.Digests.functions now inv.under_way.0 inv.under_way.1);
       at_end = (λ is. absurd (false≢true is), λ over. absurd (omega (arith, over, size, inv.phase, c.loop-number-test.true)));
     }
 
@@ -70,7 +70,7 @@ returns-in_err-epoch-clause-cut g c = λ outputs runs held written.
     let functions = g.D.Digests.functions in
     let inv = c.loop-number.invariant in
     err_any c.from_residual.result
-    (subst (λ d. IsCutOff (functions d) (record outputs { vault_after = g.V.Sink.held c.epoch.new.vault; out_after = g.O.Sink.held c.epoch.new.out })) inv.host.digests
+    (subst (λ d. IsCutOff c.args.receipts (functions d) (record outputs { vault_after = g.V.Sink.held c.epoch.new.vault; out_after = g.O.Sink.held c.epoch.new.out })) inv.host.digests
     (c.in_err-epoch.ensures.cut (record outputs { vault_after = g.V.Sink.held c.loop-number.vault; out_after = g.O.Sink.held c.loop-number.out })
     (inv.runs outputs runs held written) refl refl))
 
@@ -84,7 +84,7 @@ epoch-requires-2-clause-workers g c =
     let now = c.loop-number.runner in
     let inv = c.loop-number.invariant in
     turns-now c.args.runner.now.world now.world (shown_world now.world).phase inv.host c.requires.tasks
-    (runs-workers g.D.Digests.functions now inv.under_way.0 inv.under_way.1)
+    (runs-workers c.args.receipts g.D.Digests.functions now inv.under_way.0 inv.under_way.1)
 
 pub returns-clause-runs : goal.returns-clause-runs
 returns-clause-runs g c = λ outputs runs held written.
@@ -95,7 +95,7 @@ pub returns-clause-cut : goal.returns-clause-cut
 returns-clause-cut g c = λ outputs runs held written.
     let functions = g.D.Digests.functions in
     let inv = c.loop-number.invariant in
-    subst (λ d. OnErr c.epoch-2.result (IsCutOff (functions d) (record outputs { vault_after = g.V.Sink.held c.epoch-2.new.vault; out_after = g.O.Sink.held c.epoch-2.new.out })))
+    subst (λ d. OnErr c.epoch-2.result (IsCutOff c.args.receipts (functions d) (record outputs { vault_after = g.V.Sink.held c.epoch-2.new.vault; out_after = g.O.Sink.held c.epoch-2.new.out })))
     inv.host.digests
     (c.epoch-2.ensures.cut (record outputs { vault_after = g.V.Sink.held c.loop-number.vault; out_after = g.O.Sink.held c.loop-number.out })
     (inv.runs outputs runs held written) refl refl)

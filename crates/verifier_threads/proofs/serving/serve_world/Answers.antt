@@ -28,7 +28,7 @@ serve_phases-requires g c =
     let world_is = c.in_ok-runner.ensures.world in
     let end = c.in_ok-runner.runner.end in
     record {
-      runs = (_, c.in_ok-runner.ensures.runs (g.O.Sink.held c.args.out.now), refl, refl);
+      runs = (_, c.in_ok-runner.ensures.runs c.args.receipts (g.O.Sink.held c.args.out.now), refl, refl);
       begins =
           subst (λ (w : code.World _). IsAtPhase (host_of (g.D.Digests.functions (digests_of w)) w) (shown_world w) end) (sym world_is) c.in_ok-runner.ensures.begins;
       first = ap (λ (w : code.World _). (shown_world w).phase) world_is ∙ ap (λ (w : World Content). w.phase) c.requires.setup;
@@ -37,7 +37,7 @@ serve_phases-requires g c =
 
 pub finish-requires : goal.finish-requires
 finish-requires g c = record {
-  runs = (_, c.in_ok-serve_phases.ensures.runs _ (c.in_ok-runner.ensures.runs (g.O.Sink.held c.args.out.now)) refl refl);
+  runs = (_, _, c.in_ok-serve_phases.ensures.runs _ (c.in_ok-runner.ensures.runs c.args.receipts (g.O.Sink.held c.args.out.now)) refl refl);
   ended = c.in_ok-serve_phases.ensures.ended;
 }
 
@@ -45,18 +45,18 @@ pub returns-in_err-runner-clause-serves : goal.returns-in_err-runner-clause-serv
 returns-in_err-runner-clause-serves g c =
     let p = err_from_is_err_and c.from_residual.result c.from_residual.ensures.1 in
     rw p.1
-    (stops-so (g.D.Digests.functions (digests_of c.args.world)) c.args.world.settings (requests_of c.args.world) p.0 _
-    (c.in_err-runner.ensures.cut (g.O.Sink.held c.args.out.now)))
+    (stops-so c.args.receipts (g.D.Digests.functions (digests_of c.args.world)) c.args.world.settings (requests_of c.args.world) p.0 _
+    (c.in_err-runner.ensures.cut c.args.receipts (g.O.Sink.held c.args.out.now)))
 
 pub returns-in_err-serve_phases-clause-serves : goal.returns-in_err-serve_phases-clause-serves
 returns-in_err-serve_phases-clause-serves g c =
     let p = err_from_is_err_and c.from_residual-in_err-serve_phases.result c.from_residual-in_err-serve_phases.ensures.1 in
     rw p.1
-    (stops-so (g.D.Digests.functions (digests_of c.args.world)) c.args.world.settings (requests_of c.args.world) p.0 _
-    (subst (λ (w : code.World _). IsCutOff (g.D.Digests.functions (digests_of w))
+    (stops-so c.args.receipts (g.D.Digests.functions (digests_of c.args.world)) c.args.world.settings (requests_of c.args.world) p.0 _
+    (subst (λ (w : code.World _). IsCutOff c.args.receipts (g.D.Digests.functions (digests_of w))
     (record { vault = g.V.Sink.held c.args.vault.now; vault_after = g.V.Sink.held c.serve_phases.new.vault; out = g.O.Sink.held c.args.out.now; out_after = g.O.Sink.held c.serve_phases.new.out }))
     c.in_ok-runner.ensures.world
-    (c.in_err-serve_phases.ensures.cut _ (c.in_ok-runner.ensures.runs (g.O.Sink.held c.args.out.now)) refl refl)))
+    (c.in_err-serve_phases.ensures.cut _ (c.in_ok-runner.ensures.runs c.args.receipts (g.O.Sink.held c.args.out.now)) refl refl)))
 
 pub returns-clause-serves : goal.returns-clause-serves
 returns-clause-serves g c =
@@ -65,9 +65,9 @@ returns-clause-serves g c =
     let now = c.serve_phases.new.runner.world in
     let outputs : Outputs = record { vault = g.V.Sink.held c.args.vault.now; vault_after = g.V.Sink.held c.serve_phases.new.vault; out = g.O.Sink.held c.args.out.now; out_after = g.O.Sink.held c.serve_phases.new.out } in
     let after : Outputs = record outputs { out_after = g.O.Sink.held c.finish.new.out } in
-    let whole = c.in_ok-serve_phases.ensures.runs _ (c.in_ok-runner.ensures.runs (g.O.Sink.held c.args.out.now)) refl refl in
-    subst (λ (w : code.World _). ServesTo (functions (digests_of w)) w.settings (requests_of w) c.finish.result after) c.in_ok-runner.ensures.world
+    let whole = c.in_ok-serve_phases.ensures.runs _ (c.in_ok-runner.ensures.runs c.args.receipts (g.O.Sink.held c.args.out.now)) refl refl in
+    subst (λ (w : code.World _). ServesTo c.args.receipts (functions (digests_of w)) w.settings (requests_of w) c.finish.result after) c.in_ok-runner.ensures.world
     (of_one_host functions now runner.world (host-back runner.world now c.serve_phases.ensures.host)
-    (λ (f : DigestFunctions) (settings : Settings) (script : List (List Task)). ServesTo f settings script c.finish.result after)
-    (finishes-so (functions (digests_of now)) now.settings (requests_of now) c.finish.result after
-    (c.finish.ensures.served outputs whole refl) (c.finish.ensures.cut outputs whole refl) c.finish.ensures.stop))
+    (λ (f : DigestFunctions) (settings : Settings) (script : List (List Task)). ServesTo c.args.receipts f settings script c.finish.result after)
+    (finishes-so c.args.receipts (functions (digests_of now)) now.settings (requests_of now) c.finish.result after
+    (c.finish.ensures.served c.args.receipts outputs whole refl) (c.finish.ensures.cut c.args.receipts outputs whole refl) c.finish.ensures.stop))

@@ -3,6 +3,7 @@ use Rattle.fv_outside.specs.Written.{Grows}
 use Rattle.report_text.proofs.PassLaws.{Passes-then, Passes-flush, Passes-front, Passes-stop, on_err}
 use Rattle.bundle_report.specs.RunReport.{courses_of}
 use Rattle.bundle_report.specs.SoFar.{lines_from}
+use Rattle.certified_epochs.specs.Telling.{text_by}
 use Rattle.certified_epochs.specs.Turn.{turn}
 use Rattle.certified_epochs.proofs.TurnLemmas.{runs_of, certified-turn, done-turn, same-judged, lines-step, turn-front}
 use Rattle.certified_epochs.proofs.certifier.Certifier.certify.Goals as goal
@@ -13,18 +14,20 @@ returns-in-Some-clause-judged g c = λ scheme header logs taken.
 
 pub returns-in_err-certify_next-clause-front : goal.returns-in_err-certify_next-clause-front
 returns-in_err-certify_next-clause-front g c = λ scheme header logs taken.
+    let tell = text_by g.D.Digests.functions c.args.telling.now in
     let inv = c.epochs.invariant in
-    let rest = turn-front scheme header logs c.epochs.self (runs_of c.epochs.runs) c.args.self.now.count inv.text (inv.taken scheme header logs taken) inv.even inv.counted
+    let rest = turn-front tell scheme header logs c.epochs.self (runs_of c.epochs.runs) c.args.self.now.count inv.text (inv.taken scheme header logs taken) inv.even inv.counted
     (inv.lines scheme header logs taken) in
-    on_err _ (Passes-front _ _ _ _ _ inv.text (turn c.epochs.self (runs_of c.epochs.runs)).text rest.0 _ inv.passes c.in_err-certify_next.ensures.front rest.1)
+    on_err _ (Passes-front _ _ _ _ _ inv.text (turn tell c.epochs.self (runs_of c.epochs.runs)).text rest.0 _ inv.passes c.in_err-certify_next.ensures.front rest.1)
 
 pub epochs-preserved : goal.epochs-preserved
 epochs-preserved g c =
+    let tell = text_by g.D.Digests.functions c.args.telling.now in
     let inv = c.epochs.invariant in
     let now = c.certify_next.new.self in
-    let text = (turn c.epochs.self (runs_of c.epochs.runs)).text in
+    let text = (turn tell c.epochs.self (runs_of c.epochs.runs)).text in
     let next = c.in_ok-certify_next.ensures in
-    let own = certified-turn inv.logs.0 inv.logs.1 inv.logs.2 c.epochs.self now (runs_of c.epochs.runs) (runs_of c.certify_next.new.runs) c.in_ok-certify_next.field-0 text
+    let own = certified-turn tell inv.logs.0 inv.logs.1 inv.logs.2 c.epochs.self now (runs_of c.epochs.runs) (runs_of c.certify_next.new.runs) c.in_ok-certify_next.field-0 text
     inv.logs.3 inv.even next.turned c.if-not-branch.false in
     record {
       text = inv.text ++ text;
@@ -32,12 +35,12 @@ epochs-preserved g c =
       even = own.even;
       logs = (inv.logs.0, inv.logs.1, inv.logs.2, own.taken);
       taken = λ scheme header logs taken.
-          (certified-turn scheme header logs c.epochs.self now (runs_of c.epochs.runs) (runs_of c.certify_next.new.runs) c.in_ok-certify_next.field-0 text
+          (certified-turn tell scheme header logs c.epochs.self now (runs_of c.epochs.runs) (runs_of c.certify_next.new.runs) c.in_ok-certify_next.field-0 text
           (inv.taken scheme header logs taken) inv.even next.turned c.if-not-branch.false).taken;
       lines = λ scheme header logs taken.
-          let more = certified-turn scheme header logs c.epochs.self now (runs_of c.epochs.runs) (runs_of c.certify_next.new.runs) c.in_ok-certify_next.field-0 text
+          let more = certified-turn tell scheme header logs c.epochs.self now (runs_of c.epochs.runs) (runs_of c.certify_next.new.runs) c.in_ok-certify_next.field-0 text
           (inv.taken scheme header logs taken) inv.even next.turned c.if-not-branch.false in
-          lines-step (courses_of scheme header logs) header.first c.args.self.now.count c.epochs.self.count now.count inv.text text inv.counted more.count
+          lines-step tell (courses_of scheme header logs) header.first c.args.self.now.count c.epochs.self.count now.count inv.text text inv.counted more.count
           (inv.lines scheme header logs taken) more.text;
       counted = omega (arith, inv.counted, own.count);
       fed_before = inv.fed_before;
@@ -49,31 +52,35 @@ epochs-preserved g c =
 
 pub returns-in-Ok-clause-judged : goal.returns-in-Ok-clause-judged
 returns-in-Ok-clause-judged g c = λ scheme header logs taken.
+    let tell = text_by g.D.Digests.functions c.args.telling.now in
     let inv = c.epochs.invariant in
-    (done-turn scheme header logs c.epochs.self c.certify_next.new.self (runs_of c.epochs.runs) (runs_of c.certify_next.new.runs) c.in_ok-certify_next.field-0
-    (turn c.epochs.self (runs_of c.epochs.runs)).text (inv.taken scheme header logs taken) inv.even c.in_ok-certify_next.ensures.turned c.if-not-branch.true).all
+    (done-turn tell scheme header logs c.epochs.self c.certify_next.new.self (runs_of c.epochs.runs) (runs_of c.certify_next.new.runs) c.in_ok-certify_next.field-0
+    (turn tell c.epochs.self (runs_of c.epochs.runs)).text (inv.taken scheme header logs taken) inv.even c.in_ok-certify_next.ensures.turned c.if-not-branch.true).all
 
 pub returns-in-Ok-clause-taken : goal.returns-in-Ok-clause-taken
 returns-in-Ok-clause-taken g c = λ scheme header logs taken.
+    let tell = text_by g.D.Digests.functions c.args.telling.now in
     let inv = c.epochs.invariant in
-    (done-turn scheme header logs c.epochs.self c.certify_next.new.self (runs_of c.epochs.runs) (runs_of c.certify_next.new.runs) c.in_ok-certify_next.field-0
-    (turn c.epochs.self (runs_of c.epochs.runs)).text (inv.taken scheme header logs taken) inv.even c.in_ok-certify_next.ensures.turned c.if-not-branch.true).taken
+    (done-turn tell scheme header logs c.epochs.self c.certify_next.new.self (runs_of c.epochs.runs) (runs_of c.certify_next.new.runs) c.in_ok-certify_next.field-0
+    (turn tell c.epochs.self (runs_of c.epochs.runs)).text (inv.taken scheme header logs taken) inv.even c.in_ok-certify_next.ensures.turned c.if-not-branch.true).taken
 
 pub returns-in-Ok-clause-lines : goal.returns-in-Ok-clause-lines
 returns-in-Ok-clause-lines g c = λ scheme header logs taken.
+    let tell = text_by g.D.Digests.functions c.args.telling.now in
     let inv = c.epochs.invariant in
-    let text = (turn c.epochs.self (runs_of c.epochs.runs)).text in
-    let done = done-turn scheme header logs c.epochs.self c.certify_next.new.self (runs_of c.epochs.runs) (runs_of c.certify_next.new.runs) c.in_ok-certify_next.field-0
+    let text = (turn tell c.epochs.self (runs_of c.epochs.runs)).text in
+    let done = done-turn tell scheme header logs c.epochs.self c.certify_next.new.self (runs_of c.epochs.runs) (runs_of c.certify_next.new.runs) c.in_ok-certify_next.field-0
     text (inv.taken scheme header logs taken) inv.even c.in_ok-certify_next.ensures.turned c.if-not-branch.true in
     subst (Grows (g.O.Sink.held c.args.out.now) (g.O.Sink.held c.flush.new.sink))
     (ap (λ (t : List ℕ). inv.text ++ t) done.text ∙ append-nil inv.text ∙ inv.lines scheme header logs taken
-    ∙ ap (λ (n : ℕ). lines_from (courses_of scheme header logs) (header.first + c.args.self.now.count) (n - c.args.self.now.count)) (sym done.count))
+    ∙ ap (λ (n : ℕ). lines_from tell (courses_of scheme header logs) (header.first + c.args.self.now.count) (n - c.args.self.now.count)) (sym done.count))
     (Passes-flush _ _ _ [] _ (inv.text ++ text) (Passes-then _ _ _ _ _ _ _ _ inv.passes c.in_ok-certify_next.ensures.text) c.in-Ok.ensures.whole)
 
 pub returns-in-Err-clause-front : goal.returns-in-Err-clause-front
 returns-in-Err-clause-front g c = λ scheme header logs taken.
+    let tell = text_by g.D.Digests.functions c.args.telling.now in
     let inv = c.epochs.invariant in
-    let rest = turn-front scheme header logs c.epochs.self (runs_of c.epochs.runs) c.args.self.now.count inv.text (inv.taken scheme header logs taken) inv.even inv.counted
+    let rest = turn-front tell scheme header logs c.epochs.self (runs_of c.epochs.runs) c.args.self.now.count inv.text (inv.taken scheme header logs taken) inv.even inv.counted
     (inv.lines scheme header logs taken) in
-    Passes-stop _ _ _ [] _ (inv.text ++ (turn c.epochs.self (runs_of c.epochs.runs)).text) rest.0 _
+    Passes-stop _ _ _ [] _ (inv.text ++ (turn tell c.epochs.self (runs_of c.epochs.runs)).text) rest.0 _
     (Passes-then _ _ _ _ _ _ _ _ inv.passes c.in_ok-certify_next.ensures.text) c.in-Err.ensures.front rest.1

@@ -4,6 +4,7 @@ use Rattle.merkle_records.specs.Scheme.{Scheme}
 use Rattle.report_text.specs.Page.{Passes}
 use Rattle.bundle_report.specs.RunReport.{courses_of}
 use Rattle.bundle_report.specs.SoFar.{HaveTaken, HaveLogs, lines_from}
+use Rattle.certified_epochs.specs.Telling.{text_by}
 use Rattle.certified_epochs.specs.Turn.{AreFed, parts_left}
 use Rattle.certified_epochs.proofs.certifier.Certifier.certify.Given as goal
 
@@ -19,7 +20,7 @@ invariant-epochs g l = record {
       → HaveTaken scheme header logs l.self (map (λ fed. fed.run) l.runs);
   lines : (scheme : Scheme) (header : Header) (logs : List (List ℕ))
       → HaveTaken scheme header logs l.fn.self (map (λ fed. fed.run) l.fn.runs)
-      → text ≡ lines_from (courses_of scheme header logs) (header.first + l.fn.self.count) (l.self.count - l.fn.self.count);
+      → text ≡ lines_from (text_by g.D.Digests.functions l.fn.telling) (courses_of scheme header logs) (header.first + l.fn.self.count) (l.self.count - l.fn.self.count);
   counted : l.fn.self.count ≤ l.self.count;
   fed_before : AreFed l.fn.runs;
   fed : AreFed l.runs;

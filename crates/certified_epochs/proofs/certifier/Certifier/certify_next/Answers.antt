@@ -5,6 +5,7 @@ use Rattle.report_text.specs.Page.{Passes}
 use Rattle.report_text.proofs.PassLaws.{Passes-start}
 use Rattle.bundle_report.specs.declared.judged.Judged.{Judged}
 use Rattle.bundle_report.specs.Judged.{CanBeJudged}
+use Rattle.certified_epochs.specs.Telling.{text_by}
 use Rattle.certified_epochs.specs.Turn.{Turned}
 use Rattle.certified_epochs.proofs.TurnLemmas.{runs_of, fed-judged, with_text, turn-other, turn-balanced, less-left, count-small, err_holds, ok_holds}
 use Rattle.certified_epochs.proofs.certifier.Certifier.certify_next.Goals as goal
@@ -31,28 +32,28 @@ verdict-requires-clause-counts g c =
 pub returns-in-Unbalanced-clause-turned : goal.returns-in-Unbalanced-clause-turned
 returns-in-Unbalanced-clause-turned g c =
     with_text _ _ _ _ _
-    (turn-other c.args.self.now c.args.runs.now c.next_epoch.result c.in-Some.epoch c.deref.result.now c.verdict.result c.in-Some.is c.next_epoch.ensures.value
+    (turn-other (text_by g.D.Digests.functions c.args.telling.now) c.args.self.now c.args.runs.now c.next_epoch.result c.in-Some.epoch c.deref.result.now c.verdict.result c.in-Some.is c.next_epoch.ensures.value
     (c.deref.ensures.value ∙ c.in_ok-gather.ensures.parts) c.verdict.ensures.verdict c.self.inside.judged _ (sym c.self.view_is) c.in-Unbalanced.is)
 
 pub returns-in-Unbalanced-clause-text : goal.returns-in-Unbalanced-clause-text
 returns-in-Unbalanced-clause-text g c =
     subst (λ (text : List ℕ). Passes (g.O.Sink.held c.args.out.now) c.args.page.now text (g.O.Sink.held c.args.out.now) c.args.page.now)
     (sym (ap text_of
-    (turn-other c.args.self.now c.args.runs.now c.next_epoch.result c.in-Some.epoch c.deref.result.now c.verdict.result c.in-Some.is c.next_epoch.ensures.value
+    (turn-other (text_by g.D.Digests.functions c.args.telling.now) c.args.self.now c.args.runs.now c.next_epoch.result c.in-Some.epoch c.deref.result.now c.verdict.result c.in-Some.is c.next_epoch.ensures.value
     (c.deref.ensures.value ∙ c.in_ok-gather.ensures.parts) c.verdict.ensures.verdict c.self.inside.judged _ (sym c.self.view_is) c.in-Unbalanced.is)))
     (Passes-start (g.O.Sink.held c.args.out.now) c.args.page.now)
 
 pub returns-in-Missing-clause-turned : goal.returns-in-Missing-clause-turned
 returns-in-Missing-clause-turned g c =
     with_text _ _ _ _ _
-    (turn-other c.args.self.now c.args.runs.now c.next_epoch.result c.in-Some.epoch c.deref.result.now c.verdict.result c.in-Some.is c.next_epoch.ensures.value
+    (turn-other (text_by g.D.Digests.functions c.args.telling.now) c.args.self.now c.args.runs.now c.next_epoch.result c.in-Some.epoch c.deref.result.now c.verdict.result c.in-Some.is c.next_epoch.ensures.value
     (c.deref.ensures.value ∙ c.in_ok-gather.ensures.parts) c.verdict.ensures.verdict c.self.inside.judged _ (sym c.self.view_is) c.in-Missing.is)
 
 pub returns-in-Missing-clause-text : goal.returns-in-Missing-clause-text
 returns-in-Missing-clause-text g c =
     subst (λ (text : List ℕ). Passes (g.O.Sink.held c.args.out.now) c.args.page.now text (g.O.Sink.held c.args.out.now) c.args.page.now)
     (sym (ap text_of
-    (turn-other c.args.self.now c.args.runs.now c.next_epoch.result c.in-Some.epoch c.deref.result.now c.verdict.result c.in-Some.is c.next_epoch.ensures.value
+    (turn-other (text_by g.D.Digests.functions c.args.telling.now) c.args.self.now c.args.runs.now c.next_epoch.result c.in-Some.epoch c.deref.result.now c.verdict.result c.in-Some.is c.next_epoch.ensures.value
     (c.deref.ensures.value ∙ c.in_ok-gather.ensures.parts) c.verdict.ensures.verdict c.self.inside.judged _ (sym c.self.view_is) c.in-Missing.is)))
     (Passes-start (g.O.Sink.held c.args.out.now) c.args.page.now)
 
@@ -60,7 +61,7 @@ pub returns-then-is_err-clause-front : goal.returns-then-is_err-clause-front
 returns-then-is_err-clause-front g c =
     subst (λ (text : List ℕ). GrowsByFront (g.O.Sink.held c.args.out.now) (g.O.Sink.held c.write_epoch_lines.new.out) (c.args.page.now ++ text))
     (sym (ap text_of
-    (turn-balanced c.args.self.now c.args.runs.now c.next_epoch.result c.in-Some.epoch c.deref.result.now c.verdict.result c.in-Some.is c.next_epoch.ensures.value
+    (turn-balanced (text_by g.D.Digests.functions c.args.telling.now) c.args.self.now c.args.runs.now c.next_epoch.result c.in-Some.epoch c.deref.result.now c.verdict.result c.in-Some.is c.next_epoch.ensures.value
     (c.deref.ensures.value ∙ c.in_ok-gather.ensures.parts) c.verdict.ensures.verdict c.self.inside.judged _
     (runs_of c.take.new.runs) c.deref-2.result.now (sym c.self.view_is) (add-one c.self.inside.judged.count) c.in-Balanced.is c.in_ok-take.ensures.left (c.deref-2.ensures.value ∙ c.in_ok-take.ensures.operations))))
     (err_holds _ c.write_epoch_lines.result (sym c.is_err.ensures.value ∙ c.if-is_err.true) c.write_epoch_lines.ensures.front)
@@ -76,7 +77,7 @@ one_more-self-inside-requires g c = record {
 pub returns-clause-turned : goal.returns-clause-turned
 returns-clause-turned g c =
     with_text _ _ _ _ _
-    (turn-balanced c.args.self.now c.args.runs.now c.next_epoch.result c.in-Some.epoch c.deref.result.now c.verdict.result c.in-Some.is c.next_epoch.ensures.value
+    (turn-balanced (text_by g.D.Digests.functions c.args.telling.now) c.args.self.now c.args.runs.now c.next_epoch.result c.in-Some.epoch c.deref.result.now c.verdict.result c.in-Some.is c.next_epoch.ensures.value
     (c.deref.ensures.value ∙ c.in_ok-gather.ensures.parts) c.verdict.ensures.verdict c.self.inside.judged _
     (runs_of c.take.new.runs) c.deref-2.result.now (sym c.self.view_is) (c.one_more-self-inside.ensures.value ∙ add-one c.self.inside.judged.count) c.in-Balanced.is c.in_ok-take.ensures.left (c.deref-2.ensures.value ∙ c.in_ok-take.ensures.operations))
 
@@ -84,7 +85,7 @@ pub returns-clause-text : goal.returns-clause-text
 returns-clause-text g c =
     subst (λ (text : List ℕ). Passes (g.O.Sink.held c.args.out.now) c.args.page.now text (g.O.Sink.held c.write_epoch_lines.new.out) c.write_epoch_lines.new.page)
     (sym (ap text_of
-    (turn-balanced c.args.self.now c.args.runs.now c.next_epoch.result c.in-Some.epoch c.deref.result.now c.verdict.result c.in-Some.is c.next_epoch.ensures.value
+    (turn-balanced (text_by g.D.Digests.functions c.args.telling.now) c.args.self.now c.args.runs.now c.next_epoch.result c.in-Some.epoch c.deref.result.now c.verdict.result c.in-Some.is c.next_epoch.ensures.value
     (c.deref.ensures.value ∙ c.in_ok-gather.ensures.parts) c.verdict.ensures.verdict c.self.inside.judged _
     (runs_of c.take.new.runs) c.deref-2.result.now (sym c.self.view_is) (add-one c.self.inside.judged.count) c.in-Balanced.is c.in_ok-take.ensures.left (c.deref-2.ensures.value ∙ c.in_ok-take.ensures.operations))))
     (ok_holds _ c.write_epoch_lines.result (sym c.is_err.ensures.value ∙ c.if-is_err.false) c.write_epoch_lines.ensures.whole)

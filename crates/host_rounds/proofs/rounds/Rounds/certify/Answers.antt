@@ -7,6 +7,7 @@ use Rattle.merkle_records.specs.Scheme.{scheme_of}
 use Rattle.bundle_report.specs.declared.judged.Judged.{Judged}
 use Rattle.bundle_report.specs.SoFar.{HaveTaken}
 use Rattle.certified_epochs.specs.declared.fed_run.FedRun.{FedRun}
+use Rattle.certified_epochs.specs.Telling.{text_by}
 use Rattle.certified_epochs.specs.Turn.{AreFed}
 use Rattle.host_rounds.specs.SoFar.{RunsSoFar, HaveRun, lines_counted}
 use Rattle.host_rounds.proofs.RunLemmas.{lent_back, runs-few, front-due, certified-run, counted-due, all-due}
@@ -31,8 +32,8 @@ returns-in_err-certify-clause-front g c = λ functions header logs held have wri
     let before = g.O.Sink.held c.args.out.now in
     let run = subst (HaveRun functions header logs) is have in
     rw p.1
-    (front-due functions header logs lent run held before (g.O.Sink.held c.certify.new.out)
-    (subst (λ (s : RunsSoFar). Grows held before (lines_counted functions header logs s)) is written)
+    (front-due functions header logs lent run (text_by g.D.Digests.functions c.args.telling.now) held before (g.O.Sink.held c.certify.new.out)
+    (subst (λ (s : RunsSoFar). Grows held before (lines_counted (text_by g.D.Digests.functions c.args.telling.now) functions header logs s)) is written)
     (c.in_err-certify.ensures.front (scheme_of functions header) header logs run.taken))
 
 pub returns-clause-runs : goal.returns-clause-runs
@@ -56,18 +57,18 @@ returns-clause-due g c = λ functions header logs held have written.
     let scheme = scheme_of functions header in
     let before = g.O.Sink.held c.args.out.now in
     let now : RunsSoFar = record { judged = c.certify.new.self; runs = c.certify.new.runs; bytes = inside.bytes } in
-    all-due functions header logs lent run now (c.in_ok-certify.ensures.taken scheme header logs run.taken) held before (g.O.Sink.held c.certify.new.out)
+    all-due functions header logs lent run now (c.in_ok-certify.ensures.taken scheme header logs run.taken) (text_by g.D.Digests.functions c.args.telling.now) held before (g.O.Sink.held c.certify.new.out)
     (c.in_ok-certify.ensures.judged scheme header logs run.taken)
-    (subst (λ (s : RunsSoFar). Grows held before (lines_counted functions header logs s)) is written)
+    (subst (λ (s : RunsSoFar). Grows held before (lines_counted (text_by g.D.Digests.functions c.args.telling.now) functions header logs s)) is written)
     (c.in_ok-certify.ensures.lines scheme header logs run.taken)
 
 pub returns-clause-counted : goal.returns-clause-counted
-returns-clause-counted g c = λ functions header logs have.
+returns-clause-counted g c = λ tell functions header logs have.
     let inside = c.self.inside in
     let lent : RunsSoFar = record { judged = inside.certifier; runs = c.deref_mut.result.now; bytes = inside.bytes } in
     let is : c.args.self.now ≡ lent = as_lent c.args.self.now inside.certifier inside.runs.items c.deref_mut.result.now inside.bytes c.deref_mut.ensures.value c.self.view_is in
     let run = subst (HaveRun functions header logs) is have in
     let scheme = scheme_of functions header in
     let now : RunsSoFar = record { judged = c.certify.new.self; runs = c.certify.new.runs; bytes = inside.bytes } in
-    counted-due functions header logs lent run now (c.in_ok-certify.ensures.taken scheme header logs run.taken)
+    counted-due functions header logs lent run now (c.in_ok-certify.ensures.taken scheme header logs run.taken) tell
     (c.in_ok-certify.ensures.judged scheme header logs run.taken)

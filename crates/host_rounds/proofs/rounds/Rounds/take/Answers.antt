@@ -90,6 +90,6 @@ returns-clause-keeps g c = λ header before held keeps.
     }
 
 pub returns-clause-lines : goal.returns-clause-lines
-returns-clause-lines g c = λ functions header before have.
+returns-clause-lines g c = λ tell functions header before have.
     let now : RunsSoFar = record { judged = c.self.inside.certifier; runs = c.feed_all.new.runs; bytes = c.feed_all.new.bytes } in
-    lines-stay functions header before c.args.self.now have c.args.logs.now now (ap (λ (s : RunsSoFar). s.judged) c.self.view_is)
+    lines-stay functions header before c.args.self.now have tell c.args.logs.now now (ap (λ (s : RunsSoFar). s.judged) c.self.view_is)

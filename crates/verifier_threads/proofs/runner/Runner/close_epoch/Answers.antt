@@ -2,13 +2,14 @@ use Rattle.std.proofs.Common.{◌≡◌, ◌⊎◌, ℕ, List, Option, Some, Non
 use Rattle.std.proofs.lemmas.Result.{err_from_is_err_and}
 use Rattle.fv_outside.specs.Written.{Grows, GrowsByFront}
 use Rattle.record_hash.specs.Functions.{DigestFunctions}
+use Rattle.bundle_report.specs.Report.{EpochText, told_by}
 use Rattle.host_core.specs.World.{World}
 use Rattle.host_shard.specs.Content.{Content}
 use Rattle.host_world.specs.declared.fault.ClockEnd.{ClockEnd}
 use Rattle.host_world.specs.Shown.{shown_world, digests_of}
 use Rattle.host_world.specs.Behind.{host_of}
 use Rattle.host_serving.specs.Leading.{first_of}
-use Rattle.host_rounds.specs.SoFar.{lines_counted}
+use Rattle.host_rounds.specs.SoFar.{lines_counted, lines_due}
 use Rattle.verifier_threads.specs.Serving.{Outputs, IsCutOff, texts_of}
 use Rattle.verifier_threads.specs.Running.{Runs, RunsWhole, IsAtPhase, IsAtClose, IsAtEnd, all_handed_out}
 use Rattle.verifier_threads.proofs.RunningLemmas.{one_host, host_same}
@@ -18,7 +19,7 @@ use Rattle.verifier_threads.proofs.runner.Runner.close_epoch.Goals as goal
 
 pub close_phase-requires : goal.close_phase-requires
 close_phase-requires g c = record {
-  behind = runs-behind g.D.Digests.functions c.args.self.now c.requires.runs.0 c.requires.runs.1;
+  behind = runs-behind c.requires.runs.0 g.D.Digests.functions c.args.self.now c.requires.runs.1 c.requires.runs.2;
   served = c.requires.served.served;
   last = c.requires.last;
 }
@@ -27,35 +28,36 @@ pub pass_on-requires : goal.pass_on-requires
 pass_on-requires g c = record {
   runs = (
     c.requires.runs.0,
-    runs-led g.D.Digests.functions c.args.self.now c.requires.runs.0 c.requires.runs.1 c.close_phase.new.world c.in_ok-end.end c.earlier_end-self.result
+    c.requires.runs.1,
+    runs-led c.requires.runs.0 g.D.Digests.functions c.args.self.now c.requires.runs.1 c.requires.runs.2 c.close_phase.new.world c.in_ok-end.end c.earlier_end-self.result
         c.close_phase.ensures.host c.in_ok-end.ensures.leads c.earlier_end-self.ensures.value,
-    c.requires.runs.2,
+    c.requires.runs.3,
   );
 }
 
 pub certify-requires : goal.certify-requires
 certify-requires g c =
     let next =
-    c.in_ok-pass_on.ensures.runs c.requires.runs.0
-    (runs-led g.D.Digests.functions c.args.self.now c.requires.runs.0 c.requires.runs.1 c.close_phase.new.world c.in_ok-end.end c.earlier_end-self.result
+    c.in_ok-pass_on.ensures.runs c.requires.runs.0 c.requires.runs.1
+    (runs-led c.requires.runs.0 g.D.Digests.functions c.args.self.now c.requires.runs.1 c.requires.runs.2 c.close_phase.new.world c.in_ok-end.end c.earlier_end-self.result
     c.close_phase.ensures.host c.in_ok-end.ensures.leads c.earlier_end-self.ensures.value)
-    c.requires.runs.2 in
+    c.requires.runs.3 in
     record { runs = (_, _, _, next.running.keeps.runs) }
 
 pub returns-in_err-end-clause-cut : goal.returns-in_err-end-clause-cut
 returns-in_err-end-clause-cut g c = λ outputs runs held written.
     err_any c.from_residual.result
-    (runs-cut g.D.Digests.functions c.args.self.now outputs runs c.what_is_due_stays_due.ensures.stays (g.V.Sink.held c.args.vault.now) (g.O.Sink.held c.args.out.now) held written)
+    (runs-cut c.args.receipts g.D.Digests.functions c.args.self.now outputs runs c.what_is_due_stays_due.ensures.stays (g.V.Sink.held c.args.vault.now) (g.O.Sink.held c.args.out.now) held written)
 
 pub returns-in_err-pass_on-clause-cut : goal.returns-in_err-pass_on-clause-cut
 returns-in_err-pass_on-clause-cut g c = λ outputs runs held written.
     let functions = g.D.Digests.functions in
     let vault' = g.V.Sink.held c.pass_on.new.vault in
     err_any _
-    (subst (λ (o : Option (List ℕ)). IsCutOff (functions (digests_of c.args.self.now.world)) (record outputs { vault_after = vault'; out_after = o })) written
-    (subst (λ d. IsCutOff (functions d) (record outputs { vault_after = vault' })) c.close_phase.ensures.host.digests
-    (c.in_err-pass_on.ensures.cut outputs
-    (runs-led functions c.args.self.now outputs runs c.close_phase.new.world c.in_ok-end.end c.earlier_end-self.result
+    (subst (λ (o : Option (List ℕ)). IsCutOff c.args.receipts (functions (digests_of c.args.self.now.world)) (record outputs { vault_after = vault'; out_after = o })) written
+    (subst (λ d. IsCutOff c.args.receipts (functions d) (record outputs { vault_after = vault' })) c.close_phase.ensures.host.digests
+    (c.in_err-pass_on.ensures.cut c.args.receipts outputs
+    (runs-led c.args.receipts functions c.args.self.now outputs runs c.close_phase.new.world c.in_ok-end.end c.earlier_end-self.result
     c.close_phase.ensures.host c.in_ok-end.ensures.leads c.earlier_end-self.ensures.value)
     held)))
 
@@ -64,18 +66,21 @@ returns-clause-runs g c = λ outputs runs held written.
     let functions = g.D.Digests.functions in
     let vault' = g.V.Sink.held c.pass_on.new.vault in
     let next =
-    c.in_ok-pass_on.ensures.runs outputs
-    (runs-led functions c.args.self.now outputs runs c.close_phase.new.world c.in_ok-end.end c.earlier_end-self.result
+    c.in_ok-pass_on.ensures.runs c.args.receipts outputs
+    (runs-led c.args.receipts functions c.args.self.now outputs runs c.close_phase.new.world c.in_ok-end.end c.earlier_end-self.result
     c.close_phase.ensures.host c.in_ok-end.ensures.leads c.earlier_end-self.ensures.value)
     held in
     let f = functions (digests_of c.pass_on.new.self.world) in
     let header = c.pass_on.new.self.world.settings.header in
     let texts = texts_of next.running.logs in
     let have = next.running.keeps.runs in
-    let so_far = subst (λ (o : Option (List ℕ)). Grows outputs.out o (lines_counted f header texts c.pass_on.new.self.rounds)) written next.running.written in
+    let told = told_by c.args.receipts f header in
+    let so_far = subst (λ (tell : EpochText). Grows outputs.out (g.O.Sink.held c.args.out.now) (lines_counted tell f header texts c.pass_on.new.self.rounds)) (sym c.telling.ensures.text)
+    (subst (λ (o : Option (List ℕ)). Grows outputs.out o (lines_counted told f header texts c.pass_on.new.self.rounds)) written next.running.written) in
     let says = c.certify.ensures in
-    ok_four c.certify.result (says.runs f header texts have) (says.all f header texts have) (says.counted f header texts have) (says.due f header texts outputs.out have so_far)
-    (λ have' all counted due. runs-certified functions c.pass_on.new.self (record outputs { vault_after = vault' }) next c.certify.new.self (g.O.Sink.held c.certify.new.out) have' all counted due)
+    ok_four c.certify.result (says.runs f header texts have) (says.all f header texts have) (says.counted told f header texts have) (says.due f header texts outputs.out have so_far)
+    (λ have' all counted due. runs-certified c.args.receipts functions c.pass_on.new.self (record outputs { vault_after = vault' }) next c.certify.new.self (g.O.Sink.held c.certify.new.out) have' all counted
+    (subst (λ (tell : EpochText). Grows outputs.out (g.O.Sink.held c.certify.new.out) (lines_due tell f header texts)) c.telling.ensures.text due))
 
 pub returns-clause-ended : goal.returns-clause-ended
 returns-clause-ended g c = λ over.
@@ -119,20 +124,23 @@ returns-clause-cut g c = λ outputs runs held written.
     let functions = g.D.Digests.functions in
     let vault' = g.V.Sink.held c.pass_on.new.vault in
     let next =
-    c.in_ok-pass_on.ensures.runs outputs
-    (runs-led functions c.args.self.now outputs runs c.close_phase.new.world c.in_ok-end.end c.earlier_end-self.result
+    c.in_ok-pass_on.ensures.runs c.args.receipts outputs
+    (runs-led c.args.receipts functions c.args.self.now outputs runs c.close_phase.new.world c.in_ok-end.end c.earlier_end-self.result
     c.close_phase.ensures.host c.in_ok-end.ensures.leads c.earlier_end-self.ensures.value)
     held in
     let f = functions (digests_of c.pass_on.new.self.world) in
     let header = c.pass_on.new.self.world.settings.header in
     let texts = texts_of next.running.logs in
     let have = next.running.keeps.runs in
-    let so_far = subst (λ (o : Option (List ℕ)). Grows outputs.out o (lines_counted f header texts c.pass_on.new.self.rounds)) written next.running.written in
+    let told = told_by c.args.receipts f header in
+    let so_far = subst (λ (tell : EpochText). Grows outputs.out (g.O.Sink.held c.args.out.now) (lines_counted tell f header texts c.pass_on.new.self.rounds)) (sym c.telling.ensures.text)
+    (subst (λ (o : Option (List ℕ)). Grows outputs.out o (lines_counted told f header texts c.pass_on.new.self.rounds)) written next.running.written) in
     err_then c.certify.result (c.certify.ensures.front f header texts outputs.out have so_far)
     (λ front.
-    subst (λ d. IsCutOff (functions d) (record outputs { vault_after = vault'; out_after = g.O.Sink.held c.certify.new.out }))
+    subst (λ d. IsCutOff c.args.receipts (functions d) (record outputs { vault_after = vault'; out_after = g.O.Sink.held c.certify.new.out }))
     (c.pass_on.ensures.host.digests ∙ c.close_phase.ensures.host.digests)
-    (runs-cut_lines functions c.pass_on.new.self (record outputs { vault_after = vault' }) next c.what_is_due_stays_due.ensures.stays (g.O.Sink.held c.certify.new.out) front))
+    (runs-cut_lines c.args.receipts functions c.pass_on.new.self (record outputs { vault_after = vault' }) next c.what_is_due_stays_due.ensures.stays (g.O.Sink.held c.certify.new.out)
+    (subst (λ (tell : EpochText). GrowsByFront outputs.out (g.O.Sink.held c.certify.new.out) (lines_due tell f header texts)) c.telling.ensures.text front)))
 
 pub returns-clause-host : goal.returns-clause-host
 returns-clause-host g c = one_host c.args.self.now.world c.close_phase.new.world c.pass_on.new.self.world c.close_phase.ensures.host c.pass_on.ensures.host

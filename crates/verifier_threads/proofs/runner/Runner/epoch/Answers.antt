@@ -12,7 +12,7 @@ use Rattle.verifier_threads.proofs.runner.Runner.epoch.Goals as goal
 
 pub phase-requires : goal.phase-requires
 phase-requires g c = record {
-  runs = (c.requires.runs.0, c.requires.runs.1, c.requires.runs.2);
+  runs = (c.args.receipts, c.requires.runs.0, c.requires.runs.1, c.requires.runs.2);
   begins = c.requires.begins;
   workers = c.requires.workers;
 }
@@ -25,7 +25,7 @@ close_epoch-requires g c =
     length-map (requests_of new) (map turn_of) ∙ ap (λ (script : List (List Task)). length script) c.phase.ensures.host.requests in
     let same = c.in_ok-phase.ensures.same_phase in
     record {
-      runs = (_, c.in_ok-phase.ensures.runs c.requires.runs.0 c.requires.runs.1 c.requires.runs.2, refl);
+      runs = (_, _, c.in_ok-phase.ensures.runs c.args.receipts c.requires.runs.0 c.requires.runs.1 c.requires.runs.2, refl);
       served = c.in_ok-phase.ensures.served;
       last =
           closes-last (host_of (g.D.Digests.functions (digests_of new)) new) (shown_world new) c.phase.new.self.end c.args.at_end c.closes_last-last.result c.in_ok-phase.ensures.served
@@ -36,12 +36,12 @@ close_epoch-requires g c =
 pub returns-in_err-phase-clause-cut : goal.returns-in_err-phase-clause-cut
 returns-in_err-phase-clause-cut g c = λ outputs runs held written.
     err_any c.from_residual.result
-    (subst (λ (o : Option (List ℕ)). IsCutOff (g.D.Digests.functions (digests_of c.args.self.now.world)) (record outputs { vault_after = g.V.Sink.held c.phase.new.vault; out_after = o }))
-    written (c.in_err-phase.ensures.cut outputs runs held))
+    (subst (λ (o : Option (List ℕ)). IsCutOff c.args.receipts (g.D.Digests.functions (digests_of c.args.self.now.world)) (record outputs { vault_after = g.V.Sink.held c.phase.new.vault; out_after = o }))
+    written (c.in_err-phase.ensures.cut c.args.receipts outputs runs held))
 
 pub returns-clause-runs : goal.returns-clause-runs
 returns-clause-runs g c = λ outputs runs held written.
-    c.close_epoch.ensures.runs (record outputs { vault_after = g.V.Sink.held c.phase.new.vault }) (c.in_ok-phase.ensures.runs outputs runs held) refl written
+    c.close_epoch.ensures.runs (record outputs { vault_after = g.V.Sink.held c.phase.new.vault }) (c.in_ok-phase.ensures.runs c.args.receipts outputs runs held) refl written
 
 pub returns-clause-ended : goal.returns-clause-ended
 returns-clause-ended g c = λ over. c.close_epoch.ensures.ended (plus-both over c.closes_last-last.ensures.at_end)
@@ -55,9 +55,9 @@ returns-clause-opened g c = λ going none'.
 pub returns-clause-cut : goal.returns-clause-cut
 returns-clause-cut g c = λ outputs runs held written.
     let functions = g.D.Digests.functions in
-    subst (λ d. OnErr c.close_epoch.result (IsCutOff (functions d) (record outputs { vault_after = g.V.Sink.held c.close_epoch.new.vault; out_after = g.O.Sink.held c.close_epoch.new.out })))
+    subst (λ d. OnErr c.close_epoch.result (IsCutOff c.args.receipts (functions d) (record outputs { vault_after = g.V.Sink.held c.close_epoch.new.vault; out_after = g.O.Sink.held c.close_epoch.new.out })))
     c.phase.ensures.host.digests
-    (c.close_epoch.ensures.cut (record outputs { vault_after = g.V.Sink.held c.phase.new.vault }) (c.in_ok-phase.ensures.runs outputs runs held) refl written)
+    (c.close_epoch.ensures.cut (record outputs { vault_after = g.V.Sink.held c.phase.new.vault }) (c.in_ok-phase.ensures.runs c.args.receipts outputs runs held) refl written)
 
 pub returns-clause-host : goal.returns-clause-host
 returns-clause-host g c = one_host c.args.self.now.world c.phase.new.self.world c.close_epoch.new.self.world c.phase.ensures.host c.close_epoch.ensures.host

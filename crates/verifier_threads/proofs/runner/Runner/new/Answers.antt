@@ -16,18 +16,18 @@ use Rattle.verifier_threads.proofs.EndingLemmas.{running-new, set_up-begins, set
 use Rattle.verifier_threads.proofs.runner.Runner.new.Goals as goal
 
 pub returns-in_err-buffers-clause-cut : goal.returns-in_err-buffers-clause-cut
-returns-in_err-buffers-clause-cut g c = λ held.
+returns-in_err-buffers-clause-cut g c = λ receipts held.
     err_any c.from_residual.result
-    (opening-cut (g.D.Digests.functions (digests_of c.args.world)) (g.V.Sink.held c.args.vault.now) (g.V.Sink.held c.args.vault.now) held []
+    (opening-cut receipts (g.D.Digests.functions (digests_of c.args.world)) (g.V.Sink.held c.args.vault.now) (g.V.Sink.held c.args.vault.now) held []
     (GrowsByFront-none (g.V.Sink.held c.args.vault.now) []))
 
 pub returns-in_err-rounds-clause-cut : goal.returns-in_err-rounds-clause-cut
-returns-in_err-rounds-clause-cut g c = λ held.
+returns-in_err-rounds-clause-cut g c = λ receipts held.
     err_any _
-    (opening-cut (g.D.Digests.functions (digests_of c.args.world)) (g.V.Sink.held c.args.vault.now) (g.V.Sink.held c.new.new.vault) held _ c.in_err-rounds.ensures.front)
+    (opening-cut receipts (g.D.Digests.functions (digests_of c.args.world)) (g.V.Sink.held c.args.vault.now) (g.V.Sink.held c.new.new.vault) held _ c.in_err-rounds.ensures.front)
 
 pub returns-clause-runs : goal.returns-clause-runs
-returns-clause-runs g c = λ held.
+returns-clause-runs g c = λ receipts held.
     let world = c.args.world in
     let f = g.D.Digests.functions (digests_of world) in
     let host = host_of f world in
@@ -35,7 +35,7 @@ returns-clause-runs g c = λ held.
     let count = set_up-count world.settings host (shown_world world) c.requires.settings refl c.requires.setup in
     record {
       running =
-          running-new f world.settings (requests_of world) (shown_world world) c.in_ok-rounds.rounds (g.V.Sink.held c.args.vault.now) (g.V.Sink.held c.new.new.vault) held
+          running-new receipts f world.settings (requests_of world) (shown_world world) c.in_ok-rounds.rounds (g.V.Sink.held c.args.vault.now) (g.V.Sink.held c.new.new.vault) held
           (record { settings_fit = c.requires.settings; counters = c.requires.counters; keys = c.requires.keys; is = c.requires.setup; count = count })
           (subst (λ (header : Header). Keeps f header (empty_logs header.verifiers) c.in_ok-rounds.rounds (g.V.Sink.held c.args.vault.now) (g.V.Sink.held c.new.new.vault)) header_is
           (c.in_ok-rounds.ensures.keeps f))

@@ -12,6 +12,7 @@ use Rattle.host_world.specs.Shown.{shown_world, digests_of, requests_of}
 use Rattle.host_log.specs.Frames.{pieces_text}
 use Rattle.host_rounds.specs.Round.{logs_with, pieces_of}
 use Rattle.host_rounds.specs.SoFar.{RunsSoFar, Keeps}
+use Rattle.bundle_report.specs.Report.{told_by}
 use Rattle.verifier_threads.specs.Serving.{Outputs, texts_of}
 use Rattle.verifier_threads.specs.Running.{IsRunning, with_no_log}
 use Rattle.verifier_threads.proofs.HandingLemmas.{texts-length}
@@ -22,8 +23,8 @@ use Rattle.verifier_threads.proofs.runner.Runner.pass_on.Goals as goal
 pub hand_out_all-requires : goal.hand_out_all-requires
 hand_out_all-requires g c =
     let old = c.args.self.now in
-    let runs = c.requires.runs.1 in
-    let workers = running-workers _ _ _ _ _ _ _ runs.running in
+    let runs = c.requires.runs.2 in
+    let workers = running-workers _ _ _ _ _ _ _ _ runs.running in
     let size = ap length c.as_mut_slice.ensures.value in
     record {
       each = size ∙ runs.buffers;
@@ -33,24 +34,24 @@ hand_out_all-requires g c =
 pub take-requires : goal.take-requires
 take-requires g c =
     let old = c.args.self.now in
-    let runs = c.requires.runs.1 in
+    let runs = c.requires.runs.2 in
     let texts = texts_of (logs_of (shown_world old.world)) in
     let size : length c.hand_out_all.new.buffers ≡ length old.world.workers.items = ap length c.in_ok-hand_out_all.ensures.handed ∙ texts-length old.world.workers.items in
     let items = with_items_is old.buffers c.hand_out_all.new.buffers (size ∙ sym runs.buffers ∙ sym old.buffers.ok.0) in
     record {
-      each = ap length (c.as_slice.ensures.value ∙ items) ∙ size ∙ running-workers _ _ _ _ _ _ _ runs.running
+      each = ap length (c.as_slice.ensures.value ∙ items) ∙ size ∙ running-workers _ _ _ _ _ _ _ _ runs.running
           ∙ sym (run-count _ _ _ _ runs.running.keeps.runs);
       runs = (_, _, _, runs.running.keeps.runs);
     }
 
 pub returns-in_err-hand_out_all-clause-cut : goal.returns-in_err-hand_out_all-clause-cut
-returns-in_err-hand_out_all-clause-cut g c = λ outputs runs held.
+returns-in_err-hand_out_all-clause-cut g c = λ receipts outputs runs held.
     err_any c.from_residual.result
-    (running-cut _ _ _ _ _ _ outputs runs.running c.what_is_due_stays_due.ensures.stays (g.V.Sink.held c.args.vault.now) []
+    (running-cut _ _ _ _ _ _ _ outputs runs.running c.what_is_due_stays_due.ensures.stays (g.V.Sink.held c.args.vault.now) []
     (subst (λ (h : Option (List ℕ)). GrowsByFront h (g.V.Sink.held c.args.vault.now) []) (sym held) (GrowsByFront-none (g.V.Sink.held c.args.vault.now) [])))
 
 pub returns-clause-runs : goal.returns-clause-runs
-returns-clause-runs g c = λ outputs runs held.
+returns-clause-runs g c = λ receipts outputs runs held.
     let old = c.args.self.now in
     let functions = g.D.Digests.functions in
     let r = runs.running in
@@ -67,12 +68,12 @@ returns-clause-runs g c = λ outputs runs held.
     let round_is : round ≡ texts_of (logs_of (shown_world old.world)) = c.as_slice.ensures.value ∙ items ∙ c.in_ok-hand_out_all.ensures.handed in
     let keeps = subst (λ d. Keeps (functions d) header before old.rounds outputs.vault vault) (sym d_is)
     (subst (λ (h : Option (List ℕ)). Keeps (functions (digests_of old.world)) header before old.rounds outputs.vault h) held r.keeps) in
-    ok_both c.take.result (c.take.ensures.keeps header before outputs.vault keeps) (c.take.ensures.lines (functions (digests_of old.world)) header before r.keeps.runs)
+    ok_both c.take.result (c.take.ensures.keeps header before outputs.vault keeps) (c.take.ensures.lines (told_by receipts (functions (digests_of old.world)) header) (functions (digests_of old.world)) header before r.keeps.runs)
     (λ keeps' lines. record {
       running =
           of_one_host functions old.world new host
-          (λ (f : DigestFunctions) (settings : Settings) (script : List (List Task)). IsRunning f settings script (shown_world new) c.take.new.self old.end (record outputs { vault_after = vault' }))
-          (running-taken _ _ _ (shown_world old.world) old.rounds old.end outputs r (shown_world new) round c.take.new.self vault'
+          (λ (f : DigestFunctions) (settings : Settings) (script : List (List Task)). IsRunning receipts f settings script (shown_world new) c.take.new.self old.end (record outputs { vault_after = vault' }))
+          (running-taken _ _ _ _ (shown_world old.world) old.rounds old.end outputs r (shown_world new) round c.take.new.self vault'
           c.in_ok-hand_out_all.ensures.forgotten round_is
           (subst (λ d. Keeps (functions d) header (logs_with before round) c.take.new.self outputs.vault vault') d_is keeps') lines);
       buffers = ap length items ∙ size ∙ sym (length-map old.world.workers.items with_no_log) ∙ sym (ap (λ (w : World Content). length w.workers) c.in_ok-hand_out_all.ensures.forgotten);
@@ -82,7 +83,7 @@ pub returns-clause-handed : goal.returns-clause-handed
 returns-clause-handed g c = ok_any c.take.result c.in_ok-hand_out_all.ensures.forgotten
 
 pub returns-clause-cut : goal.returns-clause-cut
-returns-clause-cut g c = λ outputs runs held.
+returns-clause-cut g c = λ receipts outputs runs held.
     err_any c.take.result
-    (running-cut _ _ _ _ _ _ outputs runs.running c.what_is_due_stays_due.ensures.stays (g.V.Sink.held c.take.new.vault) (pieces_text (pieces_of 0 c.as_slice.result.now))
+    (running-cut _ _ _ _ _ _ _ outputs runs.running c.what_is_due_stays_due.ensures.stays (g.V.Sink.held c.take.new.vault) (pieces_text (pieces_of 0 c.as_slice.result.now))
     (subst (λ (h : Option (List ℕ)). GrowsByFront h (g.V.Sink.held c.take.new.vault) (pieces_text (pieces_of 0 c.as_slice.result.now))) (sym held) c.take.ensures.grown))

@@ -17,7 +17,7 @@ use Rattle.verifier_threads.proofs.runner.Runner.phase.Goals as goal
 
 pub serve_phase-requires : goal.serve_phase-requires
 serve_phase-requires g c = record {
-  behind = runs-behind g.D.Digests.functions c.args.self.now c.requires.runs.0 c.requires.runs.1;
+  behind = runs-behind c.requires.runs.0 g.D.Digests.functions c.args.self.now c.requires.runs.1 c.requires.runs.2;
   begins = c.requires.begins.begins;
   workers = c.requires.workers;
 }
@@ -26,21 +26,22 @@ pub pass_on-requires : goal.pass_on-requires
 pass_on-requires g c = record {
   runs = (
     c.requires.runs.0,
-    runs-led g.D.Digests.functions c.args.self.now c.requires.runs.0 c.requires.runs.1 c.serve_phase.new.world c.in_ok-self.field-0 c.in_ok-self.field-0
+    c.requires.runs.1,
+    runs-led c.requires.runs.0 g.D.Digests.functions c.args.self.now c.requires.runs.1 c.requires.runs.2 c.serve_phase.new.world c.in_ok-self.field-0 c.in_ok-self.field-0
         c.serve_phase.ensures.host c.in_ok-self.ensures.leads (ap (λ (e : Option ClockEnd). first_of e c.in_ok-self.field-0) (sym c.requires.begins.unended)),
-    c.requires.runs.2,
+    c.requires.runs.3,
   );
 }
 
 pub returns-in_err-self-clause-cut : goal.returns-in_err-self-clause-cut
-returns-in_err-self-clause-cut g c = λ outputs runs held.
+returns-in_err-self-clause-cut g c = λ receipts outputs runs held.
     err_any c.from_residual.result
-    (runs-cut g.D.Digests.functions c.args.self.now outputs runs c.what_is_due_stays_due.ensures.stays (g.V.Sink.held c.args.vault.now) outputs.out_after held refl)
+    (runs-cut receipts g.D.Digests.functions c.args.self.now outputs runs c.what_is_due_stays_due.ensures.stays (g.V.Sink.held c.args.vault.now) outputs.out_after held refl)
 
 pub returns-clause-runs : goal.returns-clause-runs
-returns-clause-runs g c = λ outputs runs held.
-    c.pass_on.ensures.runs outputs
-    (runs-led g.D.Digests.functions c.args.self.now outputs runs c.serve_phase.new.world c.in_ok-self.field-0 c.in_ok-self.field-0
+returns-clause-runs g c = λ receipts outputs runs held.
+    c.pass_on.ensures.runs receipts outputs
+    (runs-led receipts g.D.Digests.functions c.args.self.now outputs runs c.serve_phase.new.world c.in_ok-self.field-0 c.in_ok-self.field-0
     c.serve_phase.ensures.host c.in_ok-self.ensures.leads (ap (λ (e : Option ClockEnd). first_of e c.in_ok-self.field-0) (sym c.requires.begins.unended)))
     held
 
@@ -65,11 +66,11 @@ returns-clause-same_phase g c =
     (λ handed. ap (λ (w : World Content). w.phase) handed ∙ c.in_ok-self.ensures.phase)
 
 pub returns-clause-cut : goal.returns-clause-cut
-returns-clause-cut g c = λ outputs runs held.
+returns-clause-cut g c = λ receipts outputs runs held.
     let functions = g.D.Digests.functions in
-    subst (λ d. OnErr c.pass_on.result (IsCutOff (functions d) (record outputs { vault_after = g.V.Sink.held c.pass_on.new.vault }))) c.serve_phase.ensures.host.digests
-    (c.pass_on.ensures.cut outputs
-    (runs-led functions c.args.self.now outputs runs c.serve_phase.new.world c.in_ok-self.field-0 c.in_ok-self.field-0
+    subst (λ d. OnErr c.pass_on.result (IsCutOff receipts (functions d) (record outputs { vault_after = g.V.Sink.held c.pass_on.new.vault }))) c.serve_phase.ensures.host.digests
+    (c.pass_on.ensures.cut receipts outputs
+    (runs-led receipts functions c.args.self.now outputs runs c.serve_phase.new.world c.in_ok-self.field-0 c.in_ok-self.field-0
     c.serve_phase.ensures.host c.in_ok-self.ensures.leads (ap (λ (e : Option ClockEnd). first_of e c.in_ok-self.field-0) (sym c.requires.begins.unended)))
     held)
 

@@ -1,7 +1,7 @@
 use Rattle.std.proofs.Common.{◌∙◌, arith}
 use Rattle.report_text.specs.Lines.{operation_line}
 use Rattle.report_text.proofs.PassLaws.{Passes-then, Passes-stop, on_err, lines_step}
-use Rattle.certified_epochs.proofs.lines.write_epoch_lines.Goals as goal
+use Rattle.certified_epochs.proofs.lines.write_plain.Goals as goal
 
 pub returns-in_err-write-2-clause-front : goal.returns-in_err-write-2-clause-front
 returns-in_err-write-2-clause-front g c =

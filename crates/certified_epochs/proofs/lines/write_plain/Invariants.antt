@@ -2,14 +2,14 @@ use Rattle.std.proofs.Common.{◌≡◌, ◌≤◌, ℕ, List, ◌++◌, drop}
 use Rattle.std.specs.List.{flat_map}
 use Rattle.report_text.specs.Page.{Passes}
 use Rattle.report_text.specs.Lines.{operation_line}
-use Rattle.bundle_report.specs.Report.{epoch_text}
-use Rattle.certified_epochs.proofs.lines.write_epoch_lines.Given as goal
+use Rattle.bundle_report.specs.Report.{plain_text}
+use Rattle.certified_epochs.proofs.lines.write_plain.Given as goal
 
 -- a text was added, and with the lines that are left it is the epoch's; and the count of faults hasn't fallen
 abbrev pub invariant-loop-op : goal.invariant-loop-op
 invariant-loop-op g l = record {
   text : List ℕ;
   passes : Passes (g.O.Sink.held l.fn.out) l.fn.page text (g.O.Sink.held l.out) l.page;
-  left : text ++ flat_map operation_line (drop l.op-index l.operations) ≡ epoch_text l.epoch l.operations;
+  left : text ++ flat_map operation_line (drop l.op-index l.operations) ≡ plain_text l.epoch l.operations;
   faults : g.O.Sink.faults l.fn.out ≤ g.O.Sink.faults l.out;
 }
