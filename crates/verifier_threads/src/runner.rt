@@ -21,13 +21,16 @@ use certified_epochs::Telling;
 use fv_outside::{Gate, Sink};
 use host_log::LogBuffer;
 use host_rounds::{RoundStop, Rounds, write_end};
-use host_serving::{close_phase, serve_phase};
+use host_serving::close_phase;
 use host_world::{ClockEnd, World};
 use record_hash::Digests;
 use report_text::BundleEnd;
 use run_reports::a_check_of_the_logs_ends_as_the_host_promises;
 use std::alloc::Global;
+use std::sync::Wait;
+use std::thread::Threads;
 use want_of_memory::Memory;
+use worker_threads::serve_phase_at_once;
 
 /// A run of a script: the world, what the verifiers have come to over its logs, a buffer for the log of each worker, and
 /// the first end of a clock. The vault and the sink of the report are handed in at each call.
@@ -41,7 +44,7 @@ pub(crate) struct Runner<'a, D> {
     pub(crate) end: Option<ClockEnd>,
 }
 
-impl<'a, D: Digests> Runner<'a, D> {
+impl<'a, D: Digests + Sync> Runner<'a, D> {
     /// Before the first phase: writes the header of the bundle to the vault.
     pub(crate) fn new<V: Sink>(
         alloc: Global,
@@ -77,8 +80,9 @@ impl<'a, D: Digests> Runner<'a, D> {
     }
 
     /// A phase: its requests are served, and what was logged goes to the vault. A clock may end in it.
-    pub(crate) fn phase<V: Sink, G: Gate>(
+    pub(crate) fn phase<R: Threads + Wait + Sync, V: Sink, G: Gate + Sync>(
         &mut self,
+        rt: &R,
         gate: &G,
         vault: &mut V,
     ) -> Result<(), RoundStop>
@@ -101,7 +105,7 @@ impl<'a, D: Digests> Runner<'a, D> {
         ensures name { V.name vault.new ≡ V.name vault.old }
     {
         what_is_due_stays_due();
-        self.end = serve_phase(&mut self.world, gate)?;
+        self.end = serve_phase_at_once(rt, &mut self.world, gate)?;
         self.pass_on(vault)
     }
 
@@ -148,8 +152,9 @@ impl<'a, D: Digests> Runner<'a, D> {
     }
 
     /// A phase and its close, which is the last one at the script's end, or where a clock ended in the phase.
-    pub(crate) fn epoch<V: Sink, O: Sink, G: Gate>(
+    pub(crate) fn epoch<R: Threads + Wait + Sync, V: Sink, O: Sink, G: Gate + Sync>(
         &mut self,
+        rt: &R,
         at_end: bool,
         receipts: bool,
         gate: &G,
@@ -181,7 +186,7 @@ impl<'a, D: Digests> Runner<'a, D> {
         ensures never_falls { O.faults out.old ≤ O.faults out.new }
         ensures name { V.name vault.new ≡ V.name vault.old }
     {
-        self.phase(gate, vault)?;
+        self.phase(rt, gate, vault)?;
         let last = closes_last(at_end, self.end);
         self.close_epoch(last, receipts, vault, out)
     }
