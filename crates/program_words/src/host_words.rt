@@ -13,7 +13,7 @@ use std::alloc::{AllocError, Global};
 use std::marker::Model;
 
 // The most verifiers of a host.
-const MOST_VERIFIERS: u32 = 1;
+const MOST_VERIFIERS: u32 = 64;
 
 // The greatest threshold of touches at which a key becomes hot.
 const MOST_TOUCHES: u32 = 1_000_000;

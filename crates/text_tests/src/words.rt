@@ -123,6 +123,8 @@ const RUNNING: &str = "
 --verifiers 1 --shards 1024 --first 4294967295 --counter 1 | 1 1024 4294967295 1 | none | none
 --counter=16777215 --shards=4 --logs=a/b --verifiers=1 --first=0 | 1 4 0 16777215 | none | a/b
 --hot 1000000 --logs x --verifiers 1 --shards 512 | 1 512 0 16777215 | 1000000 | x
+--verifiers 2 --shards 2 | 2 2 0 16777215 | none | none
+--hot 1 --verifiers 64 --shards 1024 | 64 1024 0 16777215 | 1 | none
 ";
 
 // The numbers of a row.
