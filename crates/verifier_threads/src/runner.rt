@@ -38,6 +38,7 @@ use worker_threads::serve_phase_at_once;
 /// After an error it is of no more use.
 #[derive(Drop)]
 pub(crate) struct Runner<'a, D> {
+    pub(crate) alloc: Global,
     pub(crate) world: World<'a, D>,
     pub(crate) rounds: Rounds,
     pub(crate) buffers: Vec<LogBuffer>,
@@ -72,6 +73,7 @@ impl<'a, D: Digests + Sync> Runner<'a, D> {
         let buffers = buffers_for(alloc, header.verifiers)?;
         let rounds = Rounds::new(alloc, &header, vault)?;
         Ok(Runner {
+            alloc,
             world,
             rounds,
             buffers,
@@ -105,7 +107,7 @@ impl<'a, D: Digests + Sync> Runner<'a, D> {
         ensures name { V.name vault.new ≡ V.name vault.old }
     {
         what_is_due_stays_due();
-        self.end = serve_phase_at_once(rt, &mut self.world, gate)?;
+        self.end = serve_phase_at_once(rt, self.alloc, &mut self.world, gate)?;
         self.pass_on(vault)
     }
 
