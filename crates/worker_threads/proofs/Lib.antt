@@ -1,0 +1,1 @@
+-- How the phases of workers in threads are proved, in reading order.

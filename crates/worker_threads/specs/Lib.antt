@@ -1,0 +1,3 @@
+-- What the clauses on workers in threads cite, in reading order.
+pub mod Parts
+pub use Rattle.host_serving.specs
