@@ -69,7 +69,7 @@ module _ {C R : Type 0} (host : Host C R) where
     run-with world (event ∷ events) =
         run-with (step host world event) events ∙ ap (λ (w : World C). run_events host w events) (sym (step_with host logs world event))
 
-    first-with : (world : World C) (events : List (WorldEvent R)) → first_end host (with_logs logs world) events ≡ first_end host world events
+    pub first-with : (world : World C) (events : List (WorldEvent R)) → first_end host (with_logs logs world) events ≡ first_end host world events
     first-with world [] = refl
     first-with world (event ∷ events) =
         ap (λ (w : World C). first_of (end_of host (with_logs logs world) event) (first_end host w events)) (step_with host logs world event)

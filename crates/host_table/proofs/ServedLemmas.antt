@@ -1,8 +1,10 @@
 -- What a served request keeps: its place owns the same keys, and its content waits in the phase. A request has one plan.
-use Rattle.std.proofs.Common.{◌≡◌, ℕ, Bool, true, false, List, [], ◌∷◌, length, Option, Some, None, IsTrue, refl, sym, ap, ◌∙◌, subst, if◌then◌else◌, eq-eqb, arith}
+use Rattle.std.proofs.Common.{◌≡◌, ℕ, ◌≤◌, ◌<◌, Bool, true, false, List, [], ◌∷◌, length, Option, Some, None, IsTrue, refl, sym, ap, ⊎_elim, ◌∙◌, subst, if◌then◌else◌, eq-eqb, arith}
 use Rattle.std.proofs.lemmas.Option.{none-some, same_Some}
+use Rattle.std.proofs.lemmas.Bool.{cases_lt}
 use Rattle.tree_keys.specs.Path.{side}
 use Rattle.tree_keys.proofs.PathLaws.{side-short}
+use Rattle.lamport_clocks.specs.declared.header.Header.{Header}
 use Rattle.lamport_clocks.specs.Clock.{is_open}
 use Rattle.lamport_clocks.specs.Reading.{Reading}
 use Rattle.record_text.specs.declared.element.Element.{Element}
@@ -26,7 +28,7 @@ use Rattle.host_plan.specs.declared.plans.Plan.{Plan}
 use Rattle.host_plan.specs.Request.{value_after, served}
 use Rattle.host_plan.specs.Plan.{Owns, IsOpenAt, IsPastEnd, AreLinks, IsPlan, clock_after, commands_of, value_found}
 use Rattle.host_table.specs.declared.told.Entry.{Entry}
-use Rattle.host_table.specs.Terms.{Terms, IsStamped, first_at, phase_epoch}
+use Rattle.host_table.specs.Terms.{Terms, IsStampOf, IsStamped, first_at, phase_epoch}
 use Rattle.host_table.specs.Told.{Leads}
 
 -- ---- the owners
@@ -83,43 +85,49 @@ module _ (terms : Terms) (digests : GivesDigests terms.digest) where
 
 -- ---- the phase
 
--- the element that a served request leaves is of the clock after it
-plan_stamped : (epoch worker : ℕ) (format : Format) (digest : Digest) (content after : Content) (request : Request) (clock later : Reading) (plan : Plan)
-    → clock.at.epoch ≡ epoch → IsPlan format digest worker content request clock plan after later → IsStamped epoch after
-plan_stamped epoch worker format digest (cold shard) after request clock later plan in_epoch is =
-    subst (IsStamped epoch) (sym is.content)
-    (λ element found. subst (λ (e : Element). e.stamp.epoch ≡ epoch) (same_Some _ element found) in_epoch)
-plan_stamped epoch worker format digest (hot kept) after request clock later plan in_epoch is =
-    subst (IsStamped epoch) (sym is.content)
-    (λ element found. subst (λ (e : Element). e.stamp.epoch ≡ epoch) (same_Some _ element found) in_epoch)
-plan_stamped epoch worker format digest vacant after request clock later plan in_epoch is =
-    subst (IsStamped epoch) (sym is.content) (λ element found. absurd (none-some element found))
+at_most : (n limit limit' : ℕ) → limit ≡ limit' → (limit < n → ⊥) → n ≤ limit'
+at_most n limit limit' same within = ⊎_elim (λ past. absurd (within past)) (λ le. omega (arith, le, same)) (cases_lt limit n)
 
-module _ (terms : Terms) where
+-- the element that a served request leaves is of the clock after it
+plan_stamped : (header : Header) (epoch worker : ℕ) (format : Format) (digest : Digest) (content after : Content) (request : Request) (clock later : Reading) (plan : Plan)
+    → worker < header.verifiers → clock.at.epoch ≡ epoch → clock.end ≡ header.end → (IsPastEnd content clock → ⊥)
+    → IsPlan format digest worker content request clock plan after later → IsStamped header epoch after
+plan_stamped header epoch worker format digest (cold shard) after request clock later plan known in_epoch end within is =
+    subst (IsStamped header epoch) (sym is.content)
+    (λ element found. subst (λ (e : Element). IsStampOf header epoch e.stamp e.verifier) (same_Some _ element found)
+    record { verifier = known; epoch_is = in_epoch; counter = at_most (clock_after (cold shard) clock).at.counter clock.end header.end end within })
+plan_stamped header epoch worker format digest (hot kept) after request clock later plan known in_epoch end within is =
+    subst (IsStamped header epoch) (sym is.content)
+    (λ element found. subst (λ (e : Element). IsStampOf header epoch e.stamp e.verifier) (same_Some _ element found)
+    record { verifier = known; epoch_is = in_epoch; counter = at_most (clock_after (hot kept) clock).at.counter clock.end header.end end within })
+plan_stamped header epoch worker format digest vacant after request clock later plan known in_epoch end within is =
+    subst (IsStamped header epoch) (sym is.content) (λ element found. absurd (none-some element found))
+
+module _ (terms : Terms) (few : terms.workers ≤ terms.header.verifiers) where
   abbrev Stamped : code.Content → Type 0
-  Stamped x = IsStamped (phase_epoch terms) (shown_content x)
+  Stamped x = IsStamped terms.header (phase_epoch terms) (shown_content x)
 
   -- a content that a place has had waits in the phase
   pub stamped_from : (place : ℕ) (x : code.Content) (past : List Entry) (y : code.Content) → Stamped x → Leads terms place x past y → Stamped y
-  stamped_from place x [] y from leads = subst (IsStamped (phase_epoch terms)) (sym leads) from
+  stamped_from place x [] y from leads = subst (IsStamped terms.header (phase_epoch terms)) (sym leads) from
   stamped_from place x (entry ∷ past) y from leads =
       let served = leads.2 in
       stamped_from place entry.after past y
-      (plan_stamped (phase_epoch terms) entry.worker short_keys terms.digest (shown_content entry.before) (shown_content entry.after) entry.request entry.clock entry.later entry.plan
-      served.clock.epoch served.plan)
+      (plan_stamped terms.header (phase_epoch terms) entry.worker short_keys terms.digest (shown_content entry.before) (shown_content entry.after) entry.request entry.clock entry.later entry.plan
+      (omega (arith, served.by, few)) served.clock.epoch served.clock.end served.within served.plan)
       leads.3
 
 -- a content that waits in the phase is open to its clocks
-pub open_at : (epoch : ℕ) (content : Content) (clock : Reading) → IsStamped epoch content → clock.at.epoch ≡ epoch → IsOpenAt clock content
-open_at epoch (cold shard) clock stamped here = open_epoch clock shard.stamp.epoch (stamped _ refl ∙ sym here)
+pub open_at : (header : Header) (epoch : ℕ) (content : Content) (clock : Reading) → IsStamped header epoch content → clock.at.epoch ≡ epoch → IsOpenAt clock content
+open_at header epoch (cold shard) clock stamped here = open_epoch clock shard.stamp.epoch ((stamped _ refl).epoch_is ∙ sym here)
   where
     open_epoch : (clock : Reading) (epoch : ℕ) → epoch ≡ clock.at.epoch → IsTrue (is_open clock epoch)
     open_epoch clock epoch same = rw (eq-eqb epoch clock.at.epoch same) refl
-open_at epoch (hot kept) clock stamped here = open_epoch clock kept.stamp.epoch (stamped _ refl ∙ sym here)
+open_at header epoch (hot kept) clock stamped here = open_epoch clock kept.stamp.epoch ((stamped _ refl).epoch_is ∙ sym here)
   where
     open_epoch : (clock : Reading) (epoch : ℕ) → epoch ≡ clock.at.epoch → IsTrue (is_open clock epoch)
     open_epoch clock epoch same = rw (eq-eqb epoch clock.at.epoch same) refl
-open_at epoch vacant clock stamped here = tt
+open_at header epoch vacant clock stamped here = tt
 
 -- ---- one plan
 

@@ -2,6 +2,7 @@
 use Rattle.std.specs.Prelude.{◌≡◌, ℕ, ◌/◌, ◌<◌, ◌≤◌, List, [], ◌∷◌, length, get_or}
 use Rattle.std.specs.Option.{ForSome}
 use Rattle.lamport_clocks.specs.declared.header.Header.{Header}
+use Rattle.lamport_clocks.specs.declared.stamp.Stamp.{Stamp}
 use Rattle.lamport_clocks.specs.Reading.{Reading}
 use Rattle.record_text.specs.Format.{short_keys}
 use Rattle.merkle_records.specs.Merkle.{Digest}
@@ -55,15 +56,21 @@ pub record IsClockOf (terms : Terms) (clock : Reading) : Type 0 where
   pub end : clock.end ≡ terms.header.end
   pub epoch : clock.at.epoch ≡ phase_epoch terms
 
--- the element with which the content waits, if it waits with one, is of this epoch
-abbrev pub IsStamped : ℕ → Content → Type 0
-IsStamped epoch content = ForSome (pending short_keys content) (λ element. element.stamp.epoch ≡ epoch)
+-- a stamp of the epoch, by a verifier of the bundle
+pub record IsStampOf (header : Header) (epoch : ℕ) (stamp : Stamp) (evictor : ℕ) : Type 0 where
+  pub verifier : evictor < header.verifiers
+  pub epoch_is : stamp.epoch ≡ epoch
+  pub counter : stamp.counter ≤ header.end
+
+-- the element with which the content waits, if it waits with one, is stamped so
+abbrev pub IsStamped : Header → ℕ → Content → Type 0
+IsStamped header epoch content = ForSome (pending short_keys content) (λ element. IsStampOf header epoch element.stamp element.verifier)
 
 -- What is asked of a making: some places and workers, no more workers than the bundle has verifiers, and contents that wait
--- with elements of one epoch.
+-- with elements of one epoch, whose counters do not pass their end.
 pub record IsMaking (header : Header) (workers : ℕ) (contents : List code.Content) : Type 0 where
   pub places : 0 < length contents
   pub some : 0 < workers
   pub few : workers ≤ header.verifiers
   pub stamped : (place : ℕ) → place < length contents
-      → IsStamped (epoch_in contents) (shown_content (get_or contents place Vacant))
+      → IsStamped header (epoch_in contents) (shown_content (get_or contents place Vacant))

@@ -15,7 +15,7 @@ use Rattle.host_plan.specs.Plan.{Owns}
 use Rattle.host_table.specs.declared.hand.Hand.{Hand}
 use Rattle.host_table.specs.declared.told.Entry.{Entry}
 use Rattle.host_table.specs.Calls.{AreAll, IsNew}
-use Rattle.host_table.specs.Terms.{Terms, IsMaking, IsPlaceOf, IsClockOf, IsStamped, epoch_in}
+use Rattle.host_table.specs.Terms.{Terms, IsMaking, IsPlaceOf, IsClockOf, IsStamped, IsStampOf, epoch_in}
 use Rattle.host_table.specs.Told.{TakesUp}
 use Rattle.starved_tests.specs.Seated.{CanAttempt, IsStart, IsWaiting, table_header}
 
@@ -41,10 +41,15 @@ epoch_is (Hot found) element is = ap (λ (e : Element). e.stamp.epoch) (same_Som
 epoch_is Vacant element is = absurd (no_element element is)
 
 stamped_at : (content : Content) → IsWaiting (shown_content content) → (place : ℕ) → place < 1
-    → IsStamped (epoch_in (content ∷ [])) (shown_content (get_or (content ∷ []) place Vacant))
+    → IsStamped table_header (epoch_in (content ∷ [])) (shown_content (get_or (content ∷ []) place Vacant))
 stamped_at content waiting zero below = λ element found.
     let same : waiting.element ≡ element = same_Some _ element (sym waiting.is ∙ found) in
-    subst (λ (e : Element). e.stamp.epoch ≡ epoch_in (content ∷ [])) same (sym (epoch_is content waiting.element waiting.is))
+    subst (λ (e : Element). IsStampOf table_header (epoch_in (content ∷ [])) e.stamp e.verifier) same
+    record {
+      verifier = subst (λ (n : ℕ). n < 1) (sym waiting.verifier) (omega arith);
+      epoch_is = sym (epoch_is content waiting.element waiting.is);
+      counter = waiting.counter;
+    }
 stamped_at content waiting (suc place) below = absurd (omega (arith, below))
 
 -- a table may be made of it

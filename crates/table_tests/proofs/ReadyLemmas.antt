@@ -9,7 +9,7 @@ use Rattle.host_shard.specs.declared.content.Content.TheVariants.{Cold, Hot, Vac
 use Rattle.host_shard.specs.declared.content.HotRecord.{HotRecord}
 use Rattle.host_shard.specs.declared.shard.Shard.{Shard}
 use Rattle.host_shard.specs.Shown.{shown_content}
-use Rattle.host_table.specs.Terms.{Terms, IsMaking, IsPlaceOf, IsStamped, epoch_in, first_at, place_count}
+use Rattle.host_table.specs.Terms.{Terms, IsMaking, IsPlaceOf, IsStampOf, IsStamped, epoch_in, first_at, place_count}
 use Rattle.std.proofs.lemmas.Option.{same_Some}
 use Rattle.lamport_clocks.specs.declared.header.Header.{Header}
 use Rattle.record_text.specs.declared.element.Element.{Element}
@@ -71,19 +71,24 @@ epoch_is frontiers (content ∷ contents) ready some =
     let one = ready.each 0 [] Vacant some in
     subst (λ (c : Content). epoch_in (c ∷ contents) ≡ 1) (sym one.is) one.epoch
 
-stamped_so : (content : Content) (frontier : List Bool) → IsReady frontier content → IsStamped 1 (shown_content content)
-stamped_so content frontier ready =
-    subst (λ (c : Content). IsStamped 1 (shown_content c)) (sym ready.is)
-    (λ element found. subst (λ (e : Element). e.stamp.epoch ≡ 1) (same_Some _ element found) ready.epoch)
+stamped_so : (header : Header) (content : Content) (frontier : List Bool) → 64 ≤ header.end → 0 < header.verifiers → IsReady frontier content → IsStamped header 1 (shown_content content)
+stamped_so header content frontier end some ready =
+    subst (λ (c : Content). IsStamped header 1 (shown_content c)) (sym ready.is)
+    (λ element found. subst (λ (e : Element). IsStampOf header 1 e.stamp e.verifier) (same_Some _ element found)
+    record {
+      verifier = subst (λ (n : ℕ). n < header.verifiers) (sym ready.evictor) some;
+      epoch_is = ready.epoch;
+      counter = omega (arith, ready.counter, end);
+    })
 
 pub making_of : (header : Header) (workers : ℕ) (frontiers : List (List Bool)) (contents : List Content) → AreReady frontiers contents → 0 < length contents → 0 < workers → workers ≤ header.verifiers
-    → IsMaking header workers contents
-making_of header workers frontiers contents ready some some_workers few = record {
+    → 64 ≤ header.end → IsMaking header workers contents
+making_of header workers frontiers contents ready some some_workers few end = record {
   places = some;
   some = some_workers;
   few = few;
-  stamped = λ place below. subst (λ (n : ℕ). IsStamped n (shown_content (get_or contents place Vacant))) (sym (epoch_is frontiers contents ready some))
-      (stamped_so (get_or contents place Vacant) (get_or frontiers place []) (ready.each place [] Vacant below));
+  stamped = λ place below. subst (λ (n : ℕ). IsStamped header n (shown_content (get_or contents place Vacant))) (sym (epoch_is frontiers contents ready some))
+      (stamped_so header (get_or contents place Vacant) (get_or frontiers place []) end (omega arith) (ready.each place [] Vacant below));
 }
 
 pub owners_of : (frontiers : List (List Bool)) (contents : List Content) → AreReady frontiers contents → AreOwners frontiers contents

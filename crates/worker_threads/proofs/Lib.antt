@@ -1,1 +1,13 @@
 -- How the phases of workers in threads are proved, in reading order.
+mod AskedLemmas
+mod ShapeLemmas
+mod FilledLemmas
+mod EndLemmas
+mod StopLemmas
+mod ServedLemmas
+mod WorldLemmas
+mod LeadLemmas
+mod BoundLemmas
+mod SeatLemmas
+mod MakingLemmas
+mod TableLemmas

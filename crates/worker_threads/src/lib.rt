@@ -6,6 +6,7 @@
 //! `specs/Parts.antt`.
 #![tactic(auto)]
 
+mod laws;
 mod post;
 
 pub use post::Post;

@@ -15,10 +15,12 @@ pub make-requires : goal.make-requires
 make-requires g c =
     let ready = c.in_ok-frontiers.ensures.ready in
     let verifiers : c.header.result.verifiers ≡ 64 = ap (λ (h : Header). h.verifiers) c.header.ensures.value in
+    let end : c.header.result.end ≡ c.args.end = ap (λ (h : Header). h.end) c.header.ensures.value in
     let some : 0 < length c.in_ok-frontiers.contents.items = omega (arith, ready.1, c.requires.places.0) in
     let few : c.args.workers ≤ c.header.result.verifiers = omega (arith, verifiers, c.requires.workers.1) in
+    let late : 64 ≤ c.header.result.end = omega (arith, end, c.requires.end) in
     record {
-      making = making_of c.header.result c.args.workers c.in_ok-frontiers.frontiers.items c.in_ok-frontiers.contents.items ready.0 some c.requires.workers.0 few;
+      making = making_of c.header.result c.args.workers c.in_ok-frontiers.frontiers.items c.in_ok-frontiers.contents.items ready.0 some c.requires.workers.0 few late;
     }
 
 pub turns_of-requires-clause-clock : goal.turns_of-requires-clause-clock

@@ -30,8 +30,8 @@ pub plan-requires-clause-open : goal.plan-requires-clause-open
 plan-requires-clause-open g c =
     let t : Terms = terms g.D.Digests.functions c.args.self.now in
     let making = c.args.self.now.making in
-    open_at (phase_epoch t) (shown_content c.in-Taken.content) c.args.clock.now
-    (stamped_from t c.args.place (first_at t c.args.place) (history c.try_take.new.hand) c.in-Taken.content (making.stamped c.args.place c.requires.place.there) c.in-Taken.ensures.tries.3)
+    open_at t.header (phase_epoch t) (shown_content c.in-Taken.content) c.args.clock.now
+    (stamped_from t making.few c.args.place (first_at t c.args.place) (history c.try_take.new.hand) c.in-Taken.content (making.stamped c.args.place c.requires.place.there) c.in-Taken.ensures.tries.3)
     c.requires.clock.epoch
 
 pub note-requires-clause-entry : goal.note-requires-clause-entry

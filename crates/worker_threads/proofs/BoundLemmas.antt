@@ -1,0 +1,270 @@
+-- Behind the setup each clock ends where the header says, each element waits by a verifier of the bundle, and there are shards.
+use Rattle.std.proofs.Common.{◌≡◌, ℕ, zero, suc, ◌+◌, ◌-◌, ◌<◌, ◌≤◌, ◌==◌, Bool, true, false, List, [], ◌∷◌, ◌++◌, map, replicate, length, get_or, set, nat_lt, Option, Some, None, if◌then◌else◌, refl, sym, ◌∙◌, ap, subst, arith}
+use Rattle.std.specs.List.{AllByRecursion}
+use Rattle.std.proofs.lemmas.Bool.{false≢true}
+use Rattle.std.proofs.lemmas.List.{length-append, length-map, length-replicate, length-set, get_or-map}
+use Rattle.std.proofs.lemmas.Option.{none-some, same_Some}
+use Rattle.lamport_clocks.specs.Reading.{Reading}
+use Rattle.lamport_clocks.specs.Clock.{last_epoch}
+use Rattle.log_codec.specs.declared.command.Command.TheVariants.{NextEpoch}
+use Rattle.merkle_records.specs.Merkle.{Digest, GivesDigests}
+use Rattle.record_hash.specs.Functions.{DigestFunctions}
+use Rattle.record_text.specs.declared.element.Element.{Element}
+use Rattle.record_text.specs.declared.request.Request.{Request}
+use Rattle.record_text.specs.Format.{short_keys}
+use Rattle.script_text.specs.declared.task.Task.{Task}
+use Rattle.host_core.specs.Host.{Done, Host}
+use Rattle.host_core.specs.World.{Place, Worker, Seats, World, fresh, unmoved, worker_at, shard_at, set_up}
+use Rattle.host_core.specs.WorldEvent.{WorldEvent, takes, loses, serves, gives, advances, moves, opens, IsEnabled, AreEnabled, MayServe, MayMove, step, run_events, with_worker, with_shard, after_serve, after_move, after_advance, logging, having_served, next_clock}
+use Rattle.host_core.proofs.EventLaws.{enabled-append, run-append}
+use Rattle.host_shard.specs.Content.{Content, cold, hot, vacant}
+use Rattle.host_plan.specs.Plan.{clock_after}
+use Rattle.host_plan.specs.Setup.{paths_below, child, first_content, setup_contents}
+use Rattle.protection_moves.specs.Move.{begun, moved}
+use Rattle.protection_moves.specs.Stage.{Stage, touched_in}
+use Rattle.protection_moves.proofs.RenewingLaws.{renewing_each-end}
+use Rattle.move_laws.proofs.TripLaws.{each-end}
+use Rattle.host_world.specs.declared.settings.Settings.{Settings}
+use Rattle.host_world.specs.Behind.{IsBehindSetup}
+use Rattle.host_world.specs.Moving.{stage_of, move_seats}
+use Rattle.host_world.specs.Orderly.{IsOrderly}
+use Rattle.host_world.specs.Planned.{IsMoved}
+use Rattle.host_world.specs.Seated.{SeatsMirror, waiting_at}
+use Rattle.host_world.specs.Settings.{frontier_bits}
+use Rattle.host_world.specs.ShippedHost.{new_seats, serve_at, shipped_host}
+use Rattle.host_world.proofs.FrontLaws.{length-step}
+use Rattle.host_world.proofs.PlaceLaws.{waits-set}
+use Rattle.host_world.proofs.RangeLaws.{next_in_range}
+use Rattle.host_world.proofs.SeatLaws.{serve_keeps, move_keeps, seats_moved, stage_at}
+use Rattle.worker_threads.proofs.ShapeLemmas.{run-workers}
+
+-- the element waits by a verifier of the bundle
+abbrev pub IsKnown : Settings → Element → Type 0
+IsKnown settings element = element.verifier < settings.header.verifiers
+
+-- As many workers as verifiers, and a shard; each clock ends with the header's counter, and each element waits by one of the
+-- workers.
+pub record IsBounded (settings : Settings) (world : World Content) : Type 0 where
+  pub workers : length world.workers ≡ settings.header.verifiers
+  pub some : 0 < length world.shards
+  pub ends : (i : ℕ) → (get_or world.workers i (fresh settings.header)).clock.end ≡ settings.header.end
+  pub known : (s : ℕ) → s < length world.shards → AllByRecursion (IsKnown settings) (waiting_at short_keys (shard_at world s).contents)
+
+-- ---- lists
+
+-- what holds of each, and of what is put in, holds then
+holds-set : {X : Type 0} (P : X → Type 0) (xs : List X) (i : ℕ) (x d : X) → ((j : ℕ) → P (get_or xs j d)) → P x → (j : ℕ) → P (get_or (set xs i x) j d)
+holds-set P [] i x d all one j = all j
+holds-set P (y ∷ xs) zero x d all one zero = one
+holds-set P (y ∷ xs) zero x d all one (suc j) = all (suc j)
+holds-set P (y ∷ xs) (suc i) x d all one zero = all 0
+holds-set P (y ∷ xs) (suc i) x d all one (suc j) = holds-set P xs i x d (λ k. all (suc k)) one j
+
+-- the same of those that are there
+there-set : {X : Type 0} (P : X → Type 0) (xs : List X) (i : ℕ) (x d : X) → ((j : ℕ) → j < length xs → P (get_or xs j d)) → P x
+    → (j : ℕ) → j < length xs → P (get_or (set xs i x) j d)
+there-set P [] i x d all one j there = absurd (omega (arith, there))
+there-set P (y ∷ xs) zero x d all one zero there = one
+there-set P (y ∷ xs) zero x d all one (suc j) there = all (suc j) there
+there-set P (y ∷ xs) (suc i) x d all one zero there = all 0 there
+there-set P (y ∷ xs) (suc i) x d all one (suc j) there =
+    there-set P xs i x d (λ k below. all (suc k) (omega (arith, below))) one j (omega (arith, there))
+
+known-by : (settings : Settings) (worker epoch : ℕ) → worker < settings.header.verifiers → (elements : List Element)
+    → AllByRecursion (λ element. (element.verifier ≡ worker) × (element.stamp.epoch ≡ epoch)) elements → AllByRecursion (IsKnown settings) elements
+known-by settings worker epoch there [] all = tt
+known-by settings worker epoch there (element ∷ elements) all =
+    (subst (λ (n : ℕ). n < settings.header.verifiers) (sym all.0.0) there, known-by settings worker epoch there elements all.1)
+
+-- ---- clocks
+
+end_after : (content : Content) (clock : Reading) → (clock_after content clock).end ≡ clock.end
+end_after (cold shard) clock = refl
+end_after (hot found) clock = refl
+end_after vacant clock = refl
+
+-- what is done where something is
+inside : {X : Type 0} (b : Bool) (done found : X) → (if b then None else Some done) ≡ Some found → done ≡ found
+inside true done found is = absurd (none-some found is)
+inside false done found is = same_Some done found is
+
+-- a request leaves the clock's end
+serve_end : (digest : Digest) (worker : ℕ) (clock : Reading) (content : Content) (request : Request) (done : Done Content)
+    → serve_at short_keys digest worker clock content request ≡ Some done → done.clock.end ≡ clock.end
+serve_end digest worker clock content request done is =
+    sym (ap (λ (d : Done Content). d.clock.end) (inside (nat_lt clock.end (clock_after content clock).at.counter) _ done is)) ∙ end_after content clock
+
+-- a move leaves it
+move_end : (digest : Digest) (worker : ℕ) (threshold : Option ℕ) (stage : Stage) (done : Done (List Content))
+    → IsMoved short_keys digest worker threshold stage done → done.clock.end ≡ stage.clock.end
+move_end digest worker threshold stage done is =
+    ap (λ (clock : Reading). clock.end) is.clock
+    ∙ ap (λ (s : Stage). s.clock.end) is.is.after
+    ∙ each-end short_keys digest worker (begun worker stage) is.is.trips
+    ∙ renewing_each-end stage.clock (touched_in stage.places)
+
+-- ---- what happens in a world
+
+module _ (settings : Settings) where
+  -- another worker with the same end of its clock
+  worker_bounded : (world : World Content) (i : ℕ) (worker : Worker) → IsBounded settings world → worker.clock.end ≡ settings.header.end
+      → IsBounded settings (with_worker world i worker)
+  worker_bounded world i worker bounded end = record {
+    workers = length-set world.workers i worker ∙ bounded.workers;
+    some = bounded.some;
+    ends = holds-set (λ (w : Worker). w.clock.end ≡ settings.header.end) world.workers i worker (fresh settings.header) bounded.ends end;
+    known = bounded.known;
+  }
+
+  -- another shard, in which each element waits by one of the workers
+  shard_bounded : (world : World Content) (s : ℕ) (seats : Seats Content) → IsBounded settings world
+      → AllByRecursion (IsKnown settings) (waiting_at short_keys seats.contents) → IsBounded settings (with_shard world s seats)
+  shard_bounded world s seats bounded known =
+      let count = length-set world.shards s seats in
+      record {
+        workers = bounded.workers;
+        some = omega (arith, bounded.some, count);
+        ends = bounded.ends;
+        known = λ t there. there-set (λ (x : Seats Content). AllByRecursion (IsKnown settings) (waiting_at short_keys x.contents)) world.shards s seats (unmoved [])
+            bounded.known known t (omega (arith, there, count));
+      }
+
+  opened_bounded : (world : World Content) → IsBounded settings world
+      → IsBounded settings (record world { shards = map (λ shard. unmoved shard.contents) world.shards; phase = suc world.phase; closing = false })
+  opened_bounded world bounded =
+      let count = length-map world.shards (λ (seats : Seats Content). unmoved seats.contents) in
+      record {
+        workers = bounded.workers;
+        some = omega (arith, bounded.some, count);
+        ends = bounded.ends;
+        known = λ s there.
+            subst (λ (x : Seats Content). AllByRecursion (IsKnown settings) (waiting_at short_keys x.contents))
+            (sym (get_or-map (λ (seats : Seats Content). unmoved seats.contents) world.shards s (unmoved []) (unmoved []) (omega (arith, there, count))))
+            (bounded.known s (omega (arith, there, count)));
+      }
+
+module _ (functions : DigestFunctions) (settings : Settings) (script : List (List Task)) (digests : GivesDigests functions.digest) where
+  abbrev host : Host Content Request
+  host = shipped_host functions settings script
+
+  module _ (world : World Content) (behind : IsBehindSetup functions settings script world) (orderly : IsOrderly functions settings script world)
+      (bounded : IsBounded settings world) where
+    serve_bounded : (i : ℕ) (place : Place) (request : Request) → MayServe host world i place request → (what : Option (Done Content))
+        → serve_at short_keys functions.digest i (worker_at host world i).clock (get_or (shard_at world place.shard).contents place.seat vacant) request ≡ what
+        → IsBounded settings (after_serve world i (worker_at host world i) place (shard_at world place.shard) what)
+    serve_bounded i place request may None is = worker_bounded settings world i (record (worker_at host world i) { stopped = true }) bounded (bounded.ends i)
+    serve_bounded i place request may (Some done) is =
+        let clock = (worker_at host world i).clock in
+        let seats = shard_at world place.shard in
+        let small = next_in_range functions settings script behind.keys world i request may.next in
+        let kept = serve_keeps short_keys functions.digest i clock seats.contents place.seat request done digests (orderly.shards place.shard may.there.0).mirrors small may.owns is in
+        let worker = having_served (logging (worker_at host world i) done.commands done.clock) place in
+        let end = serve_end functions.digest i clock (get_or seats.contents place.seat vacant) request done is ∙ bounded.ends i in
+        shard_bounded settings (with_worker world i worker) place.shard (record seats { contents = set seats.contents place.seat done.after })
+        (worker_bounded settings world i worker bounded end)
+        (waits-set short_keys (IsKnown settings) seats.contents place.seat done.after
+        (known-by settings i clock.at.epoch (omega (arith, may.serving.there, bounded.workers)) _ kept.waits) (bounded.known place.shard may.there.0))
+
+    move_bounded : (i s : ℕ) → MayMove host world i s → (what : Option (Done (List Content)))
+        → move_seats short_keys functions.digest i settings.hot (stage_of (worker_at host world i).clock (shard_at world s).contents) ≡ what
+        → IsBounded settings (after_move world i (worker_at host world i) s what)
+    move_bounded i s may None is = worker_bounded settings world i (record (worker_at host world i) { stuck = true }) bounded (bounded.ends i)
+    move_bounded i s may (Some done) is =
+        let clock = (worker_at host world i).clock in
+        let seats = (shard_at world s).contents in
+        let mirrors = (orderly.shards s may.shard).mirrors in
+        let least = behind.settings_fit.hot in
+        let kept = move_keeps short_keys functions.digest i settings.hot clock seats done digests least mirrors is in
+        let worker = logging (worker_at host world i) done.commands done.clock in
+        let end = move_end functions.digest i settings.hot (stage_at mirrors.shard mirrors.places clock) done
+        (seats_moved short_keys functions.digest i settings.hot clock seats done digests least mirrors is) ∙ bounded.ends i in
+        shard_bounded settings (with_worker world i worker) s (record { contents = done.after; moved = true })
+        (worker_bounded settings world i worker bounded end)
+        (known-by settings i clock.at.epoch (omega (arith, may.there, bounded.workers)) _ kept.waits)
+
+    advance_bounded : (i : ℕ) → IsBounded settings (after_advance world i (worker_at host world i))
+    advance_bounded i = go ((worker_at host world i).clock.at.epoch == last_epoch)
+      where
+        worker : Worker
+        worker = logging (worker_at host world i) (NextEpoch ∷ []) (next_clock (worker_at host world i).clock)
+
+        again : IsBounded settings (with_worker world i worker)
+        again = worker_bounded settings world i worker bounded (bounded.ends i)
+
+        go : (b : Bool) → IsBounded settings (if b then record world { over = true } else record (with_worker world i worker) { closing = true })
+        go true = record { workers = bounded.workers; some = bounded.some; ends = bounded.ends; known = bounded.known }
+        go false = record { workers = again.workers; some = again.some; ends = again.ends; known = again.known }
+
+    step_bounded : (event : WorldEvent Request) → IsEnabled host world event → IsBounded settings (step host world event)
+    step_bounded (takes i place) may = worker_bounded settings world i _ bounded (bounded.ends i)
+    step_bounded (loses i place) may = bounded
+    step_bounded (serves i place request) may = serve_bounded i place request may _ refl
+    step_bounded (gives i place) may = worker_bounded settings world i _ bounded (bounded.ends i)
+    step_bounded (advances i) may = advance_bounded i
+    step_bounded (moves i s) may = move_bounded i s may _ refl
+    step_bounded opens may = opened_bounded settings world bounded
+
+    -- one event more
+    step_behind : (event : WorldEvent Request) → IsEnabled host world event → IsBehindSetup functions settings script (step host world event)
+    step_behind event may = record {
+      settings_fit = behind.settings_fit;
+      keys = behind.keys;
+      events = behind.events ++ event ∷ [];
+      enabled = enabled-append host (set_up host) behind.events (event ∷ []) behind.enabled (subst (λ (w : World Content). IsEnabled host w event) behind.is may, tt);
+      is = ap (λ (w : World Content). step host w event) behind.is ∙ sym (run-append host (set_up host) behind.events (event ∷ []));
+    }
+
+  module _ (orderly : (world : World Content) → IsBehindSetup functions settings script world → IsOrderly functions settings script world) where
+    run_bounded : (world : World Content) (events : List (WorldEvent Request)) → IsBehindSetup functions settings script world → IsBounded settings world
+        → AreEnabled host world events → IsBounded settings (run_events host world events)
+    run_bounded world [] behind bounded enabled = bounded
+    run_bounded world (event ∷ events) behind bounded enabled =
+        run_bounded (step host world event) events (step_behind world behind (orderly world behind) bounded event enabled.0)
+        (step_bounded world behind (orderly world behind) bounded event enabled.0) enabled.1
+
+    -- ---- the setup
+
+    some_paths : (levels : ℕ) (path : List Bool) → 0 < length (paths_below levels path)
+    some_paths zero path = omega arith
+    some_paths (suc levels) path =
+        let first = some_paths levels (child path false) in
+        let all = length-append (paths_below levels (child path false)) (paths_below levels (child path true)) in
+        omega (arith, first, all)
+
+    get_or-same : {X : Type 0} (n i : ℕ) (d : X) → get_or (replicate n d) i d ≡ d
+    get_or-same zero i d = refl
+    get_or-same (suc n) zero d = refl
+    get_or-same (suc n) (suc i) d = get_or-same n i d
+
+    first_known : 1 ≤ settings.header.verifiers → (paths : List (List Bool)) (s : ℕ)
+        → s < length (map unmoved (map new_seats (map (first_content short_keys settings.header.first) paths)))
+        → AllByRecursion (IsKnown settings) (waiting_at short_keys (get_or (map unmoved (map new_seats (map (first_content short_keys settings.header.first) paths))) s (unmoved [])).contents)
+    first_known some [] s there = absurd (omega (arith, there))
+    first_known some (path ∷ paths) zero there = (omega (arith, some), tt)
+    first_known some (path ∷ paths) (suc s) there = first_known some paths s (omega (arith, there))
+
+    set_up_bounded : 1 ≤ settings.header.verifiers → IsBounded settings (set_up host)
+    set_up_bounded some = record {
+      workers = let rest = length-replicate (settings.header.verifiers - 1) (fresh settings.header) in omega (arith, rest, some);
+      some =
+          let paths = paths_below (frontier_bits settings.shards) [] in
+          let one = length-map (map new_seats (setup_contents short_keys settings.header.first (frontier_bits settings.shards))) unmoved in
+          let two = length-map (setup_contents short_keys settings.header.first (frontier_bits settings.shards)) new_seats in
+          let three = length-map paths (first_content short_keys settings.header.first) in
+          let four = some_paths (frontier_bits settings.shards) [] in
+          omega (arith, one, two, three, four);
+      ends = ends;
+      known = first_known some (paths_below (frontier_bits settings.shards) []);
+    }
+      where
+        ends : (i : ℕ) → (get_or (set_up host).workers i (fresh settings.header)).clock.end ≡ settings.header.end
+        ends zero = refl
+        ends (suc i) = ap (λ (w : Worker). w.clock.end) (get_or-same (settings.header.verifiers - 1) i (fresh settings.header))
+
+    -- Behind the setup, whatever happened, it is so.
+    pub bounded_behind : (world : World Content) → IsBehindSetup functions settings script world → IsBounded settings world
+    bounded_behind world behind =
+        subst (IsBounded settings) (sym behind.is)
+        (run_bounded (set_up host) behind.events
+        (record { settings_fit = behind.settings_fit; keys = behind.keys; events = []; enabled = tt; is = refl })
+        (set_up_bounded behind.settings_fit.header.some_verifiers) behind.enabled)
