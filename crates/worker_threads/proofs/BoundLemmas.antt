@@ -1,4 +1,4 @@
--- Behind the setup each clock ends where the header says, each element waits by a verifier of the bundle, and there are shards.
+-- Behind the setup there are as many workers as verifiers, and each clock ends with the header's counter.
 use Rattle.std.proofs.Common.{◌≡◌, ℕ, zero, suc, ◌+◌, ◌-◌, ◌<◌, ◌≤◌, ◌==◌, Bool, true, false, List, [], ◌∷◌, ◌++◌, map, replicate, length, get_or, set, nat_lt, Option, Some, None, if◌then◌else◌, refl, sym, ◌∙◌, ap, subst, arith}
 use Rattle.std.specs.List.{AllByRecursion}
 use Rattle.std.proofs.lemmas.Bool.{false≢true}
@@ -38,17 +38,10 @@ use Rattle.host_world.proofs.RangeLaws.{next_in_range}
 use Rattle.host_world.proofs.SeatLaws.{serve_keeps, move_keeps, seats_moved, stage_at}
 use Rattle.worker_threads.proofs.ShapeLemmas.{run-workers}
 
--- the element waits by a verifier of the bundle
-abbrev pub IsKnown : Settings → Element → Type 0
-IsKnown settings element = element.verifier < settings.header.verifiers
-
--- As many workers as verifiers, and a shard; each clock ends with the header's counter, and each element waits by one of the
--- workers.
+-- as many workers as verifiers, and each clock ends with the header's counter
 pub record IsBounded (settings : Settings) (world : World Content) : Type 0 where
   pub workers : length world.workers ≡ settings.header.verifiers
-  pub some : 0 < length world.shards
   pub ends : (i : ℕ) → (get_or world.workers i (fresh settings.header)).clock.end ≡ settings.header.end
-  pub known : (s : ℕ) → s < length world.shards → AllByRecursion (IsKnown settings) (waiting_at short_keys (shard_at world s).contents)
 
 -- ---- lists
 
@@ -59,22 +52,6 @@ holds-set P (y ∷ xs) zero x d all one zero = one
 holds-set P (y ∷ xs) zero x d all one (suc j) = all (suc j)
 holds-set P (y ∷ xs) (suc i) x d all one zero = all 0
 holds-set P (y ∷ xs) (suc i) x d all one (suc j) = holds-set P xs i x d (λ k. all (suc k)) one j
-
--- the same of those that are there
-there-set : {X : Type 0} (P : X → Type 0) (xs : List X) (i : ℕ) (x d : X) → ((j : ℕ) → j < length xs → P (get_or xs j d)) → P x
-    → (j : ℕ) → j < length xs → P (get_or (set xs i x) j d)
-there-set P [] i x d all one j there = absurd (omega (arith, there))
-there-set P (y ∷ xs) zero x d all one zero there = one
-there-set P (y ∷ xs) zero x d all one (suc j) there = all (suc j) there
-there-set P (y ∷ xs) (suc i) x d all one zero there = all 0 there
-there-set P (y ∷ xs) (suc i) x d all one (suc j) there =
-    there-set P xs i x d (λ k below. all (suc k) (omega (arith, below))) one j (omega (arith, there))
-
-known-by : (settings : Settings) (worker epoch : ℕ) → worker < settings.header.verifiers → (elements : List Element)
-    → AllByRecursion (λ element. (element.verifier ≡ worker) × (element.stamp.epoch ≡ epoch)) elements → AllByRecursion (IsKnown settings) elements
-known-by settings worker epoch there [] all = tt
-known-by settings worker epoch there (element ∷ elements) all =
-    (subst (λ (n : ℕ). n < settings.header.verifiers) (sym all.0.0) there, known-by settings worker epoch there elements all.1)
 
 -- ---- clocks
 
@@ -105,43 +82,20 @@ move_end digest worker threshold stage done is =
 
 -- ---- what happens in a world
 
-module _ (settings : Settings) where
-  -- another worker with the same end of its clock
-  worker_bounded : (world : World Content) (i : ℕ) (worker : Worker) → IsBounded settings world → worker.clock.end ≡ settings.header.end
-      → IsBounded settings (with_worker world i worker)
-  worker_bounded world i worker bounded end = record {
-    workers = length-set world.workers i worker ∙ bounded.workers;
-    some = bounded.some;
-    ends = holds-set (λ (w : Worker). w.clock.end ≡ settings.header.end) world.workers i worker (fresh settings.header) bounded.ends end;
-    known = bounded.known;
-  }
+-- another worker with the same end of its clock
+worker_bounded : (settings : Settings) (world : World Content) (i : ℕ) (worker : Worker) → IsBounded settings world
+    → worker.clock.end ≡ settings.header.end → IsBounded settings (with_worker world i worker)
+worker_bounded settings world i worker bounded end = record {
+  workers = length-set world.workers i worker ∙ bounded.workers;
+  ends = holds-set (λ (w : Worker). w.clock.end ≡ settings.header.end) world.workers i worker (fresh settings.header) bounded.ends end;
+}
 
-  -- another shard, in which each element waits by one of the workers
-  shard_bounded : (world : World Content) (s : ℕ) (seats : Seats Content) → IsBounded settings world
-      → AllByRecursion (IsKnown settings) (waiting_at short_keys seats.contents) → IsBounded settings (with_shard world s seats)
-  shard_bounded world s seats bounded known =
-      let count = length-set world.shards s seats in
-      record {
-        workers = bounded.workers;
-        some = omega (arith, bounded.some, count);
-        ends = bounded.ends;
-        known = λ t there. there-set (λ (x : Seats Content). AllByRecursion (IsKnown settings) (waiting_at short_keys x.contents)) world.shards s seats (unmoved [])
-            bounded.known known t (omega (arith, there, count));
-      }
-
-  opened_bounded : (world : World Content) → IsBounded settings world
-      → IsBounded settings (record world { shards = map (λ shard. unmoved shard.contents) world.shards; phase = suc world.phase; closing = false })
-  opened_bounded world bounded =
-      let count = length-map world.shards (λ (seats : Seats Content). unmoved seats.contents) in
-      record {
-        workers = bounded.workers;
-        some = omega (arith, bounded.some, count);
-        ends = bounded.ends;
-        known = λ s there.
-            subst (λ (x : Seats Content). AllByRecursion (IsKnown settings) (waiting_at short_keys x.contents))
-            (sym (get_or-map (λ (seats : Seats Content). unmoved seats.contents) world.shards s (unmoved []) (unmoved []) (omega (arith, there, count))))
-            (bounded.known s (omega (arith, there, count)));
-      }
+-- the same where other things change
+others_bounded : (settings : Settings) (world other : World Content) → other.workers ≡ world.workers → IsBounded settings world → IsBounded settings other
+others_bounded settings world other same bounded = record {
+  workers = ap (λ (ws : List Worker). length ws) same ∙ bounded.workers;
+  ends = λ i. ap (λ (ws : List Worker). (get_or ws i (fresh settings.header)).clock.end) same ∙ bounded.ends i;
+}
 
 module _ (functions : DigestFunctions) (settings : Settings) (script : List (List Task)) (digests : GivesDigests functions.digest) where
   abbrev host : Host Content Request
@@ -149,38 +103,29 @@ module _ (functions : DigestFunctions) (settings : Settings) (script : List (Lis
 
   module _ (world : World Content) (behind : IsBehindSetup functions settings script world) (orderly : IsOrderly functions settings script world)
       (bounded : IsBounded settings world) where
-    serve_bounded : (i : ℕ) (place : Place) (request : Request) → MayServe host world i place request → (what : Option (Done Content))
+    serve_bounded : (i : ℕ) (place : Place) (request : Request) (what : Option (Done Content))
         → serve_at short_keys functions.digest i (worker_at host world i).clock (get_or (shard_at world place.shard).contents place.seat vacant) request ≡ what
         → IsBounded settings (after_serve world i (worker_at host world i) place (shard_at world place.shard) what)
-    serve_bounded i place request may None is = worker_bounded settings world i (record (worker_at host world i) { stopped = true }) bounded (bounded.ends i)
-    serve_bounded i place request may (Some done) is =
+    serve_bounded i place request None is = worker_bounded settings world i (record (worker_at host world i) { stopped = true }) bounded (bounded.ends i)
+    serve_bounded i place request (Some done) is =
         let clock = (worker_at host world i).clock in
-        let seats = shard_at world place.shard in
-        let small = next_in_range functions settings script behind.keys world i request may.next in
-        let kept = serve_keeps short_keys functions.digest i clock seats.contents place.seat request done digests (orderly.shards place.shard may.there.0).mirrors small may.owns is in
         let worker = having_served (logging (worker_at host world i) done.commands done.clock) place in
-        let end = serve_end functions.digest i clock (get_or seats.contents place.seat vacant) request done is ∙ bounded.ends i in
-        shard_bounded settings (with_worker world i worker) place.shard (record seats { contents = set seats.contents place.seat done.after })
-        (worker_bounded settings world i worker bounded end)
-        (waits-set short_keys (IsKnown settings) seats.contents place.seat done.after
-        (known-by settings i clock.at.epoch (omega (arith, may.serving.there, bounded.workers)) _ kept.waits) (bounded.known place.shard may.there.0))
+        others_bounded settings (with_worker world i worker) _ refl
+        (worker_bounded settings world i worker bounded
+        (serve_end functions.digest i clock (get_or (shard_at world place.shard).contents place.seat vacant) request done is ∙ bounded.ends i))
 
-    move_bounded : (i s : ℕ) → MayMove host world i s → (what : Option (Done (List Content)))
+    move_bounded : (i s : ℕ) → s < length world.shards → (what : Option (Done (List Content)))
         → move_seats short_keys functions.digest i settings.hot (stage_of (worker_at host world i).clock (shard_at world s).contents) ≡ what
         → IsBounded settings (after_move world i (worker_at host world i) s what)
-    move_bounded i s may None is = worker_bounded settings world i (record (worker_at host world i) { stuck = true }) bounded (bounded.ends i)
-    move_bounded i s may (Some done) is =
+    move_bounded i s there None is = worker_bounded settings world i (record (worker_at host world i) { stuck = true }) bounded (bounded.ends i)
+    move_bounded i s there (Some done) is =
         let clock = (worker_at host world i).clock in
-        let seats = (shard_at world s).contents in
-        let mirrors = (orderly.shards s may.shard).mirrors in
-        let least = behind.settings_fit.hot in
-        let kept = move_keeps short_keys functions.digest i settings.hot clock seats done digests least mirrors is in
+        let mirrors = (orderly.shards s there).mirrors in
         let worker = logging (worker_at host world i) done.commands done.clock in
-        let end = move_end functions.digest i settings.hot (stage_at mirrors.shard mirrors.places clock) done
-        (seats_moved short_keys functions.digest i settings.hot clock seats done digests least mirrors is) ∙ bounded.ends i in
-        shard_bounded settings (with_worker world i worker) s (record { contents = done.after; moved = true })
-        (worker_bounded settings world i worker bounded end)
-        (known-by settings i clock.at.epoch (omega (arith, may.there, bounded.workers)) _ kept.waits)
+        others_bounded settings (with_worker world i worker) _ refl
+        (worker_bounded settings world i worker bounded
+        (move_end functions.digest i settings.hot (stage_at mirrors.shard mirrors.places clock) done
+        (seats_moved short_keys functions.digest i settings.hot clock (shard_at world s).contents done digests behind.settings_fit.hot mirrors is) ∙ bounded.ends i))
 
     advance_bounded : (i : ℕ) → IsBounded settings (after_advance world i (worker_at host world i))
     advance_bounded i = go ((worker_at host world i).clock.at.epoch == last_epoch)
@@ -188,21 +133,19 @@ module _ (functions : DigestFunctions) (settings : Settings) (script : List (Lis
         worker : Worker
         worker = logging (worker_at host world i) (NextEpoch ∷ []) (next_clock (worker_at host world i).clock)
 
-        again : IsBounded settings (with_worker world i worker)
-        again = worker_bounded settings world i worker bounded (bounded.ends i)
-
         go : (b : Bool) → IsBounded settings (if b then record world { over = true } else record (with_worker world i worker) { closing = true })
-        go true = record { workers = bounded.workers; some = bounded.some; ends = bounded.ends; known = bounded.known }
-        go false = record { workers = again.workers; some = again.some; ends = again.ends; known = again.known }
+        go true = others_bounded settings world (record world { over = true }) refl bounded
+        go false = others_bounded settings (with_worker world i worker) (record (with_worker world i worker) { closing = true }) refl
+            (worker_bounded settings world i worker bounded (bounded.ends i))
 
     step_bounded : (event : WorldEvent Request) → IsEnabled host world event → IsBounded settings (step host world event)
     step_bounded (takes i place) may = worker_bounded settings world i _ bounded (bounded.ends i)
     step_bounded (loses i place) may = bounded
-    step_bounded (serves i place request) may = serve_bounded i place request may _ refl
+    step_bounded (serves i place request) may = serve_bounded i place request _ refl
     step_bounded (gives i place) may = worker_bounded settings world i _ bounded (bounded.ends i)
     step_bounded (advances i) may = advance_bounded i
-    step_bounded (moves i s) may = move_bounded i s may _ refl
-    step_bounded opens may = opened_bounded settings world bounded
+    step_bounded (moves i s) may = move_bounded i s may.shard _ refl
+    step_bounded opens may = others_bounded settings world (step host world opens) refl bounded
 
     -- one event more
     step_behind : (event : WorldEvent Request) → IsEnabled host world event → IsBehindSetup functions settings script (step host world event)
@@ -224,37 +167,15 @@ module _ (functions : DigestFunctions) (settings : Settings) (script : List (Lis
 
     -- ---- the setup
 
-    some_paths : (levels : ℕ) (path : List Bool) → 0 < length (paths_below levels path)
-    some_paths zero path = omega arith
-    some_paths (suc levels) path =
-        let first = some_paths levels (child path false) in
-        let all = length-append (paths_below levels (child path false)) (paths_below levels (child path true)) in
-        omega (arith, first, all)
-
     get_or-same : {X : Type 0} (n i : ℕ) (d : X) → get_or (replicate n d) i d ≡ d
     get_or-same zero i d = refl
     get_or-same (suc n) zero d = refl
     get_or-same (suc n) (suc i) d = get_or-same n i d
 
-    first_known : 1 ≤ settings.header.verifiers → (paths : List (List Bool)) (s : ℕ)
-        → s < length (map unmoved (map new_seats (map (first_content short_keys settings.header.first) paths)))
-        → AllByRecursion (IsKnown settings) (waiting_at short_keys (get_or (map unmoved (map new_seats (map (first_content short_keys settings.header.first) paths))) s (unmoved [])).contents)
-    first_known some [] s there = absurd (omega (arith, there))
-    first_known some (path ∷ paths) zero there = (omega (arith, some), tt)
-    first_known some (path ∷ paths) (suc s) there = first_known some paths s (omega (arith, there))
-
     set_up_bounded : 1 ≤ settings.header.verifiers → IsBounded settings (set_up host)
     set_up_bounded some = record {
       workers = let rest = length-replicate (settings.header.verifiers - 1) (fresh settings.header) in omega (arith, rest, some);
-      some =
-          let paths = paths_below (frontier_bits settings.shards) [] in
-          let one = length-map (map new_seats (setup_contents short_keys settings.header.first (frontier_bits settings.shards))) unmoved in
-          let two = length-map (setup_contents short_keys settings.header.first (frontier_bits settings.shards)) new_seats in
-          let three = length-map paths (first_content short_keys settings.header.first) in
-          let four = some_paths (frontier_bits settings.shards) [] in
-          omega (arith, one, two, three, four);
       ends = ends;
-      known = first_known some (paths_below (frontier_bits settings.shards) []);
     }
       where
         ends : (i : ℕ) → (get_or (set_up host).workers i (fresh settings.header)).clock.end ≡ settings.header.end

@@ -8,6 +8,7 @@ mod ServedLemmas
 mod WorldLemmas
 mod LeadLemmas
 mod BoundLemmas
+mod PromiseLemmas
 mod SeatLemmas
 mod MakingLemmas
 mod TableLemmas

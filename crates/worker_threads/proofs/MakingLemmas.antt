@@ -1,4 +1,4 @@
--- A table can be made of what a world's places have, for its workers; their clocks are of it, and so are the places of keys.
+-- A table of what a world's places have is one of the world: its workers' clocks are of it, and so are the places of keys.
 use Rattle.std.proofs.Common.{◌≡◌, ◌⊎◌, inl, inr, ℕ, suc, ◌+◌, ◌*◌, ◌/◌, ◌%◌, ◌^◌, ◌<◌, ◌≤◌, ◌&&◌, false, true, List, [], ◌∷◌, map, length, get_or, Option, Some, None, refl, sym, ◌∙◌, ap, subst, arith}
 use Rattle.std.specs.List.{AllByRecursion}
 use Rattle.std.proofs.Math.ListN.{get_or-map}
@@ -22,9 +22,8 @@ use Rattle.host_shard.specs.Content.{Content, cold, hot, vacant, pending}
 use Rattle.host_shard.specs.Shown.{shown_content}
 use Rattle.host_laws.specs.Served.{waiting}
 use Rattle.host_plan.specs.Plan.{Owns}
-use Rattle.host_table.specs.Terms.{Terms, place_count, first_at, epoch_in, IsPlaceOf, IsClockOf, IsMaking}
+use Rattle.host_table.specs.Terms.{Terms, place_count, first_at, epoch_in, IsPlaceOf, IsClockOf}
 use Rattle.host_world.specs.declared.settings.Settings.{Settings}
-use Rattle.host_world.specs.Settings.{IsSettings}
 use Rattle.host_world.specs.Lending.{all_contents}
 use Rattle.host_world.specs.Orderly.{IsOrderly, moved_by}
 use Rattle.host_world.specs.Places.{place_of}
@@ -39,7 +38,7 @@ use Rattle.worker_threads.proofs.BoundLemmas.{IsBounded}
 use Rattle.worker_threads.proofs.FilledLemmas.{HaveFive, all_count, all_at}
 use Rattle.worker_threads.proofs.SeatLemmas.{serves_alone}
 
-module _ (functions : DigestFunctions) (settings : Settings) (script : List (List Task)) (world : World Content) (fit : IsSettings settings)
+module _ (functions : DigestFunctions) (settings : Settings) (script : List (List Task)) (world : World Content)
     (orderly : IsOrderly functions settings script world) (bounded : IsBounded settings world) (phase : world.closing ≡ false) where
   abbrev host : Host Content Request
   host = shipped_host functions settings script
@@ -77,11 +76,11 @@ module _ (functions : DigestFunctions) (settings : Settings) (script : List (Lis
         (ap (pending short_keys) (lent_at place there) ∙ found) waits in
         omega (arith, one.0, epoch)
 
-    pub epoch_is : epoch_in contents ≡ epoch_of host world
-    epoch_is = go contents refl
+    pub epoch_is : 0 < length contents → epoch_in contents ≡ epoch_of host world
+    epoch_is some = go contents refl
       where
-        some : 0 < length contents
-        some = omega (arith, as_many, bounded.some)
+        first_shard : 0 < length world.shards
+        first_shard = omega (arith, some, as_many)
 
         at_first : (first : code.Content) (rest : List code.Content) → contents ≡ first ∷ rest → (element : Element) → pending short_keys (shown_content first) ≡ Some element
             → element.stamp.epoch ≡ epoch_of host world
@@ -96,29 +95,18 @@ module _ (functions : DigestFunctions) (settings : Settings) (script : List (Lis
         go (Cold shard ∷ rest) is = at_first (Cold shard) rest is _ refl
         go (Hot found ∷ rest) is = at_first (Hot found) rest is _ refl
         go (Vacant ∷ rest) is =
-            let mirrors = (orderly.shards 0 bounded.some).mirrors in
+            let mirrors = (orderly.shards 0 first_shard).mirrors in
             absurd (no_vacant mirrors.shard
                 (sym (ap (λ (xs : List code.Content). shown_content (get_or xs 0 Vacant)) is) ∙ sym (lent_at 0 some)
                 ∙ ap (λ (xs : List Content). get_or xs 0 vacant) mirrors.is))
 
-    -- ---- the making
-
-    -- A table can be made of the contents.
-    pub making : IsMaking settings.header (length world.workers) contents
-    making = record {
-      places = omega (arith, as_many, bounded.some);
-      some = omega (arith, bounded.workers, fit.header.some_verifiers);
-      few = omega (arith, bounded.workers);
-      stamped = λ place there element found. waits_in place there element found ∙ sym epoch_is;
-    }
-
   module _ (terms : Terms) (lent : map shown_content terms.contents ≡ all_contents world.shards) where
     -- The workers' clocks stand in its phase.
-    pub clock_of : terms.header ≡ settings.header → (i : ℕ) → i < length world.workers → IsClockOf terms (worker_at host world i).clock
-    clock_of header i there = record {
+    pub clock_of : 0 < length terms.contents → terms.header ≡ settings.header → (i : ℕ) → i < length world.workers → IsClockOf terms (worker_at host world i).clock
+    clock_of some header i there = record {
       first = orderly.bounded i ∙ sym (ap (λ h. h.first) header);
       end = bounded.ends i ∙ sym (ap (λ h. h.end) header);
-      epoch = orderly.clocked phase i there ∙ sym (epoch_is terms.contents lent);
+      epoch = orderly.clocked phase i there ∙ sym (epoch_is terms.contents lent some);
     }
 
     -- It is a table of the world.

@@ -1,19 +1,15 @@
 -- A table that was made of a world at a phase's begin, and whose workers did their parts, is that of a phase.
 use Rattle.std.proofs.Common.{◌≡◌, ℕ, ◌+◌, ◌<◌, false, List, [], ◌∷◌, length, get_or, slice_get, Option, Some, None, refl, sym, ◌∙◌, ap, subst, arith}
-use Rattle.std.specs.List.{AllByRecursion}
 use Rattle.std.specs.Option.{ForSome}
 use Rattle.lamport_clocks.specs.Reading.{Reading}
 use Rattle.log_codec.specs.declared.command.Command.{Command}
 use Rattle.merkle_records.specs.Merkle.{GivesDigests}
 use Rattle.record_hash.specs.Functions.{DigestFunctions}
-use Rattle.record_text.specs.declared.element.Element.{Element}
 use Rattle.record_text.specs.declared.request.Request.{Request}
-use Rattle.record_text.specs.Format.{short_keys}
 use Rattle.script_text.specs.declared.task.Task.{Task}
 use Rattle.host_core.specs.Host.{Host, asked}
-use Rattle.host_core.specs.World.{Worker, World, fresh, worker_at, shard_at, epoch_of}
+use Rattle.host_core.specs.World.{Worker, World, fresh, worker_at}
 use Rattle.host_core.specs.Core.{IsInPhase}
-use Rattle.host_core.specs.Deeds.{IsStamped, AreStamped}
 use Rattle.host_order.specs.Told.{IsAtRest}
 use Rattle.host_shard.specs.declared.content.Content as code
 use Rattle.host_shard.specs.Content.{Content}
@@ -23,46 +19,35 @@ use Rattle.host_table.specs.Phase.{row_at}
 use Rattle.host_table.specs.Terms.{Terms}
 use Rattle.host_world.specs.declared.settings.Settings.{Settings}
 use Rattle.host_world.specs.Behind.{IsBehindSetup, with_logs}
-use Rattle.host_world.specs.Orderly.{IsOrderly, moved_by}
-use Rattle.host_world.specs.Seated.{waiting_at}
 use Rattle.host_world.specs.ShippedHost.{shipped_host}
 use Rattle.host_world.proofs.FrontLaws.{unlogged, same_unlogged, length-before_each}
+use Rattle.host_serving.specs.Standing.{IsServedUpTo}
 use Rattle.table_order.specs.Phases.{first_clock, AreTermsOf, AreNext, AreTurnsOf, IsTableOf}
 use Rattle.worker_threads.specs.Parts.{asked_of, HasDone}
 use Rattle.worker_threads.specs.Phase.{IsServedAtOnce}
 use Rattle.worker_threads.proofs.AskedLemmas.{are_next, last_next}
-use Rattle.worker_threads.proofs.BoundLemmas.{IsBounded}
 use Rattle.worker_threads.proofs.ServedLemmas.{within_script, served_before}
 
--- elements of an epoch by verifiers of the bundle
-both : (verifiers epoch from : ℕ) → from ≡ epoch → (elements : List Element) → AllByRecursion (λ element. element.verifier < verifiers) elements
-    → AllByRecursion (λ element. element.stamp.epoch ≡ from) elements
-    → AllByRecursion (λ (element : Element). (element.verifier < verifiers) × (element.stamp.epoch ≡ epoch)) elements
-both verifiers epoch from same [] known stamped = tt
-both verifiers epoch from same (element ∷ elements) known stamped =
-    ((known.0, stamped.0 ∙ same), both verifiers epoch from same elements known.1 stamped.1)
-
-module _ (functions : DigestFunctions) (settings : Settings) (script : List (List Task)) (world : World Content)
-    (orderly : IsOrderly functions settings script world) (bounded : IsBounded settings world) where
-  abbrev host : Host Content Request
-  host = shipped_host functions settings script
-
-  -- In a phase all is of its epoch.
-  pub in_phase : IsInPhase host world
-  in_phase phase = (orderly.clocked phase, stamped, orderly.unmoved phase)
-    where
-      stamped : (s : ℕ) → s < length world.shards → AreStamped host (epoch_of host world) (shard_at world s).contents
-      stamped s there =
-          let still : epoch_of host world + moved_by (shard_at world s).moved ≡ epoch_of host world + 0 =
-          ap (λ b. epoch_of host world + moved_by b) (orderly.unmoved phase s there) in
-          both settings.header.verifiers (epoch_of host world) (epoch_of host world + moved_by (shard_at world s).moved) (omega (arith, still))
-          (waiting_at short_keys (shard_at world s).contents) (bounded.known s there) (orderly.shards s there).stamped
+-- A world whose phase begins is at rest.
+pub at_rest : (functions : DigestFunctions) (settings : Settings) (script : List (List Task)) (logs : List (List Command)) (world : World Content)
+    → IsServedUpTo (shipped_host functions settings script) world 0
+    → IsInPhase (shipped_host functions settings script) (with_logs logs world)
+    → IsAtRest (shipped_host functions settings script) (with_logs logs world)
+at_rest functions settings script logs world begins epochs = record {
+  going = begins.going;
+  phase = begins.phase;
+  idle = λ i there.
+      let count = length-before_each logs world.workers in
+      ap (λ (w : Worker). w.holds) (same_unlogged logs world.workers i (fresh settings.header))
+      ∙ (begins.each i (omega (arith, there, count))).idle;
+  epochs = epochs;
+}
 
 module _ (functions : DigestFunctions) (settings : Settings) (script : List (List Task)) (logs : List (List Command)) (world later : World Content)
     (each : length logs ≡ length world.workers) (terms : Terms) (after : List code.Content) (rows : List Row)
     (is : IsServedAtOnce (shipped_host functions settings script) (get_or script world.phase []) world later terms after rows)
     (digests : GivesDigests functions.digest) (behind : IsBehindSetup functions settings script (with_logs logs world))
-    (orderly : IsOrderly functions settings script (with_logs logs world)) (bounded : IsBounded settings (with_logs logs world)) where
+    (epochs : IsInPhase (shipped_host functions settings script) (with_logs logs world)) where
   abbrev host : Host Content Request
   host = shipped_host functions settings script
 
@@ -75,15 +60,6 @@ module _ (functions : DigestFunctions) (settings : Settings) (script : List (Lis
 
   there_still : (i : ℕ) → i < length before.workers → i < length world.workers
   there_still i there = let count = length-before_each logs world.workers in omega (arith, there, count)
-
-  -- The world is at rest.
-  pub at_rest : IsAtRest host before
-  at_rest = record {
-    going = is.begins.going;
-    phase = is.begins.phase;
-    idle = λ i there. shown (λ w. w.holds) i ∙ (is.begins.each i (there_still i there)).idle;
-    epochs = in_phase functions settings script before orderly bounded;
-  }
 
   turns : (i : ℕ) → i < length before.workers → AreTurnsOf host before i (row_at rows i)
   turns i within = record {
@@ -109,7 +85,7 @@ module _ (functions : DigestFunctions) (settings : Settings) (script : List (Lis
   is_table = record {
     digests = digests;
     behind = behind;
-    rest = at_rest;
+    rest = at_rest functions settings script logs world is.begins epochs;
     made = record {
       digest = is.made.digest;
       workers = is.made.workers ∙ sym (length-before_each logs world.workers);

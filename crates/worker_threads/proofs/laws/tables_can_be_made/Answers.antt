@@ -1,12 +1,12 @@
-use Rattle.std.proofs.Common.{◌≡◌, ◌<◌, ℕ, List, length, sym, ◌∙◌, subst, arith}
+use Rattle.std.proofs.Common.{◌≡◌, ℕ, List, length, sym, ◌∙◌, subst}
 use Rattle.host_core.specs.World.{World}
 use Rattle.host_shard.specs.Content.{Content}
-use Rattle.host_table.specs.Terms.{IsClockOf, IsMaking}
+use Rattle.host_table.specs.Terms.{IsMaking}
 use Rattle.host_world.specs.Behind.{with_logs}
-use Rattle.host_world.specs.ShippedHost.{shipped_host}
-use Rattle.host_world.proofs.FrontLaws.{length-before_each, clock_with}
+use Rattle.host_world.proofs.FrontLaws.{length-before_each}
 use Rattle.worker_threads.proofs.BoundLemmas.{bounded_behind}
-use Rattle.worker_threads.proofs.MakingLemmas.{making, clock_of, terms_of_world, place_is}
+use Rattle.worker_threads.proofs.PromiseLemmas.{in_phase}
+use Rattle.worker_threads.proofs.TableLemmas.{at_rest}
 use Rattle.worker_threads.proofs.laws.tables_can_be_made.Goals as goal
 
 pub returns : goal.returns
@@ -14,29 +14,10 @@ returns c = record {
   workers = λ functions settings script logs world digests behind.
       let orders = λ w is. c.worlds_are_orderly.ensures.orderly functions settings script w digests is in
       sym (length-before_each logs world.workers) ∙ (bounded_behind functions settings script digests orders (with_logs logs world) behind).workers;
-  making = λ functions settings script logs world contents digests behind phase lent.
-      let orders = λ w is. c.worlds_are_orderly.ensures.orderly functions settings script w digests is in
+  making = λ functions settings script logs world contents digests behind counters begins lent.
       let before : World Content = with_logs logs world in
+      let epochs = in_phase c.the_shipped_host_keeps_its_promise.ensures.promised functions settings script before digests behind counters in
       subst (λ (n : ℕ). IsMaking settings.header n contents) (length-before_each logs world.workers)
-      (making functions settings script before behind.settings_fit (orders before behind)
-      (bounded_behind functions settings script digests orders before behind) phase contents lent);
-  clocks = λ functions settings script logs world terms digests behind phase lent header i there.
-      let orders = λ w is. c.worlds_are_orderly.ensures.orderly functions settings script w digests is in
-      let before : World Content = with_logs logs world in
-      let count = length-before_each logs world.workers in
-      subst (IsClockOf terms) (clock_with (shipped_host functions settings script) logs world i)
-      (clock_of functions settings script before behind.settings_fit (orders before behind)
-      (bounded_behind functions settings script digests orders before behind) phase terms lent header i (omega (arith, there, count)));
-  of_world = λ functions settings script logs world terms digests behind phase lent digest workers.
-      let orders = λ w is. c.worlds_are_orderly.ensures.orderly functions settings script w digests is in
-      let before : World Content = with_logs logs world in
-      let terms_are = terms_of_world functions settings script before behind.settings_fit (orders before behind)
-      (bounded_behind functions settings script digests orders before behind) phase terms lent digest (workers ∙ sym (length-before_each logs world.workers)) in
-      record { digest = digest; workers = workers; places = terms_are.places; contents = terms_are.contents };
-  places = λ functions settings script logs world terms digests behind phase lent place request small is.
-      let orders = λ w is'. c.worlds_are_orderly.ensures.orderly functions settings script w digests is' in
-      let before : World Content = with_logs logs world in
-      place_is functions settings script before behind.settings_fit (orders before behind)
-      (bounded_behind functions settings script digests orders before behind) phase terms lent place request small
-      (record { there = is.there; owns = is.owns });
+      (c.worlds_make_tables.ensures.making functions settings script before contents digests behind counters
+      (at_rest functions settings script logs world begins epochs) lent);
 }
