@@ -1,4 +1,5 @@
-//! Why what a table tells of a phase was one list of events. These functions do nothing: their contracts are the laws.
+//! Why what a table tells of a phase was one list of events, and why what a world lends can be made a table. These functions
+//! do nothing: their contracts are the laws.
 ghost use Rattle.std.specs.Prelude.{◌≡◌, ℕ, ◌<◌, ◌≤◌, List, length, map, get_or};
 ghost use Rattle.std.specs.List.{AllByRecursion};
 ghost use Rattle.record_hash.specs.Functions.{DigestFunctions};

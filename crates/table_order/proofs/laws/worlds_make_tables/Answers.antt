@@ -10,7 +10,7 @@ pub returns : goal.returns
 returns c = record {
   making = λ functions settings script world contents digests behind counters rest shows.
       let promised = c.the_shipped_host_keeps_its_promise.ensures.promised functions settings script behind.events
-          (record { in_range = behind.settings_fit; counters = counters; keys = behind.keys; digests = digests }) behind.enabled in
+      (record { in_range = behind.settings_fit; counters = counters; keys = behind.keys; digests = digests }) behind.enabled in
       making functions settings script world digests behind
       (c.worlds_are_orderly.ensures.orderly functions settings script world digests behind) rest
       (subst (λ (w : World Content). IsEven (shipped_host functions settings script) w) (sym behind.is) promised.even)
