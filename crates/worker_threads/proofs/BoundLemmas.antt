@@ -1,26 +1,22 @@
 -- Behind the setup there are as many workers as verifiers, and each clock ends with the header's counter.
-use Rattle.std.proofs.Common.{◌≡◌, ℕ, zero, suc, ◌+◌, ◌-◌, ◌<◌, ◌≤◌, ◌==◌, Bool, true, false, List, [], ◌∷◌, ◌++◌, map, replicate, length, get_or, set, nat_lt, Option, Some, None, if◌then◌else◌, refl, sym, ◌∙◌, ap, subst, arith}
-use Rattle.std.specs.List.{AllByRecursion}
-use Rattle.std.proofs.lemmas.Bool.{false≢true}
-use Rattle.std.proofs.lemmas.List.{length-append, length-map, length-replicate, length-set, get_or-map}
+use Rattle.std.proofs.Common.{◌≡◌, ℕ, zero, suc, ◌-◌, ◌<◌, ◌≤◌, ◌==◌, Bool, true, false, List, [], ◌∷◌, ◌++◌, replicate, length, get_or, set, nat_lt, Option, Some, None, if◌then◌else◌, refl, sym, ◌∙◌, ap, subst, arith}
+use Rattle.std.proofs.lemmas.List.{length-replicate, length-set}
 use Rattle.std.proofs.lemmas.Option.{none-some, same_Some}
 use Rattle.lamport_clocks.specs.Reading.{Reading}
 use Rattle.lamport_clocks.specs.Clock.{last_epoch}
 use Rattle.log_codec.specs.declared.command.Command.TheVariants.{NextEpoch}
 use Rattle.merkle_records.specs.Merkle.{Digest, GivesDigests}
 use Rattle.record_hash.specs.Functions.{DigestFunctions}
-use Rattle.record_text.specs.declared.element.Element.{Element}
 use Rattle.record_text.specs.declared.request.Request.{Request}
 use Rattle.record_text.specs.Format.{short_keys}
 use Rattle.script_text.specs.declared.task.Task.{Task}
 use Rattle.host_core.specs.Host.{Done, Host}
-use Rattle.host_core.specs.World.{Place, Worker, Seats, World, fresh, unmoved, worker_at, shard_at, set_up}
-use Rattle.host_core.specs.WorldEvent.{WorldEvent, takes, loses, serves, gives, advances, moves, opens, IsEnabled, AreEnabled, MayServe, MayMove, step, run_events, with_worker, with_shard, after_serve, after_move, after_advance, logging, having_served, next_clock}
+use Rattle.host_core.specs.World.{Place, Worker, World, fresh, worker_at, shard_at, set_up}
+use Rattle.host_core.specs.WorldEvent.{WorldEvent, takes, loses, serves, gives, advances, moves, opens, IsEnabled, AreEnabled, step, run_events, with_worker, after_serve, after_move, after_advance, logging, having_served, next_clock}
 use Rattle.host_core.proofs.EventLaws.{enabled-append, run-append}
 use Rattle.host_shard.specs.Content.{Content, cold, hot, vacant}
 use Rattle.host_plan.specs.Plan.{clock_after}
-use Rattle.host_plan.specs.Setup.{paths_below, child, first_content, setup_contents}
-use Rattle.protection_moves.specs.Move.{begun, moved}
+use Rattle.protection_moves.specs.Move.{begun}
 use Rattle.protection_moves.specs.Stage.{Stage, touched_in}
 use Rattle.protection_moves.proofs.RenewingLaws.{renewing_each-end}
 use Rattle.move_laws.proofs.TripLaws.{each-end}
@@ -29,14 +25,8 @@ use Rattle.host_world.specs.Behind.{IsBehindSetup}
 use Rattle.host_world.specs.Moving.{stage_of, move_seats}
 use Rattle.host_world.specs.Orderly.{IsOrderly}
 use Rattle.host_world.specs.Planned.{IsMoved}
-use Rattle.host_world.specs.Seated.{SeatsMirror, waiting_at}
-use Rattle.host_world.specs.Settings.{frontier_bits}
-use Rattle.host_world.specs.ShippedHost.{new_seats, serve_at, shipped_host}
-use Rattle.host_world.proofs.FrontLaws.{length-step}
-use Rattle.host_world.proofs.PlaceLaws.{waits-set}
-use Rattle.host_world.proofs.RangeLaws.{next_in_range}
-use Rattle.host_world.proofs.SeatLaws.{serve_keeps, move_keeps, seats_moved, stage_at}
-use Rattle.worker_threads.proofs.ShapeLemmas.{run-workers}
+use Rattle.host_world.specs.ShippedHost.{serve_at, shipped_host}
+use Rattle.host_world.proofs.SeatLaws.{seats_moved, stage_at}
 
 -- as many workers as verifiers, and each clock ends with the header's counter
 pub record IsBounded (settings : Settings) (world : World Content) : Type 0 where
@@ -157,13 +147,14 @@ module _ (functions : DigestFunctions) (settings : Settings) (script : List (Lis
       is = ap (λ (w : World Content). step host w event) behind.is ∙ sym (run-append host (set_up host) behind.events (event ∷ []));
     }
 
-  module _ (orderly : (world : World Content) → IsBehindSetup functions settings script world → IsOrderly functions settings script world) where
+  module _ (orderly : (world : World Content) → GivesDigests functions.digest → IsBehindSetup functions settings script world
+      → IsOrderly functions settings script world) where
     run_bounded : (world : World Content) (events : List (WorldEvent Request)) → IsBehindSetup functions settings script world → IsBounded settings world
         → AreEnabled host world events → IsBounded settings (run_events host world events)
     run_bounded world [] behind bounded enabled = bounded
     run_bounded world (event ∷ events) behind bounded enabled =
-        run_bounded (step host world event) events (step_behind world behind (orderly world behind) bounded event enabled.0)
-        (step_bounded world behind (orderly world behind) bounded event enabled.0) enabled.1
+        run_bounded (step host world event) events (step_behind world behind (orderly world digests behind) bounded event enabled.0)
+        (step_bounded world behind (orderly world digests behind) bounded event enabled.0) enabled.1
 
     -- ---- the setup
 

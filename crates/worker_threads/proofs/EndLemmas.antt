@@ -1,13 +1,12 @@
 -- The first end of a clock among turns: there is none where no worker is stopped behind them, and a turn behind which its worker
 -- is stopped is where its clock ended.
-use Rattle.std.proofs.Common.{◌≡◌, ℕ, zero, suc, ◌<◌, Bool, true, false, List, [], ◌∷◌, ◌++◌, length, get_or, set, Option, Some, None, is_none, if◌then◌else◌, refl, sym, ◌∙◌, ap, subst, true≢false, arith}
+use Rattle.std.proofs.Common.{◌≡◌, ℕ, zero, suc, ◌<◌, Bool, true, false, List, [], ◌∷◌, ◌++◌, length, get_or, set, Option, Some, None, is_none, if◌then◌else◌, refl, sym, ◌∙◌, ap, true≢false, arith}
 use Rattle.std.specs.List.{AllByRecursion}
 use Rattle.std.proofs.lemmas.Option.{none-some}
 use Rattle.std.proofs.lemmas.List.{get_or-set_same}
 use Rattle.host_core.specs.Host.{Host, Done}
 use Rattle.host_core.specs.World.{Place, Worker, Seats, World, fresh, worker_at, shard_at}
 use Rattle.host_core.specs.WorldEvent.{WorldEvent, takes, loses, serves, gives, advances, moves, opens, AreEnabled, step, run_events, after_serve, logging, having_served}
-use Rattle.host_core.proofs.EventLaws.{run-append}
 use Rattle.host_world.specs.declared.fault.ClockEnd.{ClockEnd}
 use Rattle.host_world.specs.Ending.{end_at, end_of}
 use Rattle.host_world.proofs.FrontLaws.{length-step}

@@ -1,15 +1,14 @@
 -- What a table tells of a phase leads from the world before it to the one behind it, and the first end is that of the first
 -- worker that is stopped.
-use Rattle.std.proofs.Common.{◌≡◌, ◌⊎◌, inl, inr, ℕ, suc, ◌+◌, ◌<◌, ◌==◌, ◌||◌, Bool, true, false, List, [], ◌∷◌, ◌++◌, length, get_or, Option, Some, None, refl, sym, ◌∙◌, ap, subst, append-nil, arith}
+use Rattle.std.proofs.Common.{◌≡◌, ◌⊎◌, inl, inr, ℕ, ◌+◌, ◌<◌, ◌==◌, ◌||◌, Bool, true, false, List, [], ◌∷◌, length, get_or, Some, None, refl, sym, ◌∙◌, ap, subst, append-nil, arith}
 use Rattle.std.specs.List.{AllByRecursion}
 use Rattle.std.proofs.lemmas.Bool.{eq-eqb}
-use Rattle.lamport_clocks.specs.declared.stamp.Stamp.{Stamp}
 use Rattle.log_codec.specs.declared.command.Command.{Command}
 use Rattle.record_hash.specs.Functions.{DigestFunctions}
 use Rattle.record_text.specs.declared.request.Request.{Request}
 use Rattle.script_text.specs.declared.task.Task.{Task}
 use Rattle.host_core.specs.Host.{Host}
-use Rattle.host_core.specs.World.{Worker, World, fresh, worker_at}
+use Rattle.host_core.specs.World.{World, fresh, worker_at}
 use Rattle.host_core.specs.WorldEvent.{WorldEvent, AreEnabled, step, run_events}
 use Rattle.host_core.proofs.EventLaws.{run-append}
 use Rattle.host_order.specs.Serving.{Serving, content_at, in_one_order, replay}
@@ -22,7 +21,6 @@ use Rattle.host_shard.specs.Content.{Content}
 use Rattle.host_shard.specs.Shown.{shown_content}
 use Rattle.host_table.specs.declared.views.Row.{Row}
 use Rattle.host_table.specs.Terms.{Terms, place_count}
-use Rattle.host_world.specs.declared.fault.ClockEnd.{ClockEnd}
 use Rattle.host_world.specs.declared.settings.Settings.{Settings}
 use Rattle.host_world.specs.Behind.{with_logs}
 use Rattle.host_world.specs.Ending.{end_at}
@@ -59,9 +57,9 @@ module _ (functions : DigestFunctions) (settings : Settings) (script : List (Lis
     (noted : AllByRecursion (IsNoted (shipped_host functions settings script) (with_logs logs world) (lists_of rows) pasts) (stops_of rows))
     (apart : AreOfOthers (stops_of rows))
     (contents : (place : ℕ) → place < place_count terms
-      → content_at (shipped_host functions settings script)
-      (run_events (shipped_host functions settings script) (with_logs logs world) (phase_events (lists_of rows) (stops_of rows))) (place_of place)
-      ≡ shown_content (get_or after place Vacant)) where
+    → content_at (shipped_host functions settings script)
+    (run_events (shipped_host functions settings script) (with_logs logs world) (phase_events (lists_of rows) (stops_of rows))) (place_of place)
+    ≡ shown_content (get_or after place Vacant)) where
   abbrev host : Host Content Request
   host = shipped_host functions settings script
 

@@ -1,18 +1,16 @@
 -- A table of what a world's places have is one of the world: its workers' clocks are of it, and so are the places of keys.
-use Rattle.std.proofs.Common.{◌≡◌, ◌⊎◌, inl, inr, ℕ, suc, ◌+◌, ◌*◌, ◌/◌, ◌%◌, ◌^◌, ◌<◌, ◌≤◌, ◌&&◌, false, true, List, [], ◌∷◌, map, length, get_or, Option, Some, None, refl, sym, ◌∙◌, ap, subst, arith}
+use Rattle.std.proofs.Common.{◌≡◌, ◌⊎◌, inl, inr, ℕ, suc, ◌+◌, ◌*◌, ◌/◌, ◌%◌, ◌^◌, ◌<◌, ◌≤◌, false, List, [], ◌∷◌, map, length, get_or, Option, Some, refl, sym, ◌∙◌, ap, subst, arith}
 use Rattle.std.specs.List.{AllByRecursion}
 use Rattle.std.proofs.Math.ListN.{get_or-map}
 use Rattle.std.proofs.lemmas.Bool.{and_parts, cases_lt}
 use Rattle.std.proofs.lemmas.List.{length-map, get_or_past}
-use Rattle.lamport_clocks.specs.Reading.{Reading}
-use Rattle.merkle_records.specs.Merkle.{GivesDigests}
 use Rattle.record_hash.specs.Functions.{DigestFunctions}
 use Rattle.record_text.specs.declared.element.Element.{Element}
 use Rattle.record_text.specs.declared.request.Request.{Request}
 use Rattle.record_text.specs.Format.{short_keys}
 use Rattle.script_text.specs.declared.task.Task.{Task}
 use Rattle.host_core.specs.Host.{Host}
-use Rattle.host_core.specs.World.{Seats, World, unmoved, worker_at, shard_at, epoch_of}
+use Rattle.host_core.specs.World.{World, worker_at, shard_at, epoch_of}
 use Rattle.host_order.specs.Serving.{content_at}
 use Rattle.host_shard.specs.declared.content.Content as code
 use Rattle.host_shard.specs.declared.content.Content.TheVariants.{Cold, Hot, Vacant}
@@ -22,7 +20,7 @@ use Rattle.host_shard.specs.Content.{Content, cold, hot, vacant, pending}
 use Rattle.host_shard.specs.Shown.{shown_content}
 use Rattle.host_laws.specs.Served.{waiting}
 use Rattle.host_plan.specs.Plan.{Owns}
-use Rattle.host_table.specs.Terms.{Terms, place_count, first_at, epoch_in, IsPlaceOf, IsClockOf}
+use Rattle.host_table.specs.Terms.{Terms, first_at, epoch_in, IsPlaceOf, IsClockOf}
 use Rattle.host_world.specs.declared.settings.Settings.{Settings}
 use Rattle.host_world.specs.Lending.{all_contents}
 use Rattle.host_world.specs.Orderly.{IsOrderly, moved_by}
@@ -97,8 +95,8 @@ module _ (functions : DigestFunctions) (settings : Settings) (script : List (Lis
         go (Vacant ∷ rest) is =
             let mirrors = (orderly.shards 0 first_shard).mirrors in
             absurd (no_vacant mirrors.shard
-                (sym (ap (λ (xs : List code.Content). shown_content (get_or xs 0 Vacant)) is) ∙ sym (lent_at 0 some)
-                ∙ ap (λ (xs : List Content). get_or xs 0 vacant) mirrors.is))
+            (sym (ap (λ (xs : List code.Content). shown_content (get_or xs 0 Vacant)) is) ∙ sym (lent_at 0 some)
+            ∙ ap (λ (xs : List Content). get_or xs 0 vacant) mirrors.is))
 
   module _ (terms : Terms) (lent : map shown_content terms.contents ≡ all_contents world.shards) where
     -- The workers' clocks stand in its phase.

@@ -1,11 +1,10 @@
 -- The seats of one shard: no key is hot at two of them, nor where the shard's own seat has it.
-use Rattle.std.proofs.Common.{◌≡◌, ◌⊎◌, inl, inr, ℕ, zero, suc, ◌<◌, ◌==◌, ◌&&◌, Bool, true, false, not, List, [], ◌∷◌, length, get_or, refl, sym, ◌∙◌, ap, subst}
+use Rattle.std.proofs.Common.{◌≡◌, ℕ, zero, suc, ◌<◌, Bool, true, false, not, List, [], ◌∷◌, length, get_or, refl, sym, ◌∙◌, ap, subst}
 use Rattle.std.specs.List.{AllByRecursion, list_any}
 use Rattle.std.proofs.lemmas.Bool.{false≢true, and_parts, eqb-true, eq-eqb}
 use Rattle.std.proofs.lemmas.List.Folds.{list_any_at}
 use Rattle.tree_keys.specs.Path.{is_prefix}
-use Rattle.record_text.specs.declared.request.Request.{Request}
-use Rattle.record_text.specs.Format.{Format, short_keys}
+use Rattle.record_text.specs.Format.{short_keys}
 use Rattle.host_shard.specs.declared.content.HotRecord.{HotRecord}
 use Rattle.host_shard.specs.Shard.{Shard}
 use Rattle.host_shard.specs.Content.{Content, cold, hot, vacant, key_path}
@@ -59,7 +58,7 @@ serves_alone seats shard places is apart seat other key kept there serves found 
     go (cold own) here serves' =
         let parts = and_parts (is_prefix own.frontier (key_path short_keys key)) (not (list_any (is_hot_at key) seats)) serves' in
         absurd (not_both (list_any (is_hot_at key) seats) parts.1
-            (list_any_at (is_hot_at key) seats other vacant there (ap (is_hot_at key) found ∙ eq-eqb kept.key key same)))
+        (list_any_at (is_hot_at key) seats other vacant there (ap (is_hot_at key) found ∙ eq-eqb kept.key key same)))
     go (hot own) here serves' =
         sym (one_seat seats (subst (λ (xs : List Content). AreApart (hot_records xs)) (sym is) apart) seat other own kept here found
         (eqb-true own.key key serves' ∙ sym same))

@@ -1,5 +1,5 @@
 -- Behind a phase that was served at once no worker has more to do in it.
-use Rattle.std.proofs.Common.{◌≡◌, ◌⊎◌, inl, inr, ℕ, zero, suc, ◌+◌, ◌<◌, Bool, true, false, List, [], ◌∷◌, map, length, get_or, Option, Some, None, is_some, IfSome, if◌then◌else◌, refl, sym, ◌∙◌, ap, subst, true≢false, arith}
+use Rattle.std.proofs.Common.{◌≡◌, ◌⊎◌, inl, inr, ℕ, zero, suc, ◌<◌, Bool, true, false, List, [], ◌∷◌, map, length, get_or, Option, Some, None, is_some, IfSome, if◌then◌else◌, refl, sym, ◌∙◌, ap, subst, true≢false, arith}
 use Rattle.std.proofs.lemmas.List.{length-map}
 use Rattle.std.proofs.lemmas.Option.{none-some}
 use Rattle.record_hash.specs.Functions.{DigestFunctions}
@@ -63,14 +63,14 @@ module _ (functions : DigestFunctions) (settings : Settings) (script : List (Lis
               ⊎ (((worker_at host later i).stopped ≡ false) × ((worker_at host later i).served ≡ asked_by host i world.phase (length (turns_of host world.phase))))
           go (Some stop) found = inl (part.stopped ∙ ap (λ (o : Option Stop). is_some o) found)
           go None found = inr (
-              part.stopped ∙ ap (λ (o : Option Stop). is_some o) found,
-              let asks = asked_of i (get_or script world.phase []) in
-              let list = (row_at rows i).list in
-              let all : length list ≡ length asks = all_done asks list (subst (AreDone asks list) found part.done) in
-              let count = asked_count functions settings script world.phase i within_script in
-              let first = served_before i there in
-              omega (arith, part.served, all, count, first),
-            )
+            part.stopped ∙ ap (λ (o : Option Stop). is_some o) found,
+            let asks = asked_of i (get_or script world.phase []) in
+                let list = (row_at rows i).list in
+                let all : length list ≡ length asks = all_done asks list (subst (AreDone asks list) found part.done) in
+                let count = asked_count functions settings script world.phase i within_script in
+                let first = served_before i there in
+                omega (arith, part.served, all, count, first),
+          )
 
       up_to : IsServedUpTo host later (length (turns_of host world.phase))
       up_to = record {
@@ -86,28 +86,32 @@ module _ (functions : DigestFunctions) (settings : Settings) (script : List (Lis
 -- none is where no end is found,
 none_found : (n : ℕ) (workers : List Worker) (k : ℕ) (d : Worker) → first_stopped n workers ≡ None → k < length workers → (get_or workers k d).stopped ≡ false
 none_found n [] k d none there = absurd (omega (arith, there))
-none_found n (worker ∷ workers) k d none there = go worker.stopped refl k there
+none_found n (worker ∷ workers) k d none there = go worker.stopped refl (none_found (suc n) workers) k there
   where
-    go : (b : Bool) → worker.stopped ≡ b → (k : ℕ) → k < suc (length workers) → (get_or (worker ∷ workers) k d).stopped ≡ false
-    go true is k there =
+    go : (b : Bool) → worker.stopped ≡ b
+        → ((k : ℕ) (d : Worker) → first_stopped (suc n) workers ≡ None → k < length workers → (get_or workers k d).stopped ≡ false)
+        → (k : ℕ) → k < suc (length workers) → (get_or (worker ∷ workers) k d).stopped ≡ false
+    go true is rest k there =
         absurd (none-some _ (sym none ∙ ap (λ (b : Bool). if b then Some (record { worker = n; at = worker.clock.at }) else first_stopped (suc n) workers) is))
-    go false is zero there = is
-    go false is (suc k) there =
-        none_found (suc n) workers k d
+    go false is rest zero there = is
+    go false is rest (suc k) there =
+        rest k d
         (sym (ap (λ (b : Bool). if b then Some (record { worker = n; at = worker.clock.at }) else first_stopped (suc n) workers) is) ∙ none) (omega (arith, there))
 
 -- and some worker where one is.
 one_found : (n : ℕ) (workers : List Worker) (d : Worker) (end : ClockEnd) → first_stopped n workers ≡ Some end
     → (k : ℕ) × (k < length workers) × ((get_or workers k d).stopped ≡ true)
 one_found n [] d end some = absurd (none-some end some)
-one_found n (worker ∷ workers) d end some = go worker.stopped refl
+one_found n (worker ∷ workers) d end some = go worker.stopped refl (one_found (suc n) workers d end)
   where
-    go : (b : Bool) → worker.stopped ≡ b → (k : ℕ) × (k < suc (length workers)) × ((get_or (worker ∷ workers) k d).stopped ≡ true)
-    go true is = (0, omega arith, is)
-    go false is =
-        let rest = one_found (suc n) workers d end
+    go : (b : Bool) → worker.stopped ≡ b
+        → (first_stopped (suc n) workers ≡ Some end → (k : ℕ) × (k < length workers) × ((get_or workers k d).stopped ≡ true))
+        → (k : ℕ) × (k < suc (length workers)) × ((get_or (worker ∷ workers) k d).stopped ≡ true)
+    go true is rest = (0, omega arith, is)
+    go false is rest =
+        let found = rest
         (sym (ap (λ (b : Bool). if b then Some (record { worker = n; at = worker.clock.at }) else first_stopped (suc n) workers) is) ∙ some) in
-        (suc rest.0, omega (arith, rest.1), rest.2)
+        (suc found.0, omega (arith, found.1), found.2)
 
 module _ {C R : Type 0} (host : Host C R) (world : World C) where
   pub none_stopped : first_stopped 0 world.workers ≡ None → NoneStopped host world

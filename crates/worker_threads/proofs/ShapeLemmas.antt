@@ -1,5 +1,5 @@
 -- Turns at places leave the shards their seats: as many, and moved or not as before.
-use Rattle.std.proofs.Common.{◌≡◌, ℕ, zero, suc, List, [], ◌∷◌, ◌++◌, length, get_or, set, Option, Some, None, refl, sym, ◌∙◌, ap}
+use Rattle.std.proofs.Common.{◌≡◌, ℕ, zero, suc, List, [], ◌∷◌, length, get_or, set, Option, Some, None, refl, ◌∙◌, ap}
 use Rattle.std.specs.List.{AllByRecursion}
 use Rattle.std.proofs.lemmas.List.{length-set}
 use Rattle.stamp_order.proofs.InOrderLaws.{every-append}
@@ -67,14 +67,14 @@ IsOfTurn (advances i) = ⊥
 IsOfTurn (moves i s) = ⊥
 IsOfTurn opens = ⊥
 
+stops-turns : {R : Type 0} (stops : List (Stop R)) → AllByRecursion IsOfTurn (replay_stops stops)
+stops-turns [] = tt
+stops-turns (stop ∷ stops) = (tt, (tt, (tt, stops-turns stops)))
+
 module _ {C R : Type 0} where
   pub replay-turns : (servings : List (Serving C R)) → AllByRecursion IsOfTurn (replay servings)
   replay-turns [] = tt
   replay-turns (serving ∷ servings) = (tt, (tt, (tt, replay-turns servings)))
-
-  pub stops-turns : (stops : List (Stop R)) → AllByRecursion IsOfTurn (replay_stops stops)
-  stops-turns [] = tt
-  stops-turns (stop ∷ stops) = (tt, (tt, (tt, stops-turns stops)))
 
   pub phase-turns : (lists : List (List (Serving C R))) (stops : List (Stop R)) → AllByRecursion IsOfTurn (phase_events lists stops)
   phase-turns lists stops =

@@ -1,7 +1,6 @@
 -- The stops of a table's rows, and the stopped workers: the first of the ones is the first of the others.
-use Rattle.std.proofs.Common.{◌≡◌, ◌⊎◌, inl, inr, ℕ, zero, suc, ◌+◌, ◌<◌, ◌==◌, ◌||◌, Bool, true, false, List, [], ◌∷◌, ◌++◌, map, length, get_or, Option, Some, None, is_some, if◌then◌else◌, refl, sym, ◌∙◌, ap, subst, arith}
+use Rattle.std.proofs.Common.{◌≡◌, ◌⊎◌, inl, inr, ℕ, zero, suc, ◌+◌, ◌<◌, ◌||◌, Bool, false, List, [], ◌∷◌, ◌++◌, length, get_or, Option, Some, None, is_some, if◌then◌else◌, refl, ◌∙◌, ap, arith}
 use Rattle.std.proofs.lemmas.Bool.{eq-eqb, ne_eqb}
-use Rattle.std.proofs.lemmas.List.{length-map}
 use Rattle.lamport_clocks.specs.Reading.{Reading}
 use Rattle.log_codec.specs.declared.command.Command.{Command}
 use Rattle.record_text.specs.declared.request.Request.{Request}
@@ -57,12 +56,12 @@ stopped_by_row n (suc k) i (row ∷ rows) is there = go row.stop (stopped_by_row
 -- ---- the first
 
 -- nothing has stopped
-record NoneFirst (n : ℕ) (rows : List Row) (workers : List Worker) : Type 0 where
+pub record NoneFirst (n : ℕ) (rows : List Row) (workers : List Worker) : Type 0 where
   pub stops : ◌≡◌ {A = List (order.Stop Request)} (stops_from n rows) []
   pub ended : first_stopped n workers ≡ None
 
 -- this worker's is the first stop, and it is the first stopped worker
-record SomeFirst (d : Worker) (n : ℕ) (rows : List Row) (workers : List Worker) : Type 0 where
+pub record SomeFirst (d : Worker) (n : ℕ) (rows : List Row) (workers : List Worker) : Type 0 where
   pub k : ℕ
   pub there : k < length workers
   pub stop : order.Stop Request

@@ -1,19 +1,16 @@
 -- A table that was made of a world at a phase's begin, and whose workers did their parts, is that of a phase.
-use Rattle.std.proofs.Common.{◌≡◌, ℕ, ◌+◌, ◌<◌, false, List, [], ◌∷◌, length, get_or, slice_get, Option, Some, None, refl, sym, ◌∙◌, ap, subst, arith}
-use Rattle.std.specs.Option.{ForSome}
-use Rattle.lamport_clocks.specs.Reading.{Reading}
+use Rattle.std.proofs.Common.{◌≡◌, ℕ, ◌<◌, List, [], length, get_or, sym, ◌∙◌, ap, arith}
 use Rattle.log_codec.specs.declared.command.Command.{Command}
 use Rattle.merkle_records.specs.Merkle.{GivesDigests}
 use Rattle.record_hash.specs.Functions.{DigestFunctions}
 use Rattle.record_text.specs.declared.request.Request.{Request}
 use Rattle.script_text.specs.declared.task.Task.{Task}
-use Rattle.host_core.specs.Host.{Host, asked}
+use Rattle.host_core.specs.Host.{Host}
 use Rattle.host_core.specs.World.{Worker, World, fresh, worker_at}
 use Rattle.host_core.specs.Core.{IsInPhase}
 use Rattle.host_order.specs.Told.{IsAtRest}
 use Rattle.host_shard.specs.declared.content.Content as code
 use Rattle.host_shard.specs.Content.{Content}
-use Rattle.host_table.specs.declared.told.Stop.{Stop}
 use Rattle.host_table.specs.declared.views.Row.{Row}
 use Rattle.host_table.specs.Phase.{row_at}
 use Rattle.host_table.specs.Terms.{Terms}
@@ -21,8 +18,8 @@ use Rattle.host_world.specs.declared.settings.Settings.{Settings}
 use Rattle.host_world.specs.Behind.{IsBehindSetup, with_logs}
 use Rattle.host_world.specs.ShippedHost.{shipped_host}
 use Rattle.host_world.proofs.FrontLaws.{unlogged, same_unlogged, length-before_each}
-use Rattle.host_serving.specs.Standing.{IsServedUpTo}
-use Rattle.table_order.specs.Phases.{first_clock, AreTermsOf, AreNext, AreTurnsOf, IsTableOf}
+use Rattle.host_serving.specs.Standing.{asked_by, IsServedUpTo}
+use Rattle.table_order.specs.Phases.{AreTurnsOf, IsTableOf}
 use Rattle.worker_threads.specs.Parts.{asked_of, HasDone}
 use Rattle.worker_threads.specs.Phase.{IsServedAtOnce}
 use Rattle.worker_threads.proofs.AskedLemmas.{are_next, last_next}
@@ -77,7 +74,7 @@ module _ (functions : DigestFunctions) (settings : Settings) (script : List (Lis
       part : HasDone (asked_of i (get_or script world.phase [])) (row_at rows i) (worker_at host world i) (worker_at host later i)
       part = is.parts i there
 
-      served : (worker_at host before i).served ≡ _
+      served : (worker_at host before i).served ≡ asked_by host i world.phase 0
       served = shown (λ w. w.served) i ∙ served_before functions settings script world later terms after rows is i there
 
   -- So the table is that of a phase.

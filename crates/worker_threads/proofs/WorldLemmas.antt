@@ -1,5 +1,5 @@
 -- The world that the code puts together behind a phase is the one that the phase's events lead to.
-use Rattle.std.proofs.Common.{◌≡◌, ℕ, suc, ◌+◌, ◌*◌, ◌/◌, ◌%◌, ◌<◌, ◌||◌, Bool, false, List, [], ◌∷◌, ◌++◌, map, length, get_or, Option, Some, None, is_some, refl, sym, ◌∙◌, ap, append_assoc, arith}
+use Rattle.std.proofs.Common.{◌≡◌, ℕ, ◌+◌, ◌/◌, ◌%◌, ◌<◌, ◌||◌, Bool, List, [], ◌++◌, map, length, get_or, sym, ◌∙◌, ap, append_assoc, arith}
 use Rattle.std.proofs.Math.ListN.{get_or-map}
 use Rattle.std.proofs.lemmas.List.{length-map, append_cancel_left, ext_get_or}
 use Rattle.lamport_clocks.specs.Reading.{Reading}
@@ -8,7 +8,7 @@ use Rattle.record_hash.specs.Functions.{DigestFunctions}
 use Rattle.record_text.specs.declared.request.Request.{Request}
 use Rattle.script_text.specs.declared.task.Task.{Task}
 use Rattle.host_core.specs.Host.{Host}
-use Rattle.host_core.specs.World.{Holding, Worker, Seats, World, fresh, unmoved, worker_at}
+use Rattle.host_core.specs.World.{Worker, World, fresh, worker_at}
 use Rattle.host_core.specs.WorldEvent.{WorldEvent, run_events}
 use Rattle.host_order.specs.Serving.{Serving, clock_behind, commands_in, content_at}
 use Rattle.host_order.specs.Told.{list_of, phase_events, stops_by, EndsWith}
@@ -16,7 +16,6 @@ use Rattle.host_shard.specs.declared.content.Content as code
 use Rattle.host_shard.specs.declared.content.Content.TheVariants.{Vacant}
 use Rattle.host_shard.specs.Content.{Content, vacant}
 use Rattle.host_shard.specs.Shown.{shown_content}
-use Rattle.host_table.specs.declared.told.Entry.{Entry}
 use Rattle.host_table.specs.declared.views.Row.{Row}
 use Rattle.host_table.specs.Made.{new_row}
 use Rattle.host_table.specs.Phase.{row_at}
@@ -29,7 +28,7 @@ use Rattle.host_world.specs.ShippedHost.{shipped_host}
 use Rattle.host_world.proofs.FrontLaws.{unlogged, same_unlogged, log_before, length-before_each}
 use Rattle.host_serving.proofs.LeadingLaws.{run-with}
 use Rattle.table_order.specs.Servings.{serving_of, servings_of, lists_of, stops_of}
-use Rattle.worker_threads.specs.Parts.{asked_of, commands_of, last_clock, HasDone}
+use Rattle.worker_threads.specs.Parts.{asked_of, commands_of, HasDone}
 use Rattle.worker_threads.specs.Phase.{IsServedAtOnce}
 use Rattle.worker_threads.proofs.FilledLemmas.{HaveFive, filled_back, all_count, all_at}
 use Rattle.worker_threads.proofs.ShapeLemmas.{AreShaped, shaped-count, shaped-seats, phase-turns, run-shaped, run-workers}
@@ -92,7 +91,7 @@ module _ (functions : DigestFunctions) (settings : Settings) (script : List (Lis
 
   module _ (ends : EndsWith host before (run_events host before events) lists pasts (stops_of rows))
       (contents : (place : ℕ) → place < place_count terms
-        → content_at host (run_events host before events) (place_of place) ≡ shown_content (get_or after place Vacant)) where
+      → content_at host (run_events host before events) (place_of place) ≡ shown_content (get_or after place Vacant)) where
     abbrev behind : World Content
     behind = run_events host before events
 

@@ -8,7 +8,6 @@ use Rattle.log_codec.specs.declared.command.Command.{Command}
 use Rattle.atomic_table.specs.Seated.{TableId}
 use Rattle.script_text.specs.declared.task.Task.{Task}
 use Rattle.host_core.specs.World.{Worker}
-use Rattle.host_table.specs.declared.hand.Hand.{Hand}
 use Rattle.host_table.specs.declared.told.Entry.{Entry}
 use Rattle.host_table.specs.declared.told.Stop.{Stop}
 use Rattle.host_table.specs.declared.views.Row.{Row}

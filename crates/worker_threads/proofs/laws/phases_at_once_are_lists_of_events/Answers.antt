@@ -1,5 +1,4 @@
-use Rattle.std.proofs.Common.{◌≡◌, List, length}
-use Rattle.log_codec.specs.declared.command.Command.{Command}
+use Rattle.std.proofs.Common.{length}
 use Rattle.host_core.specs.World.{World}
 use Rattle.host_shard.specs.Content.{Content}
 use Rattle.host_world.specs.Behind.{with_logs}
@@ -16,8 +15,8 @@ pub returns : goal.returns
 returns c = record {
   leads = λ functions settings script logs world later terms after rows digests each behind counters is.
       let before : World Content = with_logs logs world in
-      let orders = λ w behind'. c.worlds_are_orderly.ensures.orderly functions settings script w digests behind' in
-      let orderly = c.worlds_are_orderly.ensures.orderly functions settings script before digests behind in
+      let orders = c.worlds_are_orderly.ensures.orderly functions settings script in
+      let orderly = orders before digests behind in
       let bounded = bounded_behind functions settings script digests orders before behind in
       let epochs = in_phase c.the_shipped_host_keeps_its_promise.ensures.promised functions settings script before digests behind counters in
       let table = is_table functions settings script logs world later each terms after rows is digests behind epochs in

@@ -1,4 +1,4 @@
-use Rattle.std.proofs.Common.{◌≡◌, ℕ, List, length, sym, ◌∙◌, subst}
+use Rattle.std.proofs.Common.{ℕ, sym, ◌∙◌, subst}
 use Rattle.host_core.specs.World.{World}
 use Rattle.host_shard.specs.Content.{Content}
 use Rattle.host_table.specs.Terms.{IsMaking}
@@ -12,7 +12,7 @@ use Rattle.worker_threads.proofs.laws.tables_can_be_made.Goals as goal
 pub returns : goal.returns
 returns c = record {
   workers = λ functions settings script logs world digests behind.
-      let orders = λ w is. c.worlds_are_orderly.ensures.orderly functions settings script w digests is in
+      let orders = c.worlds_are_orderly.ensures.orderly functions settings script in
       sym (length-before_each logs world.workers) ∙ (bounded_behind functions settings script digests orders (with_logs logs world) behind).workers;
   making = λ functions settings script logs world contents digests behind counters begins lent.
       let before : World Content = with_logs logs world in
