@@ -1,4 +1,5 @@
 -- How the phases of workers in threads are proved, in reading order.
+mod ToilLemmas
 mod AskedLemmas
 mod ShapeLemmas
 mod FilledLemmas
@@ -12,3 +13,5 @@ mod PromiseLemmas
 mod SeatLemmas
 mod MakingLemmas
 mod TableLemmas
+mod CallLemmas
+mod PostLemmas

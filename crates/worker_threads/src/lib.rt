@@ -7,6 +7,12 @@
 #![tactic(auto)]
 
 mod laws;
+mod phases;
 mod post;
+mod posting;
+mod serving;
+mod shift;
+mod toil;
 
+pub use phases::serve_phase_at_once;
 pub use post::Post;
