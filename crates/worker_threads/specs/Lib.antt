@@ -1,3 +1,4 @@
 -- What the clauses on workers in threads cite, in reading order.
 pub mod Parts
+pub mod Toil
 pub use Rattle.host_serving.specs

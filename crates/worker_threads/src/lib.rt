@@ -7,5 +7,8 @@
 #![tactic(auto)]
 
 mod post;
+mod serving;
+mod shift;
+mod toil;
 
 pub use post::Post;
