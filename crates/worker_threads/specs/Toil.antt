@@ -1,5 +1,5 @@
 -- A worker in the middle of its part of a phase.
-use Rattle.std.specs.Prelude.{◌≡◌, ℕ, false, List, [], ◌∷◌, ◌++◌, Option, Some, None, Result, Ok, Err}
+use Rattle.std.specs.Prelude.{◌≡◌, ℕ, false, List, ◌++◌, Option, Some, None, Result, Ok, Err}
 use Rattle.std.specs.List.{flat_map, AllByRecursion}
 use Rattle.lamport_clocks.specs.Reading.{Reading}
 use Rattle.record_hash.specs.Functions.{DigestFunctions}

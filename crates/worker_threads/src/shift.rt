@@ -55,7 +55,10 @@ impl<D: Digests> Shift<'_, D> {
         ensures typed { (plan : Plan) → result ≡ Ok (Some plan) → AllByRecursion (IsCommand short_keys) plan.commands }
     {
         for _ in rt.forever() {
-            match self.records.attempt(self.alloc, self.d, hand, place, request, clock) {
+            match self
+                .records
+                .attempt(self.alloc, self.d, hand, place, request, clock)
+            {
                 Attempt::Served(plan) => return Ok(Some(plan)),
                 Attempt::Busy => yield_now(),
                 Attempt::ClockEnd => return Ok(None),
