@@ -51,8 +51,8 @@ Settles terms old place request clock (Err memory) new later = HasWaited old new
 
 -- ---- a worker at it
 
--- It holds no place, its clock stands in the phase, behind what it served, and it goes on as long as that did not end. Its
--- log has texts.
+-- It holds no place, its clock stands in the phase, behind what it served, and it goes on as long as that did not end. What
+-- it logged has texts.
 pub record IsAtWork (terms : Terms) (table : TableId) (hand : Hand) (toil : Toil) : Type 0 where
   pub free : IsFree table hand
   pub clock : IsClockOf terms toil.clock

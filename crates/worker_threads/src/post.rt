@@ -32,7 +32,7 @@ impl Post {
         requires posted { IsPosted (terms D.functions shift.now.records.now) (table shift.now.records.now) self.old }
         ensures through { IsThrough (table shift.now.records.now) shift.now.tasks.now self.old self.new }
     {
-        let mut toil = Toil::begun(&mut self.worker, shift.alloc);
+        let mut toil = Toil::new(shift.alloc, &mut self.worker);
         self.wanting = toil.serve_own(rt, shift, gate, &mut self.hand).is_err();
         toil.note(&mut self.worker);
     }

@@ -32,8 +32,8 @@ impl Toil {
     ghost use Rattle.worker_threads.specs.Parts.{asked_of};
     ghost use Rattle.worker_threads.specs.Toil.{GoesOn, IsAtWork, IsShift, noted};
 
-    /// A worker that has done nothing in the phase yet. It lends its log.
-    pub(crate) fn begun(worker: &mut Worker, alloc: Global) -> Self
+    /// What a worker has that has done nothing in the phase yet. The worker lends its log.
+    pub(crate) fn new(alloc: Global, worker: &mut Worker) -> Self
         ensures begun { noted worker.old result ≡ worker.old }
         ensures typed { AllByRecursion (AllByRecursion (IsCommand short_keys)) result.log.items }
         ensures lent { worker.new ≡ record worker.old { log = [] } }
@@ -47,7 +47,7 @@ impl Toil {
         }
     }
 
-    /// The worker has what it did.
+    /// Gives the worker what it has now.
     pub(crate) fn note(self, worker: &mut Worker)
         requires typed { AllByRecursion (AllByRecursion (IsCommand short_keys)) self.log.items }
         ensures has { worker.new ≡ noted worker.old self }

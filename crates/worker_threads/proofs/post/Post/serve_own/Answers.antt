@@ -11,7 +11,7 @@ pub returns : goal.returns
 returns g c =
     let old = c.args.self.now in
     let toil = c.serve_own.new.self in
-    let has = c.note.ensures.has ∙ ap (λ (w : Worker). noted w toil) c.begun-toil.ensures.lent in
+    let has = c.note.ensures.has ∙ ap (λ (w : Worker). noted w toil) {y = record old.worker { log = [] }} c.new-toil.ensures.lent in
     record {
       through = record {
         free = c.serve_own.ensures.at_work.free;
@@ -19,6 +19,6 @@ returns g c =
         part = λ fine.
             subst (λ (w : Worker). HasDone (asked_of (worker_of old.hand) c.args.shift.now.tasks.now) (told_by c.serve_own.new.hand) old.worker w) (sym has)
             (at_ok c.serve_own.result (sym c.is_err-self.ensures.value ∙ fine) c.serve_own.ensures.goes_on [] old.worker
-            (nothing-done old.hand old.worker (noted old.worker c.begun-toil.result) c.begun-toil.ensures.begun c.requires.posted.running c.requires.posted.new));
+            (nothing-done old.hand old.worker (noted old.worker c.new-toil.result) c.new-toil.ensures.begun c.requires.posted.running c.requires.posted.new));
       };
     }

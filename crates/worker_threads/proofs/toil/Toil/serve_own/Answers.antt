@@ -1,6 +1,4 @@
-use Rattle.std.proofs.Common.{◌≡◌, List, ◌∷◌, [], ◌++◌, length, take, length-append, sym, ◌∙◌, subst, arith, rules}
-use Rattle.std.specs.Slice.Iter.{iter_rest}
-use Rattle.std.specs.Iterator.Adapters.{zip_first, zip_second}
+use Rattle.std.proofs.Common.{List, ◌∷◌, [], ◌++◌, length, take, length-append, sym, ◌∙◌, subst, arith, rules}
 use Rattle.std.proofs.lemmas.Slice.Zip.{zip_turn, zip_end}
 use Rattle.record_text.specs.declared.request.Request.{Request}
 use Rattle.host_table.specs.Calls.{told_by}
@@ -15,11 +13,8 @@ pub serve-requires-clause-place : goal.serve-requires-clause-place
 serve-requires-clause-place g c =
     let tasks = c.args.shift.now.tasks.now in
     let places = c.args.shift.now.places.now in
-    let start = c.into_iter-task-iterator.result in
-    let first : iter_rest (zip_first start) ≡ tasks = search rules in
-    let second : iter_rest (zip_second start) ≡ places = search rules in
-    let turn = zip_turn tasks places c.loop-task.yielded start c.loop-task.task-iterator c.next.new.self c.next.result first second c.loop-task.yielded_by
-    (c.in-Some.task, c.in-Some.place) c.in-Some.is c.next.ensures.steps in
+    let turn = zip_turn tasks places c.loop-task.yielded c.into_iter-task-iterator.result c.loop-task.task-iterator c.next.new.self c.next.result (search rules) (search rules)
+    c.loop-task.yielded_by (c.in-Some.task, c.in-Some.place) c.in-Some.is c.next.ensures.steps in
     place-of (terms g.D.Digests.functions c.args.shift.now.records.now) tasks places (length c.loop-task.yielded) c.in-Some.task.now c.in-Some.place.now c.requires.shift.places turn.0
     (turn.2 c.in-Some.task.now) (turn.3 c.in-Some.place.now)
 
@@ -27,19 +22,17 @@ pub loop-task-preserved-in-Continue-1 : goal.loop-task-preserved-in-Continue-1
 loop-task-preserved-in-Continue-1 g c =
     let tasks = c.args.shift.now.tasks.now in
     let places = c.args.shift.now.places.now in
-    let start = c.into_iter-task-iterator.result in
-    let first : iter_rest (zip_first start) ≡ tasks = search rules in
-    let second : iter_rest (zip_second start) ≡ places = search rules in
-    let turn = zip_turn tasks places c.loop-task.yielded start c.loop-task.task-iterator c.next.new.self c.next.result first second c.loop-task.yielded_by
-    (c.in-Some.task, c.in-Some.place) c.in-Some.is c.next.ensures.steps in
+    let turn = zip_turn tasks places c.loop-task.yielded c.into_iter-task-iterator.result c.loop-task.task-iterator c.next.new.self c.next.result (search rules) (search rules)
+    c.loop-task.yielded_by (c.in-Some.task, c.in-Some.place) c.in-Some.is c.next.ensures.steps in
     let number = worker_of c.args.hand.now in
     let passed = c.loop-task.yielded in
+    let more = length-append passed ((c.in-Some.task, c.in-Some.place) ∷ []) in
     record {
       at_work = c.serve.ensures.at_work;
       worker = c.serve.ensures.worker ∙ c.loop-task.invariant.worker;
       goes_on = λ before worker has.
           subst (λ (requests : List Request). HasDone requests (told_by c.serve.new.hand) worker (noted worker c.serve.new.self))
-          (asked-own before number (length passed) (length (passed ++ (c.in-Some.task, c.in-Some.place) ∷ [])) (omega (arith, length-append passed ((c.in-Some.task, c.in-Some.place) ∷ [])))
+          (asked-own before number (length passed) (length (passed ++ (c.in-Some.task, c.in-Some.place) ∷ [])) (omega (arith, more))
           tasks c.in-Some.task.now turn.0 (turn.2 c.in-Some.task.now) (c.if-task-number.true ∙ c.worker-number.ensures.worker))
           (c.in_ok-serve.ensures.goes_on (before ++ asked_of number (take (length passed) tasks)) worker (c.loop-task.invariant.goes_on before worker has));
     }
@@ -48,19 +41,17 @@ pub loop-task-preserved : goal.loop-task-preserved
 loop-task-preserved g c =
     let tasks = c.args.shift.now.tasks.now in
     let places = c.args.shift.now.places.now in
-    let start = c.into_iter-task-iterator.result in
-    let first : iter_rest (zip_first start) ≡ tasks = search rules in
-    let second : iter_rest (zip_second start) ≡ places = search rules in
-    let turn = zip_turn tasks places c.loop-task.yielded start c.loop-task.task-iterator c.next.new.self c.next.result first second c.loop-task.yielded_by
-    (c.in-Some.task, c.in-Some.place) c.in-Some.is c.next.ensures.steps in
+    let turn = zip_turn tasks places c.loop-task.yielded c.into_iter-task-iterator.result c.loop-task.task-iterator c.next.new.self c.next.result (search rules) (search rules)
+    c.loop-task.yielded_by (c.in-Some.task, c.in-Some.place) c.in-Some.is c.next.ensures.steps in
     let number = worker_of c.args.hand.now in
     let passed = c.loop-task.yielded in
+    let more = length-append passed ((c.in-Some.task, c.in-Some.place) ∷ []) in
     record {
       at_work = c.loop-task.invariant.at_work;
       worker = c.loop-task.invariant.worker;
       goes_on = λ before worker has.
           subst (λ (requests : List Request). HasDone requests (told_by c.loop-task.hand) worker (noted worker c.loop-task.self))
-          (asked-other before number (length passed) (length (passed ++ (c.in-Some.task, c.in-Some.place) ∷ [])) (omega (arith, length-append passed ((c.in-Some.task, c.in-Some.place) ∷ [])))
+          (asked-other before number (length passed) (length (passed ++ (c.in-Some.task, c.in-Some.place) ∷ [])) (omega (arith, more))
           tasks c.in-Some.task.now turn.0 (turn.2 c.in-Some.task.now) (λ same. c.if-task-number.false (same ∙ sym c.worker-number.ensures.worker)))
           (c.loop-task.invariant.goes_on before worker has);
     }
@@ -69,11 +60,8 @@ pub returns-clause-goes_on : goal.returns-clause-goes_on
 returns-clause-goes_on g c = λ before worker has.
     let tasks = c.args.shift.now.tasks.now in
     let places = c.args.shift.now.places.now in
-    let start = c.into_iter-task-iterator.result in
-    let first : iter_rest (zip_first start) ≡ tasks = search rules in
-    let second : iter_rest (zip_second start) ≡ places = search rules in
-    let end = zip_end tasks places c.loop-task.yielded start c.loop-task.task-iterator c.next.new.self c.next.result first second c.loop-task.yielded_by
-    c.in-None.is c.next.ensures.steps in
+    let end = zip_end tasks places c.loop-task.yielded c.into_iter-task-iterator.result c.loop-task.task-iterator c.next.new.self c.next.result (search rules) (search rules)
+    c.loop-task.yielded_by c.in-None.is c.next.ensures.steps in
     let many = as-many (terms g.D.Digests.functions c.args.shift.now.records.now) tasks places c.requires.shift.places in
     subst (λ (requests : List Request). HasDone requests (told_by c.loop-task.hand) worker (noted worker c.loop-task.self))
     (asked-all before (worker_of c.args.hand.now) (length c.loop-task.yielded) tasks (omega (arith, end, many)))
