@@ -1,4 +1,5 @@
--- How the phases of workers in threads are proved, in reading order.
+-- How the phases of workers in threads are proved, in reading order: one worker, what the script asks, what turns do to a world,
+-- the law of a phase, and the code.
 mod ToilLemmas
 mod AskedLemmas
 mod ShapeLemmas
@@ -13,5 +14,5 @@ mod PromiseLemmas
 mod SeatLemmas
 mod MakingLemmas
 mod TableLemmas
-mod CallLemmas
 mod PostLemmas
+mod CallLemmas
