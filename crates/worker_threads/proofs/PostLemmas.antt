@@ -1,6 +1,5 @@
 -- Posts, their workers and their hands.
-use Rattle.std.proofs.Common.{◌≡◌, ℕ, zero, suc, ◌<◌, false, List, [], ◌∷◌, ◌++◌, map, length, get_or, refl, sym, ◌∙◌, ap, subst, append_assoc, All, arith}
-use Rattle.std.specs.List.{AllByRecursion}
+use Rattle.std.proofs.Common.{◌≡◌, ℕ, ◌<◌, false, Result, Ok, Err, IfOk, OnOk, List, [], ◌∷◌, ◌++◌, map, length, get_or, refl, sym, ◌∙◌, ap, subst, append_assoc, All, arith}
 use Rattle.std.proofs.Math.ListN.{get_or-map}
 use Rattle.std.proofs.lemmas.List as lists
 use Rattle.std.proofs.lemmas.List.{length-map, map_push, get_or_default}
@@ -10,7 +9,7 @@ use Rattle.script_text.specs.declared.task.Task.{Task}
 use Rattle.host_core.specs.World.{Worker}
 use Rattle.host_table.specs.declared.hand.Hand.{Hand}
 use Rattle.host_table.specs.declared.views.Row.{Row}
-use Rattle.host_table.specs.Calls.{AreAll, IsNew, told_by}
+use Rattle.host_table.specs.Calls.{IsNew, told_by}
 use Rattle.host_table.specs.Hands.{worker_of, IsFree}
 use Rattle.host_table.specs.Made.{new_row}
 use Rattle.host_table.specs.Phase.{row_at}
@@ -57,9 +56,10 @@ module _ (terms : Terms) (table : TableId) (posts : List Post) (workers : List W
   hand_at i d = ap (λ (hs : List Hand). get_or hs i d.hand) (sym hands_are) ∙ get_or-map hand_in posts i d
 
   posts_are : (length workers ≡ length posts) × (length hands ≡ length posts)
-  posts_are =
-      (ap (λ (ws : List Worker). length ws) (sym workers_are) ∙ length-map posts worker_in,
-        ap (λ (hs : List Hand). length hs) (sym hands_are) ∙ length-map posts hand_in)
+  posts_are = (
+    ap (λ (ws : List Worker). length ws) (sym workers_are) ∙ length-map posts worker_in,
+    ap (λ (hs : List Hand). length hs) (sym hands_are) ∙ length-map posts hand_in,
+  )
 
   -- Workers that are to serve are at their posts.
   pub are_posted : AreToServe terms table workers hands → All (λ post. post.wanting ≡ false) posts → All (IsPosted terms table) posts
@@ -139,3 +139,14 @@ module _ (terms : Terms) (table : TableId) (posts : List Post) (workers : List W
           count = news ∙ sym counts.0;
           parts = parts;
         }
+
+  -- The same where the posts were left well.
+  pub served_well : {X E : Type 0} (r : Result X E) (new_in : X → List Worker) (left_in : X → List Hand) (later seen : List Post) (tasks : List Task)
+      → seen ≡ later → IfOk r (λ x. new_in x ≡ map worker_in seen) → IfOk r (λ x. left_in x ≡ map hand_in seen)
+      → OnOk r (All (λ post. post.wanting ≡ false) seen) → length later ≡ length posts
+      → ((i : ℕ) (d : Post) → i < length posts → IsThrough table tasks (get_or posts i d) (get_or later i d)) → AreToServe terms table workers hands
+      → IfOk r (λ x. HaveServed terms table tasks workers (new_in x) (left_in x))
+  served_well (Ok x) new_in left_in later seen tasks same new_are left_are none many through ready =
+      have_served later (new_in x) (left_in x) tasks (new_are ∙ ap (map worker_in) same) (left_are ∙ ap (map hand_in) same)
+      (subst (All (λ (post : Post). post.wanting ≡ false)) same none) many through ready
+  served_well (Err fault) new_in left_in later seen tasks same new_are left_are none many through ready = tt

@@ -9,7 +9,8 @@ ghost use Rattle.host_serving.specs.Standing.{turns_of, IsServedUpTo, IsServedOu
 ghost use Rattle.worker_threads.specs.Phase.{ArePlacesFor, first_stopped};
 
 use crate::laws::{
-    phases_at_once_are_lists_of_events, tables_are_of_their_worlds, tables_can_be_made,
+    digests_have_32_bytes, phases_at_once_are_lists_of_events, tables_are_of_their_worlds,
+    tables_can_be_made,
 };
 use crate::posting::serve_at_table;
 use crate::shift::Shift;
@@ -59,11 +60,7 @@ fn first_end_of(workers: &[Worker]) -> Option<ClockEnd>
 /// Serves the requests of the world's phase, all workers at once, each in a thread of its own and its requests in the script's
 /// order, past the gate. A worker whose clock ends serves no more in this phase. What they did was one list of events, and the
 /// answer is the first end that these come to. After want of memory the world is of no more use.
-pub fn serve_phase_at_once<
-    R: Threads + Wait + Sync,
-    D: Digests + Sync,
-    G: Gate + Sync,
->(
+pub fn serve_phase_at_once<R: Threads + Wait + Sync, D: Digests + Sync, G: Gate + Sync>(
     rt: &R,
     alloc: Global,
     world: &mut World<'_, D>,
@@ -94,6 +91,7 @@ pub fn serve_phase_at_once<
     tables_are_of_their_worlds();
     phases_at_once_are_lists_of_events();
     let d = world.digests();
+    digests_have_32_bytes(d);
     let header = world.settings().header;
     let tasks = world.requests().phase(world.phase());
     let places = places_for(alloc, world, tasks)?;

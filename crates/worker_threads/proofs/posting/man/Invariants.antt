@@ -1,5 +1,5 @@
-use Rattle.std.proofs.Common.{◌≡◌, ◌+◌, ◌++◌, false, length, map, All}
-use Rattle.std.specs.Vec.Iter.{into_iter_items, into_iter_len}
+use Rattle.std.proofs.Common.{◌≡◌, ◌++◌, false, map, All}
+use Rattle.std.specs.Vec.Iter.{into_iter_items}
 use Rattle.worker_threads.specs.Posts.{worker_in, hand_in}
 use Rattle.worker_threads.proofs.posting.man.Given as goal
 
