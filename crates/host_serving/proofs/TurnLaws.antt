@@ -1,12 +1,13 @@
 -- What a script asks of a worker, turn by turn: what is next, and that nothing of a phase is left behind its last turn.
-use Rattle.std.proofs.Common.{◌≡◌, ℕ, zero, suc, ◌+◌, ◌<◌, ◌≤◌, ◌==◌, Bool, true, false, List, [], ◌∷◌, ◌++◌, map, filter, length, take, drop, get_or, slice_get, Some, if◌then◌else◌, refl, sym, ◌∙◌, ap, append_assoc, take_all, arith}
+use Rattle.std.proofs.Common.{◌≡◌, ◌⊎◌, inl, inr, ℕ, zero, suc, ◌+◌, ◌<◌, ◌≤◌, ◌==◌, Bool, true, false, List, [], ◌∷◌, ◌++◌, map, filter, length, take, drop, get_or, slice_get, Some, if◌then◌else◌, refl, sym, ◌∙◌, ap, subst, append_assoc, take_all, arith}
 use Rattle.std.proofs.lemmas.Bool.{eq-eqb, ne_eqb}
 use Rattle.std.proofs.lemmas.Option.{none-some, same_Some}
 use Rattle.host_core.specs.Host.{Host, asked_in, asked_from, asked}
-use Rattle.host_serving.specs.Standing.{turns_of, asked_by}
+use Rattle.host_core.specs.World.{World, worker_at}
+use Rattle.host_serving.specs.Standing.{turns_of, asked_by, IsServedUpTo, IsServedOut}
 
 -- what is found behind a list
-slice_get-behind : {X : Type 0} (xs ys : List X) (n at : ℕ) → at ≡ length xs + n → slice_get (xs ++ ys) at ≡ slice_get ys n
+pub slice_get-behind : {X : Type 0} (xs ys : List X) (n at : ℕ) → at ≡ length xs + n → slice_get (xs ++ ys) at ≡ slice_get ys n
 slice_get-behind [] ys n at is = let same : at ≡ n = omega (arith, is) in ap (slice_get ys) same
 slice_get-behind (x ∷ xs) ys n zero is = absurd (omega (arith, is))
 slice_get-behind (x ∷ xs) ys n (suc at) is = slice_get-behind xs ys n at (omega (arith, is))
@@ -63,7 +64,7 @@ module _ {R : Type 0} where
   -- ---- one phase of a script
 
   -- what a script asks of a worker: in the phases before this one, in this one, and in those behind
-  asked-around : (i first phase at : ℕ) (script : List (List (ℕ × R))) → at ≡ first + phase → phase < length script
+  pub asked-around : (i first phase at : ℕ) (script : List (List (ℕ × R))) → at ≡ first + phase → phase < length script
       → asked_from i first script
       ≡ asked_from i first (take phase script) ++ (asked_in i at (get_or script phase []) ++ asked_from i (suc at) (drop (suc phase) script))
   asked-around i first phase at [] is there = absurd (omega (arith, there))
@@ -142,3 +143,17 @@ module _ {C R : Type 0} (host : Host C R) where
       ∙ is in
       let later : suc phase ≤ phase = later_only i (suc phase) (drop (suc phase) host.script) (phase, request) next in
       absurd (omega (arith, later))
+
+-- All turns are served, so no worker has more to do.
+pub phase_served : {C R : Type 0} (host : Host C R) (world : World C) (k : ℕ) → IsServedUpTo host world k → k ≡ length (turns_of host world.phase) → IsServedOut host world
+phase_served {C} {R} host world k so_far all = record { served = served; over = λ i there. ((served.each i there).idle, through i there (served.each i there).served) }
+  where
+    served : IsServedUpTo host world (length (turns_of host world.phase))
+    served = subst (IsServedUpTo host world) all so_far
+
+    through : (i : ℕ) → i < length world.workers
+        → ((worker_at host world i).stopped ≡ true) ⊎ (((worker_at host world i).stopped ≡ false) × ((worker_at host world i).served ≡ asked_by host i world.phase (length (turns_of host world.phase))))
+        → ((worker_at host world i).stopped ≡ true) ⊎ ((request : R) → slice_get (asked host i) (worker_at host world i).served ≡ Some (world.phase, request) → ⊥)
+    through i there (inl stopped) = inl stopped
+    through i there (inr count) =
+        inr (λ request is. nothing_left host i world.phase request so_far.within (ap (slice_get (asked host i)) (sym count.1) ∙ is))
