@@ -5,9 +5,11 @@ use std::alloc::Global;
 use std::test::Fail;
 
 // A receipt and a certificate with their tags.
-const RECEIPT: &str = "0100000000000000030000000000000000000607000000000000000501026162ac51fb70250d0b223d2e4761dd97884b0acded9052db66085942bb4b765bd2c6";
+const RECEIPT: &str =
+    "0100000000000000030000000000000000000607000000000000000501026162ac51fb70250d0b223d2e4761dd97884b0acded9052db66085942bb4b765bd2c6";
 
-const CERTIFICATE: &str = "020000000000000000d9f6d832690ffe03b32ea0ea7d73a6896c7900651a4f0ee61aa7a1392b0e6348";
+const CERTIFICATE: &str =
+    "020000000000000000d9f6d832690ffe03b32ea0ea7d73a6896c7900651a4f0ee61aa7a1392b0e6348";
 
 // What a text is read as, and the text: R and C stand for the digits of the two, * and + for those digits without the first
 // and the last, / for the end of a line, _ for a blank and ^ for a carriage return.

@@ -3,7 +3,7 @@ use Rattle.std.specs.Io.KnownBytes.{Consumes}
 use Rattle.report_text.specs.declared.status.Status.{Status}
 use Rattle.report_text.specs.Answer.{Reading, Writing}
 use Rattle.fastver_top.specs.Accepting.{accept_answer, AnswersWhole, IsAcceptStatus}
-use Rattle.fastver_top.proofs.AcceptLemmas.{answer-answered, stop-before, answers-whole, answers-unread}
+use Rattle.fastver_top.proofs.AcceptLemmas.{answer-answered, stop-before, answers-whole, answers-cut, answers-unread}
 use Rattle.fastver_top.proofs.accepting.accept_text.Goals as goal
 
 pub returns-in-Err-clause-outcomes : goal.returns-in-Err-clause-outcomes
@@ -48,3 +48,22 @@ returns-in-Ok-answer-clause-answers g c =
     (subst (Consumes read.left read.left_after) (sym c.deref.ensures.value) c.in-Ok.ensures.bytes) c.in-Ok.ensures.end
     (c.in-Ok.ensures.within (λ is. true≢false (ap is_ok is))) c.in-Ok-answer.status c.in-Ok-answer.ensures.status c.in-Ok-answer.ensures.whole
     (λ before. ap g.O.Sink.held (c.in-Ok-answer.ensures.unwritten before))
+
+pub returns-clause-answers : goal.returns-clause-answers
+returns-clause-answers g c =
+    let functions = g.D.Digests.functions c.args.d.now in
+    let read : Reading = record {
+      left = g.S.Source.left c.args.source.now;
+      left_after = g.S.Source.left c.read_all.new.source;
+      faults = g.S.Source.faults c.args.source.now;
+      faults_after = g.S.Source.faults c.read_all.new.source;
+    } in
+    let wrote : Writing = record {
+      held = g.O.Sink.held c.args.out.now;
+      held_after = g.O.Sink.held c.answer.new.out;
+      faults = g.O.Sink.faults c.args.out.now;
+      faults_after = g.O.Sink.faults c.answer.new.out;
+    } in
+    answers-cut functions c.args.limit read wrote c.deref.result.now
+    (subst (Consumes read.left read.left_after) (sym c.deref.ensures.value) c.in-Ok.ensures.bytes) c.in-Ok.ensures.end
+    (c.in-Ok.ensures.within (λ is. true≢false (ap is_ok is))) c.in-Err-answer.ensures.front c.in-Err-answer.ensures.counts.failed
