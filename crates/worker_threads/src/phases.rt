@@ -109,7 +109,8 @@ pub fn serve_phase_at_once<R: Threads + Wait + Sync, D: Digests + Sync, G: Gate 
     };
     let (workers, hands) = serve_at_table(rt, &shift, gate, workers, hands)?;
     let end = first_end_of(workers.as_slice());
-    world.take_back(records.close(hands));
+    let contents = records.close(hands);
+    world.take_back(contents);
     world.take_workers(workers);
     Ok(end)
 }

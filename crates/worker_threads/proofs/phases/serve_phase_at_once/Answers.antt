@@ -101,7 +101,7 @@ pub take_back-requires : goal.take_back-requires
 take_back-requires g c =
     let made : Terms = terms g.D.Digests.functions c.in-Ok.records in
     record {
-      as_many = c.close.ensures.phase.as_many
+      as_many = c.close-contents.ensures.phase.as_many
           ∙ ap (λ (t : Terms). length t.contents) c.in-Ok.ensures.terms
           ∙ sym (length-map c.in_ok-contents.contents.items shown_content)
           ∙ ap (λ (xs : List Content). length xs) c.in_ok-contents.ensures.lent
@@ -123,15 +123,15 @@ returns g c =
     ap (λ (t : Terms). map shown_content t.contents) c.in-Ok.ensures.terms ∙ c.in_ok-contents.ensures.lent in
     let count = c.tables_can_be_made.ensures.workers functions old.settings (requests_of old) stands.0 (shown_world old) sized stands.1.behind in
     let later = later_is (shown_world old) (shown_world c.lend.new.self) (shown_world c.lend_workers-workers.new.self) (shown_world c.take_back.new.self)
-    (shown_world new) (map shown_content c.close.result.items) c.in_ok-workers.workers.items
+    (shown_world new) (map shown_content c.close-contents.result.items) c.in_ok-workers.workers.items
     c.in_ok-contents.ensures.left c.lend_workers-workers.ensures.left c.take_back.ensures.filled c.take_workers.ensures.taken in
     let at_once = served_at_once functions old.settings (requests_of old) (shown_world old) (shown_world new) made (table c.in-Ok.records)
-    c.close.result.items c.lend_workers-workers.result.items c.in_ok-workers.workers.items c.in_ok-workers.hands.items c.phase-tasks.result.now
+    c.close-contents.result.items c.lend_workers-workers.result.items c.in_ok-workers.workers.items c.in_ok-workers.hands.items c.phase-tasks.result.now
     c.requires.begins c.requires.running
     (c.tables_are_of_their_worlds.ensures.of_world functions old.settings (requests_of old) stands.0 (shown_world old) made sized stands.1.behind c.requires.begins.phase lent
     (ap (λ (t : Terms). t.digest) c.in-Ok.ensures.terms ∙ ap (λ d. (g.D.Digests.functions d).digest) c.digests-d.ensures.value)
     (ap (λ (t : Terms). t.workers) c.in-Ok.ensures.terms ∙ ap (λ h. h.verifiers) header ∙ sym count))
-    c.close.ensures.phase
+    c.close-contents.ensures.phase
     (c.lend_workers-workers.ensures.lent ∙ ap (λ (w : World Content). w.workers) c.in_ok-contents.ensures.left)
     (asked (requests_of old) c.requests.result.now old.phase c.phase.result c.phase-tasks.result.now
     c.requests.ensures.value c.phase.ensures.value c.phase-tasks.ensures.value)
@@ -141,7 +141,7 @@ returns g c =
     c.first_end_of-end.ensures.first ∙ ap (first_stopped 0) (c.as_slice-2.ensures.value ∙ sym workers_are) in
     let way : Leads host (shown_world old) (shown_world new) c.first_end_of-end.result =
     subst (Leads host (shown_world old) (shown_world new)) (sym end_is)
-    (c.phases_at_once_are_lists_of_events.ensures.leads functions old.settings (requests_of old) stands.0 (shown_world old) (shown_world new) made c.close.result.items
+    (c.phases_at_once_are_lists_of_events.ensures.leads functions old.settings (requests_of old) stands.0 (shown_world old) (shown_world new) made c.close-contents.result.items
     (map told_by c.in_ok-workers.hands.items) sized stands.1.each stands.1.behind c.requires.counters at_once) in
     let one_host = hosts_then old c.take_back.new.self new
     (hosts_then old c.lend_workers-workers.new.self c.take_back.new.self (hosts_then old c.lend.new.self c.lend_workers-workers.new.self c.lend.ensures.host c.lend_workers-workers.ensures.host)
@@ -149,7 +149,7 @@ returns g c =
     let on = goes_on g.D.Digests.functions old new c.first_end_of-end.result one_host at_once.count way in
     record {
       leads = way;
-      served = c.phases_at_once_are_lists_of_events.ensures.served functions old.settings (requests_of old) (shown_world old) (shown_world new) made c.close.result.items
+      served = c.phases_at_once_are_lists_of_events.ensures.served functions old.settings (requests_of old) (shown_world old) (shown_world new) made c.close-contents.result.items
           (map told_by c.in_ok-workers.hands.items) at_once;
       phase = ap (λ (w : World Content). w.phase) later;
       running = λ none before. none_stopped host (shown_world new) (sym end_is ∙ no_end c.first_end_of-end.result none);
