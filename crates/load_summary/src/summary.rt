@@ -1,0 +1,117 @@
+//! Tallies as they grow, and their text.
+ghost use Rattle.std.specs.Prelude.{◌≡◌, ◌↔◌, ◌+◌, ◌≤◌, ◌<◌, ◌^◌, [], ◌∷◌, ◌++◌, List, ℕ, length, IfOk, OnOk, OnErr, IsErr};
+ghost use Rattle.fv_outside.specs.Faults.{Counts};
+ghost use Rattle.fv_outside.specs.Written.{Grows, GrowsByFront};
+ghost use Rattle.record_text.specs.declared.operation.Operation.{Operation};
+ghost use Rattle.report_text.specs.Page.{Passes};
+ghost use Rattle.load_summary.specs.Counting.{counted_of};
+ghost use Rattle.load_summary.specs.Summary.{summary_with_end, worker_lines};
+
+use crate::lines::{end_line, head_lines, worker_line};
+use crate::tally::Tally;
+use fv_outside::{Failed, Sink};
+use record_text::Operation;
+use report_text::{Page, Status};
+use std::alloc::Global;
+use std::marker::Model;
+use want_of_memory::Memory;
+
+/// How often each worker got, put and deleted among the operations that were counted. Contracts see the tallies, and how
+/// many operations were counted.
+#[derive(Drop)]
+pub struct Summary {
+    operations: u64,
+    tallies: Vec<Tally>,
+}
+
+impl Model for Summary {
+    ghost use Rattle.std.specs.List.{All};
+    ghost use Rattle.load_summary.specs.Counting.{Counted, IsWithin};
+
+    ghost Value = { Counted };
+
+    ghost view = { λ s. record { operations = s.operations; tallies = s.tallies.items } };
+
+    ghost invariant = { λ s. All (IsWithin s.operations) s.tallies.items };
+}
+
+impl Summary {
+    /// Of so many workers, with nothing counted. It takes all its memory now.
+    pub fn new(alloc: Global, workers: u16) -> Result<Summary, Memory>
+        ensures none { IfOk result (λ summary. summary ≡ counted_of workers []) }
+    {
+        let mut tallies = Vec::new(alloc);
+        tallies.resize(usize::from(workers), Tally::zero())?;
+        Ok(Summary {
+            operations: 0,
+            tallies,
+        })
+    }
+
+    /// Counts these operations; one of a worker that is none of these is in no tally. Where there were more in all than 64
+    /// bits count it is want of memory, and none of them is counted.
+    pub fn count(&mut self, operations: &[Operation]) -> Result<(), Memory>
+        ensures counted { (workers : ℕ) (before : List Operation)
+            → self.old ≡ counted_of workers before
+            → OnOk result (self.new ≡ counted_of workers (before ++ operations.now)) }
+        ensures full { IsErr result ↔ (2 ^ 64 ≤ self.old.operations + length operations.now) }
+        ensures kept { OnErr result (self.new ≡ self.old) }
+    {
+        if operations.len() as u64 > u64::MAX - self.operations {
+            return Err(Memory);
+        }
+        for operation in operations {
+            self.count_one(operation);
+        }
+        Ok(())
+    }
+
+    // Counts one operation.
+    fn count_one(&mut self, operation: &Operation)
+        requires room { self.old.operations + 1 < 2 ^ 64 }
+        ensures counted { (workers : ℕ) (before : List Operation)
+            → self.old ≡ counted_of workers before
+            → self.new ≡ counted_of workers (before ++ operation.now ∷ []) }
+        ensures operations { self.new.operations ≡ self.old.operations + 1 }
+    {
+        if let Some(tally) = self.tallies.get_mut(usize::from(operation.verifier)) {
+            tally.count(operation);
+        }
+        self.operations += 1;
+    }
+
+    /// Writes the summary of a load that was made of a seed, with so many operations asked for and so many epochs certified,
+    /// which ended so. On `Failed` the sink holds a front of it.
+    pub fn write<O: Sink>(
+        &self,
+        seed: u64,
+        ops: u32,
+        epochs: u64,
+        end: &Status,
+        out: &mut O,
+    ) -> Result<(), Failed>
+        ensures whole { OnOk result (Grows (O.held out.old) (O.held out.new) (summary_with_end seed ops epochs self.now.tallies end.now)) }
+        ensures front { OnErr result (GrowsByFront (O.held out.old) (O.held out.new) (summary_with_end seed ops epochs self.now.tallies end.now)) }
+        ensures name { O.name out.new ≡ O.name out.old }
+        ensures counts { Counts (O.faults out.old) (O.faults out.new) result }
+    {
+        let mut page = Page::new();
+        page.write(head_lines(seed, ops, epochs).as_slice(), out)?;
+        write_workers(&self.tallies, &mut page, out)?;
+        page.write(end_line(end).as_slice(), out)?;
+        page.flush(out)
+    }
+}
+
+// Writes the line of each worker.
+fn write_workers<O: Sink>(tallies: &[Tally], page: &mut Page, out: &mut O) -> Result<(), Failed>
+    ensures whole { OnOk result (Passes (O.held out.old) page.old (worker_lines 0 tallies.now) (O.held out.new) page.new) }
+    ensures front { OnErr result (GrowsByFront (O.held out.old) (O.held out.new) (page.old ++ worker_lines 0 tallies.now)) }
+    ensures name { O.name out.new ≡ O.name out.old }
+    ensures counts { Counts (O.faults out.old) (O.faults out.new) result }
+{
+    for (worker, tally) in tallies.iter().enumerate() {
+        page.write(worker_line(worker as u64, tally).as_slice(), out)?;
+    }
+    Ok(())
+}

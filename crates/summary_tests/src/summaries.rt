@@ -1,0 +1,144 @@
+//! Summaries as the slow program wrote them, and by hand.
+use fv_outside::MemorySink;
+use lamport_clocks::Stamp;
+use load_summary::Summary;
+use record_text::{Blob, Operation};
+use report_text::Status;
+use std::alloc::Global;
+use std::test::Fail;
+
+// The field of a row at this place, counted from 0.
+fn field(row: &str, place: usize) -> Result<&str, Fail> {
+    match row.split('|').nth(place) {
+        Some(text) => Ok(text.trim()),
+        None => Err("a row with too few fields")?,
+    }
+}
+
+// Seed, operations asked for, epochs, workers; the certified operations, each its worker, its kind and its value; the worker
+// whose clock ended and its epoch and counter, or `done`; and the lines.
+const SUMMARIES: &str = "
+0 | 1 | 1 | 2 | 0 get none | done | gen seed 0 ops 1; epochs 1; worker 0 gets 1 none 1 puts 0 dels 0; worker 1 gets 0 none 0 puts 0 dels 0;
+0 | 0 | 0 | 1 | | 0 0 0 | gen seed 0 ops 0; epochs 0; worker 0 gets 0 none 0 puts 0 dels 0; clock end worker 0 at 0.0;
+17397014451822862089 | 7 | 1 | 2 | 0 put a, 1 get none, 0 put none, 1 put b, 0 put c, 1 get none, 0 put d | done | gen seed 17397014451822862089 ops 7; epochs 1; worker 0 gets 0 none 0 puts 3 dels 1; worker 1 gets 2 none 2 puts 1 dels 0;
+11474114173305003987 | 1 | 1 | 1 | 0 put a | done | gen seed 11474114173305003987 ops 1; epochs 1; worker 0 gets 0 none 0 puts 1 dels 0;
+5 | 9 | 3 | 1 | 0 put a, 0 get a, 0 put none, 0 get none, 1 get none, 65535 put a | 63 4294967295 16777215 | gen seed 5 ops 9; epochs 3; worker 0 gets 2 none 1 puts 1 dels 1; clock end worker 63 at 4294967295.16777215;
+18446744073709551615 | 4294967295 | 18446744073709551615 | 0 | 0 get none | done | gen seed 18446744073709551615 ops 4294967295; epochs 18446744073709551615;
+";
+
+// An operation from its worker, its kind and its value.
+fn operation_of(text: &str) -> Result<Operation, Fail> {
+    let mut words = text.split_whitespace();
+    let verifier = words.next().ok_or("no worker")?.parse()?;
+    let put = words.next().ok_or("no kind")? == "put";
+    let value = match words.next().ok_or("no value")? {
+        "none" => Blob::none(),
+        value => Blob::of_bytes(value.as_bytes()).ok_or("long")?,
+    };
+    Ok(Operation {
+        stamp: Stamp {
+            epoch: 0,
+            counter: 0,
+        },
+        verifier,
+        index: 0,
+        put,
+        key: 0,
+        value,
+    })
+}
+
+// The operations of a row.
+fn operations_of(alloc: Global, text: &str) -> Result<Vec<Operation>, Fail> {
+    let mut operations = Vec::new(alloc);
+    for operation in text.split(',') {
+        if !operation.trim().is_empty() {
+            operations.push(operation_of(operation)?)?;
+        }
+    }
+    Ok(operations)
+}
+
+// How a run ended.
+fn status_of(text: &str) -> Result<Status, Fail> {
+    if text == "done" {
+        return Ok(Status::Done { epochs: 1 });
+    }
+    let mut words = text.split_whitespace();
+    let worker = words.next().ok_or("no worker")?.parse()?;
+    let epoch = words.next().ok_or("no epoch")?.parse()?;
+    let counter = words.next().ok_or("no counter")?.parse()?;
+    Ok(Status::ClockEnd {
+        worker,
+        at: Stamp { epoch, counter },
+    })
+}
+
+// The bytes of lines that are each ended by a semicolon.
+fn lines_of(alloc: Global, text: &str) -> Result<String, Fail> {
+    let mut lines = String::new(alloc);
+    for line in text.trim().split_terminator(';') {
+        lines.push_str(line.trim())?;
+        lines.push('\n')?;
+    }
+    Ok(lines)
+}
+
+// The summary of a row, when its operations are counted.
+fn summary_of(alloc: Global, row: &str) -> Result<Summary, Fail> {
+    let mut summary = Summary::new(alloc, field(row, 3)?.parse()?)?;
+    let operations = operations_of(alloc, field(row, 4)?)?;
+    summary.count(&operations)?;
+    Ok(summary)
+}
+
+// Writes the summary of a row, and says whether the sink took it.
+fn is_written(alloc: Global, row: &str, sink: &mut MemorySink) -> Result<bool, Fail> {
+    let summary = summary_of(alloc, row)?;
+    let seed = field(row, 0)?.parse()?;
+    let ops = field(row, 1)?.parse()?;
+    let epochs = field(row, 2)?.parse()?;
+    let end = status_of(field(row, 5)?)?;
+    Ok(summary.write(seed, ops, epochs, &end, sink).is_ok())
+}
+
+#[test]
+fn summaries_are_written_whole(rt: HostRuntime) -> Result<(), Fail> {
+    for row in SUMMARIES.trim().lines() {
+        let mut sink = MemorySink::new(rt.alloc(), 1000, 7, &[])?;
+        assert!(rt; is_written(rt.alloc(), row, &mut sink)?, "{row}");
+        let lines = lines_of(rt.alloc(), field(row, 6)?)?;
+        assert_eq!(rt; sink.bytes(), lines.as_bytes(), "{row}");
+    }
+    Ok(())
+}
+
+#[test]
+fn operations_are_counted_piece_by_piece(rt: HostRuntime) -> Result<(), Fail> {
+    let row = SUMMARIES.trim().lines().nth(2).ok_or("no row")?;
+    let operations = operations_of(rt.alloc(), field(row, 4)?)?;
+    let mut summary = Summary::new(rt.alloc(), 2)?;
+    for operation in operations {
+        summary.count(&[operation])?;
+    }
+    let mut sink = MemorySink::new(rt.alloc(), 1000, 1000, &[])?;
+    let end = Status::Done { epochs: 1 };
+    assert!(rt;
+        summary
+            .write(17397014451822862089, 7, 1, &end, &mut sink)
+            .is_ok()
+    );
+    let lines = lines_of(rt.alloc(), field(row, 6)?)?;
+    assert_eq!(rt; sink.bytes(), lines.as_bytes());
+    Ok(())
+}
+
+#[test]
+fn a_sink_that_fails_holds_a_front(rt: HostRuntime) -> Result<(), Fail> {
+    let row = SUMMARIES.trim().lines().next().ok_or("no row")?;
+    let mut sink = MemorySink::new(rt.alloc(), 1000, 5, &[3])?;
+    assert!(rt; !is_written(rt.alloc(), row, &mut sink)?);
+    assert_eq!(rt; sink.bytes(), b"gen seed 0 ops ".as_slice());
+    assert_eq!(rt; sink.faults(), 1);
+    Ok(())
+}
