@@ -75,12 +75,12 @@ returns-clause-runs g c = λ outputs runs held written.
     let texts = texts_of next.running.logs in
     let have = next.running.keeps.runs in
     let told = told_by c.args.receipts f header in
-    let so_far = subst (λ (tell : EpochText). Grows outputs.out (g.O.Sink.held c.args.out.now) (lines_counted tell f header texts c.pass_on.new.self.rounds)) (sym c.telling.ensures.text)
+    let so_far = subst (λ (tell : EpochText). Grows outputs.out (g.O.Sink.held c.args.out.now) (lines_counted tell f header texts c.pass_on.new.self.rounds)) (sym c.telling-telling.ensures.text)
     (subst (λ (o : Option (List ℕ)). Grows outputs.out o (lines_counted told f header texts c.pass_on.new.self.rounds)) written next.running.written) in
     let says = c.certify.ensures in
     ok_four c.certify.result (says.runs f header texts have) (says.all f header texts have) (says.counted told f header texts have) (says.due f header texts outputs.out have so_far)
     (λ have' all counted due. runs-certified c.args.receipts functions c.pass_on.new.self (record outputs { vault_after = vault' }) next c.certify.new.self (g.O.Sink.held c.certify.new.out) have' all counted
-    (subst (λ (tell : EpochText). Grows outputs.out (g.O.Sink.held c.certify.new.out) (lines_due tell f header texts)) c.telling.ensures.text due))
+    (subst (λ (tell : EpochText). Grows outputs.out (g.O.Sink.held c.certify.new.out) (lines_due tell f header texts)) c.telling-telling.ensures.text due))
 
 pub returns-clause-ended : goal.returns-clause-ended
 returns-clause-ended g c = λ over.
@@ -133,14 +133,14 @@ returns-clause-cut g c = λ outputs runs held written.
     let texts = texts_of next.running.logs in
     let have = next.running.keeps.runs in
     let told = told_by c.args.receipts f header in
-    let so_far = subst (λ (tell : EpochText). Grows outputs.out (g.O.Sink.held c.args.out.now) (lines_counted tell f header texts c.pass_on.new.self.rounds)) (sym c.telling.ensures.text)
+    let so_far = subst (λ (tell : EpochText). Grows outputs.out (g.O.Sink.held c.args.out.now) (lines_counted tell f header texts c.pass_on.new.self.rounds)) (sym c.telling-telling.ensures.text)
     (subst (λ (o : Option (List ℕ)). Grows outputs.out o (lines_counted told f header texts c.pass_on.new.self.rounds)) written next.running.written) in
     err_then c.certify.result (c.certify.ensures.front f header texts outputs.out have so_far)
     (λ front.
     subst (λ d. IsCutOff c.args.receipts (functions d) (record outputs { vault_after = vault'; out_after = g.O.Sink.held c.certify.new.out }))
     (c.pass_on.ensures.host.digests ∙ c.close_phase.ensures.host.digests)
     (runs-cut_lines c.args.receipts functions c.pass_on.new.self (record outputs { vault_after = vault' }) next c.what_is_due_stays_due.ensures.stays (g.O.Sink.held c.certify.new.out)
-    (subst (λ (tell : EpochText). GrowsByFront outputs.out (g.O.Sink.held c.certify.new.out) (lines_due tell f header texts)) c.telling.ensures.text front)))
+    (subst (λ (tell : EpochText). GrowsByFront outputs.out (g.O.Sink.held c.certify.new.out) (lines_due tell f header texts)) c.telling-telling.ensures.text front)))
 
 pub returns-clause-host : goal.returns-clause-host
 returns-clause-host g c = one_host c.args.self.now.world c.close_phase.new.world c.pass_on.new.self.world c.close_phase.ensures.host c.pass_on.ensures.host
