@@ -1,5 +1,5 @@
 -- What follows for those who serve round after round: what a check answers to the bundle, and what was written so far.
-use Rattle.std.proofs.Common.{◌≡◌, Bool, ℕ, zero, suc, List, [], ◌∷◌, ◌++◌, length, slice_get, Option, Some, refl, sym, ◌∙◌, ap, subst}
+use Rattle.std.proofs.Common.{◌≡◌, Bool, ℕ, zero, suc, List, [], ◌∷◌, ◌++◌, length, slice_get, Option, Some, refl, ◌∙◌, ap, subst}
 use Rattle.fv_outside.specs.Written.{Grows, GrowsByFront}
 use Rattle.fv_outside.proofs.WrittenLaws.{GrowsByFront-whole, GrowsByFront-more}
 use Rattle.record_hash.specs.Functions.{DigestFunctions}
@@ -7,9 +7,8 @@ use Rattle.lamport_clocks.specs.declared.header.Header.{Header}
 use Rattle.merkle_records.specs.Scheme.{scheme_of}
 use Rattle.report_text.specs.Status.{last_line}
 use Rattle.report_text.specs.Ending.{status_of}
-use Rattle.bundle_report.specs.Logs.{joined_from}
 use Rattle.bundle_report.specs.Logged.{Logged}
-use Rattle.bundle_report.specs.Report.{EpochText, told_by}
+use Rattle.bundle_report.specs.Report.{EpochTold, EpochText, told_by}
 use Rattle.bundle_report.specs.Answer.{answer_by, check_answer}
 use Rattle.bundle_report.specs.RunReport.{courses_of}
 use Rattle.bundle_report.specs.SoFar.{lines_from}
@@ -34,7 +33,7 @@ module _ (receipts : Bool) (functions : DigestFunctions) (header : Header) (logs
 -- ---- what was written so far
 
 -- nothing, where no epoch is counted
-pub counted-none : (tell : EpochText) (functions : DigestFunctions) (header : Header) (logs : List (List ℕ)) (so_far : RunsSoFar) → so_far.judged.count ≡ 0
+pub counted-none : {A : Type 0} (tell : EpochTold A) (functions : DigestFunctions) (header : Header) (logs : List (List ℕ)) (so_far : RunsSoFar) → so_far.judged.count ≡ 0
     → lines_counted tell functions header logs so_far ≡ []
 counted-none tell functions header logs so_far none = ap (lines_from tell (courses_of (scheme_of functions header) header logs) header.first) none
 

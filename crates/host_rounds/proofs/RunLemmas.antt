@@ -1,5 +1,5 @@
 -- What a round brings to the runs, and what certifying them brings to the report.
-use Rattle.std.proofs.Common.{◌≡◌, ℕ, zero, suc, ◌+◌, ◌-◌, ◌<◌, ◌≤◌, ◌==◌, Bool, false, true, List, [], ◌∷◌, ◌++◌, length, map, take, drop, Option, Result, Ok, Err, OnOk, OnErr, refl, sym, ◌∙◌, ap, subst, append-nil, eq-eqb, if◌then◌else◌, arith}
+use Rattle.std.proofs.Common.{◌≡◌, ℕ, zero, suc, ◌+◌, ◌-◌, ◌<◌, ◌≤◌, Bool, false, true, List, [], ◌∷◌, ◌++◌, length, map, take, drop, Option, Result, Ok, Err, OnOk, OnErr, refl, sym, ◌∙◌, ap, subst, append-nil, eq-eqb, if◌then◌else◌, arith}
 use Rattle.std.specs.List.{AllByRecursion}
 use Rattle.std.specs.Result.{is_err}
 use Rattle.std.proofs.lemmas.Bool.{ne_eqb, false≢true}
@@ -17,10 +17,11 @@ use Rattle.verifier_run.specs.Progress.{Progress, opening_progress, fed, weight}
 use Rattle.verifier_run.proofs.RunLaws.{fed_goes_on}
 use Rattle.bundle_report.specs.declared.judged.Judged.{Judged}
 use Rattle.bundle_report.specs.Logs.{joined_from}
-use Rattle.bundle_report.specs.Report.{EpochText}
+use Rattle.bundle_report.specs.Report.{EpochText, EpochTold, operations_told}
 use Rattle.bundle_report.specs.RunReport.{courses_of}
 use Rattle.bundle_report.specs.Judged.{judged}
 use Rattle.bundle_report.specs.SoFar.{lines_from, left_from, opening_runs, runs_from, took, runs_behind, HaveTaken}
+use Rattle.bundle_report.proofs.CertifyLaws.{judged-count}
 use Rattle.bundle_report.proofs.LinesLaws.{lines-behind}
 use Rattle.bundle_report.proofs.SoFarLaws.{taken-more, lines-taken, counted-within}
 use Rattle.bundle_report.proofs.DueLaws.{lines-certified, lines-due}
@@ -28,7 +29,8 @@ use Rattle.certified_epochs.specs.declared.fed_run.FedRun.{FedRun}
 use Rattle.certified_epochs.specs.Turn.{AreFed}
 use Rattle.host_rounds.specs.Round.{logs_with, pieces_of}
 use Rattle.host_rounds.specs.Feeding.{AllTake}
-use Rattle.host_rounds.specs.SoFar.{RunsSoFar, HaveRun, HaveRunSome, lines_counted, lines_due}
+use Rattle.load_summary.specs.Counting.{Counted, counted_of}
+use Rattle.host_rounds.specs.SoFar.{RunsSoFar, HaveRun, HaveRunSome, AllCounted, lines_counted, lines_due, operations_counted, operations_due, epochs_due}
 use Rattle.host_rounds.proofs.BundleLemmas.{round-joined}
 
 -- ---- results, and what was lent
@@ -194,7 +196,7 @@ module _ (functions : DigestFunctions) (header : Header) (logs : List (List ℕ)
   }
 
   -- the lines that are counted stay
-  pub lines-stay : (tell : EpochText) (round : List (List ℕ)) (now : RunsSoFar) → now.judged ≡ so_far.judged
+  pub lines-stay : {A : Type 0} (tell : EpochTold A) (round : List (List ℕ)) (now : RunsSoFar) → now.judged ≡ so_far.judged
       → lines_counted tell functions header (logs_with logs round) now ≡ lines_counted tell functions header logs so_far
   lines-stay tell round now same =
       ap (λ (j : Judged). lines_from tell (courses_of own_scheme header (logs_with logs round)) header.first j.count) same
@@ -207,7 +209,7 @@ module _ (functions : DigestFunctions) (header : Header) (logs : List (List ℕ)
   courses = courses_of own_scheme header logs
 
   -- what was counted, and the lines behind it up to so many epochs
-  lines_to : (tell : EpochText) (count : ℕ) → so_far.judged.count ≤ count
+  lines_to : {A : Type 0} (tell : EpochTold A) (count : ℕ) → so_far.judged.count ≤ count
       → lines_counted tell functions header logs so_far ++ lines_from tell courses (header.first + so_far.judged.count) (count - so_far.judged.count)
       ≡ lines_from tell courses header.first count
   lines_to tell count within =
@@ -234,7 +236,7 @@ module _ (functions : DigestFunctions) (header : Header) (logs : List (List ℕ)
       few = subst (λ (bytes : ℕ). AllByRecursion (λ fed. weight fed.run ≤ bytes) now.runs) (sym same) (runs_weights functions header logs so_far now have taken);
     }
 
-    pub counted-due : (tell : EpochText) → now.judged ≡ judged header.verifiers courses → lines_counted tell functions header logs now ≡ lines_due tell functions header logs
+    pub counted-due : {A : Type 0} (tell : EpochTold A) → now.judged ≡ judged header.verifiers courses → lines_counted tell functions header logs now ≡ lines_due tell functions header logs
     counted-due tell all = lines-due tell own_scheme header logs now.judged (map (λ fed. fed.run) now.runs) taken all
 
     -- all that is due was written
@@ -246,6 +248,25 @@ module _ (functions : DigestFunctions) (header : Header) (logs : List (List ℕ)
         subst (Grows held after)
         (lines_to tell now.judged.count (omega (arith, within_all, ap (λ (j : Judged). j.count) all)) ∙ counted-due tell all)
         (Grows-then held before after _ _ written more)
+
+    -- all operations that are due were counted
+    pub all-operations : (workers : ℕ) (before after : Counted) → now.judged ≡ judged header.verifiers courses
+        → before ≡ counted_of workers (operations_counted functions header logs so_far)
+        → (before ≡ counted_of workers (operations_counted functions header logs so_far)
+        → after ≡ counted_of workers (operations_counted functions header logs so_far
+        ++ lines_from operations_told courses (header.first + so_far.judged.count) (now.judged.count - so_far.judged.count)))
+        → after ≡ counted_of workers (operations_due functions header logs)
+    all-operations workers before after all counted more =
+        more counted
+        ∙ ap (counted_of workers)
+        (lines_to operations_told now.judged.count (omega (arith, within_all, ap (λ (j : Judged). j.count) all)) ∙ counted-due operations_told all)
+
+-- so many epochs are certified where all that is certified is counted
+pub epochs-counted : (functions : DigestFunctions) (header : Header) (logs : List (List ℕ)) (so_far : RunsSoFar) → HaveRun functions header logs so_far
+    → AllCounted functions header logs so_far → so_far.judged.count ≡ epochs_due functions header logs
+epochs-counted functions header logs so_far have all =
+    ap (λ (j : Judged). j.count) all
+    ∙ judged-count (scheme_of functions header) header logs have.taken.header_good have.taken.whole
 
 -- ---- the runs before the first round
 

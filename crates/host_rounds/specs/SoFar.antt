@@ -1,7 +1,6 @@
 -- What the runs of the verifiers have come to over the rounds so far, and what is due by them.
 use Rattle.std.specs.Prelude.{◌≡◌, ℕ, ◌≤◌, List, map, Option, None}
 use Rattle.std.specs.List.{AllByRecursion}
-use Rattle.fv_outside.specs.Written.{Grows}
 use Rattle.lamport_clocks.specs.declared.header.Header.{Header}
 use Rattle.record_hash.specs.Functions.{DigestFunctions}
 use Rattle.merkle_records.specs.Scheme.{scheme_of}
@@ -10,7 +9,9 @@ use Rattle.record_text.specs.Format.{format_of}
 use Rattle.report_text.specs.declared.ending.BundleEnd.{BundleEnd}
 use Rattle.verifier_run.specs.Progress.{weight}
 use Rattle.bundle_report.specs.declared.judged.Judged.{Judged}
-use Rattle.bundle_report.specs.Report.{EpochText}
+use Rattle.record_text.specs.declared.operation.Operation.{Operation}
+use Rattle.soundness.specs.Certified.{certified_count}
+use Rattle.bundle_report.specs.Report.{EpochTold, operations_told}
 use Rattle.bundle_report.specs.BundleReport.{certified_lines, histories_at, end_of}
 use Rattle.bundle_report.specs.Judged.{judged}
 use Rattle.bundle_report.specs.RunReport.{courses_of}
@@ -44,13 +45,26 @@ pub record Keeps (functions : DigestFunctions) (header : Header) (logs : List (L
 abbrev pub AllCounted : DigestFunctions → Header → List (List ℕ) → RunsSoFar → Type 0
 AllCounted functions header logs so_far = so_far.judged ≡ judged header.verifiers (courses_of (scheme_of functions header) header logs)
 
--- the lines of the epochs that are counted
-abbrev pub lines_counted : EpochText → DigestFunctions → Header → List (List ℕ) → RunsSoFar → List ℕ
+-- the lines of the epochs that are counted, or what else is told of them
+abbrev pub lines_counted : {A : Type 0} → EpochTold A → DigestFunctions → Header → List (List ℕ) → RunsSoFar → List A
 lines_counted tell functions header logs so_far = lines_from tell (courses_of (scheme_of functions header) header logs) header.first so_far.judged.count
 
--- the lines of all epochs that logs certify
-abbrev pub lines_due : EpochText → DigestFunctions → Header → List (List ℕ) → List ℕ
+-- the operations of the epochs that are counted
+abbrev pub operations_counted : DigestFunctions → Header → List (List ℕ) → RunsSoFar → List Operation
+operations_counted functions header logs so_far = lines_counted operations_told functions header logs so_far
+
+-- the lines of all epochs that logs certify, or what else is told of them
+abbrev pub lines_due : {A : Type 0} → EpochTold A → DigestFunctions → Header → List (List ℕ) → List A
 lines_due tell functions header logs = certified_lines tell (scheme_of functions header) header (histories_at (scheme_of functions header) header logs)
+
+-- the operations of all epochs that logs certify
+abbrev pub operations_due : DigestFunctions → Header → List (List ℕ) → List Operation
+operations_due functions header logs = lines_due operations_told functions header logs
+
+-- how many epochs logs certify
+abbrev pub epochs_due : DigestFunctions → Header → List (List ℕ) → ℕ
+epochs_due functions header logs =
+    certified_count (scheme_of functions header) header.first (histories_at (scheme_of functions header) header logs)
 
 -- how the report of logs ends, with nothing bad in their bundle
 abbrev pub end_due : DigestFunctions → Header → List (List ℕ) → BundleEnd

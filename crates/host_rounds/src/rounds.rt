@@ -1,4 +1,4 @@
-//! The rounds of a host, from the header of the bundle to the last line of the report.
+//! The rounds of a host, from the header of the bundle to how its report ends.
 ghost use Rattle.std.specs.Prelude.{◌≡◌, ◌≢◌, ℕ, ◌≤◌, ◌<◌, ◌^◌, List, Option, length, OnOk, OnErr, IfOk, Err};
 ghost use Rattle.fv_outside.specs.Faults.{Rose};
 ghost use Rattle.fv_outside.specs.Written.{Grows, GrowsByFront};
@@ -10,11 +10,12 @@ ghost use Rattle.report_text.specs.Status.{last_line};
 ghost use Rattle.bundle_frames.specs.Bundle.{header_text};
 ghost use Rattle.bundle_report.specs.Logs.{empty_logs};
 ghost use Rattle.bundle_report.specs.Report.{EpochText};
+ghost use Rattle.load_summary.specs.Counting.{counted_of};
 ghost use Rattle.certified_epochs.specs.Telling.{text_by};
 ghost use Rattle.host_log.specs.Frames.{pieces_text};
 ghost use Rattle.host_rounds.specs.Round.{logs_with, pieces_of};
 ghost use Rattle.host_rounds.specs.Bundle.{HasFront};
-ghost use Rattle.host_rounds.specs.SoFar.{RunsSoFar, HaveRun, HaveRunSome, Keeps, AllCounted, lines_counted, lines_due, end_due};
+ghost use Rattle.host_rounds.specs.SoFar.{RunsSoFar, HaveRun, HaveRunSome, Keeps, AllCounted, lines_counted, lines_due, operations_counted, operations_due, epochs_due, end_due};
 
 use crate::feeding::feed_all;
 use crate::framing::write_round;
@@ -26,6 +27,7 @@ use certified_epochs::{Certifier, FedRun, Telling};
 use fv_outside::Sink;
 use host_log::LogBuffer;
 use lamport_clocks::Header;
+use load_summary::Summary;
 use record_hash::Digests;
 use report_text::{BundleEnd, Status, write_last};
 use std::alloc::Global;
@@ -89,13 +91,15 @@ impl Rounds {
         requires runs { HaveRunSome self.old }
 
         // Whatever logs were taken so far: these are taken behind them. Of epochs no more are counted yet, and their lines
-        // stay what they were.
+        // and operations stay what they were.
         ensures keeps { (header : Header) (before : List (List ℕ)) (held : Option (List ℕ))
             → Keeps (D.functions d.now) header before self.old held (V.held vault.old)
             → OnOk result (Keeps (D.functions d.now) header (logs_with before logs.now) self.new held (V.held vault.new)) }
         ensures counted { OnOk result (self.new.judged ≡ self.old.judged) }
         ensures lines { (tell : EpochText) (functions : DigestFunctions) (header : Header) (before : List (List ℕ)) → HaveRun functions header before self.old
             → OnOk result (lines_counted tell functions header (logs_with before logs.now) self.new ≡ lines_counted tell functions header before self.old) }
+        ensures operations { (functions : DigestFunctions) (header : Header) (before : List (List ℕ)) → HaveRun functions header before self.old
+            → OnOk result (operations_counted functions header (logs_with before logs.now) self.new ≡ operations_counted functions header before self.old) }
         ensures runs { OnOk result (length self.new.runs ≡ length self.old.runs) }
 
         // Where it stops, the vault has a front of their bundle; at want of memory that may be the whole. What it had before
@@ -117,10 +121,11 @@ impl Rounds {
         Ok(())
     }
 
-    /// Writes the lines of all epochs that the runs now certify and that are not written yet.
+    /// Writes the lines of all epochs that the runs now certify and that are not written yet, and counts their operations.
     pub fn certify<D: Digests, O: Sink>(
         &mut self,
         telling: &Telling<D>,
+        summary: &mut Summary,
         out: &mut O,
     ) -> Result<(), RoundStop>
         requires runs { HaveRunSome self.old }
@@ -135,6 +140,13 @@ impl Rounds {
             → OnOk result (Grows held (O.held out.new) (lines_due (text_by D.functions telling.now) functions header logs)) }
         ensures counted { (tell : EpochText) (functions : DigestFunctions) (header : Header) (logs : List (List ℕ)) → HaveRun functions header logs self.old
             → OnOk result (lines_counted tell functions header logs self.new ≡ lines_due tell functions header logs) }
+
+        // Of a summary in which the operations of the epochs that were counted are: all operations that are due are in it.
+        ensures summed { (functions : DigestFunctions) (header : Header) (logs : List (List ℕ)) (workers : ℕ) → HaveRun functions header logs self.old
+            → summary.old ≡ counted_of workers (operations_counted functions header logs self.old)
+            → OnOk result (summary.new ≡ counted_of workers (operations_due functions header logs)) }
+        ensures operations { (functions : DigestFunctions) (header : Header) (logs : List (List ℕ)) → HaveRun functions header logs self.old
+            → OnOk result (operations_counted functions header logs self.new ≡ operations_due functions header logs) }
         ensures len { length self.new.runs ≡ length self.old.runs }
 
         // Where it stops, by a front of them.
@@ -145,29 +157,33 @@ impl Rounds {
         ensures write_fault { result ≡ Err RoundStop.WriteFault → Rose (O.faults out.old) (O.faults out.new) }
         ensures never_falls { O.faults out.old ≤ O.faults out.new }
     {
-        self.certifier.certify(&mut self.runs, telling, out)?;
+        let runs = self.runs.as_mut_slice();
+        self.certifier.certify(runs, telling, summary, out)?;
         Ok(())
     }
 
-    /// Ends the logs, and writes the last line of the report. All that the runs certify is to be written before.
-    pub fn finish<O: Sink>(&mut self, out: &mut O) -> Result<BundleEnd, RoundStop>
+    /// How many epochs are certified.
+    pub fn certified(&self) -> u64
+        ensures count { result ≡ self.now.judged.count }
+        ensures all { (functions : DigestFunctions) (header : Header) (logs : List (List ℕ))
+            → HaveRun functions header logs self.now → AllCounted functions header logs self.now
+            → result ≡ epochs_due functions header logs }
+    {
+        self.certifier.judged().count as u64
+    }
+
+    /// Ends the logs, and answers how their report ends. All that the runs certify is to be certified before.
+    pub fn end(&mut self) -> BundleEnd
         requires runs { HaveRunSome self.old }
         ensures end { (functions : DigestFunctions) (header : Header) (logs : List (List ℕ))
             → HaveRun functions header logs self.old → AllCounted functions header logs self.old
-            → IfOk result (λ end. end ≡ end_due functions header logs) }
-        ensures line { IfOk result (λ end. Grows (O.held out.old) (O.held out.new) (last_line (status_of end))) }
-        ensures front { (functions : DigestFunctions) (header : Header) (logs : List (List ℕ))
-            → HaveRun functions header logs self.old → AllCounted functions header logs self.old
-            → OnErr result (GrowsByFront (O.held out.old) (O.held out.new) (last_line (status_of (end_due functions header logs)))) }
-        ensures stop { OnErr result (result ≡ Err RoundStop.WriteFault) }
-        ensures write_fault { OnErr result (Rose (O.faults out.old) (O.faults out.new)) }
-        ensures never_falls { O.faults out.old ≤ O.faults out.new }
+            → result ≡ end_due functions header logs }
     {
-        Ok(self.certifier.finish(&mut self.runs, None, out)?)
+        self.certifier.end(&mut self.runs, None)
     }
 }
 
-/// Writes the last line of a report that ends otherwise than its bundle says, as where a clock came to its end.
+/// Writes the last line of a report.
 pub fn write_end<O: Sink>(status: &Status, out: &mut O) -> Result<(), RoundStop>
     ensures line { OnOk result (Grows (O.held out.old) (O.held out.new) (last_line status.now)) }
     ensures front { OnErr result (GrowsByFront (O.held out.old) (O.held out.new) (last_line status.now)) }

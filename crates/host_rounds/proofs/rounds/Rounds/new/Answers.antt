@@ -1,4 +1,4 @@
-use Rattle.std.proofs.Common.{◌≡◌, ◌<◌, ℕ, List, map, sym, ◌∙◌, subst, ap, arith}
+use Rattle.std.proofs.Common.{◌<◌, List, map, sym, ◌∙◌, subst}
 use Rattle.record_text.specs.declared.operation.Operation.{Operation}
 use Rattle.merkle_records.specs.Scheme.{scheme_of}
 use Rattle.verifier_run.specs.Progress.{Progress}

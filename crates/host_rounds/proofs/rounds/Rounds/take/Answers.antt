@@ -1,9 +1,9 @@
-use Rattle.std.proofs.Common.{◌≡◌, ℕ, ◌≤◌, List, ◌++◌, length, sym, ◌∙◌, ap, subst, arith}
+use Rattle.std.proofs.Common.{◌≤◌, List, ◌++◌, length, sym, ◌∙◌, ap, subst, arith}
 use Rattle.std.specs.List.{AllByRecursion}
 use Rattle.std.proofs.lemmas.Result.{err_from_is_err_and}
 use Rattle.fv_outside.proofs.WrittenLaws.{Grows-then, GrowsByFront-whole, GrowsByFront-then}
 use Rattle.verifier_run.specs.Progress.{weight}
-use Rattle.bundle_report.specs.declared.judged.Judged.{Judged}
+use Rattle.bundle_report.specs.Report.{operations_told}
 use Rattle.certified_epochs.specs.declared.fed_run.FedRun.{FedRun}
 use Rattle.host_log.specs.Frames.{pieces_text}
 use Rattle.host_rounds.specs.Round.{logs_with, pieces_of}
@@ -93,3 +93,8 @@ pub returns-clause-lines : goal.returns-clause-lines
 returns-clause-lines g c = λ tell functions header before have.
     let now : RunsSoFar = record { judged = c.self.inside.certifier; runs = c.feed_all.new.runs; bytes = c.feed_all.new.bytes } in
     lines-stay functions header before c.args.self.now have tell c.args.logs.now now (ap (λ (s : RunsSoFar). s.judged) c.self.view_is)
+
+pub returns-clause-operations : goal.returns-clause-operations
+returns-clause-operations g c = λ functions header before have.
+    let now : RunsSoFar = record { judged = c.self.inside.certifier; runs = c.feed_all.new.runs; bytes = c.feed_all.new.bytes } in
+    lines-stay functions header before c.args.self.now have operations_told c.args.logs.now now (ap (λ (s : RunsSoFar). s.judged) c.self.view_is)
