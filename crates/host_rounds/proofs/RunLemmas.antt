@@ -21,7 +21,6 @@ use Rattle.bundle_report.specs.Report.{EpochText, EpochTold, operations_told}
 use Rattle.bundle_report.specs.RunReport.{courses_of}
 use Rattle.bundle_report.specs.Judged.{judged}
 use Rattle.bundle_report.specs.SoFar.{lines_from, left_from, opening_runs, runs_from, took, runs_behind, HaveTaken}
-use Rattle.bundle_report.proofs.CertifyLaws.{judged-count}
 use Rattle.bundle_report.proofs.LinesLaws.{lines-behind}
 use Rattle.bundle_report.proofs.SoFarLaws.{taken-more, lines-taken, counted-within}
 use Rattle.bundle_report.proofs.DueLaws.{lines-certified, lines-due}
@@ -30,7 +29,7 @@ use Rattle.certified_epochs.specs.Turn.{AreFed}
 use Rattle.host_rounds.specs.Round.{logs_with, pieces_of}
 use Rattle.host_rounds.specs.Feeding.{AllTake}
 use Rattle.load_summary.specs.Counting.{Counted, counted_of}
-use Rattle.host_rounds.specs.SoFar.{RunsSoFar, HaveRun, HaveRunSome, AllCounted, lines_counted, lines_due, operations_counted, operations_due, epochs_due}
+use Rattle.host_rounds.specs.SoFar.{RunsSoFar, HaveRun, HaveRunSome, lines_counted, lines_due, operations_counted}
 use Rattle.host_rounds.proofs.BundleLemmas.{round-joined}
 
 -- ---- results, and what was lent
@@ -181,20 +180,6 @@ module _ (functions : DigestFunctions) (header : Header) (logs : List (List ℕ)
   abbrev own_scheme : Scheme
   own_scheme = scheme_of functions header
 
-  -- the runs took a round
-  pub round-run : (round : List (List ℕ)) (news : List FedRun) (bytes : ℕ) → AllTake functions round so_far.runs news
-      → AllByRecursion (λ fed. weight fed.run ≤ bytes) news
-      → HaveRun functions header (logs_with logs round) (record { judged = so_far.judged; runs = news; bytes = bytes })
-  round-run round news bytes takes few = record {
-    fed = all_fed functions round so_far.runs news takes;
-    taken =
-        subst (λ (all : List (List ℕ)). HaveTaken own_scheme header all so_far.judged (map (λ fed. fed.run) news)) (round-joined 0 logs round)
-        (subst (HaveTaken own_scheme header (joined_from 0 logs (pieces_of 0 round)) so_far.judged)
-        (sym (runs-took functions header 0 round so_far.runs news (runs_headers functions header logs so_far have) takes))
-        (taken-more own_scheme header logs so_far.judged (map (λ fed. fed.run) so_far.runs) (pieces_of 0 round) have.taken));
-    few = few;
-  }
-
   -- the lines that are counted stay
   pub lines-stay : {A : Type 0} (tell : EpochTold A) (round : List (List ℕ)) (now : RunsSoFar) → now.judged ≡ so_far.judged
       → lines_counted tell functions header (logs_with logs round) now ≡ lines_counted tell functions header logs so_far
@@ -202,6 +187,24 @@ module _ (functions : DigestFunctions) (header : Header) (logs : List (List ℕ)
       ap (λ (j : Judged). lines_from tell (courses_of own_scheme header (logs_with logs round)) header.first j.count) same
       ∙ ap (λ (all : List (List ℕ)). lines_from tell (courses_of own_scheme header all) header.first so_far.judged.count) (sym (round-joined 0 logs round))
       ∙ lines-taken tell own_scheme header logs so_far.judged (map (λ fed. fed.run) so_far.runs) (pieces_of 0 round) have.taken
+
+  -- the runs took a round
+  pub round-run : (round : List (List ℕ)) (news : List FedRun) (bytes : ℕ) (summary : Counted) → summary ≡ so_far.summary → AllTake functions round so_far.runs news
+      → AllByRecursion (λ fed. weight fed.run ≤ bytes) news
+      → HaveRun functions header (logs_with logs round) (record { judged = so_far.judged; runs = news; bytes = bytes; summary = summary })
+  round-run round news bytes summary same takes few = record {
+    fed = all_fed functions round so_far.runs news takes;
+    taken =
+        subst (λ (all : List (List ℕ)). HaveTaken own_scheme header all so_far.judged (map (λ fed. fed.run) news)) (round-joined 0 logs round)
+        (subst (HaveTaken own_scheme header (joined_from 0 logs (pieces_of 0 round)) so_far.judged)
+        (sym (runs-took functions header 0 round so_far.runs news (runs_headers functions header logs so_far have) takes))
+        (taken-more own_scheme header logs so_far.judged (map (λ fed. fed.run) so_far.runs) (pieces_of 0 round) have.taken));
+    few = few;
+    summed =
+        same ∙ have.summed
+        ∙ ap (counted_of header.verifiers)
+        (sym (lines-stay operations_told round (record { judged = so_far.judged; runs = news; bytes = bytes; summary = summary }) refl));
+  }
 
   -- ---- certifying
 
@@ -229,11 +232,17 @@ module _ (functions : DigestFunctions) (header : Header) (logs : List (List ℕ)
       (GrowsByFront-then held before after _ _ written front)
 
   module _ (now : RunsSoFar) (taken : HaveTaken own_scheme header logs now.judged (map (λ fed. fed.run) now.runs)) where
-    pub certified-run : AreFed now.runs → now.bytes ≡ so_far.bytes → HaveRun functions header logs now
-    certified-run fine same = record {
+    pub certified-run : AreFed now.runs → now.bytes ≡ so_far.bytes → now.judged ≡ judged header.verifiers courses
+        → ((workers : ℕ) (before : List Operation) → so_far.summary ≡ counted_of workers before
+        → now.summary ≡ counted_of workers (before ++ lines_from operations_told courses (header.first + so_far.judged.count) (now.judged.count - so_far.judged.count)))
+        → HaveRun functions header logs now
+    certified-run fine same all counted = record {
       fed = fine;
       taken = taken;
       few = subst (λ (bytes : ℕ). AllByRecursion (λ fed. weight fed.run ≤ bytes) now.runs) (sym same) (runs_weights functions header logs so_far now have taken);
+      summed =
+          counted header.verifiers (operations_counted functions header logs so_far) have.summed
+          ∙ ap (counted_of header.verifiers) (lines_to operations_told now.judged.count (omega (arith, within_all, ap (λ (j : Judged). j.count) all)));
     }
 
     pub counted-due : {A : Type 0} (tell : EpochTold A) → now.judged ≡ judged header.verifiers courses → lines_counted tell functions header logs now ≡ lines_due tell functions header logs
@@ -248,25 +257,6 @@ module _ (functions : DigestFunctions) (header : Header) (logs : List (List ℕ)
         subst (Grows held after)
         (lines_to tell now.judged.count (omega (arith, within_all, ap (λ (j : Judged). j.count) all)) ∙ counted-due tell all)
         (Grows-then held before after _ _ written more)
-
-    -- all operations that are due were counted
-    pub all-operations : (workers : ℕ) (before after : Counted) → now.judged ≡ judged header.verifiers courses
-        → before ≡ counted_of workers (operations_counted functions header logs so_far)
-        → (before ≡ counted_of workers (operations_counted functions header logs so_far)
-        → after ≡ counted_of workers (operations_counted functions header logs so_far
-        ++ lines_from operations_told courses (header.first + so_far.judged.count) (now.judged.count - so_far.judged.count)))
-        → after ≡ counted_of workers (operations_due functions header logs)
-    all-operations workers before after all counted more =
-        more counted
-        ∙ ap (counted_of workers)
-        (lines_to operations_told now.judged.count (omega (arith, within_all, ap (λ (j : Judged). j.count) all)) ∙ counted-due operations_told all)
-
--- so many epochs are certified where all that is certified is counted
-pub epochs-counted : (functions : DigestFunctions) (header : Header) (logs : List (List ℕ)) (so_far : RunsSoFar) → HaveRun functions header logs so_far
-    → AllCounted functions header logs so_far → so_far.judged.count ≡ epochs_due functions header logs
-epochs-counted functions header logs so_far have all =
-    ap (λ (j : Judged). j.count) all
-    ∙ judged-count (scheme_of functions header) header logs have.taken.header_good have.taken.whole
 
 -- ---- the runs before the first round
 

@@ -10,12 +10,12 @@ ghost use Rattle.report_text.specs.Status.{last_line};
 ghost use Rattle.bundle_frames.specs.Bundle.{header_text};
 ghost use Rattle.bundle_report.specs.Logs.{empty_logs};
 ghost use Rattle.bundle_report.specs.Report.{EpochText};
-ghost use Rattle.load_summary.specs.Counting.{counted_of};
+ghost use Rattle.load_summary.specs.Summary.{summary_with_end};
 ghost use Rattle.certified_epochs.specs.Telling.{text_by};
 ghost use Rattle.host_log.specs.Frames.{pieces_text};
 ghost use Rattle.host_rounds.specs.Round.{logs_with, pieces_of};
 ghost use Rattle.host_rounds.specs.Bundle.{HasFront};
-ghost use Rattle.host_rounds.specs.SoFar.{RunsSoFar, HaveRun, HaveRunSome, Keeps, AllCounted, lines_counted, lines_due, operations_counted, operations_due, epochs_due, end_due};
+ghost use Rattle.host_rounds.specs.SoFar.{RunsSoFar, HaveRun, HaveRunSome, Keeps, AllCounted, lines_counted, lines_due, end_due};
 
 use crate::feeding::feed_all;
 use crate::framing::write_round;
@@ -34,7 +34,8 @@ use std::alloc::Global;
 use std::marker::Model;
 
 /// What the verifiers' runs have come to over the rounds so far. The vault that has the bundle, and the sink of the
-/// report, are handed in at each call; both only grow. Contracts see what is judged, the runs, and how many bytes were fed.
+/// report, are handed in at each call; both only grow. Contracts see what is judged, the runs, how many bytes were fed, and
+/// what was counted of each worker.
 ///
 /// After an error it is of no more use.
 #[derive(Drop)]
@@ -42,6 +43,7 @@ pub struct Rounds {
     runs: Vec<FedRun>,
     certifier: Certifier,
     bytes: u64,
+    summary: Summary,
 }
 
 impl Model for Rounds {
@@ -49,7 +51,7 @@ impl Model for Rounds {
 
     ghost Value = { RunsSoFar };
 
-    ghost view = { λ r. record { judged = r.certifier; runs = r.runs.items; bytes = r.bytes } };
+    ghost view = { λ r. record { judged = r.certifier; runs = r.runs.items; bytes = r.bytes; summary = r.summary } };
 }
 
 impl Rounds {
@@ -69,6 +71,7 @@ impl Rounds {
         rounds_make_a_bundle();
         fits_32_bits(header.first);
         let runs = open_runs(alloc, header)?;
+        let summary = Summary::new(alloc, header.verifiers)?;
         if write_header(header, vault).is_err() {
             return Err(RoundStop::VaultFault);
         }
@@ -76,6 +79,7 @@ impl Rounds {
             runs,
             certifier: Certifier::new(alloc),
             bytes: 0,
+            summary,
         })
     }
 
@@ -91,15 +95,13 @@ impl Rounds {
         requires runs { HaveRunSome self.old }
 
         // Whatever logs were taken so far: these are taken behind them. Of epochs no more are counted yet, and their lines
-        // and operations stay what they were.
+        // stay what they were.
         ensures keeps { (header : Header) (before : List (List ℕ)) (held : Option (List ℕ))
             → Keeps (D.functions d.now) header before self.old held (V.held vault.old)
             → OnOk result (Keeps (D.functions d.now) header (logs_with before logs.now) self.new held (V.held vault.new)) }
         ensures counted { OnOk result (self.new.judged ≡ self.old.judged) }
         ensures lines { (tell : EpochText) (functions : DigestFunctions) (header : Header) (before : List (List ℕ)) → HaveRun functions header before self.old
             → OnOk result (lines_counted tell functions header (logs_with before logs.now) self.new ≡ lines_counted tell functions header before self.old) }
-        ensures operations { (functions : DigestFunctions) (header : Header) (before : List (List ℕ)) → HaveRun functions header before self.old
-            → OnOk result (operations_counted functions header (logs_with before logs.now) self.new ≡ operations_counted functions header before self.old) }
         ensures runs { OnOk result (length self.new.runs ≡ length self.old.runs) }
 
         // Where it stops, the vault has a front of their bundle; at want of memory that may be the whole. What it had before
@@ -121,11 +123,11 @@ impl Rounds {
         Ok(())
     }
 
-    /// Writes the lines of all epochs that the runs now certify and that are not written yet, and counts their operations.
+    /// Writes the lines of all epochs that the runs now certify and that are not written yet, and counts of each worker what it
+    /// did in them.
     pub fn certify<D: Digests, O: Sink>(
         &mut self,
         telling: &Telling<D>,
-        summary: &mut Summary,
         out: &mut O,
     ) -> Result<(), RoundStop>
         requires runs { HaveRunSome self.old }
@@ -140,13 +142,6 @@ impl Rounds {
             → OnOk result (Grows held (O.held out.new) (lines_due (text_by D.functions telling.now) functions header logs)) }
         ensures counted { (tell : EpochText) (functions : DigestFunctions) (header : Header) (logs : List (List ℕ)) → HaveRun functions header logs self.old
             → OnOk result (lines_counted tell functions header logs self.new ≡ lines_due tell functions header logs) }
-
-        // Of a summary in which the operations of the epochs that were counted are: all operations that are due are in it.
-        ensures summed { (functions : DigestFunctions) (header : Header) (logs : List (List ℕ)) (workers : ℕ) → HaveRun functions header logs self.old
-            → summary.old ≡ counted_of workers (operations_counted functions header logs self.old)
-            → OnOk result (summary.new ≡ counted_of workers (operations_due functions header logs)) }
-        ensures operations { (functions : DigestFunctions) (header : Header) (logs : List (List ℕ)) → HaveRun functions header logs self.old
-            → OnOk result (operations_counted functions header logs self.new ≡ operations_due functions header logs) }
         ensures len { length self.new.runs ≡ length self.old.runs }
 
         // Where it stops, by a front of them.
@@ -158,18 +153,9 @@ impl Rounds {
         ensures never_falls { O.faults out.old ≤ O.faults out.new }
     {
         let runs = self.runs.as_mut_slice();
+        let summary = &mut self.summary;
         self.certifier.certify(runs, telling, summary, out)?;
         Ok(())
-    }
-
-    /// How many epochs are certified.
-    pub fn certified(&self) -> u64
-        ensures count { result ≡ self.now.judged.count }
-        ensures all { (functions : DigestFunctions) (header : Header) (logs : List (List ℕ))
-            → HaveRun functions header logs self.now → AllCounted functions header logs self.now
-            → result ≡ epochs_due functions header logs }
-    {
-        self.certifier.judged().count as u64
     }
 
     /// Ends the logs, and answers how their report ends. All that the runs certify is to be certified before.
@@ -178,8 +164,32 @@ impl Rounds {
         ensures end { (functions : DigestFunctions) (header : Header) (logs : List (List ℕ))
             → HaveRun functions header logs self.old → AllCounted functions header logs self.old
             → result ≡ end_due functions header logs }
+        ensures judged { self.new.judged ≡ self.old.judged }
+        ensures summary { self.new.summary ≡ self.old.summary }
     {
         self.certifier.end(&mut self.runs, None)
+    }
+
+    /// Writes the summary of a load that was made of a seed, with so many operations asked for, and which ended so: how many
+    /// epochs are certified, and what each worker did in them. On `Err` the sink holds a front of it.
+    pub fn write_summary<O: Sink>(
+        &self,
+        seed: u64,
+        ops: u32,
+        end: &Status,
+        out: &mut O,
+    ) -> Result<(), RoundStop>
+        ensures whole { OnOk result (Grows (O.held out.old) (O.held out.new) (summary_with_end seed ops self.now.judged.count self.now.summary.tallies end.now)) }
+        ensures front { OnErr result (GrowsByFront (O.held out.old) (O.held out.new) (summary_with_end seed ops self.now.judged.count self.now.summary.tallies end.now)) }
+        ensures stop { OnErr result (result ≡ Err RoundStop.WriteFault) }
+        ensures write_fault { OnErr result (Rose (O.faults out.old) (O.faults out.new)) }
+        ensures never_falls { O.faults out.old ≤ O.faults out.new }
+    {
+        let epochs = self.certifier.judged().count as u64;
+        match self.summary.write(seed, ops, epochs, end, out) {
+            Ok(()) => Ok(()),
+            Err(_) => Err(RoundStop::WriteFault),
+        }
     }
 }
 
