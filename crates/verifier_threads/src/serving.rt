@@ -85,8 +85,8 @@ fn serve_world<D: Digests, V: Sink, O: Sink, G: Gate>(
     runner.finish(out)
 }
 
-// Serves phase after phase, and closes each, until a clock ends or the script does.
-fn serve_phases<D: Digests, V: Sink, O: Sink, G: Gate>(
+/// Serves phase after phase, and closes each, until a clock ends or the script does.
+pub(crate) fn serve_phases<D: Digests, V: Sink, O: Sink, G: Gate>(
     runner: &mut Runner<'_, D>,
     receipts: bool,
     gate: &G,
@@ -150,8 +150,8 @@ fn serve_nothing<V: Sink, O: Sink>(
     Ok(ended)
 }
 
-// A script has a phase. It does nothing, and its contract is the fact.
-fn has_a_phase(requests: &Requests)
+/// A script has a phase. It does nothing, and its contract is the fact.
+pub(crate) fn has_a_phase(requests: &Requests)
     ensures some { 0 < length requests.now }
 {
     let _count = requests.len();
