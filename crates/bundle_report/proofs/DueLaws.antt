@@ -15,7 +15,7 @@ use Rattle.verifier_run.specs.Progress.{Progress, opening_progress}
 use Rattle.verifier_run.proofs.RunLaws.{fed_nothing}
 use Rattle.bundle_report.specs.declared.judged.Judged.{Judged}
 use Rattle.bundle_report.specs.Logs.{empty_logs, joined_from}
-use Rattle.bundle_report.specs.Report.{EpochText}
+use Rattle.bundle_report.specs.Report.{EpochTold}
 use Rattle.bundle_report.specs.BundleReport.{certified_lines, histories_at}
 use Rattle.bundle_report.specs.RunReport.{courses_of, parts_at}
 use Rattle.bundle_report.specs.Judged.{none_judged, judged_by, judged_from, judged}
@@ -28,7 +28,7 @@ use Rattle.bundle_report.proofs.SoFarLaws.{taken-more, lines-taken, counted-with
 -- ---- the lines that are due
 
 -- The lines of all epochs that runs tell to be certified are those of the report.
-pub lines-certified : (tell : EpochText) (scheme : Scheme) (header : Header) (logs : List (List ℕ)) → IsHeader header → length logs ≡ header.verifiers
+pub lines-certified : {A : Type 0} (tell : EpochTold A) (scheme : Scheme) (header : Header) (logs : List (List ℕ)) → IsHeader header → length logs ≡ header.verifiers
     → lines_from tell (courses_of scheme header logs) header.first (judged header.verifiers (courses_of scheme header logs)).count
     ≡ certified_lines tell scheme header (histories_at scheme header logs)
 lines-certified tell scheme header logs good whole =
@@ -37,7 +37,7 @@ lines-certified tell scheme header logs good whole =
     ∙ lines-are scheme header logs tell _
 
 -- Where all that is certified is counted, the lines of what is counted are due.
-pub lines-due : (tell : EpochText) (scheme : Scheme) (header : Header) (logs : List (List ℕ)) (so_far : Judged) (runs : List (Progress Operation))
+pub lines-due : {A : Type 0} (tell : EpochTold A) (scheme : Scheme) (header : Header) (logs : List (List ℕ)) (so_far : Judged) (runs : List (Progress Operation))
     → HaveTaken scheme header logs so_far runs → so_far ≡ judged header.verifiers (courses_of scheme header logs)
     → lines_from tell (courses_of scheme header logs) header.first so_far.count ≡ certified_lines tell scheme header (histories_at scheme header logs)
 lines-due tell scheme header logs so_far runs taken all =
@@ -45,18 +45,18 @@ lines-due tell scheme header logs so_far runs taken all =
     ∙ lines-certified tell scheme header logs taken.header_good taken.whole
 
 -- The lines of what is counted are a front of those that are due once the logs go on with frames.
-pub lines-front : (tell : EpochText) (scheme : Scheme) (header : Header) (logs : List (List ℕ)) (so_far : Judged) (runs : List (Progress Operation)) (frames : List Frame)
+pub lines-front : {A : Type 0} (tell : EpochTold A) (scheme : Scheme) (header : Header) (logs : List (List ℕ)) (so_far : Judged) (runs : List (Progress Operation)) (frames : List Frame)
     → HaveTaken scheme header logs so_far runs
-    → (more : List ℕ) × (lines_from tell (courses_of scheme header logs) header.first so_far.count ++ more
+    → (more : List A) × (lines_from tell (courses_of scheme header logs) header.first so_far.count ++ more
     ≡ certified_lines tell scheme header (histories_at scheme header (joined_from 0 logs frames)))
-lines-front tell scheme header logs so_far runs frames taken =
+lines-front {A} tell scheme header logs so_far runs frames taken =
     let later = taken-more scheme header logs so_far runs frames taken in
     let all = courses_of scheme header (joined_from 0 logs frames) in
     let count = (judged header.verifiers all).count in
     let within = counted-within scheme header (joined_from 0 logs frames) so_far (runs_behind scheme 0 runs frames) later in
     let sum : so_far.count + (count - so_far.count) ≡ count = omega (arith, within) in (
       lines_from tell all (header.first + so_far.count) (count - so_far.count),
-      ap (λ (t : List ℕ). t ++ lines_from tell all (header.first + so_far.count) (count - so_far.count))
+      ap (λ (t : List A). t ++ lines_from tell all (header.first + so_far.count) (count - so_far.count))
           (sym (lines-taken tell scheme header logs so_far runs frames taken))
           ∙ sym (lines-behind tell all header.first so_far.count (count - so_far.count))
           ∙ ap (lines_from tell all header.first) sum
@@ -118,15 +118,15 @@ taken_whole scheme header (log ∷ logs) good whole =
     }
 
 -- The lines that are due stay, and more may come behind them, where the logs go on with frames.
-pub due-stays : (tell : EpochText) (scheme : Scheme) (header : Header) (logs : List (List ℕ)) (frames : List Frame) → IsHeader header → length logs ≡ header.verifiers
-    → (more : List ℕ) × (certified_lines tell scheme header (histories_at scheme header logs) ++ more
+pub due-stays : {A : Type 0} (tell : EpochTold A) (scheme : Scheme) (header : Header) (logs : List (List ℕ)) (frames : List Frame) → IsHeader header → length logs ≡ header.verifiers
+    → (more : List A) × (certified_lines tell scheme header (histories_at scheme header logs) ++ more
     ≡ certified_lines tell scheme header (histories_at scheme header (joined_from 0 logs frames)))
-due-stays tell scheme header logs frames good whole =
+due-stays {A} tell scheme header logs frames good whole =
     let count = (judged header.verifiers (courses_of scheme header logs)).count in
     let front = lines-front tell scheme header logs (record { count = count; unbalanced = None }) (runs_from scheme header count 0 logs) frames
     (taken_whole scheme header logs good whole) in (
       front.0,
-      ap (λ (t : List ℕ). t ++ front.0) (sym (lines-certified tell scheme header logs good whole)) ∙ front.1,
+      ap (λ (t : List A). t ++ front.0) (sym (lines-certified tell scheme header logs good whole)) ∙ front.1,
     )
 
 -- ---- before the first byte

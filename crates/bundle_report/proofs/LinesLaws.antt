@@ -12,7 +12,7 @@ use Rattle.stamp_order.proofs.MergedLaws.{merged-filter, merged-flat_map}
 use Rattle.verifier_run.specs.Course.{Course}
 use Rattle.soundness.specs.History.{Event}
 use Rattle.soundness.specs.Certified.{event_moment, all_events, order_of, order_within, operations_by, operations_in, operations_of, epochs_from}
-use Rattle.bundle_report.specs.Report.{EpochText}
+use Rattle.bundle_report.specs.Report.{EpochTold, no_text}
 use Rattle.bundle_report.specs.BundleReport.{epoch_lines, histories_in}
 use Rattle.bundle_report.specs.RunReport.{courses_of, operations_among}
 use Rattle.bundle_report.specs.SoFar.{epoch_operations, lines_told, lines_from}
@@ -41,19 +41,19 @@ module _ (scheme : Scheme) (header : Header) (logs : List (List ℕ)) where
       ∙ ap (operations_of epoch) all_operations
       ∙ merged-filter moment_of (λ (op : Operation). op.stamp.epoch == epoch) (operations_among courses)
 
-  lines_are : (tell : EpochText) (count epoch many : ℕ) → header.first ≤ epoch → epoch + many ≤ header.first + count
+  lines_are : {A : Type 0} (tell : EpochTold A) (count epoch many : ℕ) → header.first ≤ epoch → epoch + many ≤ header.first + count
       → lines_from tell courses epoch many
       ≡ flat_map (epoch_lines tell (operations_in (order_within header.first count histories))) (epochs_from epoch many)
   lines_are tell count epoch zero above within = refl
-  lines_are tell count epoch (suc many) above within =
+  lines_are {A} tell count epoch (suc many) above within =
       let ops = operations_in (order_within header.first count histories) in
       ap (λ (own : List Operation). tell epoch own ++ lines_from tell courses (suc epoch) many)
       (sym (epoch_is count epoch above (omega (arith, within))))
-      ∙ ap (λ (text : List ℕ). epoch_lines tell ops epoch ++ text)
+      ∙ ap (λ (text : List A). epoch_lines tell ops epoch ++ text)
       (lines_are tell count (suc epoch) many (omega (arith, above)) (omega (arith, within)))
 
   -- The lines of so many epochs are those of the operations of the merged order within them.
-  pub lines-are : (tell : EpochText) (count : ℕ)
+  pub lines-are : {A : Type 0} (tell : EpochTold A) (count : ℕ)
       → lines_from tell courses header.first count
       ≡ flat_map (epoch_lines tell (operations_in (order_within header.first count histories))) (epochs_from header.first count)
   lines-are tell count = lines_are tell count header.first count (omega arith) (omega arith)
@@ -69,24 +69,29 @@ epochs-more epoch (suc count) =
     ap (λ (es : List ℕ). epoch ∷ es) (epochs-more (suc epoch) count ∙ ap (λ (e : ℕ). epochs_from (suc epoch) count ++ e ∷ []) same)
 
 -- the lines of one epoch more
-pub lines-more : (tell : EpochText) (courses : List (Course Operation)) (epoch count : ℕ)
+pub lines-more : {A : Type 0} (tell : EpochTold A) (courses : List (Course Operation)) (epoch count : ℕ)
     → lines_from tell courses epoch (suc count) ≡ lines_from tell courses epoch count ++ lines_told tell courses (epoch + count)
-lines-more tell courses epoch count =
+lines-more {A} tell courses epoch count =
     ap (flat_map (lines_told tell courses)) (epochs-more epoch count)
     ∙ flat_map-append (lines_told tell courses) (epochs_from epoch count) ((epoch + count) ∷ [])
-    ∙ ap (λ (text : List ℕ). lines_from tell courses epoch count ++ text) (append-nil (lines_told tell courses (epoch + count)))
+    ∙ ap (λ (text : List A). lines_from tell courses epoch count ++ text) (append-nil (lines_told tell courses (epoch + count)))
 
 -- the lines of so many epochs, and then of those behind them
-pub lines-behind : (tell : EpochText) (courses : List (Course Operation)) (epoch count more : ℕ)
+pub lines-behind : {A : Type 0} (tell : EpochTold A) (courses : List (Course Operation)) (epoch count more : ℕ)
     → lines_from tell courses epoch (count + more) ≡ lines_from tell courses epoch count ++ lines_from tell courses (epoch + count) more
 lines-behind tell courses epoch zero more =
     let count : 0 + more ≡ more = omega arith in
     let same : epoch ≡ epoch + 0 = omega arith in
     ap (lines_from tell courses epoch) count ∙ ap (λ (e : ℕ). lines_from tell courses e more) same
-lines-behind tell courses epoch (suc count) more =
+lines-behind {A} tell courses epoch (suc count) more =
     let sum : suc count + more ≡ suc (count + more) = omega arith in
     let same : suc epoch + count ≡ epoch + suc count = omega arith in
     ap (lines_from tell courses epoch) sum
-    ∙ ap (λ (text : List ℕ). lines_told tell courses epoch ++ text) (lines-behind tell courses (suc epoch) count more)
+    ∙ ap (λ (text : List A). lines_told tell courses epoch ++ text) (lines-behind tell courses (suc epoch) count more)
     ∙ sym (append_assoc (lines_told tell courses epoch) (lines_from tell courses (suc epoch) count) (lines_from tell courses (suc epoch + count) more))
     ∙ ap (λ (e : ℕ). lines_from tell courses epoch (suc count) ++ lines_from tell courses e more) same
+
+-- Where nothing is written of an epoch there are no lines.
+pub lines-none : (courses : List (Course Operation)) (epoch count : ℕ) → lines_from no_text courses epoch count ≡ []
+lines-none courses epoch zero = refl
+lines-none courses epoch (suc count) = lines-none courses (suc epoch) count

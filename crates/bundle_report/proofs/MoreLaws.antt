@@ -21,7 +21,7 @@ use Rattle.verifier_run.proofs.RunLaws.{fed_joined, fed_goes_on, fed_left, clock
 use Rattle.soundness.specs.History.{log_events}
 use Rattle.soundness.specs.Certified.{sealed_count, epochs_from}
 use Rattle.bundle_report.specs.Logs.{joined_from}
-use Rattle.bundle_report.specs.Report.{EpochText}
+use Rattle.bundle_report.specs.Report.{EpochTold}
 use Rattle.bundle_report.specs.RunReport.{courses_from, courses_of, parts_at, operations_among}
 use Rattle.bundle_report.specs.SoFar.{lines_told, lines_from, left_from, runs_from, took, runs_behind}
 use Rattle.bundle_report.proofs.PartLemmas.{part_of, log-parts}
@@ -199,18 +199,18 @@ module _ (scheme : Scheme) (header : Header) (frames : List Frame) where
       (runs-stay count (suc number) logs long.1)
 
   -- The lines of the epochs that all have sealed stay.
-  lines_stay : (tell : EpochText) (logs : List (List ℕ)) (count epoch many : ℕ) → AreLong scheme header (suc count) 0 logs
+  lines_stay : {A : Type 0} (tell : EpochTold A) (logs : List (List ℕ)) (count epoch many : ℕ) → AreLong scheme header (suc count) 0 logs
       → epoch + many ≤ header.first + suc count
       → lines_from tell (courses_of scheme header (joined_from 0 logs frames)) epoch many ≡ lines_from tell (courses_of scheme header logs) epoch many
   lines_stay tell logs count epoch zero long within = refl
-  lines_stay tell logs count epoch (suc many) long within =
+  lines_stay {A} tell logs count epoch (suc many) long within =
       let all = courses_of scheme header (joined_from 0 logs frames) in
       ap (λ (ops : List Operation). tell epoch (merged moment_of ops) ++ lines_from tell all (suc epoch) many)
       (operations-stay count epoch 0 logs long (omega (arith, within)))
-      ∙ ap (λ (text : List ℕ). lines_told tell (courses_of scheme header logs) epoch ++ text)
+      ∙ ap (λ (text : List A). lines_told tell (courses_of scheme header logs) epoch ++ text)
       (lines_stay tell logs count (suc epoch) many long (omega (arith, within)))
 
-  pub lines-stay : (tell : EpochText) (logs : List (List ℕ)) (count : ℕ) → AreLong scheme header count 0 logs
+  pub lines-stay : {A : Type 0} (tell : EpochTold A) (logs : List (List ℕ)) (count : ℕ) → AreLong scheme header count 0 logs
       → lines_from tell (courses_of scheme header (joined_from 0 logs frames)) header.first count
       ≡ lines_from tell (courses_of scheme header logs) header.first count
   lines-stay tell logs zero long = refl

@@ -20,7 +20,7 @@ use Rattle.verifier_run.specs.Order.{OneOfEach, clock_of, sealed_next}
 use Rattle.bundle_report.specs.declared.judged.Judged.{Judged}
 use Rattle.bundle_report.specs.declared.judged.Uneven.{Uneven}
 use Rattle.bundle_report.specs.RunReport.{courses_from, courses_of, parts_at}
-use Rattle.bundle_report.specs.Report.{EpochText}
+use Rattle.bundle_report.specs.Report.{EpochTold}
 use Rattle.bundle_report.specs.BundleReport.{end_of, histories_in}
 use Rattle.bundle_report.specs.Judged.{judged_by, judged_from, judged, first_parts, refused_log_by, refused_log, end_by}
 use Rattle.bundle_report.specs.SoFar.{lines_from, left_from, runs_from, runs_behind, runs_ended, verdict_at, IsUneven, HaveTaken}
@@ -248,7 +248,7 @@ taken-more scheme header logs so_far runs frames taken =
         (said.0, verdict-stays scheme header logs frames so_far.count long ∙ said.1)
 
 -- The lines of the epochs that are counted stay.
-pub lines-taken : (tell : EpochText) (scheme : Scheme) (header : Header) (logs : List (List ℕ)) (so_far : Judged) (runs : List (Progress Operation)) (frames : List Frame)
+pub lines-taken : {A : Type 0} (tell : EpochTold A) (scheme : Scheme) (header : Header) (logs : List (List ℕ)) (so_far : Judged) (runs : List (Progress Operation)) (frames : List Frame)
     → HaveTaken scheme header logs so_far runs
     → lines_from tell (courses_of scheme header (joined_from 0 logs frames)) header.first so_far.count
     ≡ lines_from tell (courses_of scheme header logs) header.first so_far.count

@@ -14,16 +14,16 @@ use Rattle.report_text.specs.Status.{last_line}
 use Rattle.report_text.specs.Ending.{status_of}
 use Rattle.soundness.specs.History.{Event, log_events, log_refusal, histories_of}
 use Rattle.soundness.specs.Certified.{order_of, operations_of, added_in, evicted_in, sum_over, sealed_by_all, epochs_from, certified_count, certified_operations}
-use Rattle.bundle_report.specs.Report.{EpochText}
+use Rattle.bundle_report.specs.Report.{EpochTold, EpochText}
 
--- ---- the lines
+-- ---- the lines, or what else is told of epochs
 
--- the lines of an epoch, by the operations of all epochs
-abbrev pub epoch_lines : EpochText → List Operation → ℕ → List ℕ
+-- those of an epoch, by the operations of all epochs
+abbrev pub epoch_lines : {A : Type 0} → EpochTold A → List Operation → ℕ → List A
 epoch_lines tell operations epoch = tell epoch (operations_of epoch operations)
 
--- the lines of all certified epochs
-abbrev pub certified_lines : EpochText → Scheme → Header → List (List Event) → List ℕ
+-- those of all certified epochs
+abbrev pub certified_lines : {A : Type 0} → EpochTold A → Scheme → Header → List (List Event) → List A
 certified_lines tell scheme header histories =
     flat_map (epoch_lines tell (certified_operations scheme header.first histories))
     (epochs_from header.first (certified_count scheme header.first histories))

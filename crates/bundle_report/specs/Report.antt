@@ -1,14 +1,18 @@
--- The lines of an epoch: without receipts, or with them.
-use Rattle.std.specs.Prelude.{ℕ, Bool, true, false, List, ◌++◌, length}
+-- What is told of an epoch: its lines without receipts, or with them; nothing; or its operations themselves.
+use Rattle.std.specs.Prelude.{ℕ, Bool, true, false, List, [], ◌++◌, length}
 use Rattle.std.specs.List.{flat_map}
 use Rattle.lamport_clocks.specs.declared.header.Header.{Header}
 use Rattle.record_hash.specs.Functions.{DigestFunctions}
 use Rattle.record_text.specs.declared.operation.Operation.{Operation}
 use Rattle.report_text.specs.Lines.{epoch_line, operation_line, receipt_line, certificate_line}
 
--- what is written of an epoch that has these operations
+-- what is told of an epoch that has these operations, in pieces of this kind
+abbrev pub EpochTold : Type 0 → Type 0
+EpochTold A = ℕ → List Operation → List A
+
+-- what is written of it: bytes
 abbrev pub EpochText : Type 0
-EpochText = ℕ → List Operation → List ℕ
+EpochText = EpochTold ℕ
 
 -- how many they are, and then each
 abbrev pub plain_text : EpochText
@@ -27,3 +31,11 @@ tagged_text functions first epoch ops =
 abbrev pub told_by : Bool → DigestFunctions → Header → EpochText
 told_by false functions header = plain_text
 told_by true functions header = tagged_text functions header.first
+
+-- nothing is written
+abbrev pub no_text : EpochText
+no_text epoch ops = []
+
+-- the operations themselves
+abbrev pub operations_told : EpochTold Operation
+operations_told epoch ops = ops

@@ -18,21 +18,21 @@ use Rattle.verifier_run.specs.Progress.{Progress, opening_progress, fed, ended}
 use Rattle.soundness.specs.Certified.{epochs_from}
 use Rattle.bundle_report.specs.declared.judged.Judged.{Judged}
 use Rattle.bundle_report.specs.declared.judged.Uneven.{Uneven}
-use Rattle.bundle_report.specs.Report.{EpochText}
+use Rattle.bundle_report.specs.Report.{EpochTold}
 use Rattle.bundle_report.specs.RunReport.{courses_of, parts_at, operations_among}
 
--- ---- the lines of an epoch
+-- ---- the lines of an epoch, or what else is told of it
 
 -- the operations of an epoch, of all courses, in the one order of their moments
 abbrev pub epoch_operations : ℕ → List (Course Operation) → List Operation
 epoch_operations epoch courses = merged moment_of (of_epoch moment_of epoch (operations_among courses))
 
 -- the lines of an epoch that has these
-abbrev pub lines_told : EpochText → List (Course Operation) → ℕ → List ℕ
+abbrev pub lines_told : {A : Type 0} → EpochTold A → List (Course Operation) → ℕ → List A
 lines_told tell courses epoch = tell epoch (epoch_operations epoch courses)
 
 -- the lines of so many epochs from this one on
-abbrev pub lines_from : EpochText → List (Course Operation) → ℕ → ℕ → List ℕ
+abbrev pub lines_from : {A : Type 0} → EpochTold A → List (Course Operation) → ℕ → ℕ → List A
 lines_from tell courses epoch count = flat_map (lines_told tell courses) (epochs_from epoch count)
 
 -- ---- runs

@@ -1,5 +1,5 @@
 -- Two texts on a page, one behind the other.
-use Rattle.std.proofs.Common.{◌≡◌, ℕ, List, ◌++◌, Option, ◌∙◌, ap, subst}
+use Rattle.std.proofs.Common.{◌≡◌, ℕ, List, ◌++◌, Option, ap, subst}
 use Rattle.fv_outside.specs.Written.{GrowsByFront}
 use Rattle.report_text.specs.Page.{Passes}
 use Rattle.report_text.proofs.PassLaws.{Passes-then, Passes-stop}

@@ -18,7 +18,7 @@ use Rattle.verifier_run.specs.Progress.{Progress}
 use Rattle.verifier_run.specs.Taken.{left_of}
 use Rattle.bundle_report.specs.declared.judged.Judged.{Judged}
 use Rattle.bundle_report.specs.declared.judged.Uneven.{Uneven}
-use Rattle.bundle_report.specs.Report.{EpochText}
+use Rattle.bundle_report.specs.Report.{EpochTold}
 use Rattle.bundle_report.specs.RunReport.{courses_of, parts_at, operations_among}
 use Rattle.bundle_report.specs.Judged.{judged, judged_by, CanBeJudged, first_parts, refused_log, end_by}
 use Rattle.log_codec.specs.Log.{read_log}
@@ -36,24 +36,24 @@ use Rattle.certified_epochs.specs.Turn.{courses_in, next_epoch, parts_left, Turn
 -- ---- what a turn tells
 
 -- the next epoch is certified: it is counted, and its lines are written
-pub record IsCertified (tell : EpochText) (scheme : Scheme) (header : Header) (logs : List (List ℕ)) (so_far : Judged) (turned : Turned) : Type 0 where
+pub record IsCertified {A : Type 0} (tell : EpochTold A) (scheme : Scheme) (header : Header) (logs : List (List ℕ)) (so_far : Judged) (turned : Turned A) : Type 0 where
   pub taken : HaveTaken scheme header logs turned.judged turned.runs
   pub count : turned.judged.count ≡ suc so_far.count
   pub even : turned.judged.unbalanced ≡ None
   pub text : turned.text ≡ lines_told tell (courses_of scheme header logs) (header.first + so_far.count)
 
 -- it isn't: all that is certified is counted
-pub record IsDone (scheme : Scheme) (header : Header) (logs : List (List ℕ)) (so_far : Judged) (turned : Turned) : Type 0 where
+pub record IsDone {A : Type 0} (scheme : Scheme) (header : Header) (logs : List (List ℕ)) (so_far : Judged) (turned : Turned A) : Type 0 where
   pub taken : HaveTaken scheme header logs turned.judged turned.runs
   pub count : turned.judged.count ≡ so_far.count
   pub all : turned.judged ≡ judged header.verifiers (courses_of scheme header logs)
   pub text : turned.text ≡ []
 
-abbrev pub TellsBy : EpochText → Bool → Scheme → Header → List (List ℕ) → Judged → Turned → Type 0
+abbrev pub TellsBy : {A : Type 0} → EpochTold A → Bool → Scheme → Header → List (List ℕ) → Judged → Turned A → Type 0
 TellsBy tell true scheme header logs so_far turned = IsCertified tell scheme header logs so_far turned
 TellsBy tell false scheme header logs so_far turned = IsDone scheme header logs so_far turned
 
-abbrev pub Tells : EpochText → Scheme → Header → List (List ℕ) → Judged → Turned → Type 0
+abbrev pub Tells : {A : Type 0} → EpochTold A → Scheme → Header → List (List ℕ) → Judged → Turned A → Type 0
 Tells tell scheme header logs so_far turned = TellsBy tell turned.more scheme header logs so_far turned
 
 module _ (scheme : Scheme) (header : Header) (log : List ℕ) (logs : List (List ℕ)) (so_far : Judged) (runs : List (Progress Operation))
@@ -85,13 +85,13 @@ module _ (scheme : Scheme) (header : Header) (log : List ℕ) (logs : List (List
       ∙ ap (verdict_of header.verifiers epoch) (next-parts scheme header so_far.count 0 all)
 
   -- its lines
-  text_is : (tell : EpochText) → tell epoch (merged_up_to epoch (operations_among (courses_in runs))) ≡ lines_told tell courses epoch
+  text_is : {A : Type 0} (tell : EpochTold A) → tell epoch (merged_up_to epoch (operations_among (courses_in runs))) ≡ lines_told tell courses epoch
   text_is tell =
       ap (λ (rs : List (Progress Operation)). tell epoch (merged_up_to epoch (operations_among (courses_in rs)))) taken.runs_are
       ∙ ap (λ (ops : List Operation). tell epoch (merged moment_of ops)) (next-operations scheme header so_far.count 0 all)
 
   -- it is balanced
-  certified : (tell : EpochText) → verdict_at scheme header all so_far.count ≡ Balanced → IsCertified tell scheme header all so_far (turn_by tell so_far runs epoch Balanced)
+  certified : {A : Type 0} (tell : EpochTold A) → verdict_at scheme header all so_far.count ≡ Balanced → IsCertified tell scheme header all so_far (turn_by tell so_far runs epoch Balanced)
   certified tell is = record {
     taken = record {
       header_good = taken.header_good;
@@ -118,11 +118,11 @@ module _ (scheme : Scheme) (header : Header) (log : List ℕ) (logs : List (List
       ap (λ (n : ℕ). record so_far { count = n }) same ∙ ap (λ (o : Option Uneven). record { count = count; unbalanced = o }) other
 
   -- nothing more is certified
-  done : (tell : EpochText) → so_far ≡ judged header.verifiers courses → IsDone scheme header all so_far (turn_at tell so_far runs None)
+  done : {A : Type 0} (tell : EpochTold A) → so_far ≡ judged header.verifiers courses → IsDone scheme header all so_far (turn_at tell so_far runs None)
   done tell is = record { taken = taken; count = refl; all = is; text = refl }
 
   -- the next epoch by its verdict
-  by_verdict : (tell : EpochText) (more : Judged)
+  by_verdict : {A : Type 0} (tell : EpochTold A) (more : Judged)
       → judged header.verifiers courses ≡ behind so_far.count (judged_by epoch (verdict_at scheme header all so_far.count) more)
       → (verdict : Verdict) → verdict_at scheme header all so_far.count ≡ verdict
       → Tells tell scheme header all so_far (turn_by tell so_far runs epoch verdict)
@@ -150,7 +150,7 @@ module _ (scheme : Scheme) (header : Header) (log : List ℕ) (logs : List (List
       }
 
   -- the next epoch by the parts of the first run
-  by_parts : (tell : EpochText) (ps : List Part) → drop so_far.count parts ≡ ps
+  by_parts : {A : Type 0} (tell : EpochTold A) (ps : List Part) → drop so_far.count parts ≡ ps
       → Tells tell scheme header all so_far (turn_at tell so_far runs (option_map (λ part. part.epoch) (slice_get ps 0)))
   by_parts tell [] is =
       done tell (judgement so_far.count None refl even ∙ sym (next-tells scheme header log logs so_far runs taken [] is))
@@ -162,7 +162,7 @@ module _ (scheme : Scheme) (header : Header) (log : List ℕ) (logs : List (List
       (by_verdict tell next.1.0 next.1.1 (verdict_at scheme header all so_far.count) refl))
 
 -- One turn: the next epoch is certified, or all that is certified is counted.
-pub turn-tells : (tell : EpochText) (scheme : Scheme) (header : Header) (logs : List (List ℕ)) (so_far : Judged) (runs : List (Progress Operation))
+pub turn-tells : {A : Type 0} (tell : EpochTold A) (scheme : Scheme) (header : Header) (logs : List (List ℕ)) (so_far : Judged) (runs : List (Progress Operation))
     → HaveTaken scheme header logs so_far runs → so_far.unbalanced ≡ None
     → Tells tell scheme header logs so_far (turn tell so_far runs)
 turn-tells tell scheme header [] so_far runs taken even = absurd (omega (arith, taken.whole, taken.header_good.some_verifiers))
@@ -215,12 +215,12 @@ fed-judged so_far runs have =
     (next-judged so_far (runs_of runs) have))
 
 -- a turn with its text
-pub with_text : (t : Turned) (more : Bool) (now : Judged) (runs : List (Progress Operation)) (text : List ℕ)
+pub with_text : {A : Type 0} (t : Turned A) (more : Bool) (now : Judged) (runs : List (Progress Operation)) (text : List A)
     → t ≡ record { more = more; judged = now; runs = runs; text = text } → t ≡ record { more = more; judged = now; runs = runs; text = t.text }
-with_text t more now runs text is =
-    is ∙ ap (λ (line : List ℕ). record { more = more; judged = now; runs = runs; text = line }) (sym (ap (λ (u : Turned). u.text) is))
+with_text {A} t more now runs text is =
+    is ∙ ap (λ (line : List A). record { more = more; judged = now; runs = runs; text = line }) (sym (ap (λ (u : Turned A). u.text) is))
 
-module _ (tell : EpochText) (so_far : Judged) (runs : List FedRun) (found : Option ℕ) (epoch : ℕ) (parts : List Part) (verdict : Verdict)
+module _ {A : Type 0} (tell : EpochTold A) (so_far : Judged) (runs : List FedRun) (found : Option ℕ) (epoch : ℕ) (parts : List Part) (verdict : Verdict)
     (is : found ≡ Some epoch) (next : found ≡ next_epoch (runs_of runs)) (gathered : parts ≡ parts_at 0 (fed_courses runs))
     (judged_is : verdict ≡ verdict_of (length runs) epoch parts) where
   -- by the verdict that was found
@@ -264,9 +264,33 @@ module _ (tell : EpochText) (so_far : Judged) (runs : List FedRun) (found : Opti
       ∙ ap (λ (n : ℕ). record { more = true; judged = record now { count = n }; runs = left; text = tell epoch operations }) (sym counted)
 
 -- where there is no next epoch
-pub turn-none : (tell : EpochText) (so_far : Judged) (runs : List (Progress Operation)) (found : Option ℕ) → found ≡ None → found ≡ next_epoch runs
+pub turn-none : {A : Type 0} (tell : EpochTold A) (so_far : Judged) (runs : List (Progress Operation)) (found : Option ℕ) → found ≡ None → found ≡ next_epoch runs
     → turn tell so_far runs ≡ no_turn so_far runs
 turn-none tell so_far runs found is next = ap (turn_at tell so_far runs) (sym next ∙ is)
+
+-- ---- what else is told of a turn
+
+-- Turns that tell epochs otherwise do the same.
+module _ {A B : Type 0} (tell : EpochTold A) (other : EpochTold B) (so_far : Judged) (runs : List (Progress Operation)) where
+  -- what a turn leaves, with what another one tells
+  abbrev AlikeTo : Turned A → Turned B → Type 0
+  AlikeTo one two = two ≡ record { more = one.more; judged = one.judged; runs = one.runs; text = two.text }
+
+  alike_at : (found : Option ℕ) → AlikeTo (turn_at tell so_far runs found) (turn_at other so_far runs found)
+  alike_at None = refl
+  alike_at (Some epoch) = go (verdict_of (length runs) epoch (parts_at 0 (courses_in runs)))
+    where
+      go : (verdict : Verdict) → AlikeTo (turn_by tell so_far runs epoch verdict) (turn_by other so_far runs epoch verdict)
+      go Balanced = refl
+      go (Unbalanced added evicted) = refl
+      go (Missing verifier) = refl
+
+  pub turn-alike : (more : Bool) (now : Judged) (next : List (Progress Operation)) (text : List A)
+      → turn tell so_far runs ≡ record { more = more; judged = now; runs = next; text = text }
+      → turn other so_far runs ≡ record { more = more; judged = now; runs = next; text = (turn other so_far runs).text }
+  turn-alike more now next text is =
+      alike_at (next_epoch runs)
+      ∙ ap (λ (t : Turned A). record { more = t.more; judged = t.judged; runs = t.runs; text = (turn other so_far runs).text }) is
 
 -- ---- an end comes
 
@@ -340,8 +364,8 @@ ok_holds P (Err fault) is holds = absurd (false≢true (sym is))
 -- ---- turn after turn
 
 -- a turn that certified an epoch
-pub certified-turn : (tell : EpochText) (scheme : Scheme) (header : Header) (logs : List (List ℕ)) (so_far now : Judged) (runs next : List (Progress Operation)) (more : Bool)
-    (text : List ℕ) → HaveTaken scheme header logs so_far runs → so_far.unbalanced ≡ None
+pub certified-turn : {A : Type 0} (tell : EpochTold A) (scheme : Scheme) (header : Header) (logs : List (List ℕ)) (so_far now : Judged) (runs next : List (Progress Operation)) (more : Bool)
+    (text : List A) → HaveTaken scheme header logs so_far runs → so_far.unbalanced ≡ None
     → turn tell so_far runs ≡ record { more = more; judged = now; runs = next; text = text } → more ≡ true
     → IsCertified tell scheme header logs so_far (record { more = true; judged = now; runs = next; text = text })
 certified-turn tell scheme header logs so_far now runs next more text taken even is is_more =
@@ -350,8 +374,8 @@ certified-turn tell scheme header logs so_far now runs next more text taken even
     (turn-tells tell scheme header logs so_far runs taken even)
 
 -- and the last
-pub done-turn : (tell : EpochText) (scheme : Scheme) (header : Header) (logs : List (List ℕ)) (so_far now : Judged) (runs next : List (Progress Operation)) (more : Bool)
-    (text : List ℕ) → HaveTaken scheme header logs so_far runs → so_far.unbalanced ≡ None
+pub done-turn : {A : Type 0} (tell : EpochTold A) (scheme : Scheme) (header : Header) (logs : List (List ℕ)) (so_far now : Judged) (runs next : List (Progress Operation)) (more : Bool)
+    (text : List A) → HaveTaken scheme header logs so_far runs → so_far.unbalanced ≡ None
     → turn tell so_far runs ≡ record { more = more; judged = now; runs = next; text = text } → more ≡ false
     → IsDone scheme header logs so_far (record { more = false; judged = now; runs = next; text = text })
 done-turn tell scheme header logs so_far now runs next more text taken even is not_more =
@@ -367,20 +391,20 @@ same-judged scheme header logs so_far runs now uneven taken same is =
     uneven-judged scheme header logs so_far runs uneven taken (sym (ap (λ (j : Judged). j.unbalanced) same) ∙ is)
 
 -- the lines of one epoch more
-pub lines-step : (tell : EpochText) (courses : List (Course Operation)) (first start count next : ℕ) (text line : List ℕ) → start ≤ count → next ≡ suc count
+pub lines-step : {A : Type 0} (tell : EpochTold A) (courses : List (Course Operation)) (first start count next : ℕ) (text line : List A) → start ≤ count → next ≡ suc count
     → text ≡ lines_from tell courses (first + start) (count - start) → line ≡ lines_told tell courses (first + count)
     → text ++ line ≡ lines_from tell courses (first + start) (next - start)
-lines-step tell courses first start count next text line within is so_far own =
+lines-step {A} tell courses first start count next text line within is so_far own =
     let at : first + count ≡ (first + start) + (count - start) = omega (arith, within) in
     let many : suc (count - start) ≡ next - start = omega (arith, within, is) in
-    ap (λ (t : List ℕ). t ++ line) so_far
-    ∙ ap (λ (l : List ℕ). lines_from tell courses (first + start) (count - start) ++ l) (own ∙ ap (lines_told tell courses) at)
+    ap (λ (t : List A). t ++ line) so_far
+    ∙ ap (λ (l : List A). lines_from tell courses (first + start) (count - start) ++ l) (own ∙ ap (lines_told tell courses) at)
     ∙ sym (lines-more tell courses (first + start) (count - start))
     ∙ ap (lines_from tell courses (first + start)) many
 
 -- the lines of so many epochs are a front of those of more
-lines_front : (tell : EpochText) (courses : List (Course Operation)) (epoch start count all : ℕ) → start ≤ count → count ≤ all
-    → (more : List ℕ) × (lines_from tell courses epoch (count - start) ++ more ≡ lines_from tell courses epoch (all - start))
+lines_front : {A : Type 0} (tell : EpochTold A) (courses : List (Course Operation)) (epoch start count all : ℕ) → start ≤ count → count ≤ all
+    → (more : List A) × (lines_from tell courses epoch (count - start) ++ more ≡ lines_from tell courses epoch (all - start))
 lines_front tell courses epoch start count all within below =
     let sum : (count - start) + (all - count) ≡ all - start = omega (arith, within, below) in (
       lines_from tell courses (epoch + (count - start)) (all - count),
@@ -388,12 +412,12 @@ lines_front tell courses epoch start count all within below =
     )
 
 -- What was written and what the turn writes are a front of all lines.
-pub turn-front : (tell : EpochText) (scheme : Scheme) (header : Header) (logs : List (List ℕ)) (so_far : Judged) (runs : List (Progress Operation)) (start : ℕ) (text : List ℕ)
+pub turn-front : {A : Type 0} (tell : EpochTold A) (scheme : Scheme) (header : Header) (logs : List (List ℕ)) (so_far : Judged) (runs : List (Progress Operation)) (start : ℕ) (text : List A)
     → HaveTaken scheme header logs so_far runs → so_far.unbalanced ≡ None → start ≤ so_far.count
     → text ≡ lines_from tell (courses_of scheme header logs) (header.first + start) (so_far.count - start)
-    → (more : List ℕ) × ((text ++ (turn tell so_far runs).text) ++ more
+    → (more : List A) × ((text ++ (turn tell so_far runs).text) ++ more
     ≡ lines_from tell (courses_of scheme header logs) (header.first + start) ((judged header.verifiers (courses_of scheme header logs)).count - start))
-turn-front tell scheme header logs so_far runs start text taken even within so_far_is =
+turn-front {A} tell scheme header logs so_far runs start text taken even within so_far_is =
     go (turn tell so_far runs).more refl (turn-tells tell scheme header logs so_far runs taken even)
   where
     courses : List (Course Operation)
@@ -403,12 +427,12 @@ turn-front tell scheme header logs so_far runs start text taken even within so_f
     all = (judged header.verifiers courses).count
 
     go : (b : Bool) → (turn tell so_far runs).more ≡ b → TellsBy tell b scheme header logs so_far (turn tell so_far runs)
-        → (more : List ℕ) × ((text ++ (turn tell so_far runs).text) ++ more ≡ lines_from tell courses (header.first + start) (all - start))
+        → (more : List A) × ((text ++ (turn tell so_far runs).text) ++ more ≡ lines_from tell courses (header.first + start) (all - start))
     go true is tells =
         let bound = counted-within scheme header logs (turn tell so_far runs).judged (turn tell so_far runs).runs tells.taken in
         let rest = lines_front tell courses (header.first + start) start (turn tell so_far runs).judged.count all (omega (arith, within, tells.count)) bound in (
           rest.0,
-          ap (λ (t : List ℕ). t ++ rest.0)
+          ap (λ (t : List A). t ++ rest.0)
               (lines-step tell courses header.first start so_far.count (turn tell so_far runs).judged.count text (turn tell so_far runs).text within tells.count so_far_is tells.text)
               ∙ rest.1,
         )
@@ -416,8 +440,8 @@ turn-front tell scheme header logs so_far runs start text taken even within so_f
         let bound = counted-within scheme header logs so_far runs taken in
         let rest = lines_front tell courses (header.first + start) start so_far.count all within bound in (
           rest.0,
-          ap (λ (t : List ℕ). (text ++ t) ++ rest.0) tells.text
-              ∙ ap (λ (t : List ℕ). t ++ rest.0) (append-nil text ∙ so_far_is)
+          ap (λ (t : List A). (text ++ t) ++ rest.0) tells.text
+              ∙ ap (λ (t : List A). t ++ rest.0) (append-nil text ∙ so_far_is)
               ∙ rest.1,
         )
 

@@ -11,7 +11,7 @@ use Rattle.verifier_run.specs.Course.{Course}
 use Rattle.verifier_run.specs.Progress.{Progress, ended}
 use Rattle.verifier_run.specs.Taken.{left_of}
 use Rattle.bundle_report.specs.declared.judged.Judged.{Judged}
-use Rattle.bundle_report.specs.Report.{EpochText}
+use Rattle.bundle_report.specs.Report.{EpochTold}
 use Rattle.bundle_report.specs.RunReport.{parts_at, operations_among}
 use Rattle.bundle_report.specs.Judged.{first_parts}
 use Rattle.certified_epochs.specs.declared.fed_run.FedRun.{FedRun}
@@ -40,19 +40,19 @@ next_epoch runs = option_map (λ part. part.epoch) (slice_get (first_parts (cour
 abbrev pub parts_left : List FedRun → ℕ
 parts_left runs = length (first_parts (courses_in (map (λ fed. fed.run) runs)))
 
--- whether there is more, what is judged, the runs, and the lines
-pub record Turned : Type 0 where
+-- whether there is more, what is judged, the runs, and the lines or what else is told
+pub record Turned (A : Type 0) : Type 0 where
   pub more : Bool
   pub judged : Judged
   pub runs : List (Progress Operation)
-  pub text : List ℕ
+  pub text : List A
 
 -- nothing changes
-abbrev pub no_turn : Judged → List (Progress Operation) → Turned
+abbrev pub no_turn : {A : Type 0} → Judged → List (Progress Operation) → Turned A
 no_turn judged runs = record { more = false; judged = judged; runs = runs; text = [] }
 
 -- the next epoch by its verdict: a balanced one is counted, told and taken out of the runs
-abbrev pub turn_by : EpochText → Judged → List (Progress Operation) → ℕ → Verdict → Turned
+abbrev pub turn_by : {A : Type 0} → EpochTold A → Judged → List (Progress Operation) → ℕ → Verdict → Turned A
 turn_by tell judged runs epoch verdicts.Balanced = record {
   more = true;
   judged = record judged { count = suc judged.count };
@@ -64,10 +64,10 @@ turn_by tell judged runs epoch (verdicts.Unbalanced added evicted) =
 turn_by tell judged runs epoch (verdicts.Missing verifier) = no_turn judged runs
 
 -- the next epoch, if the first run has sealed one
-abbrev pub turn_at : EpochText → Judged → List (Progress Operation) → Option ℕ → Turned
+abbrev pub turn_at : {A : Type 0} → EpochTold A → Judged → List (Progress Operation) → Option ℕ → Turned A
 turn_at tell judged runs None = no_turn judged runs
 turn_at tell judged runs (Some epoch) = turn_by tell judged runs epoch (verdict_of (length runs) epoch (parts_at 0 (courses_in runs)))
 
 -- One turn, where no epoch is unbalanced so far.
-abbrev pub turn : EpochText → Judged → List (Progress Operation) → Turned
+abbrev pub turn : {A : Type 0} → EpochTold A → Judged → List (Progress Operation) → Turned A
 turn tell judged runs = turn_at tell judged runs (next_epoch runs)

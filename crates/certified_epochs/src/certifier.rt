@@ -4,6 +4,8 @@ ghost use Rattle.fv_outside.specs.Faults.{Counts, Rose};
 ghost use Rattle.fv_outside.specs.Written.{Grows, GrowsByFront};
 ghost use Rattle.lamport_clocks.specs.declared.header.Header.{Header};
 ghost use Rattle.merkle_records.specs.Scheme.{Scheme};
+ghost use Rattle.record_text.specs.declared.operation.Operation.{Operation};
+ghost use Rattle.load_summary.specs.Counting.{counted_of};
 ghost use Rattle.report_text.specs.Page.{Passes};
 ghost use Rattle.bundle_report.specs.RunReport.{courses_of, parts_at};
 ghost use Rattle.bundle_report.specs.Judged.{judged};
@@ -13,6 +15,7 @@ ghost use Rattle.report_text.specs.Status.{last_line};
 ghost use Rattle.bundle_report.specs.BundleReport.{histories_at, end_of};
 ghost use Rattle.bundle_report.specs.SoFar.{HaveTaken, HaveLogs, lines_from, runs_ended};
 ghost use Rattle.bundle_report.specs.Judged.{none_judged};
+ghost use Rattle.bundle_report.specs.Report.{operations_told};
 ghost use Rattle.stamp_order.specs.Merged.{merged, up_to};
 ghost use Rattle.stamp_order.specs.Operations.{moment_of, merged_up_to};
 ghost use Rattle.verifier_run.specs.Taken.{left_of};
@@ -28,6 +31,7 @@ use crate::telling::Telling;
 use bundle_report::{Judged, ReportStop, Uneven};
 use epoch_gather::{Verdict, verdict};
 use fv_outside::Sink;
+use load_summary::Summary;
 use multiset_sum::Part;
 use record_hash::Digests;
 use record_text::Operation;
@@ -77,14 +81,16 @@ impl Certifier {
         &self.judged
     }
 
-    /// Writes the lines of all epochs that the runs now certify and that are not written yet, and takes what they have of
-    /// these epochs out of the runs. Where a run is starved that is want of memory, and nothing is written.
+    /// Writes the lines of all epochs that the runs now certify and that are not written yet, counts their operations, and
+    /// takes what the runs have of these epochs out of them. Where a run is starved that is want of memory, and nothing is
+    /// written.
     ///
     /// After want of memory or where the sink failed it holds a front of these lines, and the certifier is of no more use.
     pub fn certify<D: Digests, O: Sink>(
         &mut self,
         runs: &mut [FedRun],
         telling: &Telling<D>,
+        summary: &mut Summary,
         out: &mut O,
     ) -> Result<(), ReportStop>
         requires few { length runs.old ≤ 64 }
@@ -101,6 +107,11 @@ impl Certifier {
             → HaveTaken scheme header logs self.old (map (λ fed. fed.run) runs.old)
             → OnOk result (Grows (O.held out.old) (O.held out.new)
             (lines_from (text_by D.functions telling.now) (courses_of scheme header logs) (header.first + self.old.count) (self.new.count - self.old.count))) }
+        ensures counted { (scheme : Scheme) (header : Header) (logs : List (List ℕ)) (workers : ℕ) (before : List Operation)
+            → HaveTaken scheme header logs self.old (map (λ fed. fed.run) runs.old)
+            → summary.old ≡ counted_of workers before
+            → OnOk result (summary.new ≡ counted_of workers (before
+            ++ lines_from operations_told (courses_of scheme header logs) (header.first + self.old.count) (self.new.count - self.old.count))) }
 
         // Where it stops, the sink took a front of the lines of what they certify.
         ensures front { (scheme : Scheme) (header : Header) (logs : List (List ℕ))
@@ -124,7 +135,7 @@ impl Certifier {
         }
         let mut page = Page::new();
         'epochs: loop {
-            if !self.certify_next(runs, telling, &mut page, out)? {
+            if !self.certify_next(runs, telling, summary, &mut page, out)? {
                 break;
             }
         }
@@ -134,8 +145,20 @@ impl Certifier {
         }
     }
 
-    /// Ends the logs, and writes the last line of the report, where so much of the bundle is bad. All that the runs certify
-    /// is to be written before.
+    /// Ends the logs, and answers how their report ends, where so much of the bundle is bad. All that the runs certify is to
+    /// be certified before.
+    pub fn end(&self, runs: &mut [FedRun], bad: Option<u64>) -> BundleEnd
+        requires few { length runs.old ≤ 64 }
+        ensures end { (scheme : Scheme) (header : Header) (logs : List (List ℕ))
+            → HaveTaken scheme header logs self.now (map (λ fed. fed.run) runs.old)
+            → self.now ≡ judged header.verifiers (courses_of scheme header logs)
+            → result ≡ end_of scheme header (map (read_log scheme.format) logs) (histories_at scheme header logs) bad }
+    {
+        end_all(runs);
+        end_of(&self.judged, first_refused(runs), bad)
+    }
+
+    /// Ends the logs so, and writes the last line of the report.
     pub fn finish<O: Sink>(
         &self,
         runs: &mut [FedRun],
@@ -159,19 +182,19 @@ impl Certifier {
         ensures stop { result ≢ Err ReportStop.Memory }
         ensures never_falls { O.faults out.old ≤ O.faults out.new }
     {
-        end_all(runs);
-        let end = end_of(&self.judged, first_refused(runs), bad);
+        let end = self.end(runs, bad);
         match write_last(&end.status(), out) {
             Ok(()) => Ok(end),
             Err(_) => Err(ReportStop::WriteFault),
         }
     }
 
-    // Writes the lines of the next epoch, if it is certified, and answers whether it is.
+    // Counts the operations of the next epoch and writes its lines, if it is certified, and answers whether it is.
     fn certify_next<D: Digests, O: Sink>(
         &mut self,
         runs: &mut [FedRun],
         telling: &Telling<D>,
+        summary: &mut Summary,
         page: &mut Page,
         out: &mut O,
     ) -> Result<bool, ReportStop>
@@ -181,6 +204,9 @@ impl Certifier {
         ensures turned { IfOk result (λ more. turn (text_by D.functions telling.now) self.old (map (λ fed. fed.run) runs.old)
             ≡ record { more = more; judged = self.new; runs = map (λ fed. fed.run) runs.new; text = (turn (text_by D.functions telling.now) self.old (map (λ fed. fed.run) runs.old)).text }) }
         ensures text { OnOk result (Passes (O.held out.old) page.old (turn (text_by D.functions telling.now) self.old (map (λ fed. fed.run) runs.old)).text (O.held out.new) page.new) }
+        ensures counted { (workers : ℕ) (before : List Operation)
+            → summary.old ≡ counted_of workers before
+            → OnOk result (summary.new ≡ counted_of workers (before ++ (turn operations_told self.old (map (λ fed. fed.run) runs.old)).text)) }
         ensures front { OnErr result (GrowsByFront (O.held out.old) (O.held out.new) (page.old ++ (turn (text_by D.functions telling.now) self.old (map (λ fed. fed.run) runs.old)).text)) }
         ensures fed { AreFed runs.old → AreFed runs.new }
         ensures less { result ≡ Ok true → parts_left runs.new < parts_left runs.old }
@@ -205,6 +231,7 @@ impl Certifier {
             Verdict::Missing(_) => return Ok(false),
         }
         take(&mut self.operations, runs, epoch)?;
+        summary.count(&self.operations)?;
         if write_epoch_lines(telling, epoch, &self.operations, page, out).is_err() {
             return Err(ReportStop::WriteFault);
         }

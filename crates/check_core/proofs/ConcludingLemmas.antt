@@ -13,7 +13,7 @@ use Rattle.report_text.specs.declared.ending.BundleEnd.{BundleEnd}
 use Rattle.report_text.specs.Ending.{status_of}
 use Rattle.bundle_report.specs.Answer.{answer_at}
 use Rattle.bundle_report.specs.RunReport.{parts_at}
-use Rattle.bundle_report.specs.Judged.{CanBeJudged, judged, end_of_runs}
+use Rattle.bundle_report.specs.Judged.{CanBeJudged, end_of_runs}
 use Rattle.bundle_report.proofs.KeepingLaws.{keeping-length, judged-keeping, end-keeping}
 
 module _ {A R : Type 0} (course_of : R → Course A) (keeps : Event → List A) (scheme : Scheme) (header : Header) (logs : List (List ℕ))

@@ -30,6 +30,7 @@ use bundle_report::{ReportStop, digests_have_32_bytes};
 use certified_epochs::{Certifier, FedRun, Telling};
 use fv_outside::{Sink, Source};
 use lamport_clocks::Header;
+use load_summary::Summary;
 use record_hash::Digests;
 use report_text::{BundleEnd, Status, write_last};
 use std::alloc::Global;
@@ -130,10 +131,21 @@ fn check_frames<R: Threads + Sync, D: Digests + Sync, S: Source, O: Sink>(
     let mut runs = open_runs(alloc, header)?;
     let telling = Telling::new(receipts, d, header);
     let mut certifier = Certifier::new(alloc);
+    // Of no workers: a check counts nobody's operations.
+    let mut summary = Summary::new(alloc, 0)?;
     let mut batch = Batch::new(alloc);
     'batches: loop {
         let filled = batch.fill(alloc, reader, source)?;
-        take_batch(rt, d, &batch, &mut runs, &mut certifier, &telling, out)?;
+        take_batch(
+            rt,
+            d,
+            &batch,
+            &mut runs,
+            &mut certifier,
+            &telling,
+            &mut summary,
+            out,
+        )?;
         match filled {
             Filled::Whole => {}
             Filled::End => break,
@@ -151,6 +163,7 @@ fn take_batch<R: Threads + Sync, D: Digests + Sync, O: Sink>(
     runs: &mut [FedRun],
     certifier: &mut Certifier,
     telling: &Telling<D>,
+    summary: &mut Summary,
     out: &mut O,
 ) -> Result<(), ReportStop>
     requires few { length runs.old ≤ 64 }
@@ -176,7 +189,7 @@ fn take_batch<R: Threads + Sync, D: Digests + Sync, O: Sink>(
     ensures never_falls { O.faults out.old ≤ O.faults out.new }
 {
     feed_batch(rt, d, batch, runs);
-    certifier.certify(runs, telling, out)
+    certifier.certify(runs, telling, summary, out)
 }
 
 // Writes the report of a bundle whose header is bad.

@@ -1,13 +1,13 @@
 -- A round's logs behind those so far, as pieces of a bundle.
-use Rattle.std.proofs.Common.{◌≡◌, ◌≢◌, ℕ, zero, suc, ◌+◌, ◌<◌, ◌≤◌, ◌==◌, false, Option, Some, None, List, [], ◌∷◌, ◌++◌, length, refl, ap, sym, subst, ◌∙◌, append-nil, append_assoc, eq-eqb, if◌then◌else◌, arith}
-use Rattle.std.specs.List.{flat_map, AllByRecursion}
+use Rattle.std.proofs.Common.{◌≡◌, ◌≢◌, ℕ, suc, ◌+◌, ◌<◌, ◌≤◌, Some, None, List, [], ◌∷◌, ◌++◌, length, refl, ap, sym, ◌∙◌, append-nil, append_assoc, eq-eqb, arith}
+use Rattle.std.specs.List.{AllByRecursion}
 use Rattle.std.proofs.lemmas.Bool.{ne_eqb}
 use Rattle.std.proofs.lemmas.List.Concat.{flat_map-append}
 use Rattle.lamport_clocks.specs.declared.header.Header.{Header}
 use Rattle.lamport_clocks.specs.Header.{IsHeader}
 use Rattle.bundle_frames.specs.Bundle.{Frame, Bundle, header_text, bundle_of, body_for, log_of}
 use Rattle.bundle_report.specs.Logs.{empty_logs, joined_from}
-use Rattle.bundle_report.specs.Logged.{behind, logged_of}
+use Rattle.bundle_report.specs.Logged.{behind}
 use Rattle.host_log.specs.Frames.{frames_text, frames_of_pieces, pieces_text}
 use Rattle.host_rounds.specs.Round.{logs_with, pieces_of}
 use Rattle.host_rounds.specs.Bundle.{IsBundle, logged_whole}

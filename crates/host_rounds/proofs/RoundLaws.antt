@@ -1,5 +1,5 @@
 -- What follows for those who serve round after round: what a check answers to the bundle, and what was written so far.
-use Rattle.std.proofs.Common.{◌≡◌, Bool, ℕ, zero, suc, List, [], ◌∷◌, ◌++◌, length, slice_get, Option, Some, refl, sym, ◌∙◌, ap, subst}
+use Rattle.std.proofs.Common.{◌≡◌, Bool, ℕ, zero, suc, List, [], ◌∷◌, ◌++◌, length, map, slice_get, Option, Some, refl, ◌∙◌, ap, subst}
 use Rattle.fv_outside.specs.Written.{Grows, GrowsByFront}
 use Rattle.fv_outside.proofs.WrittenLaws.{GrowsByFront-whole, GrowsByFront-more}
 use Rattle.record_hash.specs.Functions.{DigestFunctions}
@@ -7,16 +7,22 @@ use Rattle.lamport_clocks.specs.declared.header.Header.{Header}
 use Rattle.merkle_records.specs.Scheme.{scheme_of}
 use Rattle.report_text.specs.Status.{last_line}
 use Rattle.report_text.specs.Ending.{status_of}
-use Rattle.bundle_report.specs.Logs.{joined_from}
+use Rattle.report_text.specs.declared.status.Status.{Status}
+use Rattle.record_text.specs.declared.operation.Operation.{Operation}
+use Rattle.load_summary.specs.Tallies.{tallies_of}
+use Rattle.load_summary.specs.Counting.{Counted}
+use Rattle.load_summary.specs.Summary.{summary_with_end}
+use Rattle.bundle_report.specs.declared.judged.Judged.{Judged}
 use Rattle.bundle_report.specs.Logged.{Logged}
-use Rattle.bundle_report.specs.Report.{EpochText, told_by}
+use Rattle.bundle_report.specs.Report.{EpochTold, EpochText, told_by, operations_told}
 use Rattle.bundle_report.specs.Answer.{answer_by, check_answer}
 use Rattle.bundle_report.specs.RunReport.{courses_of}
 use Rattle.bundle_report.specs.SoFar.{lines_from}
-use Rattle.bundle_report.proofs.DueLaws.{lines-front, due-stays}
+use Rattle.bundle_report.proofs.CertifyLaws.{judged-count}
+use Rattle.bundle_report.proofs.DueLaws.{lines-front, lines-due, due-stays}
 use Rattle.host_rounds.specs.Round.{logs_with, pieces_of}
 use Rattle.host_rounds.specs.Bundle.{IsBundle}
-use Rattle.host_rounds.specs.SoFar.{RunsSoFar, HaveRun, lines_counted, lines_due, end_due}
+use Rattle.host_rounds.specs.SoFar.{RunsSoFar, HaveRun, AllCounted, lines_counted, lines_due, operations_due, summary_due, end_due}
 use Rattle.host_rounds.proofs.BundleLemmas.{round-joined}
 
 -- ---- what a check answers to the bundle of logs
@@ -34,7 +40,7 @@ module _ (receipts : Bool) (functions : DigestFunctions) (header : Header) (logs
 -- ---- what was written so far
 
 -- nothing, where no epoch is counted
-pub counted-none : (tell : EpochText) (functions : DigestFunctions) (header : Header) (logs : List (List ℕ)) (so_far : RunsSoFar) → so_far.judged.count ≡ 0
+pub counted-none : {A : Type 0} (tell : EpochTold A) (functions : DigestFunctions) (header : Header) (logs : List (List ℕ)) (so_far : RunsSoFar) → so_far.judged.count ≡ 0
     → lines_counted tell functions header logs so_far ≡ []
 counted-none tell functions header logs so_far none = ap (lines_from tell (courses_of (scheme_of functions header) header logs) header.first) none
 
@@ -56,6 +62,20 @@ module _ (tell : EpochText) (functions : DigestFunctions) (header : Header) (log
       let front = due-stays tell (scheme_of functions header) header logs (pieces_of 0 round) have.taken.header_good have.taken.whole in
       subst (λ (all : List (List ℕ)). GrowsByFront before after (lines_due tell functions header all)) (round-joined 0 logs round)
       (subst (GrowsByFront before after) front.1 (GrowsByFront-more before after (lines_due tell functions header logs) front.0 written))
+
+-- ---- the summary
+
+-- what the code writes as the summary is the summary of the logs
+pub summary-is : (functions : DigestFunctions) (header : Header) (logs : List (List ℕ)) (so_far : RunsSoFar) (seed ops : ℕ) (end : Status)
+    → HaveRun functions header logs so_far → AllCounted functions header logs so_far
+    → summary_with_end seed ops so_far.judged.count so_far.summary.tallies end ≡ summary_due functions header logs seed ops end
+summary-is functions header logs so_far seed ops end have all =
+    let scheme = scheme_of functions header in
+    let count = ap (λ (j : Judged). j.count) all ∙ judged-count scheme header logs have.taken.header_good have.taken.whole in
+    let told = lines-due operations_told scheme header logs so_far.judged (map (λ fed. fed.run) so_far.runs) have.taken all in
+    ap (λ (counted : Counted). summary_with_end seed ops so_far.judged.count counted.tallies end) have.summed
+    ∙ ap (λ (operations : List Operation). summary_with_end seed ops so_far.judged.count (tallies_of header.verifiers operations) end) told
+    ∙ ap (λ (epochs : ℕ). summary_with_end seed ops epochs (tallies_of header.verifiers (operations_due functions header logs)) end) count
 
 -- ---- logs with a round behind them
 

@@ -1,5 +1,5 @@
 -- What a round brings to the runs, and what certifying them brings to the report.
-use Rattle.std.proofs.Common.{◌≡◌, ℕ, zero, suc, ◌+◌, ◌-◌, ◌<◌, ◌≤◌, ◌==◌, Bool, false, true, List, [], ◌∷◌, ◌++◌, length, map, take, drop, Option, Result, Ok, Err, OnOk, OnErr, refl, sym, ◌∙◌, ap, subst, append-nil, eq-eqb, if◌then◌else◌, arith}
+use Rattle.std.proofs.Common.{◌≡◌, ℕ, zero, suc, ◌+◌, ◌-◌, ◌<◌, ◌≤◌, Bool, false, true, List, [], ◌∷◌, ◌++◌, length, map, take, drop, Option, Result, Ok, Err, OnOk, OnErr, refl, sym, ◌∙◌, ap, subst, append-nil, eq-eqb, if◌then◌else◌, arith}
 use Rattle.std.specs.List.{AllByRecursion}
 use Rattle.std.specs.Result.{is_err}
 use Rattle.std.proofs.lemmas.Bool.{ne_eqb, false≢true}
@@ -17,7 +17,7 @@ use Rattle.verifier_run.specs.Progress.{Progress, opening_progress, fed, weight}
 use Rattle.verifier_run.proofs.RunLaws.{fed_goes_on}
 use Rattle.bundle_report.specs.declared.judged.Judged.{Judged}
 use Rattle.bundle_report.specs.Logs.{joined_from}
-use Rattle.bundle_report.specs.Report.{EpochText}
+use Rattle.bundle_report.specs.Report.{EpochText, EpochTold, operations_told}
 use Rattle.bundle_report.specs.RunReport.{courses_of}
 use Rattle.bundle_report.specs.Judged.{judged}
 use Rattle.bundle_report.specs.SoFar.{lines_from, left_from, opening_runs, runs_from, took, runs_behind, HaveTaken}
@@ -28,7 +28,8 @@ use Rattle.certified_epochs.specs.declared.fed_run.FedRun.{FedRun}
 use Rattle.certified_epochs.specs.Turn.{AreFed}
 use Rattle.host_rounds.specs.Round.{logs_with, pieces_of}
 use Rattle.host_rounds.specs.Feeding.{AllTake}
-use Rattle.host_rounds.specs.SoFar.{RunsSoFar, HaveRun, HaveRunSome, lines_counted, lines_due}
+use Rattle.load_summary.specs.Counting.{Counted, counted_of}
+use Rattle.host_rounds.specs.SoFar.{RunsSoFar, HaveRun, HaveRunSome, lines_counted, lines_due, operations_counted}
 use Rattle.host_rounds.proofs.BundleLemmas.{round-joined}
 
 -- ---- results, and what was lent
@@ -179,11 +180,19 @@ module _ (functions : DigestFunctions) (header : Header) (logs : List (List ℕ)
   abbrev own_scheme : Scheme
   own_scheme = scheme_of functions header
 
+  -- the lines that are counted stay
+  pub lines-stay : {A : Type 0} (tell : EpochTold A) (round : List (List ℕ)) (now : RunsSoFar) → now.judged ≡ so_far.judged
+      → lines_counted tell functions header (logs_with logs round) now ≡ lines_counted tell functions header logs so_far
+  lines-stay tell round now same =
+      ap (λ (j : Judged). lines_from tell (courses_of own_scheme header (logs_with logs round)) header.first j.count) same
+      ∙ ap (λ (all : List (List ℕ)). lines_from tell (courses_of own_scheme header all) header.first so_far.judged.count) (sym (round-joined 0 logs round))
+      ∙ lines-taken tell own_scheme header logs so_far.judged (map (λ fed. fed.run) so_far.runs) (pieces_of 0 round) have.taken
+
   -- the runs took a round
-  pub round-run : (round : List (List ℕ)) (news : List FedRun) (bytes : ℕ) → AllTake functions round so_far.runs news
+  pub round-run : (round : List (List ℕ)) (news : List FedRun) (bytes : ℕ) (summary : Counted) → summary ≡ so_far.summary → AllTake functions round so_far.runs news
       → AllByRecursion (λ fed. weight fed.run ≤ bytes) news
-      → HaveRun functions header (logs_with logs round) (record { judged = so_far.judged; runs = news; bytes = bytes })
-  round-run round news bytes takes few = record {
+      → HaveRun functions header (logs_with logs round) (record { judged = so_far.judged; runs = news; bytes = bytes; summary = summary })
+  round-run round news bytes summary same takes few = record {
     fed = all_fed functions round so_far.runs news takes;
     taken =
         subst (λ (all : List (List ℕ)). HaveTaken own_scheme header all so_far.judged (map (λ fed. fed.run) news)) (round-joined 0 logs round)
@@ -191,15 +200,11 @@ module _ (functions : DigestFunctions) (header : Header) (logs : List (List ℕ)
         (sym (runs-took functions header 0 round so_far.runs news (runs_headers functions header logs so_far have) takes))
         (taken-more own_scheme header logs so_far.judged (map (λ fed. fed.run) so_far.runs) (pieces_of 0 round) have.taken));
     few = few;
+    summed =
+        same ∙ have.summed
+        ∙ ap (counted_of header.verifiers)
+        (sym (lines-stay operations_told round (record { judged = so_far.judged; runs = news; bytes = bytes; summary = summary }) refl));
   }
-
-  -- the lines that are counted stay
-  pub lines-stay : (tell : EpochText) (round : List (List ℕ)) (now : RunsSoFar) → now.judged ≡ so_far.judged
-      → lines_counted tell functions header (logs_with logs round) now ≡ lines_counted tell functions header logs so_far
-  lines-stay tell round now same =
-      ap (λ (j : Judged). lines_from tell (courses_of own_scheme header (logs_with logs round)) header.first j.count) same
-      ∙ ap (λ (all : List (List ℕ)). lines_from tell (courses_of own_scheme header all) header.first so_far.judged.count) (sym (round-joined 0 logs round))
-      ∙ lines-taken tell own_scheme header logs so_far.judged (map (λ fed. fed.run) so_far.runs) (pieces_of 0 round) have.taken
 
   -- ---- certifying
 
@@ -207,7 +212,7 @@ module _ (functions : DigestFunctions) (header : Header) (logs : List (List ℕ)
   courses = courses_of own_scheme header logs
 
   -- what was counted, and the lines behind it up to so many epochs
-  lines_to : (tell : EpochText) (count : ℕ) → so_far.judged.count ≤ count
+  lines_to : {A : Type 0} (tell : EpochTold A) (count : ℕ) → so_far.judged.count ≤ count
       → lines_counted tell functions header logs so_far ++ lines_from tell courses (header.first + so_far.judged.count) (count - so_far.judged.count)
       ≡ lines_from tell courses header.first count
   lines_to tell count within =
@@ -227,14 +232,20 @@ module _ (functions : DigestFunctions) (header : Header) (logs : List (List ℕ)
       (GrowsByFront-then held before after _ _ written front)
 
   module _ (now : RunsSoFar) (taken : HaveTaken own_scheme header logs now.judged (map (λ fed. fed.run) now.runs)) where
-    pub certified-run : AreFed now.runs → now.bytes ≡ so_far.bytes → HaveRun functions header logs now
-    certified-run fine same = record {
+    pub certified-run : AreFed now.runs → now.bytes ≡ so_far.bytes → now.judged ≡ judged header.verifiers courses
+        → ((workers : ℕ) (before : List Operation) → so_far.summary ≡ counted_of workers before
+        → now.summary ≡ counted_of workers (before ++ lines_from operations_told courses (header.first + so_far.judged.count) (now.judged.count - so_far.judged.count)))
+        → HaveRun functions header logs now
+    certified-run fine same all counted = record {
       fed = fine;
       taken = taken;
       few = subst (λ (bytes : ℕ). AllByRecursion (λ fed. weight fed.run ≤ bytes) now.runs) (sym same) (runs_weights functions header logs so_far now have taken);
+      summed =
+          counted header.verifiers (operations_counted functions header logs so_far) have.summed
+          ∙ ap (counted_of header.verifiers) (lines_to operations_told now.judged.count (omega (arith, within_all, ap (λ (j : Judged). j.count) all)));
     }
 
-    pub counted-due : (tell : EpochText) → now.judged ≡ judged header.verifiers courses → lines_counted tell functions header logs now ≡ lines_due tell functions header logs
+    pub counted-due : {A : Type 0} (tell : EpochTold A) → now.judged ≡ judged header.verifiers courses → lines_counted tell functions header logs now ≡ lines_due tell functions header logs
     counted-due tell all = lines-due tell own_scheme header logs now.judged (map (λ fed. fed.run) now.runs) taken all
 
     -- all that is due was written

@@ -1,4 +1,4 @@
-//! The rounds of a host, from the header of the bundle to the last line of the report.
+//! The rounds of a host, from the header of the bundle to how its report ends.
 ghost use Rattle.std.specs.Prelude.{◌≡◌, ◌≢◌, ℕ, ◌≤◌, ◌<◌, ◌^◌, List, Option, length, OnOk, OnErr, IfOk, Err};
 ghost use Rattle.fv_outside.specs.Faults.{Rose};
 ghost use Rattle.fv_outside.specs.Written.{Grows, GrowsByFront};
@@ -10,6 +10,7 @@ ghost use Rattle.report_text.specs.Status.{last_line};
 ghost use Rattle.bundle_frames.specs.Bundle.{header_text};
 ghost use Rattle.bundle_report.specs.Logs.{empty_logs};
 ghost use Rattle.bundle_report.specs.Report.{EpochText};
+ghost use Rattle.load_summary.specs.Summary.{summary_with_end};
 ghost use Rattle.certified_epochs.specs.Telling.{text_by};
 ghost use Rattle.host_log.specs.Frames.{pieces_text};
 ghost use Rattle.host_rounds.specs.Round.{logs_with, pieces_of};
@@ -26,13 +27,15 @@ use certified_epochs::{Certifier, FedRun, Telling};
 use fv_outside::Sink;
 use host_log::LogBuffer;
 use lamport_clocks::Header;
+use load_summary::Summary;
 use record_hash::Digests;
 use report_text::{BundleEnd, Status, write_last};
 use std::alloc::Global;
 use std::marker::Model;
 
 /// What the verifiers' runs have come to over the rounds so far. The vault that has the bundle, and the sink of the
-/// report, are handed in at each call; both only grow. Contracts see what is judged, the runs, and how many bytes were fed.
+/// report, are handed in at each call; both only grow. Contracts see what is judged, the runs, how many bytes were fed, and
+/// what was counted of each worker.
 ///
 /// After an error it is of no more use.
 #[derive(Drop)]
@@ -40,6 +43,7 @@ pub struct Rounds {
     runs: Vec<FedRun>,
     certifier: Certifier,
     bytes: u64,
+    summary: Summary,
 }
 
 impl Model for Rounds {
@@ -47,7 +51,7 @@ impl Model for Rounds {
 
     ghost Value = { RunsSoFar };
 
-    ghost view = { λ r. record { judged = r.certifier; runs = r.runs.items; bytes = r.bytes } };
+    ghost view = { λ r. record { judged = r.certifier; runs = r.runs.items; bytes = r.bytes; summary = r.summary } };
 }
 
 impl Rounds {
@@ -67,6 +71,7 @@ impl Rounds {
         rounds_make_a_bundle();
         fits_32_bits(header.first);
         let runs = open_runs(alloc, header)?;
+        let summary = Summary::new(alloc, header.verifiers)?;
         if write_header(header, vault).is_err() {
             return Err(RoundStop::VaultFault);
         }
@@ -74,6 +79,7 @@ impl Rounds {
             runs,
             certifier: Certifier::new(alloc),
             bytes: 0,
+            summary,
         })
     }
 
@@ -117,7 +123,8 @@ impl Rounds {
         Ok(())
     }
 
-    /// Writes the lines of all epochs that the runs now certify and that are not written yet.
+    /// Writes the lines of all epochs that the runs now certify and that are not written yet, and counts of each worker what it
+    /// did in them.
     pub fn certify<D: Digests, O: Sink>(
         &mut self,
         telling: &Telling<D>,
@@ -145,29 +152,48 @@ impl Rounds {
         ensures write_fault { result ≡ Err RoundStop.WriteFault → Rose (O.faults out.old) (O.faults out.new) }
         ensures never_falls { O.faults out.old ≤ O.faults out.new }
     {
-        self.certifier.certify(&mut self.runs, telling, out)?;
+        let runs = self.runs.as_mut_slice();
+        let summary = &mut self.summary;
+        self.certifier.certify(runs, telling, summary, out)?;
         Ok(())
     }
 
-    /// Ends the logs, and writes the last line of the report. All that the runs certify is to be written before.
-    pub fn finish<O: Sink>(&mut self, out: &mut O) -> Result<BundleEnd, RoundStop>
+    /// Ends the logs, and answers how their report ends. All that the runs certify is to be certified before.
+    pub fn end(&mut self) -> BundleEnd
         requires runs { HaveRunSome self.old }
         ensures end { (functions : DigestFunctions) (header : Header) (logs : List (List ℕ))
             → HaveRun functions header logs self.old → AllCounted functions header logs self.old
-            → IfOk result (λ end. end ≡ end_due functions header logs) }
-        ensures line { IfOk result (λ end. Grows (O.held out.old) (O.held out.new) (last_line (status_of end))) }
-        ensures front { (functions : DigestFunctions) (header : Header) (logs : List (List ℕ))
-            → HaveRun functions header logs self.old → AllCounted functions header logs self.old
-            → OnErr result (GrowsByFront (O.held out.old) (O.held out.new) (last_line (status_of (end_due functions header logs)))) }
+            → result ≡ end_due functions header logs }
+        ensures judged { self.new.judged ≡ self.old.judged }
+        ensures summary { self.new.summary ≡ self.old.summary }
+    {
+        self.certifier.end(&mut self.runs, None)
+    }
+
+    /// Writes the summary of a load that was made of a seed, with so many operations asked for, and which ended so: how many
+    /// epochs are certified, and what each worker did in them. On `Err` the sink holds a front of it.
+    pub fn write_summary<O: Sink>(
+        &self,
+        seed: u64,
+        ops: u32,
+        end: &Status,
+        out: &mut O,
+    ) -> Result<(), RoundStop>
+        ensures whole { OnOk result (Grows (O.held out.old) (O.held out.new) (summary_with_end seed ops self.now.judged.count self.now.summary.tallies end.now)) }
+        ensures front { OnErr result (GrowsByFront (O.held out.old) (O.held out.new) (summary_with_end seed ops self.now.judged.count self.now.summary.tallies end.now)) }
         ensures stop { OnErr result (result ≡ Err RoundStop.WriteFault) }
         ensures write_fault { OnErr result (Rose (O.faults out.old) (O.faults out.new)) }
         ensures never_falls { O.faults out.old ≤ O.faults out.new }
     {
-        Ok(self.certifier.finish(&mut self.runs, None, out)?)
+        let epochs = self.certifier.judged().count as u64;
+        match self.summary.write(seed, ops, epochs, end, out) {
+            Ok(()) => Ok(()),
+            Err(_) => Err(RoundStop::WriteFault),
+        }
     }
 }
 
-/// Writes the last line of a report that ends otherwise than its bundle says, as where a clock came to its end.
+/// Writes the last line of a report.
 pub fn write_end<O: Sink>(status: &Status, out: &mut O) -> Result<(), RoundStop>
     ensures line { OnOk result (Grows (O.held out.old) (O.held out.new) (last_line status.now)) }
     ensures front { OnErr result (GrowsByFront (O.held out.old) (O.held out.new) (last_line status.now)) }

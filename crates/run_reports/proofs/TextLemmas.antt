@@ -19,7 +19,7 @@ use Rattle.report_text.specs.declared.ending.BundleEnd.TheVariants.{Done}
 use Rattle.verifier_run.specs.LogCourse.{refusal_by}
 use Rattle.soundness.specs.History.{Event, log_events, log_refusal, histories_from}
 use Rattle.soundness.specs.Certified.{order_of, sealed_by_all, balanced_from, certified_count, certified_operations, epochs_from}
-use Rattle.bundle_report.specs.Report.{EpochText}
+use Rattle.bundle_report.specs.Report.{EpochTold}
 use Rattle.bundle_report.specs.BundleReport.{refused_end, refused_among, unbalanced_end, done_or_bad, end_or, end_of, histories_in, histories_at, epoch_lines}
 use Rattle.host_rounds.specs.SoFar.{end_due, lines_due}
 use Rattle.run_reports.specs.Runs.{texts_of}
@@ -115,7 +115,7 @@ module _ (functions : DigestFunctions) (header : Header) (n : ℕ) where
       ∙ ap (λ (logs : List (List Command)). sealed_by_all (histories_from scheme header 0 logs)) (commands_of_whole (replicate n []))
       ∙ none_sealed scheme header 0 n
 
-  certifies_none : certified_count scheme header.first hs ≡ 0
+  pub certifies_none : certified_count scheme header.first hs ≡ 0
   certifies_none = ap (balanced_from scheme (order_of hs) header.first) seals_none
 
   -- A check of them comes to the end, with no epoch.
@@ -126,6 +126,6 @@ module _ (functions : DigestFunctions) (header : Header) (n : ℕ) where
       ∙ ap (λ (certified : ℕ). Done certified) certifies_none
 
   -- No line is due.
-  pub empty_lines : (tell : EpochText) → lines_due tell functions header (replicate n []) ≡ []
+  pub empty_lines : {A : Type 0} (tell : EpochTold A) → lines_due tell functions header (replicate n []) ≡ []
   empty_lines tell =
       ap (λ (certified : ℕ). flat_map (epoch_lines tell (certified_operations scheme header.first hs)) (epochs_from header.first certified)) certifies_none

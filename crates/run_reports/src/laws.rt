@@ -18,7 +18,7 @@ ghost use Rattle.host_core.specs.WorldEvent.{HasAdvanced, IsPhaseOver};
 ghost use Rattle.host_core.specs.Deeds.{answers_in};
 ghost use Rattle.host_core.specs.Core.{histories};
 ghost use Rattle.bundle_report.specs.Report.{EpochText};
-ghost use Rattle.host_rounds.specs.SoFar.{lines_due, end_due};
+ghost use Rattle.host_rounds.specs.SoFar.{lines_due, operations_due, epochs_due, end_due};
 ghost use Rattle.run_reports.specs.Runs.{texts_of, HoldsOfRuns};
 
 use host_fits::the_shipped_host_keeps_its_promise;
@@ -46,11 +46,13 @@ pub fn a_check_of_the_logs_ends_as_the_host_promises()
     the_shipped_host_keeps_its_promise();
 }
 
-/// Where nothing was written, nothing is certified and no line is due, and a check comes to the end. The texts of logs
+/// Where nothing was logged, nothing is certified and no line is due, and a check comes to the end. The texts of logs
 /// with no commands are such logs.
 pub fn logs_of_no_bytes_certify_nothing()
     ensures end { (functions : DigestFunctions) (header : Header) → end_due functions header (replicate header.verifiers []) ≡ Done 0 }
     ensures lines { (tell : EpochText) (functions : DigestFunctions) (header : Header) → lines_due tell functions header (replicate header.verifiers []) ≡ [] }
+    ensures epochs { (functions : DigestFunctions) (header : Header) → epochs_due functions header (replicate header.verifiers []) ≡ 0 }
+    ensures operations { (functions : DigestFunctions) (header : Header) → operations_due functions header (replicate header.verifiers []) ≡ [] }
     ensures texts { (count : ℕ) → texts_of (replicate count []) ≡ replicate count [] }
 {}
 

@@ -38,12 +38,15 @@ use Rattle.host_fits.specs.Promise.{CanRun}
 use Rattle.host_serving.specs.Leading.{Leads, CanDoNoMore}
 use Rattle.host_serving.specs.Standing.{HasServedUpTo, IsServedUpTo, NoneStopped, IsAllServed, turns_of, asked_by}
 use Rattle.host_serving.proofs.LeadingLaws.{leads-none}
-use Rattle.host_rounds.specs.SoFar.{RunsSoFar, Keeps, AllCounted, lines_counted, lines_due, end_due}
-use Rattle.host_rounds.proofs.RoundLaws.{counted-none}
+use Rattle.load_summary.specs.Summary.{summary_with_end}
+use Rattle.host_rounds.specs.SoFar.{RunsSoFar, Keeps, AllCounted, lines_counted, lines_due, summary_due, end_due}
+use Rattle.host_rounds.proofs.RoundLaws.{counted-none, summary-is}
 use Rattle.verifier_threads.specs.declared.ending.RunEnd.{RunEnd}
 use Rattle.verifier_threads.specs.declared.runner.Runner.{Runner}
 use Rattle.verifier_threads.specs.declared.ending.RunEnd.TheVariants as ends
 use Rattle.verifier_threads.specs.Serving.{Outputs, AreServed, AreOfRun, IsServed, IsCutOff, IsCutAtEnd, end_by, status_at, report_of, texts_of}
+use Rattle.verifier_threads.specs.declared.loads.Load.{Load}
+use Rattle.verifier_threads.specs.Summing.{IsSummed, IsCutInSummary}
 use Rattle.verifier_threads.specs.Running.{IsRunning, Runs, IsAtPhase, IsAtEnd}
 use Rattle.verifier_threads.proofs.RunningLemmas.{running-workers}
 use Rattle.verifier_threads.proofs.HandingLemmas.{front-logs}
@@ -211,6 +214,35 @@ module _ (receipts : Bool) (functions : DigestFunctions) (settings : Settings) (
       run = ended-run;
       vault = running.keeps.vault;
       out = GrowsByFront-then outputs.out outputs.out_after out' (lines_due (told_by receipts functions settings.header) functions settings.header (texts_of running.logs)) (last_line (status_at (end_by (length script) end))) due-written written;
+    }
+
+    -- the summary is written
+    pub ended-summed : (load : Load) (out out' : Option (List ℕ)) (result : RunEnd) → result ≡ end_by (length script) end
+        → Grows out out' (summary_with_end load.seed load.ops rounds.judged.count rounds.summary.tallies (status_at result))
+        → IsSummed functions settings script load result (record outputs { out = out; out_after = out' })
+    ended-summed load out out' result is written = record {
+      logs = running.logs;
+      end = end;
+      run = ended-run;
+      is = is;
+      vault = running.keeps.vault;
+      out = subst (Grows out out')
+          (summary-is functions settings.header (texts_of running.logs) rounds load.seed load.ops (status_at result) running.keeps.runs all) written;
+    }
+
+    -- or a front of it
+    pub ended-cut_summary : (load : Load) (out out' : Option (List ℕ)) (result : RunEnd) → result ≡ end_by (length script) end
+        → GrowsByFront out out' (summary_with_end load.seed load.ops rounds.judged.count rounds.summary.tallies (status_at result))
+        → IsCutInSummary functions settings script load (record outputs { out = out; out_after = out' })
+    ended-cut_summary load out out' result is written = record {
+      logs = running.logs;
+      end = end;
+      run = ended-run;
+      vault = running.keeps.vault;
+      out = subst (GrowsByFront out out')
+          (summary-is functions settings.header (texts_of running.logs) rounds load.seed load.ops (status_at result) running.keeps.runs all
+          ∙ ap (λ (e : RunEnd). summary_due functions settings.header (texts_of running.logs) load.seed load.ops (status_at e)) is)
+          written;
     }
 
 -- ---- before the first phase

@@ -7,3 +7,4 @@ mod PassingLemmas
 mod PhaseLemmas
 mod EndingLemmas
 mod NothingLemmas
+mod SummingLemmas

@@ -25,7 +25,7 @@ NothingIsDue = (tell : EpochText) (functions : DigestFunctions) (header : Header
 abbrev pub NoTexts : Type 0
 NoTexts = (count : ℕ) → texts_of (replicate count []) ≡ replicate count []
 
-empty-are : (count : ℕ) → empty_logs count ≡ replicate count []
+pub empty-are : (count : ℕ) → empty_logs count ≡ replicate count []
 empty-are zero = refl
 empty-are (suc count) = ap (λ (rest : List (List ℕ)). [] ∷ rest) (empty-are count)
 

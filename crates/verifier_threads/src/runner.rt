@@ -11,12 +11,14 @@ ghost use Rattle.host_world.specs.Shown.{shown_world, digests_of, requests_of, s
 ghost use Rattle.host_world.specs.Behind.{AreInRange, AreOfOneHost, host_of};
 ghost use Rattle.host_serving.specs.Leading.{first_of};
 ghost use Rattle.host_serving.specs.Standing.{turns_of};
-ghost use Rattle.verifier_threads.specs.Serving.{Outputs, IsServed, IsCutOff, IsCutAtEnd};
+ghost use Rattle.verifier_threads.specs.Serving.{Outputs, IsServed, IsCutOff, IsCutAtEnd, end_by};
+ghost use Rattle.verifier_threads.specs.Summing.{IsSummed, IsCutInSummary};
 ghost use Rattle.verifier_threads.specs.Running.{Runs, RunsWhole, IsUnderWay, IsUnderWayWith, IsUnderWayWhole, IsAtPhase, IsAtClose, IsAtEnd, all_handed_out};
 
 use crate::ending::RunEnd;
 use crate::handing::hand_out_all;
 use crate::laws::what_is_due_stays_due;
+use crate::loads::Load;
 use certified_epochs::Telling;
 use fv_outside::{Gate, Sink};
 use host_log::LogBuffer;
@@ -137,17 +139,46 @@ impl<'a, D: Digests> Runner<'a, D> {
         ensures write_fault { OnErr result (Rose (O.faults out.old) (O.faults out.new)) }
         ensures never_falls { O.faults out.old ≤ O.faults out.new }
     {
+        let end = self.conclude();
+        write_end(&end.status(), out)?;
+        Ok(end)
+    }
+
+    /// Behind the last close: writes the summary of a load, in place of the last line of a report.
+    pub(crate) fn sum_up<O: Sink>(&mut self, load: &Load, out: &mut O) -> Result<RunEnd, RoundStop>
+        requires runs { IsUnderWayWhole D.functions self.old }
+        requires ended { IsAtEnd (host_of (D.functions (digests_of self.old.world)) self.old.world) (shown_world self.old.world) self.old.end }
+        ensures summed { (receipts : Bool) (outputs : Outputs) → RunsWhole receipts D.functions self.old outputs
+            → IfOk result (λ end. IsSummed (D.functions (digests_of self.old.world)) (settings_of self.old.world) (requests_of self.old.world) load.now end
+            (record outputs { out = O.held out.old; out_after = O.held out.new })) }
+        ensures cut { (receipts : Bool) (outputs : Outputs) → RunsWhole receipts D.functions self.old outputs
+            → OnErr result (IsCutInSummary (D.functions (digests_of self.old.world)) (settings_of self.old.world) (requests_of self.old.world) load.now
+            (record outputs { out = O.held out.old; out_after = O.held out.new })) }
+        ensures stop { OnErr result (result ≡ Err RoundStop.WriteFault) }
+        ensures write_fault { OnErr result (Rose (O.faults out.old) (O.faults out.new)) }
+        ensures never_falls { O.faults out.old ≤ O.faults out.new }
+    {
+        let end = self.conclude();
+        self.rounds
+            .write_summary(load.seed, load.ops, &end.status(), out)?;
+        Ok(end)
+    }
+
+    // How it ends, behind the last close: where no clock ended, each phase is certified.
+    fn conclude(&mut self) -> RunEnd
+        requires runs { IsUnderWayWhole D.functions self.old }
+        requires ended { IsAtEnd (host_of (D.functions (digests_of self.old.world)) self.old.world) (shown_world self.old.world) self.old.end }
+        ensures end { result ≡ end_by (length (requests_of self.old.world)) self.old.end }
+        ensures judged { self.new.rounds.judged ≡ self.old.rounds.judged }
+        ensures summary { self.new.rounds.summary ≡ self.old.rounds.summary }
+    {
         a_check_of_the_logs_ends_as_the_host_promises();
         match self.end {
-            None => match self.rounds.finish(out)? {
-                BundleEnd::Done { epochs } => Ok(RunEnd::Done(epochs)),
+            None => match self.rounds.end() {
+                BundleEnd::Done { epochs } => RunEnd::Done(epochs),
                 _ => unreachable!(),
             },
-            Some(end) => {
-                let ended = RunEnd::ClockEnd(end);
-                write_end(&ended.status(), out)?;
-                Ok(ended)
-            }
+            Some(end) => RunEnd::ClockEnd(end),
         }
     }
 

@@ -89,8 +89,8 @@ fn serve_world<R: Threads + Wait + Sync, D: Digests + Sync, V: Sink, O: Sink, G:
     runner.finish(out)
 }
 
-// Serves phase after phase, and closes each, until a clock ends or the script does.
-fn serve_phases<R: Threads + Wait + Sync, D: Digests + Sync, V: Sink, O: Sink, G: Gate + Sync>(
+/// Serves phase after phase, and closes each, until a clock ends or the script does.
+pub(crate) fn serve_phases<R: Threads + Wait + Sync, D: Digests + Sync, V: Sink, O: Sink, G: Gate + Sync>(
     rt: &R,
     runner: &mut Runner<'_, D>,
     receipts: bool,
@@ -155,8 +155,8 @@ fn serve_nothing<V: Sink, O: Sink>(
     Ok(ended)
 }
 
-// A script has a phase. It does nothing, and its contract is the fact.
-fn has_a_phase(requests: &Requests)
+/// A script has a phase. It does nothing, and its contract is the fact.
+pub(crate) fn has_a_phase(requests: &Requests)
     ensures some { 0 < length requests.now }
 {
     let _count = requests.len();

@@ -1,14 +1,15 @@
-use Rattle.std.proofs.Common.{◌≡◌, ◌+◌, ◌-◌, ◌≤◌, ℕ, List, ◌++◌, map, take, drop, length, Some, Result, Ok, Err, refl, sym, ◌∙◌, ap, subst, append-nil, arith}
+use Rattle.std.proofs.Common.{◌≡◌, Bool, Option, ◌+◌, ◌-◌, ◌≤◌, ℕ, List, ◌++◌, map, take, drop, length, Some, Result, Ok, Err, refl, sym, ◌∙◌, ap, subst, append-nil, arith}
 use Rattle.std.specs.Prelude.{IsErrAnd}
 use Rattle.std.specs.List.{AllByRecursion}
 use Rattle.std.proofs.lemmas.List.{take_all, drop_all}
 use Rattle.want_of_memory.specs.declared.memory.Memory.{Memory}
 use Rattle.fv_outside.specs.Written.{Grows, GrowsByFront}
 use Rattle.fv_outside.proofs.WrittenLaws.{Grows-nil, Grows-then, GrowsByFront-none, GrowsByFront-then}
+use Rattle.record_hash.specs.Functions.{DigestFunctions}
 use Rattle.merkle_records.specs.Scheme.{scheme_of}
 use Rattle.bundle_frames.specs.declared.coming.SourceStop.{SourceStop}
 use Rattle.bundle_frames.specs.declared.coming.SourceStop.TheVariants.{ReadFault, InputLimit}
-use Rattle.bundle_frames.specs.Reading.{end_ahead}
+use Rattle.bundle_frames.specs.Reading.{end_ahead, Reading as Reader}
 use Rattle.bundle_frames.specs.Extent.{reading_end}
 use Rattle.bundle_frames.proofs.ReadingLaws.{HasRead-then, TookAtMost-from_read, TookJust-from_read, near-then, stops_near, took_to_end}
 use Rattle.report_text.specs.declared.ending.BundleEnd.{BundleEnd}
@@ -35,7 +36,7 @@ use Rattle.check_core.specs.declared.stops.CheckStop.TheVariants as checks
 use Rattle.check_core.specs.Batch.{bytes_of}
 use Rattle.check_core.specs.Intake.{behind_at}
 use Rattle.check_core.specs.Stops.{check_status, checking_stopped, stop_by_writing}
-use Rattle.check_core.specs.Stream.{AreChecked, lines_counted, lines_due}
+use Rattle.check_core.specs.Stream.{HasCome, AreChecked, lines_counted, lines_due}
 use Rattle.report_text.proofs.AnsweringLaws.{rose_before}
 use Rattle.check_core.proofs.StreamLemmas.{counted_front, opening_weights, weights_room, weights_more, frames_bytes, means-more, extent-more, come-more}
 use Rattle.check_core.proofs.EndingLemmas.{memory_answers, ends_behind, took_batch, stop_answers, due_taken, cut_answers, end_answers, last_answers}
@@ -81,27 +82,33 @@ lent_back n new old whole same =
     ap (λ (rest : List _). take n (new ++ rest)) (drop_all (length new) old (omega (arith, same)))
     ∙ ap (take n) (append-nil new) ∙ take_all n new (omega (arith, whole, same))
 
+-- want of memory before a batch is read
+memory_before : (receipts : Bool) (functions : DigestFunctions) (verifiers : ℕ) (reader : Reader) (left_now : Option (List ℕ)) (faults_now : ℕ) (wrote : Writing)
+    (result : Result BundleEnd CheckStop) → IsErrAnd result (λ error. error ≡ checks.Memory) → reader.taken ≤ reader.limit → wrote.held ≡ wrote.held_after
+    → (left : Option (List ℕ)) (faults : ℕ) → HasCome left faults (empty_logs verifiers) reader left_now faults_now
+    → AnswersTo (check_answer receipts functions) reading_end reader.limit (check_status reader.limit result)
+    (record { left = left; left_after = left_now; faults = faults; faults_after = faults_now }) wrote
+memory_before receipts functions verifiers reader left_now faults_now wrote result is within same left faults come =
+    let read : Reading = record { left = left; left_after = left_now; faults = faults; faults_after = faults_now } in
+    subst (λ (r : Result BundleEnd CheckStop). AnswersTo (check_answer receipts functions) reading_end reader.limit (check_status reader.limit r) read wrote)
+    (sym (handed_on result checks.Memory is))
+    (memory_answers receipts functions reader.limit reader.taken reader.taken left _ faults _ (empty_logs verifiers) reader wrote
+    come.means (omega arith) come.took within (stops_near _ _ _ reading_end come.took come.near)
+    (λ more. subst (λ (after : Option (List ℕ)). GrowsByFront wrote.held after (answer_by receipts functions (behind_at (empty_logs verifiers) reader more)).due) same
+    (GrowsByFront-none wrote.held (answer_by receipts functions (behind_at (empty_logs verifiers) reader more)).due)))
+
 pub returns-in_err-runs : goal.returns-in_err-runs
 returns-in_err-runs g c = record {
-  answers = λ left faults come.
-      let reader = c.args.reader.now in
-      let read : Reading = record {
-        left = left;
-        left_after = g.S.Source.left c.args.source.now;
-        faults = faults;
-        faults_after = g.S.Source.faults c.args.source.now;
-      } in
-      let wrote : Writing = record {
-        held = g.O.Sink.held c.args.out.now;
-        held_after = g.O.Sink.held c.args.out.now;
-        faults = g.O.Sink.faults c.args.out.now;
-        faults_after = g.O.Sink.faults c.args.out.now;
-      } in
-      subst (λ (r : Result BundleEnd CheckStop). AnswersTo (check_answer c.args.receipts (g.D.Digests.functions c.args.d.now)) reading_end reader.limit (check_status reader.limit r) read wrote)
-      (sym (handed_on c.from_residual.result checks.Memory c.from_residual.ensures.1))
-      (memory_answers c.args.receipts (g.D.Digests.functions c.args.d.now) reader.limit reader.taken reader.taken left _ faults _ (empty_logs c.args.header.now.verifiers) reader wrote
-      come.means (omega arith) come.took c.requires.within (stops_near _ _ _ reading_end come.took come.near)
-      (λ more. GrowsByFront-none (g.O.Sink.held c.args.out.now) (answer_by c.args.receipts (g.D.Digests.functions c.args.d.now) (behind_at (empty_logs c.args.header.now.verifiers) reader more)).due));
+  answers =
+      memory_before c.args.receipts (g.D.Digests.functions c.args.d.now) c.args.header.now.verifiers c.args.reader.now _ _ _
+      c.from_residual.result c.from_residual.ensures.1 c.requires.within refl;
+}
+
+pub returns-in_err-summary : goal.returns-in_err-summary
+returns-in_err-summary g c = record {
+  answers =
+      memory_before c.args.receipts (g.D.Digests.functions c.args.d.now) c.args.header.now.verifiers c.args.reader.now _ _ _
+      c.from_residual-in_err-summary.result c.from_residual-in_err-summary.ensures.1 c.requires.within refl;
 }
 
 pub batches-init : goal.batches-init

@@ -1,4 +1,4 @@
-use Rattle.std.proofs.Common.{◌≡◌, ℕ, suc, ◌+◌, List, get_or, sym, ◌∙◌, subst, arith}
+use Rattle.std.proofs.Common.{◌≡◌, ℕ, suc, ◌+◌, List, get_or, ◌∙◌, subst, arith}
 use Rattle.host_rounds.specs.Feeding.{Takes}
 use Rattle.host_rounds.proofs.FeedingLemmas.{takes_more, takes_all, few-set}
 use Rattle.host_rounds.proofs.feeding.feed_all.Goals as goal

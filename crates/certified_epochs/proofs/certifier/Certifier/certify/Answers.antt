@@ -1,11 +1,14 @@
-use Rattle.std.proofs.Common.{ℕ, ◌+◌, ◌-◌, ◌++◌, List, [], sym, ◌∙◌, ap, subst, append-nil, arith}
+use Rattle.std.proofs.Common.{ℕ, ◌+◌, ◌-◌, ◌++◌, List, [], sym, ◌∙◌, ap, subst, append-nil, append_assoc, arith}
 use Rattle.fv_outside.specs.Written.{Grows}
+use Rattle.record_text.specs.declared.operation.Operation.{Operation}
+use Rattle.load_summary.specs.Counting.{counted_of}
 use Rattle.report_text.proofs.PassLaws.{Passes-then, Passes-flush, Passes-front, Passes-stop, on_err}
+use Rattle.bundle_report.specs.Report.{operations_told}
 use Rattle.bundle_report.specs.RunReport.{courses_of}
 use Rattle.bundle_report.specs.SoFar.{lines_from}
 use Rattle.certified_epochs.specs.Telling.{text_by}
 use Rattle.certified_epochs.specs.Turn.{turn}
-use Rattle.certified_epochs.proofs.TurnLemmas.{runs_of, certified-turn, done-turn, same-judged, lines-step, turn-front}
+use Rattle.certified_epochs.proofs.TurnLemmas.{runs_of, certified-turn, done-turn, same-judged, lines-step, turn-front, turn-alike}
 use Rattle.certified_epochs.proofs.certifier.Certifier.certify.Goals as goal
 
 pub returns-in-Some-clause-judged : goal.returns-in-Some-clause-judged
@@ -26,6 +29,7 @@ epochs-preserved g c =
     let inv = c.epochs.invariant in
     let now = c.certify_next.new.self in
     let text = (turn tell c.epochs.self (runs_of c.epochs.runs)).text in
+    let operations : List Operation = (turn operations_told c.epochs.self (runs_of c.epochs.runs)).text in
     let next = c.in_ok-certify_next.ensures in
     let own = certified-turn tell inv.logs.0 inv.logs.1 inv.logs.2 c.epochs.self now (runs_of c.epochs.runs) (runs_of c.certify_next.new.runs) c.in_ok-certify_next.field-0 text
     inv.logs.3 inv.even next.turned c.if-not-branch.false in
@@ -42,6 +46,16 @@ epochs-preserved g c =
           (inv.taken scheme header logs taken) inv.even next.turned c.if-not-branch.false in
           lines-step tell (courses_of scheme header logs) header.first c.args.self.now.count c.epochs.self.count now.count inv.text text inv.counted more.count
           (inv.lines scheme header logs taken) more.text;
+      operations = inv.operations ++ operations;
+      operations_are = λ scheme header logs taken.
+          let more = certified-turn operations_told scheme header logs c.epochs.self now (runs_of c.epochs.runs) (runs_of c.certify_next.new.runs) c.in_ok-certify_next.field-0 operations
+          (inv.taken scheme header logs taken) inv.even
+          (turn-alike tell operations_told c.epochs.self (runs_of c.epochs.runs) c.in_ok-certify_next.field-0 now (runs_of c.certify_next.new.runs) text next.turned) c.if-not-branch.false in
+          lines-step operations_told (courses_of scheme header logs) header.first c.args.self.now.count c.epochs.self.count now.count inv.operations operations inv.counted more.count
+          (inv.operations_are scheme header logs taken) more.text;
+      summed = λ workers before summary_is.
+          next.counted workers (before ++ inv.operations) (inv.summed workers before summary_is)
+          ∙ ap (counted_of workers) (append_assoc before inv.operations operations);
       counted = omega (arith, inv.counted, own.count);
       fed_before = inv.fed_before;
       fed = next.fed inv.fed;
@@ -84,3 +98,19 @@ returns-in-Err-clause-front g c = λ scheme header logs taken.
     (inv.lines scheme header logs taken) in
     Passes-stop _ _ _ [] _ (inv.text ++ (turn tell c.epochs.self (runs_of c.epochs.runs)).text) rest.0 _
     (Passes-then _ _ _ _ _ _ _ _ inv.passes c.in_ok-certify_next.ensures.text) c.in-Err.ensures.front rest.1
+
+pub returns-in-Ok-clause-counted : goal.returns-in-Ok-clause-counted
+returns-in-Ok-clause-counted g c = λ scheme header logs workers before taken summary_is.
+    let tell = text_by g.D.Digests.functions c.args.telling.now in
+    let inv = c.epochs.invariant in
+    let operations : List Operation = (turn operations_told c.epochs.self (runs_of c.epochs.runs)).text in
+    let done = done-turn operations_told scheme header logs c.epochs.self c.certify_next.new.self (runs_of c.epochs.runs) (runs_of c.certify_next.new.runs) c.in_ok-certify_next.field-0
+    operations (inv.taken scheme header logs taken) inv.even
+    (turn-alike tell operations_told c.epochs.self (runs_of c.epochs.runs) c.in_ok-certify_next.field-0 c.certify_next.new.self (runs_of c.certify_next.new.runs)
+    (turn tell c.epochs.self (runs_of c.epochs.runs)).text c.in_ok-certify_next.ensures.turned) c.if-not-branch.true in
+    c.in_ok-certify_next.ensures.counted workers (before ++ inv.operations) (inv.summed workers before summary_is)
+    ∙ ap (counted_of workers)
+    (append_assoc before inv.operations operations
+    ∙ ap (λ (ops : List Operation). before ++ ops)
+    (ap (λ (ops : List Operation). inv.operations ++ ops) done.text ∙ append-nil inv.operations ∙ inv.operations_are scheme header logs taken
+    ∙ ap (λ (n : ℕ). lines_from operations_told (courses_of scheme header logs) (header.first + c.args.self.now.count) (n - c.args.self.now.count)) (sym done.count)))

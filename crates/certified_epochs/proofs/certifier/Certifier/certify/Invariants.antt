@@ -1,14 +1,17 @@
-use Rattle.std.proofs.Common.{◌≡◌, ℕ, ◌+◌, ◌-◌, ◌≤◌, List, [], length, map, None}
+use Rattle.std.proofs.Common.{◌≡◌, ℕ, ◌+◌, ◌-◌, ◌≤◌, List, [], ◌++◌, length, map, None}
 use Rattle.lamport_clocks.specs.declared.header.Header.{Header}
 use Rattle.merkle_records.specs.Scheme.{Scheme}
+use Rattle.record_text.specs.declared.operation.Operation.{Operation}
+use Rattle.load_summary.specs.Counting.{counted_of}
 use Rattle.report_text.specs.Page.{Passes}
+use Rattle.bundle_report.specs.Report.{operations_told}
 use Rattle.bundle_report.specs.RunReport.{courses_of}
 use Rattle.bundle_report.specs.SoFar.{HaveTaken, HaveLogs, lines_from}
 use Rattle.certified_epochs.specs.Telling.{text_by}
 use Rattle.certified_epochs.specs.Turn.{AreFed, parts_left}
 use Rattle.certified_epochs.proofs.certifier.Certifier.certify.Given as goal
 
--- so many epochs are certified, and their lines are written or wait on the page
+-- so many epochs are certified, their lines are written or wait on the page, and their operations are counted
 abbrev pub invariant-epochs : goal.invariant-epochs
 invariant-epochs g l = record {
   text : List ℕ;
@@ -21,6 +24,12 @@ invariant-epochs g l = record {
   lines : (scheme : Scheme) (header : Header) (logs : List (List ℕ))
       → HaveTaken scheme header logs l.fn.self (map (λ fed. fed.run) l.fn.runs)
       → text ≡ lines_from (text_by g.D.Digests.functions l.fn.telling) (courses_of scheme header logs) (header.first + l.fn.self.count) (l.self.count - l.fn.self.count);
+  operations : List Operation;
+  operations_are : (scheme : Scheme) (header : Header) (logs : List (List ℕ))
+      → HaveTaken scheme header logs l.fn.self (map (λ fed. fed.run) l.fn.runs)
+      → operations ≡ lines_from operations_told (courses_of scheme header logs) (header.first + l.fn.self.count) (l.self.count - l.fn.self.count);
+  summed : (workers : ℕ) (before : List Operation)
+      → l.fn.summary ≡ counted_of workers before → l.summary ≡ counted_of workers (before ++ operations);
   counted : l.fn.self.count ≤ l.self.count;
   fed_before : AreFed l.fn.runs;
   fed : AreFed l.runs;

@@ -1,17 +1,20 @@
-use Rattle.std.proofs.Common.{ℕ, ◌++◌, List, add-one, sym, ◌∙◌, ap, subst, arith}
+use Rattle.std.proofs.Common.{ℕ, ◌++◌, List, add-one, sym, ◌∙◌, ap, subst, append-nil, arith}
 use Rattle.std.specs.Prelude.{length}
 use Rattle.fv_outside.specs.Written.{GrowsByFront}
+use Rattle.record_text.specs.declared.operation.Operation.{Operation}
+use Rattle.load_summary.specs.Counting.{counted_of}
 use Rattle.report_text.specs.Page.{Passes}
 use Rattle.report_text.proofs.PassLaws.{Passes-start}
 use Rattle.bundle_report.specs.declared.judged.Judged.{Judged}
 use Rattle.bundle_report.specs.Judged.{CanBeJudged}
+use Rattle.bundle_report.specs.Report.{operations_told}
 use Rattle.certified_epochs.specs.Telling.{text_by}
 use Rattle.certified_epochs.specs.Turn.{Turned}
 use Rattle.certified_epochs.proofs.TurnLemmas.{runs_of, fed-judged, with_text, turn-other, turn-balanced, less-left, count-small, err_holds, ok_holds}
 use Rattle.certified_epochs.proofs.certifier.Certifier.certify_next.Goals as goal
 
 -- the text of a turn
-abbrev text_of : Turned → List ℕ
+abbrev text_of : {A : Type 0} → Turned A → List A
 text_of turned = turned.text
 
 pub verdict-requires-clause-numbers : goal.verdict-requires-clause-numbers
@@ -63,7 +66,7 @@ returns-then-is_err-clause-front g c =
     (sym (ap text_of
     (turn-balanced (text_by g.D.Digests.functions c.args.telling.now) c.args.self.now c.args.runs.now c.next_epoch.result c.in-Some.epoch c.deref.result.now c.verdict.result c.in-Some.is c.next_epoch.ensures.value
     (c.deref.ensures.value ∙ c.in_ok-gather.ensures.parts) c.verdict.ensures.verdict c.self.inside.judged _
-    (runs_of c.take.new.runs) c.deref-2.result.now (sym c.self.view_is) (add-one c.self.inside.judged.count) c.in-Balanced.is c.in_ok-take.ensures.left (c.deref-2.ensures.value ∙ c.in_ok-take.ensures.operations))))
+    (runs_of c.take.new.runs) c.deref-3.result.now (sym c.self.view_is) (add-one c.self.inside.judged.count) c.in-Balanced.is c.in_ok-take.ensures.left (c.deref-3.ensures.value ∙ c.in_ok-take.ensures.operations))))
     (err_holds _ c.write_epoch_lines.result (sym c.is_err.ensures.value ∙ c.if-is_err.true) c.write_epoch_lines.ensures.front)
 
 pub one_more-self-inside-requires : goal.one_more-self-inside-requires
@@ -87,9 +90,36 @@ returns-clause-text g c =
     (sym (ap text_of
     (turn-balanced (text_by g.D.Digests.functions c.args.telling.now) c.args.self.now c.args.runs.now c.next_epoch.result c.in-Some.epoch c.deref.result.now c.verdict.result c.in-Some.is c.next_epoch.ensures.value
     (c.deref.ensures.value ∙ c.in_ok-gather.ensures.parts) c.verdict.ensures.verdict c.self.inside.judged _
-    (runs_of c.take.new.runs) c.deref-2.result.now (sym c.self.view_is) (add-one c.self.inside.judged.count) c.in-Balanced.is c.in_ok-take.ensures.left (c.deref-2.ensures.value ∙ c.in_ok-take.ensures.operations))))
+    (runs_of c.take.new.runs) c.deref-3.result.now (sym c.self.view_is) (add-one c.self.inside.judged.count) c.in-Balanced.is c.in_ok-take.ensures.left (c.deref-3.ensures.value ∙ c.in_ok-take.ensures.operations))))
     (ok_holds _ c.write_epoch_lines.result (sym c.is_err.ensures.value ∙ c.if-is_err.false) c.write_epoch_lines.ensures.whole)
 
 pub returns-clause-less : goal.returns-clause-less
 returns-clause-less g c = λ done.
     less-left c.in-Some.epoch c.args.runs.now c.take.new.runs c.next_epoch.result c.in-Some.is c.next_epoch.ensures.value c.in_ok-take.ensures.left
+
+pub returns-in-Unbalanced-clause-counted : goal.returns-in-Unbalanced-clause-counted
+returns-in-Unbalanced-clause-counted g c = λ workers before summary_is.
+    summary_is
+    ∙ ap (counted_of workers) (sym (append-nil before))
+    ∙ ap (λ (ops : List Operation). counted_of workers (before ++ ops))
+    (sym (ap text_of
+    (turn-other operations_told c.args.self.now c.args.runs.now c.next_epoch.result c.in-Some.epoch c.deref.result.now c.verdict.result c.in-Some.is c.next_epoch.ensures.value
+    (c.deref.ensures.value ∙ c.in_ok-gather.ensures.parts) c.verdict.ensures.verdict c.self.inside.judged _ (sym c.self.view_is) c.in-Unbalanced.is)))
+
+pub returns-in-Missing-clause-counted : goal.returns-in-Missing-clause-counted
+returns-in-Missing-clause-counted g c = λ workers before summary_is.
+    summary_is
+    ∙ ap (counted_of workers) (sym (append-nil before))
+    ∙ ap (λ (ops : List Operation). counted_of workers (before ++ ops))
+    (sym (ap text_of
+    (turn-other operations_told c.args.self.now c.args.runs.now c.next_epoch.result c.in-Some.epoch c.deref.result.now c.verdict.result c.in-Some.is c.next_epoch.ensures.value
+    (c.deref.ensures.value ∙ c.in_ok-gather.ensures.parts) c.verdict.ensures.verdict c.self.inside.judged _ (sym c.self.view_is) c.in-Missing.is)))
+
+pub returns-clause-counted : goal.returns-clause-counted
+returns-clause-counted g c = λ workers before summary_is.
+    c.in_ok-count.ensures.counted workers before summary_is
+    ∙ ap (λ (ops : List Operation). counted_of workers (before ++ ops))
+    (sym (ap text_of
+    (turn-balanced operations_told c.args.self.now c.args.runs.now c.next_epoch.result c.in-Some.epoch c.deref.result.now c.verdict.result c.in-Some.is c.next_epoch.ensures.value
+    (c.deref.ensures.value ∙ c.in_ok-gather.ensures.parts) c.verdict.ensures.verdict c.self.inside.judged _
+    (runs_of c.take.new.runs) c.deref-2.result.now (sym c.self.view_is) (add-one c.self.inside.judged.count) c.in-Balanced.is c.in_ok-take.ensures.left (c.deref-2.ensures.value ∙ c.in_ok-take.ensures.operations))))

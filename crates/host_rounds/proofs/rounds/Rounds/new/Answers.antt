@@ -1,11 +1,14 @@
-use Rattle.std.proofs.Common.{◌≡◌, ◌<◌, ℕ, List, map, sym, ◌∙◌, subst, ap, arith}
+use Rattle.std.proofs.Common.{◌<◌, List, map, sym, ◌∙◌, ap, subst}
 use Rattle.record_text.specs.declared.operation.Operation.{Operation}
 use Rattle.merkle_records.specs.Scheme.{scheme_of}
 use Rattle.verifier_run.specs.Progress.{Progress}
 use Rattle.bundle_report.specs.declared.judged.Judged.{Judged}
 use Rattle.bundle_report.specs.Judged.{none_judged}
 use Rattle.bundle_report.specs.Logs.{empty_logs}
-use Rattle.bundle_report.specs.SoFar.{HaveTaken}
+use Rattle.bundle_report.specs.Report.{operations_told}
+use Rattle.bundle_report.specs.RunReport.{courses_of}
+use Rattle.bundle_report.specs.SoFar.{HaveTaken, lines_from}
+use Rattle.load_summary.specs.Counting.{counted_of}
 use Rattle.bundle_report.proofs.DueLaws.{taken-none}
 use Rattle.bundle_frames.specs.Bundle.{header_text}
 use Rattle.host_rounds.proofs.RunLemmas.{ok_holds, opening-few}
@@ -26,9 +29,13 @@ returns-clause-keeps g c = λ functions.
         fed = c.in_ok-runs.ensures.fed;
         taken =
             subst (λ (judged : Judged). HaveTaken scheme header (empty_logs header.verifiers) judged (map (λ fed. fed.run) c.in_ok-runs.runs.items))
-            (sym c.new.ensures.none)
+            (sym c.new-2.ensures.none)
             (subst (λ (runs : List (Progress Operation)). HaveTaken scheme header (empty_logs header.verifiers) none_judged runs) (sym c.in_ok-runs.ensures.opening)
             (taken-none scheme header c.requires.header));
         few = opening-few header 0 header.verifiers c.in_ok-runs.runs.items c.in_ok-runs.ensures.opening;
+        summed =
+            c.in_ok-summary.ensures.none
+            ∙ ap (counted_of header.verifiers)
+            (sym (ap (λ (j : Judged). lines_from operations_told (courses_of scheme header (empty_logs header.verifiers)) header.first j.count) c.new-2.ensures.none));
       };
     }

@@ -1,9 +1,8 @@
-use Rattle.std.proofs.Common.{◌≡◌, ℕ, ◌≤◌, List, ◌++◌, length, sym, ◌∙◌, ap, subst, arith}
+use Rattle.std.proofs.Common.{◌≤◌, List, ◌++◌, length, refl, sym, ◌∙◌, ap, subst, arith}
 use Rattle.std.specs.List.{AllByRecursion}
 use Rattle.std.proofs.lemmas.Result.{err_from_is_err_and}
 use Rattle.fv_outside.proofs.WrittenLaws.{Grows-then, GrowsByFront-whole, GrowsByFront-then}
 use Rattle.verifier_run.specs.Progress.{weight}
-use Rattle.bundle_report.specs.declared.judged.Judged.{Judged}
 use Rattle.certified_epochs.specs.declared.fed_run.FedRun.{FedRun}
 use Rattle.host_log.specs.Frames.{pieces_text}
 use Rattle.host_rounds.specs.Round.{logs_with, pieces_of}
@@ -72,7 +71,7 @@ returns-clause-keeps g c = λ header before held keeps.
     let news = c.feed_all.new.runs in
     let text = pieces_text (pieces_of 0 round) in
     let few : length round ≤ header.verifiers = omega (arith, c.requires.each, runs-length functions header before c.args.self.now keeps.runs) in
-    let now : RunsSoFar = record { judged = inside.certifier; runs = inside.runs.items; bytes = inside.bytes } in
+    let now : RunsSoFar = record { judged = inside.certifier; runs = inside.runs.items; bytes = inside.bytes; summary = inside.summary } in
     let have : HaveRun functions header before now = subst (HaveRun functions header before) (sym c.self.view_is) keeps.runs in
     let takes = subst (λ (olds : List FedRun). AllTake functions round olds news) c.deref_mut.ensures.value c.in_ok-feed_all.ensures.taken in
     let back = lent_back inside.runs.len news inside.runs.items inside.runs.ok.0 (length-take functions round inside.runs.items news takes) in
@@ -85,11 +84,11 @@ returns-clause-keeps g c = λ header before held keeps.
             (ok_holds _ c.write_round.result (sym c.is_err.ensures.value ∙ c.if-is_err.false) c.write_round.ensures.whole);
       };
       runs =
-          subst (λ (runs : List FedRun). HaveRun functions header (logs_with before round) (record { judged = inside.certifier; runs = runs; bytes = c.feed_all.new.bytes }))
-          (sym back) (round-run functions header before now have round news c.feed_all.new.bytes takes c.in_ok-feed_all.ensures.few);
+          subst (λ (runs : List FedRun). HaveRun functions header (logs_with before round) (record { judged = inside.certifier; runs = runs; bytes = c.feed_all.new.bytes; summary = inside.summary }))
+          (sym back) (round-run functions header before now have round news c.feed_all.new.bytes inside.summary refl takes c.in_ok-feed_all.ensures.few);
     }
 
 pub returns-clause-lines : goal.returns-clause-lines
 returns-clause-lines g c = λ tell functions header before have.
-    let now : RunsSoFar = record { judged = c.self.inside.certifier; runs = c.feed_all.new.runs; bytes = c.feed_all.new.bytes } in
+    let now : RunsSoFar = record { judged = c.self.inside.certifier; runs = c.feed_all.new.runs; bytes = c.feed_all.new.bytes; summary = c.self.inside.summary } in
     lines-stay functions header before c.args.self.now have tell c.args.logs.now now (ap (λ (s : RunsSoFar). s.judged) c.self.view_is)

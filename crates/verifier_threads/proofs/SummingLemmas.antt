@@ -1,0 +1,153 @@
+-- Where a load stops before its summary, and the summary of one whose counters don't suffice for the setup.
+use Rattle.std.proofs.Common.{◌≡◌, ℕ, zero, suc, ◌<◌, ◌≤◌, List, [], ◌∷◌, ◌++◌, length, replicate, Option, Some, None, Result, Ok, Err, OnErr, IfOk, inl, inr, refl, sym, ◌∙◌, ap, subst, arith}
+use Rattle.fv_outside.specs.Faults.{Rose}
+use Rattle.fv_outside.specs.Written.{Grows, GrowsByFront}
+use Rattle.fv_outside.proofs.WrittenLaws.{Grows-nil}
+use Rattle.record_hash.specs.Functions.{DigestFunctions}
+use Rattle.record_text.specs.declared.operation.Operation.{Operation}
+use Rattle.lamport_clocks.specs.declared.header.Header.{Header}
+use Rattle.log_codec.specs.declared.command.Command.{Command}
+use Rattle.report_text.specs.declared.status.Status.{Status}
+use Rattle.load_summary.specs.Tallies.{tallies_of}
+use Rattle.load_summary.specs.Counting.{Counted}
+use Rattle.load_summary.specs.Summary.{summary_with_end}
+use Rattle.bundle_report.specs.Logs.{empty_logs}
+use Rattle.bundle_report.specs.Report.{operations_told}
+use Rattle.script_text.specs.declared.task.Task.{Task}
+use Rattle.host_world.specs.declared.fault.ClockEnd.{ClockEnd}
+use Rattle.host_world.specs.declared.settings.Settings.{Settings}
+use Rattle.host_rounds.specs.declared.stops.RoundStop.{RoundStop}
+use Rattle.host_rounds.specs.declared.stops.RoundStop.TheVariants as stops
+use Rattle.host_rounds.specs.Bundle.{HasBundle}
+use Rattle.host_rounds.specs.SoFar.{RunsSoFar, HaveRun, operations_due, epochs_due, summary_due}
+use Rattle.host_rounds.proofs.RoundLaws.{counted-none}
+use Rattle.verifier_threads.specs.declared.ending.RunEnd.{RunEnd}
+use Rattle.verifier_threads.specs.declared.loads.Load.{Load}
+use Rattle.verifier_threads.specs.Serving.{Outputs, AreOfRun, IsCutOff, end_by, status_at, setup_end, texts_of}
+use Rattle.verifier_threads.specs.Summing.{IsSummed, IsCutInSummary, IsCutBefore, SumsTo, summary_of}
+use Rattle.verifier_threads.proofs.NothingLemmas.{NoTexts, empty-are}
+
+-- ---- it stops
+
+-- before anything is written
+pub stops-before : (functions : DigestFunctions) (settings : Settings) (script : List (List Task)) (load : Load) (stop : RoundStop) (outputs : Outputs)
+    → (stop ≡ stops.WriteFault → ⊥) → IsCutBefore outputs → SumsTo functions settings script load (Err stop) outputs
+stops-before functions settings script load stops.Memory outputs other cut = cut
+stops-before functions settings script load stops.VaultFault outputs other cut = cut
+stops-before functions settings script load stops.WriteFault outputs other cut = absurd (other refl)
+
+-- an error is not another one where no answer with it is
+pub other-stop : {A : Type 0} (a b stop : RoundStop) → a ≡ b → ((let one : Result A RoundStop = Err b in one ≡ Err stop) → ⊥) → a ≡ stop → ⊥
+other-stop {A} a b stop same other is = other (let both : b ≡ stop = sym same ∙ is in ap (λ (e : RoundStop). let r : Result A RoundStop = Err e in r) both)
+
+-- a count of faults that stays at 0 never rose
+pub never-rose : Rose 0 0 → ⊥
+never-rose rose = elim rose [ inl less ↦ absurd (omega (arith, less)) | inr last ↦ absurd (omega (arith, last)) ]
+
+pub memory-other : (stop : RoundStop) → stop ≡ stops.Memory → stop ≡ stops.WriteFault → ⊥
+memory-other stop is fault = cc
+
+-- the vault has what it had, or a front of something more
+pub before-front : (vault vault_after out : Option (List ℕ)) (text : List ℕ) → GrowsByFront vault vault_after text
+    → IsCutBefore (record { vault = vault; vault_after = vault_after; out = out; out_after = out })
+before-front vault vault_after out text grown = record { bytes = grown.front; vault = grown.grown; out = refl }
+
+pub before-any : (vault out : Option (List ℕ)) → IsCutBefore (record { vault = vault; vault_after = vault; out = out; out_after = out })
+before-any vault out = record { bytes = []; vault = Grows-nil vault; out = refl }
+
+pub before-cut : (receipts : _) (functions : DigestFunctions) (outputs : Outputs) (out : Option (List ℕ)) → IsCutOff receipts functions outputs
+    → IsCutBefore (record outputs { out = out; out_after = out })
+before-cut receipts functions outputs out cut = record { bytes = cut.bytes; vault = cut.vault; out = refl }
+
+-- in the summary, because the sink failed
+pub stops-inside : (functions : DigestFunctions) (settings : Settings) (script : List (List Task)) (load : Load) (stop : RoundStop) (outputs : Outputs)
+    → stop ≡ stops.WriteFault → IsCutInSummary functions settings script load outputs → SumsTo functions settings script load (Err stop) outputs
+stops-inside functions settings script load stop outputs is cut =
+    subst (λ (s : RoundStop). SumsTo functions settings script load (Err s) outputs) (sym is) cut
+
+pub write-fault : {A : Type 0} (stop : RoundStop) → (let one : Result A RoundStop = Err stop in one ≡ Err stops.WriteFault) → stop ≡ stops.WriteFault
+write-fault stop is = cc
+
+-- a load that came to its end ends so
+pub sums-so : (functions : DigestFunctions) (settings : Settings) (script : List (List Task)) (load : Load) (result : Result RunEnd RoundStop) (outputs : Outputs)
+    → IfOk result (λ end. IsSummed functions settings script load end outputs) → OnErr result (IsCutInSummary functions settings script load outputs)
+    → OnErr result (result ≡ Err stops.WriteFault) → SumsTo functions settings script load result outputs
+sums-so functions settings script load (Ok end) outputs summed cut stop = summed
+sums-so functions settings script load (Err fault) outputs summed cut stop =
+    stops-inside functions settings script load fault outputs (write-fault {A = RunEnd} fault stop) cut
+
+-- ---- nothing is logged
+
+abbrev pub NoEpochs : Type 0
+NoEpochs = (functions : DigestFunctions) (header : Header) → epochs_due functions header (replicate header.verifiers []) ≡ 0
+
+abbrev pub NoOperations : Type 0
+NoOperations = (functions : DigestFunctions) (header : Header) → operations_due functions header (replicate header.verifiers []) ≡ []
+
+module _ (no_epochs : NoEpochs) (no_operations : NoOperations) (no_texts : NoTexts) (functions : DigestFunctions) (settings : Settings) (script : List (List Task))
+    (short : settings.header.end < settings.shards) (load : Load) where
+  abbrev own : Header
+  own = settings.header
+
+  abbrev no_logs : List (List Command)
+  no_logs = replicate own.verifiers []
+
+  of_run : AreOfRun functions settings script no_logs (Some (setup_end settings))
+  of_run = record { served = λ enough. absurd (omega (arith, enough, short)); unserved = λ _. (refl, refl) }
+
+  has_header : (vault vault_after : Option (List ℕ)) → HasBundle own (empty_logs own.verifiers) vault vault_after
+      → HasBundle own (texts_of no_logs) vault vault_after
+  has_header vault vault_after has =
+      subst (λ (all : List (List ℕ)). HasBundle own all vault vault_after) (empty-are own.verifiers ∙ sym (no_texts own.verifiers)) has
+
+  -- the summary of no epochs and no operations
+  abbrev bare : Status → List ℕ
+  bare status = summary_with_end load.seed load.ops 0 (tallies_of own.verifiers []) status
+
+  summary_bare : (end : RunEnd) → summary_of functions own load no_logs end ≡ bare (status_at end)
+  summary_bare end =
+      ap (λ (texts : List (List ℕ)). summary_due functions own texts load.seed load.ops (status_at end)) (no_texts own.verifiers)
+      ∙ ap (λ (n : ℕ). summary_with_end load.seed load.ops n (tallies_of own.verifiers (operations_due functions own (replicate own.verifiers []))) (status_at end))
+      (no_epochs functions own)
+      ∙ ap (λ (ops : List Operation). summary_with_end load.seed load.ops 0 (tallies_of own.verifiers ops) (status_at end)) (no_operations functions own)
+
+  written_bare : (rounds : RunsSoFar) (status : Status) → HaveRun functions own (empty_logs own.verifiers) rounds → rounds.judged.count ≡ 0
+      → summary_with_end load.seed load.ops rounds.judged.count rounds.summary.tallies status ≡ bare status
+  written_bare rounds status have none =
+      ap (λ (counted : Counted). summary_with_end load.seed load.ops rounds.judged.count counted.tallies status) have.summed
+      ∙ ap (λ (ops : List Operation). summary_with_end load.seed load.ops rounds.judged.count (tallies_of own.verifiers ops) status)
+      (counted-none operations_told functions own (empty_logs own.verifiers) rounds none)
+      ∙ ap (λ (n : ℕ). summary_with_end load.seed load.ops n (tallies_of own.verifiers []) status) none
+
+  -- its summary is written
+  pub nothing-summed : (rounds : RunsSoFar) (end : ClockEnd) (vault vault_after out out_after : Option (List ℕ)) → end ≡ setup_end settings
+      → HaveRun functions own (empty_logs own.verifiers) rounds → rounds.judged.count ≡ 0
+      → HasBundle own (empty_logs own.verifiers) vault vault_after
+      → Grows out out_after (summary_with_end load.seed load.ops rounds.judged.count rounds.summary.tallies (status_at (end_by 0 (Some end))))
+      → IsSummed functions settings script load (end_by 0 (Some end)) (record { vault = vault; vault_after = vault_after; out = out; out_after = out_after })
+  nothing-summed rounds end vault vault_after out out_after is have none has written = record {
+    logs = no_logs;
+    end = Some (setup_end settings);
+    run = of_run;
+    is = ap (λ (e : ClockEnd). end_by 0 (Some e)) is;
+    vault = has_header vault vault_after has;
+    out = subst (Grows out out_after)
+        (written_bare rounds (status_at (end_by 0 (Some end))) have none ∙ sym (summary_bare (end_by 0 (Some end)))) written;
+  }
+
+  -- or a front of it
+  pub nothing-cut_summary : (rounds : RunsSoFar) (end : ClockEnd) (vault vault_after out out_after : Option (List ℕ)) → end ≡ setup_end settings
+      → HaveRun functions own (empty_logs own.verifiers) rounds → rounds.judged.count ≡ 0
+      → HasBundle own (empty_logs own.verifiers) vault vault_after
+      → GrowsByFront out out_after (summary_with_end load.seed load.ops rounds.judged.count rounds.summary.tallies (status_at (end_by 0 (Some end))))
+      → IsCutInSummary functions settings script load (record { vault = vault; vault_after = vault_after; out = out; out_after = out_after })
+  nothing-cut_summary rounds end vault vault_after out out_after is have none has written = record {
+    logs = no_logs;
+    end = Some (setup_end settings);
+    run = of_run;
+    vault = has_header vault vault_after has;
+    out = subst (GrowsByFront out out_after)
+        (written_bare rounds (status_at (end_by 0 (Some end))) have none ∙ sym (summary_bare (end_by 0 (Some end)))
+        ∙ ap (λ (e : ClockEnd). summary_of functions own load no_logs (end_by 0 (Some e))) is)
+        written;
+  }

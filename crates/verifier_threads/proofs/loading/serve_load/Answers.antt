@@ -1,0 +1,41 @@
+use Rattle.std.proofs.Common.{◌≡◌, ℕ, ◌<◌, ◌≤◌, List, [], Option, Result, Ok, Err, inl, inr, refl, sym, ◌∙◌, ap, subst, arith}
+use Rattle.std.proofs.lemmas.Bool.{cases_lt}
+use Rattle.fv_outside.proofs.WrittenLaws.{GrowsByFront-none}
+use Rattle.record_text.specs.declared.request.Request.{Request}
+use Rattle.host_core.specs.Host.{Host}
+use Rattle.host_core.specs.World.{set_up}
+use Rattle.host_shard.specs.Content.{Content}
+use Rattle.script_text.specs.declared.task.Task.{Task}
+use Rattle.script_text.specs.Text.{AreTasks}
+use Rattle.host_world.specs.declared.fault.ClockEnd.{ClockEnd}
+use Rattle.host_world.specs.declared.settings.Settings.{Settings}
+use Rattle.host_world.specs.Settings.{IsSettings}
+use Rattle.host_world.specs.Shown.{digests_of, requests_of, settings_of}
+use Rattle.verifier_threads.specs.Serving.{Outputs, ServesTo, setup_end}
+use Rattle.verifier_threads.proofs.EndingLemmas.{opening-cut}
+use Rattle.verifier_threads.proofs.loading.serve_load.Goals as goal
+
+pub sum_up_world-requires : goal.sum_up_world-requires
+sum_up_world-requires g c =
+    let says = c.in-Ok.ensures in
+    let settings = c.args.settings.now in
+    let suffices : settings.shards ≤ settings.header.end =
+    elim (cases_lt settings.header.end settings.shards) [
+      | inl short ↦
+          let end = (c.new.ensures.clock_end (setup_end settings)).1 (short, refl) in
+          absurd (let both = sym c.in-Ok.is ∙ end in cc)
+      | inr enough ↦ enough
+    ] in
+    record {
+      setup = says.set_up ∙ ap (λ (h : Host Content Request). set_up h) (sym says.host);
+      settings = subst IsSettings (sym says.numbers) c.requires.settings;
+      counters = subst (λ (s : Settings). s.shards ≤ s.header.end) (sym says.numbers) suffices;
+      tasks =
+          subst (λ (s : Settings). AreTasks s.header.verifiers (requests_of c.in-Ok.world)) (sym says.numbers)
+          (subst (AreTasks settings.header.verifiers) (sym says.asked) c.requires.tasks);
+    }
+
+pub sum_up_nothing-requires : goal.sum_up_nothing-requires
+sum_up_nothing-requires g c =
+    let is = (c.new.ensures.clock_end c.in-Err-ClockEnd.end).0 (c.in-Err-ClockEnd.is ∙ ap (λ fault. Err fault) c.in-Err-ClockEnd.field-0-is) in
+    record { settings = c.requires.settings; unserved = is.0; end = is.1 }
