@@ -1,11 +1,10 @@
-//! How a host serves a script: its phases and its closes, as events of its world.
+//! How a host serves a script, as events of its world: what a phase comes to, and its closes.
 //!
-//! The crate stands on `host_world`, whose events it chooses one by one, in the order of the script. Begin with
-//! `serve_phase` in `phases.rt` and `close_phase` in `closes.rt`, beside `specs/Leading.antt` and `specs/Standing.antt`.
+//! The crate stands on `host_world`, whose events a close chooses one by one. The phase itself is served by the workers in threads
+//! (`worker_threads`), and `specs/Standing.antt` says what it comes to. Begin with `close_phase` in `closes.rt`, beside
+//! `specs/Leading.antt` and `specs/Standing.antt`.
 #![tactic(auto)]
 
 mod closes;
-mod phases;
 
 pub use closes::close_phase;
-pub use phases::serve_phase;

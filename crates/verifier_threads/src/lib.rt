@@ -1,7 +1,7 @@
 //! How a host serves a script from its setup to the last line of its report: the workers log, the vault takes their logs in
 //! frames, their verifiers read them, and what these certify is written. Of a load its summary is written in place of that.
 //!
-//! The crate stands on `host_serving` for what the workers do in a phase and a close, and on `host_rounds` for what becomes
+//! The crate stands on `worker_threads` for a phase, on `host_serving` for a close, and on `host_rounds` for what becomes
 //! of their logs. Begin with `serve_script` in `serving.rt`, beside `specs/Serving.antt`, and go on with `serve_load` in
 //! `loading.rt`, beside `specs/Summing.antt`.
 #![tactic(auto)]
