@@ -6,7 +6,7 @@ scripts with a line that is none.
 # What the slow program does and the built one doesn't yet, so that it must refuse words that ask for it: commands and
 # options, and more workers than so many.
 LATER = ["gen", "accept", "--receipts"]
-MOST_WORKERS = 1
+MOST_WORKERS = 64
 
 BITS = 64
 TAILS = [0, 1, 5, 2**53]  # of keys, behind their shard's frontier

@@ -1,8 +1,8 @@
 -- What was asked is what the words ask for, and the headline of whatever a source has.
-use Rattle.std.proofs.Common.{◌≡◌, false, ℕ, List, Option, Some, None, IfSome, refl, sym, ◌∙◌, ap, inr, arith}
+use Rattle.std.proofs.Common.{◌≡◌, ℕ, List, Option, Some, None, IfSome, refl, sym, ◌∙◌, ap, inr, arith}
 use Rattle.fv_outside.specs.Consumed.{TookAtMost}
 use Rattle.record_hash.specs.ShaDigests.{sha_under}
-use Rattle.program_words.specs.declared.words.Asked.TheVariants.{Check, Audit, Run}
+use Rattle.program_words.specs.declared.words.Asked.TheVariants.{Check, Audit, Run, Accept}
 use Rattle.report_text.specs.declared.status.Status.TheVariants.{Memory}
 use Rattle.report_text.proofs.AnsweringLaws.{answers-none}
 use Rattle.bundle_frames.specs.Extent.{reading_end}
@@ -11,7 +11,9 @@ use Rattle.program_words.specs.declared.words.Asked.{Asked}
 use Rattle.bundle_report.proofs.HeadlineLaws.{sha_headline, of_left}
 use Rattle.fastver_top.specs.Auditing.{sha_audit_answer}
 use Rattle.fastver_top.specs.Answers.{asked_key, AnswersFor, bundle_for, IsSoundFor}
+use Rattle.check_core.specs.declared.stops.ReadStop.TheVariants as reads
 use Rattle.fastver_top.proofs.RunLemmas.{cut-none, runs-memory}
+use Rattle.fastver_top.proofs.AcceptLemmas.{answers-unread}
 
 abbrev inside : Asked → Option Asked → Asked
 inside other None = other
@@ -34,9 +36,14 @@ pub answers-nothing : (asked : Asked) (most : ℕ) (left held vault : Option (Li
     → AnswersFor asked most Memory (record { left = left; left_after = left; faults = r; faults_after = r' })
     (record { held = held; held_after = held; faults = w; faults_after = w' })
     (record { held = vault; held_after = vault; name = name; name_after = name; faults = v; faults_after = v' })
-answers-nothing (Check key) most left held vault name r r' w w' v v' = answers-none (sha_check_answer false key) reading_end most left held r r' w w'
+answers-nothing (Check check) most left held vault name r r' w w' v v' =
+    answers-none (sha_check_answer check.receipts check.key) reading_end most left held r r' w w'
 answers-nothing (Audit key) most left held vault name r r' w w' v v' = answers-none (sha_audit_answer key) reading_end most left held r r' w w'
 answers-nothing (Run run) most left held vault name r r' w w' v v' =
-    runs-memory false (sha_under run.key) run most _ _ _ (took_none most left)
-    (cut-none false (sha_under run.key) (record { vault = vault; vault_after = vault; out = held; out_after = held }) refl refl)
+    runs-memory (sha_under run.key) run most _ _ _ (took_none most left)
+    (cut-none run.receipts (sha_under run.key) (record { vault = vault; vault_after = vault; out = held; out_after = held }) refl refl)
     (inr (record { unnamed = refl; vault = refl; out = refl }))
+answers-nothing (Accept key) most left held vault name r r' w w' v v' =
+    answers-unread (sha_under key) most
+    (record { left = left; left_after = left; faults = r; faults_after = r' }) (record { held = held; held_after = held; faults = w; faults_after = w' })
+    reads.Memory refl (λ is. absurd (cc)) (λ is. absurd (cc)) (λ _. took_none most left)

@@ -4,4 +4,5 @@ mod ReadLemmas
 mod ServedLemmas
 mod RunLemmas
 mod SettingLemmas
+mod AcceptLemmas
 mod AnswerLemmas

@@ -78,11 +78,11 @@ cut-none receipts functions outputs vault out = record {
 
 -- ---- how it ends
 
-module _ (receipts : Bool) (functions : DigestFunctions) (run : RunWords) (most : ℕ) (reading : Reading) (writing : Writing) (keeping : Keeping) where
+module _ (functions : DigestFunctions) (run : RunWords) (most : ℕ) (reading : Reading) (writing : Writing) (keeping : Keeping) where
   -- memory was wanting
-  pub runs-memory : TookAtMost most reading.left reading.left_after → IsCutOff receipts functions (outputs_of writing keeping)
+  pub runs-memory : TookAtMost most reading.left reading.left_after → IsCutOff run.receipts functions (outputs_of writing keeping)
       → IsNamedFor run.logs keeping.name keeping.name_after ⊎ IsUntouched keeping.name keeping.name_after (outputs_of writing keeping)
-      → RunsTo receipts functions run most statuses.Memory reading writing keeping
+      → RunsTo functions run most statuses.Memory reading writing keeping
   runs-memory within cut named = record {
     served = λ end. absurd end;
     due = λ end. absurd end;
@@ -107,7 +107,7 @@ module _ (receipts : Bool) (functions : DigestFunctions) (run : RunWords) (most 
   -- the source failed
   pub runs-read_fault : TookAtMost most reading.left reading.left_after → Rose reading.faults reading.faults_after
       → IsUntouched keeping.name keeping.name_after (outputs_of writing keeping)
-      → RunsTo receipts functions run most statuses.ReadFault reading writing keeping
+      → RunsTo functions run most statuses.ReadFault reading writing keeping
   runs-read_fault within rose untouched = record {
     served = λ end. absurd end;
     due = λ end. absurd end;
@@ -136,7 +136,7 @@ module _ (receipts : Bool) (functions : DigestFunctions) (run : RunWords) (most 
   -- the source gave too much
   pub runs-limit : TookJust (most + 1) reading.left reading.left_after
       → IsUntouched keeping.name keeping.name_after (outputs_of writing keeping)
-      → RunsTo receipts functions run most (statuses.InputLimit most) reading writing keeping
+      → RunsTo functions run most (statuses.InputLimit most) reading writing keeping
   runs-limit just untouched = record {
     served = λ end. absurd end;
     due = λ end. absurd end;
@@ -165,7 +165,7 @@ module _ (receipts : Bool) (functions : DigestFunctions) (run : RunWords) (most 
   -- what was read is no script
   pub runs-bad_script : (line : ℕ) (cause : Cause) → TookAtMost most reading.left reading.left_after → HasBadLine run.numbers.verifiers reading line cause
       → IsUntouched keeping.name keeping.name_after (outputs_of writing keeping)
-      → RunsTo receipts functions run most (statuses.BadScript line cause) reading writing keeping
+      → RunsTo functions run most (statuses.BadScript line cause) reading writing keeping
   runs-bad_script line cause within bad untouched = record {
     served = λ end. absurd end;
     due = λ end. absurd end;
@@ -194,9 +194,9 @@ module _ (receipts : Bool) (functions : DigestFunctions) (run : RunWords) (most 
 
   -- the vault failed
   pub runs-vault_fault : (script : List (List Task)) → HasScript run.numbers.verifiers reading script → TookAtMost most reading.left reading.left_after
-      → IsCutOff receipts functions (outputs_of writing keeping) → IsNamedFor run.logs keeping.name keeping.name_after ⊎ IsUntouched keeping.name keeping.name_after (outputs_of writing keeping)
+      → IsCutOff run.receipts functions (outputs_of writing keeping) → IsNamedFor run.logs keeping.name keeping.name_after ⊎ IsUntouched keeping.name keeping.name_after (outputs_of writing keeping)
       → Rose keeping.faults keeping.faults_after
-      → RunsTo receipts functions run most statuses.VaultFault reading writing keeping
+      → RunsTo functions run most statuses.VaultFault reading writing keeping
   runs-vault_fault script read within cut named rose = record {
     served = λ end. absurd end;
     due = λ end. absurd end;
@@ -220,9 +220,9 @@ module _ (receipts : Bool) (functions : DigestFunctions) (run : RunWords) (most 
 
   -- the sink failed
   pub runs-write_fault : (script : List (List Task)) → HasScript run.numbers.verifiers reading script → TookAtMost most reading.left reading.left_after
-      → IsCutOff receipts functions (outputs_of writing keeping) ⊎ IsCutAtEnd receipts functions (settings_for run.numbers) script (outputs_of writing keeping)
+      → IsCutOff run.receipts functions (outputs_of writing keeping) ⊎ IsCutAtEnd run.receipts functions (settings_for run.numbers) script (outputs_of writing keeping)
       → IsNamedFor run.logs keeping.name keeping.name_after → Rose writing.faults writing.faults_after
-      → RunsTo receipts functions run most statuses.WriteFault reading writing keeping
+      → RunsTo functions run most statuses.WriteFault reading writing keeping
   runs-write_fault script read within cut named rose = record {
     served = λ end. absurd end;
     due = λ end. absurd end;
@@ -245,11 +245,11 @@ module _ (receipts : Bool) (functions : DigestFunctions) (run : RunWords) (most 
       neither (inr is) = cc
 
   -- it served the script
-  pub runs-end : (result : Status) → IsEnd result → IsBehindScript result → EndsServed receipts functions run result reading (outputs_of writing keeping)
-      → IsDueByCheck receipts functions result (outputs_of writing keeping)
-      → ((epochs : ℕ) → result ≡ statuses.Done epochs → IsAnswerOfCheck receipts functions result (outputs_of writing keeping))
+  pub runs-end : (result : Status) → IsEnd result → IsBehindScript result → EndsServed functions run result reading (outputs_of writing keeping)
+      → IsDueByCheck run.receipts functions result (outputs_of writing keeping)
+      → ((epochs : ℕ) → result ≡ statuses.Done epochs → IsAnswerOfCheck run.receipts functions result (outputs_of writing keeping))
       → TookAtMost most reading.left reading.left_after → IsNamedFor run.logs keeping.name keeping.name_after
-      → RunsTo receipts functions run most result reading writing keeping
+      → RunsTo functions run most result reading writing keeping
   runs-end result end behind served due checked within named = record {
     served = λ _. served;
     due = λ _. due;
@@ -276,23 +276,23 @@ module _ (receipts : Bool) (functions : DigestFunctions) (run : RunWords) (most 
   -- no script was read
   pub runs-unread : (stop : ScriptStop) → ReadsScript run.numbers.verifiers most (Err stop) reading
       → IsUntouched keeping.name keeping.name_after (outputs_of writing keeping)
-      → RunsTo receipts functions run most (script_stopped most stop) reading writing keeping
+      → RunsTo functions run most (script_stopped most stop) reading writing keeping
   runs-unread (scripts.Reading reads.Memory) read untouched =
-      runs-memory (read.within (λ is. cc)) (cut-none receipts functions (outputs_of writing keeping) untouched.vault untouched.out) (inr untouched)
+      runs-memory (read.within (λ is. cc)) (cut-none run.receipts functions (outputs_of writing keeping) untouched.vault untouched.out) (inr untouched)
   runs-unread (scripts.Reading reads.ReadFault) read untouched = runs-read_fault (read.within (λ is. cc)) (read.fault refl) untouched
   runs-unread (scripts.Reading reads.InputLimit) read untouched = runs-limit (read.limit refl) untouched
   runs-unread (scripts.Script faults.Memory) read untouched =
-      runs-memory (read.within (λ is. cc)) (cut-none receipts functions (outputs_of writing keeping) untouched.vault untouched.out) (inr untouched)
+      runs-memory (read.within (λ is. cc)) (cut-none run.receipts functions (outputs_of writing keeping) untouched.vault untouched.out) (inr untouched)
   runs-unread (scripts.Script (faults.BadScript line cause)) read untouched =
       runs-bad_script line cause (read.within (λ is. cc)) (read.bad line cause refl) untouched
 
   module _ (script : List (List Task)) (read : ReadsScript run.numbers.verifiers most (Ok script) reading) where
     -- it was not served to its end
-    pub runs-stopped : (stop : RoundStop) → ServesTo receipts functions (settings_for run.numbers) script (Err stop) (outputs_of writing keeping)
+    pub runs-stopped : (stop : RoundStop) → ServesTo run.receipts functions (settings_for run.numbers) script (Err stop) (outputs_of writing keeping)
         → ((stop ≡ rounds.VaultFault → ⊥) → IsNamedFor run.logs keeping.name keeping.name_after)
         → IsNamedFor run.logs keeping.name keeping.name_after ⊎ IsUntouched keeping.name keeping.name_after (outputs_of writing keeping)
         → (stop ≡ rounds.VaultFault → Rose keeping.faults keeping.faults_after) → (stop ≡ rounds.WriteFault → Rose writing.faults writing.faults_after)
-        → RunsTo receipts functions run most (run_stopped stop) reading writing keeping
+        → RunsTo functions run most (run_stopped stop) reading writing keeping
     runs-stopped rounds.Memory served named first vault out = runs-memory (read.within (λ is. cc)) served first
     runs-stopped rounds.VaultFault served named first vault out = runs-vault_fault script read.script (read.within (λ is. cc)) served first (vault refl)
     runs-stopped rounds.WriteFault served named first vault out = runs-write_fault script read.script (read.within (λ is. cc)) served (named (λ is. cc)) (out refl)
@@ -300,12 +300,12 @@ module _ (receipts : Bool) (functions : DigestFunctions) (run : RunWords) (most 
     -- it was
     pub runs-served : ((logs : List (List Command)) → AreOfRun functions (settings_for run.numbers) script logs None
         → end_due functions (settings_for run.numbers).header (texts_of logs) ≡ bundles.Done (length script))
-        → (end : RunEnd) → ServesTo receipts functions (settings_for run.numbers) script (Ok end) (outputs_of writing keeping)
-        → IsNamedFor run.logs keeping.name keeping.name_after → RunsTo receipts functions run most (status_at end) reading writing keeping
+        → (end : RunEnd) → ServesTo run.receipts functions (settings_for run.numbers) script (Ok end) (outputs_of writing keeping)
+        → IsNamedFor run.logs keeping.name keeping.name_after → RunsTo functions run most (status_at end) reading writing keeping
     runs-served law end served named =
         runs-end (status_at end) (is_end end) (is_behind end) (record { script = script; read = read.script; end = end; is = refl; served = served })
-        (due-by-check receipts functions (settings_for run.numbers) script (outputs_of writing keeping) end served)
-        (λ epochs done. answer-of-check receipts functions (settings_for run.numbers) script (outputs_of writing keeping) law end epochs done served)
+        (due-by-check run.receipts functions (settings_for run.numbers) script (outputs_of writing keeping) end served)
+        (λ epochs done. answer-of-check run.receipts functions (settings_for run.numbers) script (outputs_of writing keeping) law end epochs done served)
         (read.within (λ is. cc)) named
       where
         is_end : (e : RunEnd) → IsEnd (status_at e)

@@ -1,5 +1,6 @@
 -- What the clauses of the top call cite, in reading order.
 pub mod Auditing
 pub mod Running
+pub mod Accepting
 pub mod Answers
 pub use Rattle.check_core.specs

@@ -120,20 +120,20 @@ pub record Keeping : Type 0 where
 abbrev pub outputs_of : Writing → Keeping → Outputs
 outputs_of writing keeping = record { vault = keeping.held; vault_after = keeping.held_after; out = writing.held; out_after = writing.held_after }
 
-module _ (receipts : Bool) (functions : DigestFunctions) (run : RunWords) (result : Status) (reading : Reading) (outputs : Outputs) where
+module _ (functions : DigestFunctions) (run : RunWords) (result : Status) (reading : Reading) (outputs : Outputs) where
   -- The script is served, and the status says how that ended.
   pub record EndsServed : Type 0 where
     pub script : List (List Task)
     pub read : HasScript run.numbers.verifiers reading script
     pub end : RunEnd
     pub is : result ≡ status_at end
-    pub served : IsServed receipts functions (settings_for run.numbers) script end outputs
+    pub served : IsServed run.receipts functions (settings_for run.numbers) script end outputs
 
   -- The sink failed: it took a front of the lines that the vault's bytes certify, or at the last line of the report.
   pub record EndsCut : Type 0 where
     pub script : List (List Task)
     pub read : HasScript run.numbers.verifiers reading script
-    pub cut : IsCutOff receipts functions outputs ⊎ IsCutAtEnd receipts functions (settings_for run.numbers) script outputs
+    pub cut : IsCutOff run.receipts functions outputs ⊎ IsCutAtEnd run.receipts functions (settings_for run.numbers) script outputs
 
 -- A check of what the vault took is due to write the same lines.
 pub record IsDueByCheck (receipts : Bool) (functions : DigestFunctions) (result : Status) (outputs : Outputs) : Type 0 where
@@ -163,18 +163,18 @@ pub record IsUntouched (name name_after : Option (Option (List ℕ))) (outputs :
 
 -- ---- the whole
 
--- A run of a script under these words, with receipts or without, of a source with no more than so many bytes.
-pub record RunsTo (receipts : Bool) (functions : DigestFunctions) (run : RunWords) (most : ℕ) (result : Status) (reading : Reading) (writing : Writing)
+-- A run of a script under these words, of a source with no more than so many bytes.
+pub record RunsTo (functions : DigestFunctions) (run : RunWords) (most : ℕ) (result : Status) (reading : Reading) (writing : Writing)
     (keeping : Keeping) : Type 0 where
   -- where it ends it served the script that the source has: the vault took the bundle of the logs, and the sink its report
-  pub served : IsEnd result → EndsServed receipts functions run result reading (outputs_of writing keeping)
+  pub served : IsEnd result → EndsServed functions run result reading (outputs_of writing keeping)
   -- so a check of what the vault took writes these lines, and where all is done it answers just the same
-  pub due : IsEnd result → IsDueByCheck receipts functions result (outputs_of writing keeping)
-  pub checked : (epochs : ℕ) → result ≡ statuses.Done epochs → IsAnswerOfCheck receipts functions result (outputs_of writing keeping)
+  pub due : IsEnd result → IsDueByCheck run.receipts functions result (outputs_of writing keeping)
+  pub checked : (epochs : ℕ) → result ≡ statuses.Done epochs → IsAnswerOfCheck run.receipts functions result (outputs_of writing keeping)
   -- where memory was wanting or the vault failed, the sink has a front of the lines that the vault's bytes certify
-  pub cut : (result ≡ statuses.Memory) ⊎ (result ≡ statuses.VaultFault) → IsCutOff receipts functions (outputs_of writing keeping)
+  pub cut : (result ≡ statuses.Memory) ⊎ (result ≡ statuses.VaultFault) → IsCutOff run.receipts functions (outputs_of writing keeping)
   -- where the sink failed too, or it has a front of the report
-  pub cut_report : result ≡ statuses.WriteFault → EndsCut receipts functions run result reading (outputs_of writing keeping)
+  pub cut_report : result ≡ statuses.WriteFault → EndsCut functions run result reading (outputs_of writing keeping)
   -- a script is bad where the first line outside the grammar is this one
   pub bad : (line : ℕ) (cause : Cause) → result ≡ statuses.BadScript line cause → HasBadLine run.numbers.verifiers reading line cause
   pub good : IsBehindScript result → (script : List (List Task)) × HasScript run.numbers.verifiers reading script

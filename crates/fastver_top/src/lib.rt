@@ -2,11 +2,13 @@
 //!
 //! `fastver` in `top.rt` is what the program runs: `program_words` reads its words, a check is `check_core`'s,
 //! and an audit is `audit_text` in `auditing.rt`, which asks `collision_exhibit` for what there is to exhibit. A run is
-//! `run_script` in `running.rt`: a script is read whole by `scripts.rt`, and `verifier_threads` serves it.
+//! `run_script` in `running.rt`: a script is read whole by `scripts.rt`, and `verifier_threads` serves it. `accept_text` in
+//! `accepting.rt` reads a receipt and a certificate by `receipt_lines`, and says by `receipts` whether the receipt is accepted.
 //! The crate stands on these, and on the objects of `fv_outside`. Begin with `fastver`, beside
 //! `specs/Answers.antt`.
 #![tactic(auto)]
 
+mod accepting;
 mod audit_end;
 mod auditing;
 mod reading;
@@ -14,6 +16,7 @@ mod running;
 mod scripts;
 mod top;
 
+pub use accepting::accept_text;
 pub use audit_end::AuditEnd;
 pub use auditing::audit_text;
 pub use reading::read_all;

@@ -21,18 +21,27 @@ use report_text::Status;
 use run_reports::a_check_of_the_logs_ends_as_the_host_promises;
 use script_text::Requests;
 use std::alloc::Global;
+use std::sync::Wait;
+use std::thread::Threads;
 use verifier_threads::{RunEnd, serve_script};
 
 // How many entries a verifier of the host may cache.
 const HOST_CACHE: u32 = 128;
 
 /// Reads a script of no more than so many bytes to its end, names the vault if the words say so, and serves the script: the
-/// vault takes the bundle of the logs, and the sink its report, with receipts or without.
-pub fn run_script<D: Digests, S: Source, O: Sink, V: Vault, G: Gate>(
+/// vault takes the bundle of the logs, and the sink its report, with receipts if the words say so.
+pub fn run_script<
+    R: Threads + Wait + Sync,
+    D: Digests + Sync,
+    S: Source,
+    O: Sink,
+    V: Vault,
+    G: Gate + Sync,
+>(
+    rt: &R,
     alloc: Global,
     d: &D,
     run: &RunWords,
-    receipts: bool,
     limit: u64,
     source: &mut S,
     out: &mut O,
@@ -45,7 +54,7 @@ pub fn run_script<D: Digests, S: Source, O: Sink, V: Vault, G: Gate>(
     ensures outcomes { IsRunStatus result }
 
     // What was read, how it was served, what stands in vault and sink, and the faults.
-    ensures runs { RunsTo receipts (D.functions d.now) run.now limit result
+    ensures runs { RunsTo (D.functions d.now) run.now limit result
         (record { left = S.left source.old; left_after = S.left source.new; faults = S.faults source.old; faults_after = S.faults source.new })
         (record { held = O.held out.old; held_after = O.held out.new; faults = O.faults out.old; faults_after = O.faults out.new })
         (record { held = V.held vault.old; held_after = V.held vault.new; name = V.name vault.old; name_after = V.name vault.new; faults = V.faults vault.old; faults_after = V.faults vault.new }) }
@@ -61,19 +70,19 @@ pub fn run_script<D: Digests, S: Source, O: Sink, V: Vault, G: Gate>(
         Ok(requests) => requests,
         Err(stop) => return stop.status(limit),
     };
-    match serve(alloc, d, run, &requests, receipts, gate, vault, out) {
+    match serve(rt, alloc, d, run, &requests, gate, vault, out) {
         Ok(end) => end.status(),
         Err(stop) => status_of(stop),
     }
 }
 
 // Names the vault if the words say so, and serves a script.
-fn serve<D: Digests, V: Vault, O: Sink, G: Gate>(
+fn serve<R: Threads + Wait + Sync, D: Digests + Sync, V: Vault, O: Sink, G: Gate + Sync>(
+    rt: &R,
     alloc: Global,
     d: &D,
     run: &RunWords,
     requests: &Requests,
-    receipts: bool,
     gate: &G,
     vault: &mut V,
     out: &mut O,
@@ -81,7 +90,7 @@ fn serve<D: Digests, V: Vault, O: Sink, G: Gate>(
     requires numbers { AreHostNumbers run.now.numbers }
     requires tasks { AreTasks run.now.numbers.verifiers requests.now }
     requires fresh { V.fresh vault.old }
-    ensures serves { ServesTo receipts (D.functions d.now) (settings_for run.now.numbers) requests.now result
+    ensures serves { ServesTo run.now.receipts (D.functions d.now) (settings_for run.now.numbers) requests.now result
         (record { vault = V.held vault.old; vault_after = V.held vault.new; out = O.held out.old; out_after = O.held out.new }) }
     ensures named { result ≢ Err RoundStop.VaultFault → IsNamedFor run.now.logs (V.name vault.old) (V.name vault.new) }
     ensures named_first { IsNamedFor run.now.logs (V.name vault.old) (V.name vault.new) ⊎ IsUntouched (V.name vault.old) (V.name vault.new)
@@ -92,7 +101,17 @@ fn serve<D: Digests, V: Vault, O: Sink, G: Gate>(
     match name_vault(run, vault) {
         Ok(()) => {
             let settings = settings_for(&run.numbers);
-            serve_script(alloc, d, &settings, requests, receipts, gate, vault, out)
+            serve_script(
+                rt,
+                alloc,
+                d,
+                &settings,
+                requests,
+                run.receipts,
+                gate,
+                vault,
+                out,
+            )
         }
         Err(_) => Err(RoundStop::VaultFault),
     }

@@ -8,7 +8,9 @@ ghost use Rattle.fv_outside.specs.Consumed.{TookAtMost};
 ghost use Rattle.report_text.specs.Answer.{IsEnd};
 ghost use Rattle.fastver_top.specs.Answers.{AnswersFor, bundle_for, CollidesFor, IsProgramStatus, IsSoundFor, IsStatusOf};
 ghost use Rattle.fastver_top.specs.Running.{IsBeforeRun};
+ghost use Rattle.fastver_top.specs.Accepting.{IsBeforeAnswer};
 
+use crate::accepting::accept_text;
 use crate::auditing::audit_text;
 use crate::running::run_script;
 use check_core::check;
@@ -26,10 +28,11 @@ pub const INPUT_LIMIT: u64 = 1 << 40;
 /// The program: it takes its words, the name of the program first, and answers how it ended.
 ///
 /// `fastver check --key HEX` reads a bundle from the source and writes its report to the sink: a line for
-/// each certified epoch and each certified operation, and a last line. `fastver audit --key HEX` writes what
-/// there is to exhibit of the certified epochs, and the same last line. The vault is left as it is. `fastver run` with a
+/// each certified epoch and each certified operation, and a last line; with `--receipts` also what a client can keep of them.
+/// `fastver audit --key HEX` writes what there is to exhibit of the certified epochs, and the same last line. `fastver run` with a
 /// key and the numbers of a host reads a script, serves it, writes the bundle of its logs to the vault, and to the sink the
-/// report of that bundle.
+/// report of that bundle. `fastver accept --key HEX` reads a receipt and a certificate, and writes whether the receipt is accepted. But by
+/// a run the vault is left as it is.
 #[tactic(auto, using(crate::proofs::AnswerLemmas::left_is_sound))]
 pub fn fastver<R: Threads + Wait + Sync, S: Source, O: Sink, V: Vault, G: Gate + Sync>(
     rt: &R,
@@ -62,6 +65,10 @@ pub fn fastver<R: Threads + Wait + Sync, S: Source, O: Sink, V: Vault, G: Gate +
     ensures audit_within { (key : List ℕ) → asked_of (map (λ word. word.now) words.now) ≡ Some (Asked.Audit key)
         → result ≢ Status.InputLimit (2 ^ 40) → TookAtMost (2 ^ 40) (S.left source.old) (S.left source.new) }
 
+    // An acceptance writes nothing before a receipt and a certificate are read.
+    ensures accept_unwritten { (key : List ℕ) → asked_of (map (λ word. word.now) words.now) ≡ Some (Asked.Accept key)
+        → IsBeforeAnswer result → out.new ≡ out.old }
+
     // A run writes nothing and names no vault before a whole and good script is read.
     ensures run_unwritten { (run : RunWords) → asked_of (map (λ word. word.now) words.now) ≡ Some (Asked.Run run)
         → IsBeforeRun result → out.new ≡ out.old }
@@ -84,19 +91,17 @@ pub fn fastver<R: Threads + Wait + Sync, S: Source, O: Sink, V: Vault, G: Gate +
         → IfSome (S.left source.old) (CollidesFor asked) }
 {
     match read_words(alloc, words) {
-        Ok(Asked::Check(key)) => check(
-            rt,
-            alloc,
-            &digests_under(&key),
-            INPUT_LIMIT,
-            source,
-            out,
-            false,
-        ),
+        Ok(Asked::Check(checking)) => {
+            let d = digests_under(&checking.key);
+            check(rt, alloc, &d, INPUT_LIMIT, source, out, checking.receipts)
+        }
         Ok(Asked::Audit(key)) => audit_text(alloc, &digests_under(&key), INPUT_LIMIT, source, out),
         Ok(Asked::Run(run)) => {
             let d = digests_under(&run.key);
-            run_script(alloc, &d, &run, false, INPUT_LIMIT, source, out, vault, gate)
+            run_script(rt, alloc, &d, &run, INPUT_LIMIT, source, out, vault, gate)
+        }
+        Ok(Asked::Accept(key)) => {
+            accept_text(alloc, &digests_under(&key), INPUT_LIMIT, source, out)
         }
         Err(WordsFault::Usage) => Status::Usage,
         Err(WordsFault::Memory) => Status::Memory,

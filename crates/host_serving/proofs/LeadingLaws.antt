@@ -21,7 +21,7 @@ first_of-assoc None y z = refl
 first_of-assoc (Some end) y z = refl
 
 module _ {C R : Type 0} (host : Host C R) where
-  first_end-append : (world : World C) (xs ys : List (WorldEvent R))
+  pub first_end-append : (world : World C) (xs ys : List (WorldEvent R))
       → first_end host world (xs ++ ys) ≡ first_of (first_end host world xs) (first_end host (run_events host world xs) ys)
   first_end-append world [] ys = refl
   first_end-append world (x ∷ xs) ys =
@@ -64,12 +64,12 @@ module _ {C R : Type 0} (host : Host C R) where
       subst (λ (w : World C). AreEnabled host w events) (sym (step_with host logs world event)) (enabled-with (step host world event) events enabled.1),
     )
 
-    run-with : (world : World C) (events : List (WorldEvent R)) → with_logs logs (run_events host world events) ≡ run_events host (with_logs logs world) events
+    pub run-with : (world : World C) (events : List (WorldEvent R)) → with_logs logs (run_events host world events) ≡ run_events host (with_logs logs world) events
     run-with world [] = refl
     run-with world (event ∷ events) =
         run-with (step host world event) events ∙ ap (λ (w : World C). run_events host w events) (sym (step_with host logs world event))
 
-    first-with : (world : World C) (events : List (WorldEvent R)) → first_end host (with_logs logs world) events ≡ first_end host world events
+    pub first-with : (world : World C) (events : List (WorldEvent R)) → first_end host (with_logs logs world) events ≡ first_end host world events
     first-with world [] = refl
     first-with world (event ∷ events) =
         ap (λ (w : World C). first_of (end_of host (with_logs logs world) event) (first_end host w events)) (step_with host logs world event)

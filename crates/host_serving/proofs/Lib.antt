@@ -1,6 +1,6 @@
 -- How the laws of serving a script are proved, in reading order.
 pub mod LeadingLaws
-mod TurnLemmas
+pub mod TurnLaws
 mod PhaseLemmas
 mod TurnCalls
 mod AdvanceLemmas

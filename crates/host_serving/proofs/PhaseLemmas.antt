@@ -9,9 +9,9 @@ use Rattle.host_core.specs.WorldEvent.{takes, serves, step, run_events, AreEnabl
 use Rattle.host_world.specs.declared.fault.ClockEnd.{ClockEnd}
 use Rattle.host_world.specs.Ending.{end_at}
 use Rattle.host_serving.specs.Leading.{first_of, first_end}
-use Rattle.host_serving.specs.Standing.{turns_of, asked_by, HasServedUpTo, IsServedUpTo, IsServedOut, NoneStopped, SomeStopped}
+use Rattle.host_serving.specs.Standing.{turns_of, asked_by, HasServedUpTo, IsServedUpTo, NoneStopped, SomeStopped}
 use Rattle.host_serving.specs.Turn.{turn_at}
-use Rattle.host_serving.proofs.TurnLemmas.{next_turn, one_more, no_more, nothing_left}
+use Rattle.host_serving.proofs.TurnLaws.{next_turn, one_more, no_more}
 
 -- ---- one worker of a list
 
@@ -269,17 +269,3 @@ module _ {C R : Type 0} (host : Host C R) (world : World C) (k next : ℕ) (so_f
       each j there (inr other) =
           subst (HasServedUpTo (worker_at host world j)) (sym (no_more host j world.phase k next (i, request) is_next turn (λ same. other (sym same))))
           (so_far.each j there)
-
--- All turns are served, so no worker has more to do.
-pub phase_served : {C R : Type 0} (host : Host C R) (world : World C) (k : ℕ) → IsServedUpTo host world k → k ≡ length (turns_of host world.phase) → IsServedOut host world
-phase_served {C} {R} host world k so_far all = record { served = served; over = λ i there. ((served.each i there).idle, through i there (served.each i there).served) }
-  where
-    served : IsServedUpTo host world (length (turns_of host world.phase))
-    served = subst (IsServedUpTo host world) all so_far
-
-    through : (i : ℕ) → i < length world.workers
-        → ((worker_at host world i).stopped ≡ true) ⊎ (((worker_at host world i).stopped ≡ false) × ((worker_at host world i).served ≡ asked_by host i world.phase (length (turns_of host world.phase))))
-        → ((worker_at host world i).stopped ≡ true) ⊎ ((request : R) → slice_get (asked host i) (worker_at host world i).served ≡ Some (world.phase, request) → ⊥)
-    through i there (inl stopped) = inl stopped
-    through i there (inr count) =
-        inr (λ request is. nothing_left host i world.phase request so_far.within (ap (slice_get (asked host i)) (sym count.1) ∙ is))

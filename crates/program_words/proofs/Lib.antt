@@ -1,3 +1,5 @@
+mod CommandLemmas
+mod FlagLemmas
 mod NumberLemmas
 mod RangeLemmas
 mod WordsLemmas

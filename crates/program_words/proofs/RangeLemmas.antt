@@ -11,10 +11,11 @@ use Rattle.clap.specs.Words.{Kinds, fault_of, subcommand_of}
 use Rattle.program_words.specs.Key.{key_in}
 use Rattle.program_words.specs.Numbers.{is_numeral, in_range, number_between, is_shard_count}
 use Rattle.program_words.specs.HostWords.{most_verifiers, most_touches, greatest_end, needed_in, optional_in, shards_in, given, numbers_in, IsPower, AreHostNumbers}
-use Rattle.program_words.specs.Words.{fastver_app, run_as, asked_as, asked_by, unless_fault, asked_of, IsInRange}
+use Rattle.program_words.specs.CommandLine.{fastver_app}
+use Rattle.program_words.specs.Words.{check_as, run_as, asked_as, asked_by, unless_fault, asked_of, IsInRange}
 use Rattle.program_words.specs.declared.host_words.HostNumbers.{HostNumbers}
 use Rattle.program_words.specs.declared.words.Asked.{Asked}
-use Rattle.program_words.specs.declared.words.Asked.TheVariants.{Check, Audit}
+use Rattle.program_words.specs.declared.words.Asked.TheVariants.{Audit, Accept}
 use Rattle.program_words.specs.declared.words.WordsFault.{WordsFault}
 
 -- ---- one number
@@ -127,21 +128,26 @@ run_range rows key asked is =
     let m = mapped _ (numbers_in rows) asked is in
     subst IsInRange m.1.1 (numbers_range rows m.0 m.1.0)
 
-as_range : (rows : List Row) (key : List ℕ) (asked : Asked) (check audit run : Bool)
-    → (if check then Some (Check key) else if audit then Some (Audit key) else if run then run_as rows key else None) ≡ Some asked → IsInRange asked
-as_range rows key asked true audit run is =
-    let same : Check key ≡ asked = cc in
+as_range : (rows : List Row) (key : List ℕ) (asked : Asked) (check audit run accept : Bool)
+    → (if check then Some (check_as rows key) else if audit then Some (Audit key) else if run then run_as rows key else if accept then Some (Accept key) else None)
+    ≡ Some asked → IsInRange asked
+as_range rows key asked true audit run accept is =
+    let same : check_as rows key ≡ asked = cc in
     subst IsInRange same tt
-as_range rows key asked false true run is =
+as_range rows key asked false true run accept is =
     let same : Audit key ≡ asked = cc in
     subst IsInRange same tt
-as_range rows key asked false false true is = run_range rows key asked is
-as_range rows key asked false false false is = absurd (cc)
+as_range rows key asked false false true accept is = run_range rows key asked is
+as_range rows key asked false false false true is =
+    let same : Accept key ≡ asked = cc in
+    subst IsInRange same tt
+as_range rows key asked false false false false is = absurd (cc)
 
 by_range : (command : Text × List Row) (asked : Asked) → asked_by command ≡ Some asked → IsInRange asked
 by_range command asked is =
     let k = and_then_found (option_and_then key_in (first_of (codes "key") command.1)) (asked_as command.0 command.1) asked is in
-    as_range command.1 k.0 asked (bytes_eq command.0 (codes "check")) (bytes_eq command.0 (codes "audit")) (bytes_eq command.0 (codes "run")) k.1.1
+    as_range command.1 k.0 asked (bytes_eq command.0 (codes "check")) (bytes_eq command.0 (codes "audit")) (bytes_eq command.0 (codes "run"))
+    (bytes_eq command.0 (codes "accept")) k.1.1
 
 free : {X : Type 0} (faults : Kinds) (answer : Option X) (x : X) → unless_fault faults answer ≡ Some x → answer ≡ Some x
 free [] answer x is = is

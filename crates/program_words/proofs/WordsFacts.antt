@@ -1,18 +1,18 @@
 -- What some words ask for, computed from the definitions.
-use Rattle.std.proofs.Common.{◌≡◌, ℕ, List, [], ◌∷◌, ◌++◌, Some, None, refl}
+use Rattle.std.proofs.Common.{◌≡◌, ℕ, List, [], ◌∷◌, ◌++◌, Some, None, true, false, refl}
 use Rattle.std.specs.Prelude.{codes}
 use Rattle.clap.proofs.OnLiterals.{clap_on_literals}
 use Rattle.hex.proofs.OnLiterals.{hex_on_literals}
 use Rattle.program_words.specs.Numbers.{number_between}
 use Rattle.program_words.specs.Words.{asked_of}
-use Rattle.program_words.specs.declared.words.Asked.TheVariants.{Check, Audit, Run}
+use Rattle.program_words.specs.declared.words.Asked.TheVariants.{Check, Audit, Run, Accept}
 use Rattle.program_words.specs.declared.host_words.HostNumbers.{HostNumbers}
 
 abbrev key : List ℕ
 key = 0 ∷ 17 ∷ 34 ∷ 51 ∷ 68 ∷ 85 ∷ 102 ∷ 119 ∷ 136 ∷ 153 ∷ 170 ∷ 187 ∷ 204 ∷ 221 ∷ 238 ∷ 255 ∷ []
 
 -- the value may stand apart from the option or be attached to it
-apart : asked_of (codes "fastver" ∷ codes "check" ∷ codes "--key" ∷ codes "00112233445566778899aabbccddeeff" ∷ []) ≡ Some (Check key)
+apart : asked_of (codes "fastver" ∷ codes "check" ∷ codes "--key" ∷ codes "00112233445566778899aabbccddeeff" ∷ []) ≡ Some (Check (record { key = key; receipts = false }))
 unfolding clap_on_literals hex_on_literals
 apart = refl
 
@@ -43,6 +43,28 @@ short_key : asked_of (codes "fastver" ∷ codes "check" ∷ codes "--key=0011223
 unfolding clap_on_literals hex_on_literals
 short_key = refl
 
+-- ---- receipts, and accept
+
+abbrev check_words : List (List ℕ)
+check_words = codes "fastver" ∷ codes "check" ∷ codes "--key=00112233445566778899aabbccddeeff" ∷ []
+
+-- the flag, alone, twice, and with a value
+with_receipts : asked_of (check_words ++ codes "--receipts" ∷ []) ≡ Some (Check (record { key = key; receipts = true }))
+unfolding clap_on_literals hex_on_literals
+with_receipts = refl
+
+receipts_twice : asked_of (check_words ++ codes "--receipts" ∷ codes "--receipts" ∷ []) ≡ None
+unfolding clap_on_literals hex_on_literals
+receipts_twice = refl
+
+receipts_with_value : asked_of (check_words ++ codes "--receipts=1" ∷ []) ≡ None
+unfolding clap_on_literals hex_on_literals
+receipts_with_value = refl
+
+accepting : asked_of (codes "fastver" ∷ codes "accept" ∷ codes "--key=00112233445566778899aabbccddeeff" ∷ []) ≡ Some (Accept key)
+unfolding clap_on_literals hex_on_literals
+accepting = refl
+
 -- ---- run
 
 abbrev numbers : HostNumbers
@@ -52,15 +74,20 @@ abbrev host_words : List (List ℕ)
 host_words = codes "fastver" ∷ codes "run" ∷ codes "--key=00112233445566778899aabbccddeeff" ∷ codes "--verifiers" ∷ codes "1" ∷ codes "--shards" ∷ codes "2" ∷ []
 
 -- nothing but what is needed
-plain_run : asked_of host_words ≡ Some (Run (record { key = key; numbers = numbers; logs = None }))
+plain_run : asked_of host_words ≡ Some (Run (record { key = key; numbers = numbers; logs = None; receipts = false }))
 unfolding clap_on_literals hex_on_literals number_between
 plain_run = refl
 
 -- where the logs go, and where the clocks begin and end
 whole_run : asked_of (host_words ++ codes "--logs" ∷ codes "x" ∷ codes "--first=7" ∷ codes "--counter" ∷ codes "4" ∷ [])
-    ≡ Some (Run (record { key = key; numbers = record numbers { first = 7; counter = 4 }; logs = Some (codes "x") }))
+    ≡ Some (Run (record { key = key; numbers = record numbers { first = 7; counter = 4 }; logs = Some (codes "x"); receipts = false }))
 unfolding clap_on_literals hex_on_literals number_between
 whole_run = refl
+
+-- with receipts
+run_with_receipts : asked_of (host_words ++ codes "--receipts" ∷ []) ≡ Some (Run (record { key = key; numbers = numbers; logs = None; receipts = true }))
+unfolding clap_on_literals hex_on_literals number_between
+run_with_receipts = refl
 
 -- a number past its range, and one that begins with a zero
 no_counter : asked_of (host_words ++ codes "--counter=16777216" ∷ []) ≡ None

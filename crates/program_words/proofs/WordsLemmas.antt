@@ -9,7 +9,8 @@ use Rattle.clap.specs.declared.builder.command.Command.TheViews.{out-Command as 
 use Rattle.clap.specs.declared.error.Error.{Error}
 use Rattle.clap.specs.declared.error.kind.ErrorKind.TheVariants as kind
 use Rattle.clap.specs.declared.parser.matches.ArgMatches.{ArgMatches}
-use Rattle.program_words.specs.Words.{asked_by, asked_of, fastver_app, unless_fault}
+use Rattle.program_words.specs.CommandLine.{fastver_app}
+use Rattle.program_words.specs.Words.{asked_by, asked_of, unless_fault}
 use Rattle.program_words.specs.declared.words.Asked.{Asked}
 use Rattle.program_words.specs.declared.words.WordsFault.{WordsFault}
 

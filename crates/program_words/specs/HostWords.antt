@@ -7,7 +7,7 @@ use Rattle.program_words.specs.declared.host_words.HostNumbers.{HostNumbers}
 
 -- the most verifiers of a host
 abbrev pub most_verifiers : ℕ
-most_verifiers = 1
+most_verifiers = 64
 
 -- the greatest threshold of touches at which a key becomes hot
 abbrev pub most_touches : ℕ

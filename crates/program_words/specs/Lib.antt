@@ -2,4 +2,6 @@
 pub mod Key
 pub mod Numbers
 pub mod HostWords
+pub mod Found
+pub mod CommandLine
 pub mod Words

@@ -2,18 +2,18 @@
 ghost use Rattle.std.specs.Prelude.{◌≡◌, ◌≤◌, ◌==◌, Some, None, IfOk, IfSome, codes, option_and_then, true, length};
 ghost use Rattle.std.specs.Char.{is_ascii_digit};
 ghost use Rattle.std.specs.List.{list_all};
-ghost use Rattle.std.specs.Option.{option_map};
 ghost use Rattle.clap.specs.Words.{first_of, found_of, rows_of};
 ghost use Rattle.program_words.specs.Numbers.{begins_well, is_numeral, number_between, is_shard_count};
 ghost use Rattle.program_words.specs.HostWords.{needed_in, optional_in, shards_in, numbers_in};
 
+use crate::found::word_of;
 use crate::key::Key;
 use clap::ArgMatches;
 use std::alloc::{AllocError, Global};
 use std::marker::Model;
 
 // The most verifiers of a host.
-const MOST_VERIFIERS: u32 = 1;
+const MOST_VERIFIERS: u32 = 64;
 
 // The greatest threshold of touches at which a key becomes hot.
 const MOST_TOUCHES: u32 = 1_000_000;
@@ -76,6 +76,8 @@ pub struct RunWords {
     pub numbers: HostNumbers,
     /// What the vault is to be named, if it is.
     pub logs: Option<PathWord>,
+    /// Whether the report is to have receipts.
+    pub receipts: bool,
 }
 
 // The numbers in what was found of a command's options, if each that is needed is there and each is in its range.
@@ -104,13 +106,6 @@ pub(crate) fn logs_of(alloc: Global, found: &ArgMatches<'_>) -> Result<Option<Pa
         Some(text) => Ok(Some(PathWord::new(alloc, text)?)),
         None => Ok(None),
     }
-}
-
-// The word that was given for the option of this name, if one was.
-pub(crate) fn word_of<'a>(found: &ArgMatches<'a>, name: &str) -> Option<&'a str>
-    ensures value { option_map (λ word. word.now) result ≡ first_of name.now (rows_of (found_of found.now)) }
-{
-    found.get_str(name)
 }
 
 // The number of an option that is to be given.

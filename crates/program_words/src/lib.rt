@@ -1,14 +1,16 @@
 //! The words of the program: which command they ask for, with which key, and with which numbers.
 //!
-//! `read_words` in `words.rt` reads them by the kit's `clap`, and is proved against clap's own rules: what they
-//! ask for is defined in `specs/Words.antt`. A key is read from its digits in `key.rt` by the kit's `hex`, and the
-//! numbers of a host in `host_words.rt`.
+//! `read_words` in `words.rt` reads them by the kit's `clap`, which is told of the commands in `command_line.rt`, and is
+//! proved against clap's own rules: what they ask for is defined in `specs/Words.antt`. A key is read from its digits in
+//! `key.rt` by the kit's `hex`, and the numbers of a host in `host_words.rt`.
 #![tactic(auto)]
 
+mod command_line;
+mod found;
 mod host_words;
 mod key;
 mod words;
 
 pub use host_words::{HostNumbers, PathWord, RunWords};
 pub use key::{Key, LONGEST_KEY, SHORTEST_KEY};
-pub use words::{Asked, WordsFault, read_words};
+pub use words::{Asked, CheckWords, WordsFault, read_words};

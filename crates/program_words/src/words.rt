@@ -1,25 +1,37 @@
 //! What the program's words ask for.
-ghost use Rattle.std.specs.Prelude.{◌≡◌, ◌≢◌, ◌↔◌, IfOk, Some, None, Ok, Err, false, codes, map, option_and_then};
-ghost use Rattle.clap.specs.Words.{app_of, first_of, found_of, kind_of, rows_of, rule_of, subcommand_rows_of};
-ghost use Rattle.clap.specs.declared.builder.command.Command.TheViews.{out-Command as fields_of};
+ghost use Rattle.std.specs.Prelude.{◌≡◌, ◌≢◌, ◌↔◌, IfOk, Some, None, Ok, Err, codes, map, option_and_then};
+ghost use Rattle.clap.specs.Words.{first_of, found_of, kind_of, rows_of, subcommand_rows_of};
 ghost use Rattle.program_words.specs.Key.{key_in};
-ghost use Rattle.program_words.specs.Words.{asked_as, asked_by, asked_of, command_with_key, fastver_app, IsInRange, option_rule, run_app, run_as, with_option};
+ghost use Rattle.program_words.specs.Words.{asked_as, asked_by, asked_of, check_as, IsInRange, run_as};
 
-use crate::host_words::{RunWords, logs_of, numbers_of, word_of};
+use crate::command_line::fastver_command;
+use crate::found::{flag_of, word_of};
+use crate::host_words::{RunWords, logs_of, numbers_of};
 use crate::key::Key;
 use clap::error::ErrorKind;
-use clap::{Arg, ArgMatches, Command, Error};
+use clap::{ArgMatches, Error};
 use std::alloc::{AllocError, Global};
+
+/// What logs are to be checked with.
+#[derive(Drop)]
+pub struct CheckWords {
+    /// The key of the verifiers.
+    pub key: Key,
+    /// Whether the report is to have receipts.
+    pub receipts: bool,
+}
 
 /// What the program is asked for, with the key of the verifiers.
 #[derive(Drop)]
 pub enum Asked {
     /// To check the logs.
-    Check(Key),
+    Check(CheckWords),
     /// To show what is wrong with them.
     Audit(Key),
     /// To serve a script.
     Run(RunWords),
+    /// To say whether a receipt is to be accepted.
+    Accept(Key),
 }
 
 /// Why the words gave nothing to do.
@@ -42,63 +54,6 @@ pub fn read_words(alloc: Global, words: &[&str]) -> Result<Asked, WordsFault>
         Ok(matches) => asked_in(alloc, &matches)?.ok_or(WordsFault::Usage),
         Err(error) => Err(refusal(&error)),
     }
-}
-
-// The program's command line.
-fn fastver_command<'a>(alloc: Global) -> Result<Command<'a>, AllocError>
-    ensures app { IfOk result (λ command. app_of command ≡ fastver_app) }
-{
-    let check = command_with_key(alloc, "check")?;
-    let audit = command_with_key(alloc, "audit")?;
-    let run = run_command(alloc)?;
-    Command::new(alloc, "fastver")
-        .subcommand_required(true)
-        .subcommand(check)?
-        .subcommand(audit)?
-        .subcommand(run)
-}
-
-// A command of this name, which needs a key.
-fn command_with_key<'a>(alloc: Global, name: &'a str) -> Result<Command<'a>, AllocError>
-    ensures app { IfOk result (λ command. app_of command ≡ command_with_key name.now) }
-    ensures local { IfOk result (λ command. (fields_of command).has_globals ≡ false) }
-{
-    Command::new(alloc, name).arg(option(alloc, "key", true))
-}
-
-// The command `run`, with the options for the numbers of a host and for the path of its logs.
-fn run_command<'a>(alloc: Global) -> Result<Command<'a>, AllocError>
-    ensures app { IfOk result (λ command. app_of command ≡ run_app) }
-    ensures local { IfOk result (λ command. (fields_of command).has_globals ≡ false) }
-{
-    let run = command_with_key(alloc, "run")?;
-    let run = with_option(alloc, run, "verifiers", true)?;
-    let run = with_option(alloc, run, "shards", true)?;
-    let run = with_option(alloc, run, "hot", false)?;
-    let run = with_option(alloc, run, "logs", false)?;
-    let run = with_option(alloc, run, "first", false)?;
-    with_option(alloc, run, "counter", false)
-}
-
-// A command with one option more, of this name.
-fn with_option<'a>(
-    alloc: Global,
-    command: Command<'a>,
-    name: &'a str,
-    required: bool,
-) -> Result<Command<'a>, AllocError>
-    ensures app { IfOk result (λ made. app_of made ≡ with_option (app_of command.entry) name.now required) }
-    ensures local { IfOk result (λ made. (fields_of command.entry).has_globals ≡ false → (fields_of made).has_globals ≡ false) }
-{
-    command.arg(option(alloc, name, required))
-}
-
-// An option of this name, which takes one value.
-fn option<'a>(alloc: Global, name: &'a str, required: bool) -> Arg<'a>
-    ensures rule { rule_of result ≡ option_rule name.now required }
-    ensures local { result.global ≡ false }
-{
-    Arg::new(alloc, name).long(name).required(required)
 }
 
 // What the matches ask for: the command in them, with its key.
@@ -141,14 +96,24 @@ fn asked_as(
     ensures value { IfOk result (λ asked. asked ≡ asked_as name.now (rows_of (found_of found.now)) key) }
 {
     if name == "check" {
-        Ok(Some(Asked::Check(key)))
+        Ok(Some(check_as(found, key)))
     } else if name == "audit" {
         Ok(Some(Asked::Audit(key)))
     } else if name == "run" {
         run_as(alloc, found, key)
+    } else if name == "accept" {
+        Ok(Some(Asked::Accept(key)))
     } else {
         Ok(None)
     }
+}
+
+// What `check` asks for with this key.
+fn check_as(found: &ArgMatches<'_>, key: Key) -> Asked
+    ensures value { result ≡ check_as (rows_of (found_of found.now)) key }
+{
+    let receipts = flag_of(found, "receipts");
+    Asked::Check(CheckWords { key, receipts })
 }
 
 // What `run` asks for with this key.
@@ -158,7 +123,13 @@ fn run_as(alloc: Global, found: &ArgMatches<'_>, key: Key) -> Result<Option<Aske
     match numbers_of(found) {
         Some(numbers) => {
             let logs = logs_of(alloc, found)?;
-            Ok(Some(Asked::Run(RunWords { key, numbers, logs })))
+            let receipts = flag_of(found, "receipts");
+            Ok(Some(Asked::Run(RunWords {
+                key,
+                numbers,
+                logs,
+                receipts,
+            })))
         }
         None => Ok(None),
     }

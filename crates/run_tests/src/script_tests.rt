@@ -1,16 +1,13 @@
 //! Scripts that are served, scripts that are bad, and clocks that end.
-use crate::serving::{checked, line_of, served};
-use bundle_rows::{Case, bundle_of, cases_of};
+use crate::serving::{assert_served, line_of, served};
+use bundle_rows::{bundle_of, cases_of};
 use fastver_top::Status;
 use std::alloc::Global;
-use std::process::Abort;
-use std::sync::Wait;
 use std::test::Fail;
-use std::thread::Threads;
 
 // Each case is a script behind the number of shards and further words, with its status and report.
 const SERVED: &str = "\
-== 2
+== 1 --shards 2
 0 put 5 6162
 0 get 5
 -> 0
@@ -18,17 +15,17 @@ epoch 0 certified 2
 0.3 v0 put 5 6162
 0.5 v0 get 5 6162
 done 1
-== 2
+== 1 --shards 2
 -> 0
 epoch 0 certified 0
 done 1
-== 4
+== 1 --shards 4
 0 put 5 61
 -> 0
 epoch 0 certified 1
 0.5 v0 put 5 61
 done 1
-== 2
+== 1 --shards 2
 0 put 5 .
 0 get 5
 0 del 5
@@ -40,7 +37,7 @@ epoch 0 certified 4
 0.7 v0 put 5 none
 0.9 v0 get 5 none
 done 1
-== 2
+== 1 --shards 2
 0 put 0 61
 0 put 1 62
 0 put 18446744073709551615 63
@@ -52,47 +49,25 @@ epoch 0 certified 4
 0.7 v0 put 18446744073709551615 63
 0.9 v0 get 0 61
 done 1
-== 2 --counter 4
+== 1 --shards 2 --counter 4
 0 put 5 6162
 0 get 5
 -> 10
 epoch 0 certified 1
 0.3 v0 put 5 6162
 clock end worker 0 at 0.4
-== 2 --first 4294967295
+== 1 --shards 2 --first 4294967295
 0 put 5 6162
 0 get 5
 -> 10
 clock end worker 0 at 4294967295.6
-== 2 --counter 3
+== 1 --shards 2 --counter 3
 -> 10
 clock end worker 0 at 1.2
-== 2 --counter 1
+== 1 --shards 2 --counter 1
 -> 10
 clock end worker 0 at 0.0
 ";
-
-// The report of a script, and its status, whether all goes by bytes or as a whole. Where all is done, a check of what the
-// vault holds writes the same.
-fn assert_served<R: Threads + Wait + Sync + Abort>(
-    rt: &R,
-    alloc: Global,
-    case: &Case<'_>,
-) -> Result<(), Fail> {
-    let line = line_of(alloc, case.label)?;
-    for piece in [1, 100_000] {
-        let (objects, status) = served(rt, alloc, &line, case.rows, piece)?;
-        assert_eq!(rt; objects.out.bytes(), case.report.as_bytes(), "{line}");
-        assert_eq!(rt; status.number(), case.status, "{line}");
-        assert!(rt; objects.vault.name_taken().is_none(), "{line}");
-        if case.status == 0 {
-            let (again, status) = checked(rt, alloc, objects.vault.bytes())?;
-            assert_eq!(rt; again.out.bytes(), case.report.as_bytes(), "{line}");
-            assert_eq!(rt; status.number(), 0, "{line}");
-        }
-    }
-    Ok(())
-}
 
 #[test]
 fn scripts_are_served(rt: HostRuntime) -> Result<(), Fail> {

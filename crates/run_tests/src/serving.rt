@@ -1,15 +1,18 @@
 //! Runs of a script between objects in memory.
+use bundle_rows::Case;
 use fastver_top::{Status, fastver};
-use fv_outside::{FreeGate, MemorySink, MemorySource, MemoryVault};
+use fv_outside::{FreeGate, Gate, MemorySink, MemorySource, MemoryVault};
 use std::alloc::Global;
 use std::process::Abort;
 use std::sync::Wait;
 use std::test::Fail;
 use std::thread::Threads;
 
-/// The words of a run of one worker, with a key and what else is needed.
-pub(crate) const RUN: &str =
-    "fastver run --key 00000000000000000000000000000000 --verifiers 1 --shards";
+/// The words of a run, with a key, up to the number of its workers.
+pub(crate) const RUN: &str = "fastver run --key 00000000000000000000000000000000 --verifiers";
+
+// The bytes that a sink and a vault have room for.
+const ROOM: usize = 200_000;
 
 /// A put and a get of one key.
 pub(crate) const SCRIPT: &str = "0 put 5 6162\n0 get 5\n";
@@ -40,14 +43,27 @@ pub(crate) fn program<R: Threads + Wait + Sync>(
     piece: usize,
     fails: (&[u64], &[u64], &[u64]),
 ) -> Result<(Objects, Status), Fail> {
+    program_at(rt, alloc, line, bytes, piece, fails, &FreeGate)
+}
+
+/// The same where its workers pass a gate.
+pub(crate) fn program_at<R: Threads + Wait + Sync, G: Gate + Sync>(
+    rt: &R,
+    alloc: Global,
+    line: &str,
+    bytes: &[u8],
+    piece: usize,
+    fails: (&[u64], &[u64], &[u64]),
+    gate: &G,
+) -> Result<(Objects, Status), Fail> {
     let mut words = Vec::new(alloc);
     for word in line.split_whitespace() {
         words.push(word)?;
     }
     let piece = piece.max(1);
     let mut source = MemorySource::new(alloc, bytes, piece, fails.0)?;
-    let mut out = MemorySink::new(alloc, 10_000, piece, fails.1)?;
-    let mut vault = MemoryVault::new(alloc, 10_000, piece, fails.2)?;
+    let mut out = MemorySink::new(alloc, ROOM, piece, fails.1)?;
+    let mut vault = MemoryVault::new(alloc, ROOM, piece, fails.2)?;
     let status = fastver(
         rt,
         alloc,
@@ -55,7 +71,7 @@ pub(crate) fn program<R: Threads + Wait + Sync>(
         &mut source,
         &mut out,
         &mut vault,
-        &FreeGate,
+        gate,
     );
     Ok((Objects { source, out, vault }, status))
 }
@@ -81,9 +97,36 @@ pub(crate) fn checked<R: Threads + Wait + Sync>(
     program(rt, alloc, line, bytes, 1000, (&[], &[], &[]))
 }
 
-/// The words of a run, with these behind them.
-pub(crate) fn line_of(alloc: Global, more: &str) -> Result<String, Fail> {
+/// The words of a run, with the number of its workers and those behind it.
+pub(crate) fn host_line(alloc: Global, more: &str) -> Result<String, Fail> {
     Ok(format!(in alloc; "{RUN} {more}")?)
+}
+
+/// The words of a run of one worker, with the number of its shards and those behind it.
+pub(crate) fn line_of(alloc: Global, more: &str) -> Result<String, Fail> {
+    Ok(format!(in alloc; "{RUN} 1 --shards {more}")?)
+}
+
+/// The report of a script, and its status, whether all goes by bytes or as a whole. Where all is done, a check of what the
+/// vault holds writes the same.
+pub(crate) fn assert_served<R: Threads + Wait + Sync + Abort>(
+    rt: &R,
+    alloc: Global,
+    case: &Case<'_>,
+) -> Result<(), Fail> {
+    let line = host_line(alloc, case.label)?;
+    for piece in [1, 100_000] {
+        let (objects, status) = served(rt, alloc, &line, case.rows, piece)?;
+        assert_eq!(rt; objects.out.bytes(), case.report.as_bytes(), "{line}");
+        assert_eq!(rt; status.number(), case.status, "{line}");
+        assert!(rt; objects.vault.name_taken().is_none(), "{line}");
+        if case.status == 0 {
+            let (again, status) = checked(rt, alloc, objects.vault.bytes())?;
+            assert_eq!(rt; again.out.bytes(), case.report.as_bytes(), "{line}");
+            assert_eq!(rt; status.number(), 0, "{line}");
+        }
+    }
+    Ok(())
 }
 
 /// What was written is a front of this text.

@@ -1,5 +1,6 @@
 -- How it is proved that a table's phase has one order, in reading order: lists of lists, what the host does, places, their
--- pasts, the turns of workers, and the whole.
+-- pasts, the turns of workers, and the whole. Then how it is proved that what a world lends can be made a table: what is
+-- evicted, and the whole.
 mod ListLemmas
 mod ShapeLemmas
 mod Keeping
@@ -7,3 +8,5 @@ mod PlaceLemmas
 mod PastLemmas
 mod TurnLemmas
 mod TableLemmas
+mod EvictedLemmas
+mod MakingLemmas

@@ -1,27 +1,32 @@
-//! Why what a table tells of a phase was one list of events. These functions do nothing: their contracts are the laws.
-ghost use Rattle.std.specs.Prelude.{◌≡◌, ℕ, ◌<◌, List, length, get_or};
+//! Why what a table tells of a phase was one list of events, and why what a world lends can be made a table. These functions
+//! do nothing: their contracts are the laws.
+ghost use Rattle.std.specs.Prelude.{◌≡◌, ℕ, ◌<◌, ◌≤◌, List, length, map, get_or};
 ghost use Rattle.std.specs.List.{AllByRecursion};
 ghost use Rattle.record_hash.specs.Functions.{DigestFunctions};
+ghost use Rattle.merkle_records.specs.Merkle.{GivesDigests};
 ghost use Rattle.script_text.specs.declared.task.Task.{Task};
 ghost use Rattle.host_core.specs.World.{World};
 ghost use Rattle.host_core.specs.WorldEvent.{run_events};
 ghost use Rattle.host_order.specs.Serving.{content_at};
-ghost use Rattle.host_order.specs.Told.{IsServed, AreTold, IsNoted, AreOfOthers, phase_events, HasOneOrder};
+ghost use Rattle.host_order.specs.Told.{IsAtRest, IsServed, AreTold, IsNoted, AreOfOthers, phase_events, HasOneOrder};
 ghost use Rattle.host_shard.specs.declared.content.Content as code;
 ghost use Rattle.host_shard.specs.declared.content.Content.TheVariants.{Vacant};
 ghost use Rattle.host_shard.specs.Content.{Content};
 ghost use Rattle.host_shard.specs.Shown.{shown_content};
 ghost use Rattle.host_table.specs.declared.views.Row.{Row};
 ghost use Rattle.host_table.specs.Phase.{IsPhase, row_at};
-ghost use Rattle.host_table.specs.Terms.{Terms, place_count};
+ghost use Rattle.host_table.specs.Terms.{Terms, place_count, IsMaking};
 ghost use Rattle.host_world.specs.declared.settings.Settings.{Settings};
 ghost use Rattle.host_world.specs.Behind.{IsBehindSetup};
+ghost use Rattle.host_world.specs.Lending.{all_contents};
 ghost use Rattle.host_world.specs.Places.{place_of};
 ghost use Rattle.host_world.specs.ShippedHost.{shipped_host};
 ghost use Rattle.table_order.specs.Servings.{serving_of, lists_of, pasts_of, stops_of};
 ghost use Rattle.table_order.specs.Phases.{IsTableOf};
 
-use host_fits::{plans_are_what_the_host_does, the_shipped_host_is_steady};
+use host_fits::{
+    plans_are_what_the_host_does, the_shipped_host_is_steady, the_shipped_host_keeps_its_promise,
+};
 use host_world::worlds_are_orderly;
 
 /// Each entry of a worker's list is what the shipped host does for its request, at a place that owns it, from its clock and
@@ -77,4 +82,21 @@ pub fn a_phase_of_a_table_has_one_order()
     worlds_are_orderly();
     plans_are_what_the_host_does();
     the_shipped_host_is_steady();
+}
+
+/// What a world at rest lends can be made a table: there are places and workers, and each content waits, if it waits, with an
+/// element of the phase's epoch, by a verifier of the bundle, whose counter does not pass its end. It is asked that the
+/// setup's counters do not pass the end, and that digests have 32 bytes.
+pub fn worlds_make_tables()
+    ensures making { (functions : DigestFunctions) (settings : Settings) (script : List (List Task)) (world : World Content)
+        (contents : List code.Content)
+        → GivesDigests functions.digest
+        → IsBehindSetup functions settings script world
+        → settings.shards ≤ settings.header.end
+        → IsAtRest (shipped_host functions settings script) world
+        → map shown_content contents ≡ all_contents world.shards
+        → IsMaking settings.header (length world.workers) contents }
+{
+    worlds_are_orderly();
+    the_shipped_host_keeps_its_promise();
 }

@@ -16,9 +16,12 @@ fn asked_by(alloc: Global, line: &str) -> Result<Result<Asked, WordsFault>, Fail
 // A word in short for what was answered, and the bytes of its key.
 fn told(answer: &Result<Asked, WordsFault>) -> (&str, &[u8]) {
     match answer {
-        Ok(Asked::Check(key)) => ("check", key.as_slice()),
+        Ok(Asked::Check(check)) if check.receipts => ("check with receipts", check.key.as_slice()),
+        Ok(Asked::Check(check)) => ("check", check.key.as_slice()),
         Ok(Asked::Audit(key)) => ("audit", key.as_slice()),
+        Ok(Asked::Run(run)) if run.receipts => ("run with receipts", run.key.as_slice()),
         Ok(Asked::Run(run)) => ("run", run.key.as_slice()),
+        Ok(Asked::Accept(key)) => ("accept", key.as_slice()),
         Err(WordsFault::Usage) => ("usage", b""),
         Err(WordsFault::Memory) => ("memory", b""),
     }
@@ -37,6 +40,13 @@ fastver audit --key 303132333435363738393a3b3c3d3e3f404142434445464748494a4b4c4d
 /bin/other check --key 00112233445566778899aabbccddeeff | check | 00112233445566778899aabbccddeeff
 fastver run --key 00112233445566778899aabbccddeeff --verifiers 1 --shards 2 | run | 00112233445566778899aabbccddeeff
 fastver run --shards=2 --verifiers=1 --key=00112233445566778899AABBCCDDEEFF | run | 00112233445566778899aabbccddeeff
+fastver check --key 00112233445566778899aabbccddeeff --receipts | check with receipts | 00112233445566778899aabbccddeeff
+fastver check --receipts --key=00112233445566778899aabbccddeeff | check with receipts | 00112233445566778899aabbccddeeff
+fastver run --key 00112233445566778899aabbccddeeff --verifiers 1 --shards 2 --receipts | run with receipts | 00112233445566778899aabbccddeeff
+fastver run --receipts --shards=2 --verifiers=1 --key=00112233445566778899aabbccddeeff | run with receipts | 00112233445566778899aabbccddeeff
+fastver accept --key 00112233445566778899aabbccddeeff | accept | 00112233445566778899aabbccddeeff
+fastver accept --key=00112233445566778899AABBCCDDEEFF | accept | 00112233445566778899aabbccddeeff
+fastver accept --key 303132333435363738393a3b3c3d3e3f404142434445464748494a4b4c4d4e4f505152535455565758595a5b5c5d5e5f606162636465666768696a6b6c6d6e6f | accept | most
 ";
 
 const MOST_BYTES: &str = "0123456789:;<=>?@ABCDEFGHIJKLMNOPQRSTUVWXYZ[\\]^_`abcdefghijklmno";
@@ -78,7 +88,23 @@ fastver audit --key 00112233445566778899aabbccddeefg | no digit
 fastver check --key 00112233445566778899aabbccddeeff --key 00112233445566778899aabbccddeeff | two keys
 fastver check --key 00112233445566778899aabbccddeeff more | a word more
 fastver --key 00112233445566778899aabbccddeeff check | the key first
-fastver check --receipts --key 00112233445566778899aabbccddeeff | another option
+fastver check --key 00112233445566778899aabbccddeeff --receipts --receipts | receipts twice
+fastver check --key 00112233445566778899aabbccddeeff --receipts=1 | receipts with a value
+fastver check --key 00112233445566778899aabbccddeeff --receipts= | receipts with no character for a value
+fastver check --key 00112233445566778899aabbccddeeff --receipts 1 | receipts and a word more
+fastver check --receipts | receipts and no key
+fastver check --key --receipts 00112233445566778899aabbccddeeff | receipts in the place of a key
+fastver check --receipts check --key 00112233445566778899aabbccddeeff | a command behind its flag
+fastver --receipts check --key 00112233445566778899aabbccddeeff | receipts first
+fastver check --key 00112233445566778899aabbccddeeff --receipt | the flag cut short
+fastver audit --key 00112233445566778899aabbccddeeff --receipts | receipts of an audit
+fastver accept | no key to accept under
+fastver accept --key 00112233445566778899aabbccddee | 30 digits to accept under
+fastver accept --key 00112233445566778899aabbccddeeff --receipts | receipts of an accept
+fastver accept --key 00112233445566778899aabbccddeeff --key 00112233445566778899aabbccddeeff | two keys to accept under
+fastver accept --key 00112233445566778899aabbccddeeff more | a word more for an accept
+fastver accept --key 00112233445566778899aabbccddeeff --shards 2 | an option of a run for an accept
+fastver Accept --key 00112233445566778899aabbccddeeff | a capital letter
 check --key 00112233445566778899aabbccddeeff | no name
 fastver check --key 00112233445566778899aabbccddeeff --shards 2 | an option of a run
 fastver run --verifiers 1 --shards 2 | a run with no key
@@ -100,7 +126,9 @@ fastver run --key 00112233445566778899aabbccddeeff --verifiers 1 --shards 2 --co
 fastver run --key 00112233445566778899aabbccddeeff --verifiers 1 --shards 2 --counter 2 --counter 2 | two counters
 fastver run --key 00112233445566778899aabbccddeeff --verifiers 1 --shards 2 --hot 0 | no touch
 fastver run --key 00112233445566778899aabbccddeeff --verifiers 1 --shards 2 --hot 1000001 | too many touches
-fastver run --key 00112233445566778899aabbccddeeff --verifiers 1 --shards 2 --receipts | receipts
+fastver run --key 00112233445566778899aabbccddeeff --verifiers 1 --shards 2 --receipts --receipts | receipts of a run twice
+fastver run --key 00112233445566778899aabbccddeeff --verifiers 1 --shards 2 --receipts=1 | receipts of a run with a value
+fastver run --key 00112233445566778899aabbccddeeff --verifiers 1 --shards 2 --logs --receipts | receipts in the place of a path
 fastver run --key 00112233445566778899aabbccddeeff --verifiers 1 --shards 2 --logs | no path
 fastver run --key 00112233445566778899aabbccddeeff --verifiers 1 --shards 2 more | a word more for a run
 ";
@@ -123,6 +151,8 @@ const RUNNING: &str = "
 --verifiers 1 --shards 1024 --first 4294967295 --counter 1 | 1 1024 4294967295 1 | none | none
 --counter=16777215 --shards=4 --logs=a/b --verifiers=1 --first=0 | 1 4 0 16777215 | none | a/b
 --hot 1000000 --logs x --verifiers 1 --shards 512 | 1 512 0 16777215 | 1000000 | x
+--verifiers 2 --shards 2 | 2 2 0 16777215 | none | none
+--hot 1 --verifiers 64 --shards 1024 | 64 1024 0 16777215 | 1 | none
 ";
 
 // The numbers of a row.

@@ -21,6 +21,8 @@ use record_hash::Digests;
 use run_reports::logs_of_no_bytes_certify_nothing;
 use script_text::Requests;
 use std::alloc::Global;
+use std::sync::Wait;
+use std::thread::Threads;
 
 /// Serves a script to its end, or up to where a clock ends: the workers serve it phase by phase, the vault takes the bundle
 /// of their logs, and the sink the report of what these certify, with receipts or without. The gate is passed before each
@@ -29,7 +31,8 @@ use std::alloc::Global;
 /// At `Ok` the whole report is written, and the answer says how it ends: where no clock ended the script is served and each
 /// of its phases certified. At an error the sink has a front of the lines that the bytes in the vault certify, or, where it
 /// failed at the last line, of the report.
-pub fn serve_script<D: Digests, V: Sink, O: Sink, G: Gate>(
+pub fn serve_script<R: Threads + Wait + Sync, D: Digests + Sync, V: Sink, O: Sink, G: Gate + Sync>(
+    rt: &R,
     alloc: Global,
     d: &D,
     settings: &Settings,
@@ -51,14 +54,15 @@ pub fn serve_script<D: Digests, V: Sink, O: Sink, G: Gate>(
 {
     scripts_ask_for_keys_in_range();
     match World::new(alloc, d, settings, requests) {
-        Ok(world) => serve_world(alloc, world, receipts, gate, vault, out),
+        Ok(world) => serve_world(rt, alloc, world, receipts, gate, vault, out),
         Err(WorldFault::ClockEnd(end)) => serve_nothing(alloc, settings, end, vault, out),
         Err(WorldFault::Memory) => Err(RoundStop::Memory),
     }
 }
 
 // Serves the script of a world that is set up.
-fn serve_world<D: Digests, V: Sink, O: Sink, G: Gate>(
+fn serve_world<R: Threads + Wait + Sync, D: Digests + Sync, V: Sink, O: Sink, G: Gate + Sync>(
+    rt: &R,
     alloc: Global,
     world: World<'_, D>,
     receipts: bool,
@@ -81,12 +85,13 @@ fn serve_world<D: Digests, V: Sink, O: Sink, G: Gate>(
     scripts_ask_for_keys_in_range();
     has_a_phase(world.requests());
     let mut runner = Runner::new(alloc, world, vault)?;
-    serve_phases(&mut runner, receipts, gate, vault, out)?;
+    serve_phases(rt, &mut runner, receipts, gate, vault, out)?;
     runner.finish(out)
 }
 
 /// Serves phase after phase, and closes each, until a clock ends or the script does.
-pub(crate) fn serve_phases<D: Digests, V: Sink, O: Sink, G: Gate>(
+pub(crate) fn serve_phases<R: Threads + Wait + Sync, D: Digests + Sync, V: Sink, O: Sink, G: Gate + Sync>(
+    rt: &R,
     runner: &mut Runner<'_, D>,
     receipts: bool,
     gate: &G,
@@ -116,12 +121,12 @@ pub(crate) fn serve_phases<D: Digests, V: Sink, O: Sink, G: Gate>(
 {
     let phases = runner.world.requests().len();
     for _number in 1..phases {
-        runner.epoch(false, receipts, gate, vault, out)?;
+        runner.epoch(rt, false, receipts, gate, vault, out)?;
         if runner.end.is_some() {
             return Ok(());
         }
     }
-    runner.epoch(true, receipts, gate, vault, out)
+    runner.epoch(rt, true, receipts, gate, vault, out)
 }
 
 // Where the counters don't suffice for the setup: the vault has the header alone, and the report its last line.

@@ -27,8 +27,8 @@ returns-in-Err-clause-runs g c =
       faults = g.V.Sink.faults c.args.vault.now;
       faults_after = g.V.Sink.faults c.args.vault.now;
     } in
-    subst (λ (status : Status). RunsTo c.args.receipts functions c.args.run.now c.args.limit status read wrote kept) (sym c.status.ensures.value)
-    (runs-unread c.args.receipts functions c.args.run.now c.args.limit read wrote kept c.in-Err.stop c.in-Err.ensures.reads
+    subst (λ (status : Status). RunsTo functions c.args.run.now c.args.limit status read wrote kept) (sym c.status.ensures.value)
+    (runs-unread functions c.args.run.now c.args.limit read wrote kept c.in-Err.stop c.in-Err.ensures.reads
     (record { unnamed = refl; vault = refl; out = refl }))
 
 pub returns-in-Ok-serve-clause-runs : goal.returns-in-Ok-serve-clause-runs
@@ -55,8 +55,8 @@ returns-in-Ok-serve-clause-runs g c =
       faults_after = g.V.Sink.faults c.serve.new.vault;
     } in
     let numbers = c.args.run.now.numbers in
-    subst (λ (status : Status). RunsTo c.args.receipts functions c.args.run.now c.args.limit status read wrote kept) (sym c.status-in-Ok-serve.ensures.value)
-    (runs-served c.args.receipts functions c.args.run.now c.args.limit read wrote kept c.in-Ok.requests c.in-Ok.ensures.reads
+    subst (λ (status : Status). RunsTo functions c.args.run.now c.args.limit status read wrote kept) (sym c.status-in-Ok-serve.ensures.value)
+    (runs-served functions c.args.run.now c.args.limit read wrote kept c.in-Ok.requests c.in-Ok.ensures.reads
     (λ logs. run-end functions (settings_for numbers) c.in-Ok.requests logs c.a_check_of_the_logs_ends_as_the_host_promises.ensures.whole
     (settings_in_range numbers c.requires.numbers) (c.scripts_ask_for_keys_in_range.ensures.keys numbers.verifiers c.in-Ok.requests c.in-Ok.ensures.tasks)
     (λ text. (c.digests_have_32_bytes.ensures.digests text).size) c.requires.numbers.first c.in-Ok.ensures.some)

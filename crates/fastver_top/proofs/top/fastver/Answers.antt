@@ -1,13 +1,14 @@
-use Rattle.std.proofs.Common.{◌^◌, false, ℕ, List, subst}
+use Rattle.std.proofs.Common.{◌^◌, ℕ, List, subst}
 use Rattle.record_hash.specs.ShaDigests.{sha_functions}
 use Rattle.program_words.specs.declared.words.Asked.{Asked}
-use Rattle.program_words.specs.declared.words.Asked.TheVariants.{Check, Audit, Run}
+use Rattle.program_words.specs.declared.words.Asked.TheVariants.{Check, Audit, Run, Accept}
 use Rattle.bundle_frames.specs.Extent.{reading_end}
 use Rattle.report_text.specs.Answer.{Reading, Writing, AnswersTo}
 use Rattle.bundle_report.specs.Answer.{check_answer}
 use Rattle.fastver_top.specs.Auditing.{audit_answer}
 use Rattle.fastver_top.specs.Answers.{AnswersFor}
 use Rattle.fastver_top.specs.Running.{Keeping, RunsTo}
+use Rattle.fastver_top.specs.Accepting.{accept_answer, AnswersWhole}
 use Rattle.fastver_top.proofs.AnswerLemmas.{answers-nothing, asked_is}
 use Rattle.fastver_top.proofs.top.fastver.Goals as goal
 
@@ -35,10 +36,10 @@ returns-in-Ok-Check-clause-answers g c = λ asked known.
       faults = g.V.Sink.faults c.args.vault.now;
       faults_after = g.V.Sink.faults c.args.vault.now;
     } in
-    let own = asked_is _ asked (Check c.in-Ok-Check.key) c.in-Ok-Check.field-0 known c.in-Ok-Check.ensures.asked c.in-Ok-Check.field-0-is in
+    let own = asked_is _ asked (Check c.in-Ok-Check.checking) c.in-Ok-Check.field-0 known c.in-Ok-Check.ensures.asked c.in-Ok-Check.field-0-is in
     subst (λ (a : Asked). AnswersFor a (2 ^ 40) c.check.result read wrote kept) own
-    (subst (λ (block : List ℕ). AnswersTo (check_answer false (sha_functions block)) reading_end (2 ^ 40) c.check.result read wrote)
-    c.digests_under.ensures.value c.check.ensures.answers)
+    (subst (λ (block : List ℕ). AnswersTo (check_answer c.in-Ok-Check.checking.receipts (sha_functions block)) reading_end (2 ^ 40) c.check.result read wrote)
+    c.digests_under-d.ensures.value c.check.ensures.answers)
 
 pub returns-in-Ok-Audit-clause-answers : goal.returns-in-Ok-Audit-clause-answers
 returns-in-Ok-Audit-clause-answers g c = λ asked known.
@@ -65,7 +66,7 @@ returns-in-Ok-Audit-clause-answers g c = λ asked known.
     let own = asked_is _ asked (Audit c.in-Ok-Audit.key) c.in-Ok-Audit.field-0 known c.in-Ok-Audit.ensures.asked c.in-Ok-Audit.field-0-is in
     subst (λ (a : Asked). AnswersFor a (2 ^ 40) c.audit_text.result read wrote kept) own
     (subst (λ (block : List ℕ). AnswersTo (audit_answer (sha_functions block)) reading_end (2 ^ 40) c.audit_text.result read wrote)
-    c.digests_under-in-Ok-Audit.ensures.value c.audit_text.ensures.answers)
+    c.digests_under.ensures.value c.audit_text.ensures.answers)
 
 pub returns-in-Ok-Run-clause-answers : goal.returns-in-Ok-Run-clause-answers
 returns-in-Ok-Run-clause-answers g c = λ asked known.
@@ -92,8 +93,35 @@ returns-in-Ok-Run-clause-answers g c = λ asked known.
     let run = c.in-Ok-Run.run' in
     let own = asked_is _ asked (Run run) c.in-Ok-Run.field-0 known c.in-Ok-Run.ensures.asked c.in-Ok-Run.field-0-is in
     subst (λ (a : Asked). AnswersFor a (2 ^ 40) c.run_script.result read wrote kept) own
-    (subst (λ (block : List ℕ). RunsTo false (sha_functions block) run (2 ^ 40) c.run_script.result read wrote kept)
-    c.digests_under-d.ensures.value c.run_script.ensures.runs)
+    (subst (λ (block : List ℕ). RunsTo (sha_functions block) run (2 ^ 40) c.run_script.result read wrote kept)
+    c.digests_under-d-in-Ok-Run.ensures.value c.run_script.ensures.runs)
+
+pub returns-in-Ok-Accept-clause-answers : goal.returns-in-Ok-Accept-clause-answers
+returns-in-Ok-Accept-clause-answers g c = λ asked known.
+    let read : Reading = record {
+      left = g.S.Source.left c.args.source.now;
+      left_after = g.S.Source.left c.accept_text.new.source;
+      faults = g.S.Source.faults c.args.source.now;
+      faults_after = g.S.Source.faults c.accept_text.new.source;
+    } in
+    let wrote : Writing = record {
+      held = g.O.Sink.held c.args.out.now;
+      held_after = g.O.Sink.held c.accept_text.new.out;
+      faults = g.O.Sink.faults c.args.out.now;
+      faults_after = g.O.Sink.faults c.accept_text.new.out;
+    } in
+    let kept : Keeping = record {
+      held = g.V.Sink.held c.args.vault.now;
+      held_after = g.V.Sink.held c.args.vault.now;
+      name = g.V.Sink.name c.args.vault.now;
+      name_after = g.V.Sink.name c.args.vault.now;
+      faults = g.V.Sink.faults c.args.vault.now;
+      faults_after = g.V.Sink.faults c.args.vault.now;
+    } in
+    let own = asked_is _ asked (Accept c.in-Ok-Accept.key) c.in-Ok-Accept.field-0 known c.in-Ok-Accept.ensures.asked c.in-Ok-Accept.field-0-is in
+    subst (λ (a : Asked). AnswersFor a (2 ^ 40) c.accept_text.result read wrote kept) own
+    (subst (λ (block : List ℕ). AnswersWhole (accept_answer (sha_functions block)) (2 ^ 40) c.accept_text.result read wrote)
+    c.digests_under-in-Ok-Accept.ensures.value c.accept_text.ensures.answers)
 
 pub returns-in-Err-Memory-clause-answers : goal.returns-in-Err-Memory-clause-answers
 returns-in-Err-Memory-clause-answers g c = λ asked known.

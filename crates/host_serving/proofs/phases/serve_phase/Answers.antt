@@ -8,7 +8,7 @@ use Rattle.host_world.specs.Behind.{host_of}
 use Rattle.host_serving.specs.Leading.{Leads, first_of}
 use Rattle.host_serving.specs.Standing.{turns_of, IsServedUpTo, NoneStopped, SomeStopped}
 use Rattle.host_serving.proofs.LeadingLaws.{leads-then}
-use Rattle.host_serving.proofs.PhaseLemmas.{phase_served}
+use Rattle.host_serving.proofs.TurnLaws.{phase_served}
 use Rattle.host_serving.proofs.TurnCalls.{turns_count, host_kept, hosts_then, none_of_two, some_of_two}
 use Rattle.host_serving.proofs.phases.serve_phase.Goals as goal
 

@@ -4,5 +4,5 @@ use Rattle.program_words.proofs.host_words.numbers_of.Goals as goal
 
 pub overflow_cast-result : goal.overflow_cast-result
 overflow_cast-result c =
-    let most = needed_most 1 1 c.in_ok-verifiers.verifiers _ c.in_ok-verifiers.ensures.value in
+    let most = needed_most 1 64 c.in_ok-verifiers.verifiers _ c.in_ok-verifiers.ensures.value in
     omega (arith, most)

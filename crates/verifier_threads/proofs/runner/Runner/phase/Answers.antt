@@ -15,20 +15,26 @@ use Rattle.verifier_threads.proofs.PassingLemmas.{ok_any, err_any, ok_then, runs
 use Rattle.verifier_threads.proofs.PhaseLemmas.{moved, at-close}
 use Rattle.verifier_threads.proofs.runner.Runner.phase.Goals as goal
 
-pub serve_phase-requires : goal.serve_phase-requires
-serve_phase-requires g c = record {
-  behind = runs-behind c.requires.runs.0 g.D.Digests.functions c.args.self.now c.requires.runs.1 c.requires.runs.2;
-  begins = c.requires.begins.begins;
-  workers = c.requires.workers;
-}
+pub serve_phase_at_once-requires-clause-behind : goal.serve_phase_at_once-requires-clause-behind
+serve_phase_at_once-requires-clause-behind g c κs within =
+    runs-behind c.requires.runs.0 g.D.Digests.functions c.args.self.now c.requires.runs.1 c.requires.runs.2
+
+pub serve_phase_at_once-requires-clause-begins : goal.serve_phase_at_once-requires-clause-begins
+serve_phase_at_once-requires-clause-begins g c κs within = c.requires.begins.begins
+
+pub serve_phase_at_once-requires-clause-running : goal.serve_phase_at_once-requires-clause-running
+serve_phase_at_once-requires-clause-running g c κs within = c.requires.begins.running
+
+pub serve_phase_at_once-requires-clause-counters : goal.serve_phase_at_once-requires-clause-counters
+serve_phase_at_once-requires-clause-counters g c κs within = c.requires.runs.2.running.counters
 
 pub pass_on-requires : goal.pass_on-requires
 pass_on-requires g c = record {
   runs = (
     c.requires.runs.0,
     c.requires.runs.1,
-    runs-led c.requires.runs.0 g.D.Digests.functions c.args.self.now c.requires.runs.1 c.requires.runs.2 c.serve_phase.new.world c.in_ok-self.field-0 c.in_ok-self.field-0
-        c.serve_phase.ensures.host c.in_ok-self.ensures.leads (ap (λ (e : Option ClockEnd). first_of e c.in_ok-self.field-0) (sym c.requires.begins.unended)),
+    runs-led c.requires.runs.0 g.D.Digests.functions c.args.self.now c.requires.runs.1 c.requires.runs.2 c.serve_phase_at_once.new.world c.in_ok-self.field-0 c.in_ok-self.field-0
+        c.serve_phase_at_once.ensures.host c.in_ok-self.ensures.leads (ap (λ (e : Option ClockEnd). first_of e c.in_ok-self.field-0) (sym c.requires.begins.unended)),
     c.requires.runs.3,
   );
 }
@@ -41,21 +47,21 @@ returns-in_err-self-clause-cut g c = λ receipts outputs runs held.
 pub returns-clause-runs : goal.returns-clause-runs
 returns-clause-runs g c = λ receipts outputs runs held.
     c.pass_on.ensures.runs receipts outputs
-    (runs-led receipts g.D.Digests.functions c.args.self.now outputs runs c.serve_phase.new.world c.in_ok-self.field-0 c.in_ok-self.field-0
-    c.serve_phase.ensures.host c.in_ok-self.ensures.leads (ap (λ (e : Option ClockEnd). first_of e c.in_ok-self.field-0) (sym c.requires.begins.unended)))
+    (runs-led receipts g.D.Digests.functions c.args.self.now outputs runs c.serve_phase_at_once.new.world c.in_ok-self.field-0 c.in_ok-self.field-0
+    c.serve_phase_at_once.ensures.host c.in_ok-self.ensures.leads (ap (λ (e : Option ClockEnd). first_of e c.in_ok-self.field-0) (sym c.requires.begins.unended)))
     held
 
 pub returns-clause-served : goal.returns-clause-served
 returns-clause-served g c =
     let functions = g.D.Digests.functions in
     let old = c.args.self.now.world in
-    let middle = c.serve_phase.new.world in
+    let middle = c.serve_phase_at_once.new.world in
     let new = c.pass_on.new.self in
     let host = host_of (functions (digests_of old)) old in
     let end = c.in_ok-self.field-0 in
     ok_then c.pass_on.result c.pass_on.ensures.handed
     (λ handed. moved IsAtClose host _ (all_handed_out (shown_world middle)) (shown_world new.world) end new.end
-    (host_same functions old new.world (one_host old middle new.world c.serve_phase.ensures.host c.pass_on.ensures.host)) handed c.pass_on.ensures.end
+    (host_same functions old new.world (one_host old middle new.world c.serve_phase_at_once.ensures.host c.pass_on.ensures.host)) handed c.pass_on.ensures.end
     (close_handed host (shown_world middle) end
     (at-close host (shown_world old) (shown_world middle) end c.in_ok-self.ensures.served c.requires.begins.running
     (λ is. c.in_ok-self.ensures.running (ap (λ (e : Option ClockEnd). Ok e) is)) c.in_ok-self.ensures.stopped)))
@@ -68,11 +74,11 @@ returns-clause-same_phase g c =
 pub returns-clause-cut : goal.returns-clause-cut
 returns-clause-cut g c = λ receipts outputs runs held.
     let functions = g.D.Digests.functions in
-    subst (λ d. OnErr c.pass_on.result (IsCutOff receipts (functions d) (record outputs { vault_after = g.V.Sink.held c.pass_on.new.vault }))) c.serve_phase.ensures.host.digests
+    subst (λ d. OnErr c.pass_on.result (IsCutOff receipts (functions d) (record outputs { vault_after = g.V.Sink.held c.pass_on.new.vault }))) c.serve_phase_at_once.ensures.host.digests
     (c.pass_on.ensures.cut receipts outputs
-    (runs-led receipts functions c.args.self.now outputs runs c.serve_phase.new.world c.in_ok-self.field-0 c.in_ok-self.field-0
-    c.serve_phase.ensures.host c.in_ok-self.ensures.leads (ap (λ (e : Option ClockEnd). first_of e c.in_ok-self.field-0) (sym c.requires.begins.unended)))
+    (runs-led receipts functions c.args.self.now outputs runs c.serve_phase_at_once.new.world c.in_ok-self.field-0 c.in_ok-self.field-0
+    c.serve_phase_at_once.ensures.host c.in_ok-self.ensures.leads (ap (λ (e : Option ClockEnd). first_of e c.in_ok-self.field-0) (sym c.requires.begins.unended)))
     held)
 
 pub returns-clause-host : goal.returns-clause-host
-returns-clause-host g c = one_host c.args.self.now.world c.serve_phase.new.world c.pass_on.new.self.world c.serve_phase.ensures.host c.pass_on.ensures.host
+returns-clause-host g c = one_host c.args.self.now.world c.serve_phase_at_once.new.world c.pass_on.new.self.world c.serve_phase_at_once.ensures.host c.pass_on.ensures.host

@@ -1,0 +1,105 @@
+//! The program's command line, as clap is told of it: its commands, and the options and flags of each.
+ghost use Rattle.std.specs.Prelude.{◌≡◌, IfOk, false};
+ghost use Rattle.clap.specs.Words.{app_of, rule_of};
+ghost use Rattle.clap.specs.declared.builder.command.Command.TheViews.{out-Command as fields_of};
+ghost use Rattle.program_words.specs.CommandLine.{check_app, command_with_key, fastver_app, flag_rule, option_rule, run_app, with_flag, with_host_options, with_option};
+
+use clap::{Arg, ArgAction, Command};
+use std::alloc::{AllocError, Global};
+
+// The program's command line.
+pub(crate) fn fastver_command<'a>(alloc: Global) -> Result<Command<'a>, AllocError>
+    ensures app { IfOk result (λ command. app_of command ≡ fastver_app) }
+{
+    let check = check_command(alloc)?;
+    let audit = command_with_key(alloc, "audit")?;
+    let run = run_command(alloc)?;
+    let accept = command_with_key(alloc, "accept")?;
+    Command::new(alloc, "fastver")
+        .subcommand_required(true)
+        .subcommand(check)?
+        .subcommand(audit)?
+        .subcommand(run)?
+        .subcommand(accept)
+}
+
+// The command `check`, with its flag for receipts.
+fn check_command<'a>(alloc: Global) -> Result<Command<'a>, AllocError>
+    ensures app { IfOk result (λ command. app_of command ≡ check_app) }
+    ensures local { IfOk result (λ command. (fields_of command).has_globals ≡ false) }
+{
+    let check = command_with_key(alloc, "check")?;
+    with_flag(alloc, check, "receipts")
+}
+
+// The command `run`, with the options of a host and its flag for receipts.
+fn run_command<'a>(alloc: Global) -> Result<Command<'a>, AllocError>
+    ensures app { IfOk result (λ command. app_of command ≡ run_app) }
+    ensures local { IfOk result (λ command. (fields_of command).has_globals ≡ false) }
+{
+    let run = command_with_key(alloc, "run")?;
+    let run = with_host_options(alloc, run)?;
+    with_flag(alloc, run, "receipts")
+}
+
+// A command with the options for the numbers of a host and for the path of its logs.
+fn with_host_options<'a>(alloc: Global, command: Command<'a>) -> Result<Command<'a>, AllocError>
+    ensures app { IfOk result (λ made. app_of made ≡ with_host_options (app_of command.entry)) }
+    ensures local { IfOk result (λ made. (fields_of command.entry).has_globals ≡ false → (fields_of made).has_globals ≡ false) }
+{
+    let host = with_option(alloc, command, "verifiers", true)?;
+    let host = with_option(alloc, host, "shards", true)?;
+    let host = with_option(alloc, host, "hot", false)?;
+    let host = with_option(alloc, host, "logs", false)?;
+    let host = with_option(alloc, host, "first", false)?;
+    with_option(alloc, host, "counter", false)
+}
+
+// A command of this name, which needs a key.
+fn command_with_key<'a>(alloc: Global, name: &'a str) -> Result<Command<'a>, AllocError>
+    ensures app { IfOk result (λ command. app_of command ≡ command_with_key name.now) }
+    ensures local { IfOk result (λ command. (fields_of command).has_globals ≡ false) }
+{
+    Command::new(alloc, name).arg(option(alloc, "key", true))
+}
+
+// A command with one option more, of this name.
+fn with_option<'a>(
+    alloc: Global,
+    command: Command<'a>,
+    name: &'a str,
+    required: bool,
+) -> Result<Command<'a>, AllocError>
+    ensures app { IfOk result (λ made. app_of made ≡ with_option (app_of command.entry) name.now required) }
+    ensures local { IfOk result (λ made. (fields_of command.entry).has_globals ≡ false → (fields_of made).has_globals ≡ false) }
+{
+    command.arg(option(alloc, name, required))
+}
+
+// A command with one flag more, of this name.
+fn with_flag<'a>(
+    alloc: Global,
+    command: Command<'a>,
+    name: &'a str,
+) -> Result<Command<'a>, AllocError>
+    ensures app { IfOk result (λ made. app_of made ≡ with_flag (app_of command.entry) name.now) }
+    ensures local { IfOk result (λ made. (fields_of command.entry).has_globals ≡ false → (fields_of made).has_globals ≡ false) }
+{
+    command.arg(flag(alloc, name))
+}
+
+// An option of this name, which takes one value.
+fn option<'a>(alloc: Global, name: &'a str, required: bool) -> Arg<'a>
+    ensures rule { rule_of result ≡ option_rule name.now required }
+    ensures local { result.global ≡ false }
+{
+    Arg::new(alloc, name).long(name).required(required)
+}
+
+// A flag of this name, which takes no value.
+fn flag<'a>(alloc: Global, name: &'a str) -> Arg<'a>
+    ensures rule { rule_of result ≡ flag_rule name.now }
+    ensures local { result.global ≡ false }
+{
+    Arg::new(alloc, name).long(name).action(ArgAction::SetTrue)
+}

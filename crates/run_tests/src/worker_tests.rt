@@ -1,0 +1,296 @@
+//! Scripts that many workers serve, each in a thread of its own.
+use crate::holding_gate::HoldingGate;
+use crate::serving::{Objects, assert_served, checked, host_line, program_at, served};
+use bundle_rows::cases_of;
+use fastver_top::Status;
+use std::alloc::Global;
+use std::process::Abort;
+use std::sync::Wait;
+use std::test::Fail;
+use std::thread::Threads;
+
+// Each case is a script behind the numbers of workers and shards and further words, with its status and report, as the slow
+// program has it. In each phase a shard is used by one worker alone, so they are the same under every schedule. Equal clocks
+// are ordered by verifier; the clock of worker 3 of 5 ends in a phase, and in a close, where it moves what others made hot;
+// there are more workers than shards, more shards than workers, and workers with no request.
+const APART: &str = "\
+== 2 --shards 2
+1 put 9223372036854775808 01
+0 get 7
+-> 0
+epoch 0 certified 2
+0.3 v0 get 7 none
+0.3 v1 put 9223372036854775808 01
+done 1
+== 2 --shards 2
+0 put 5 61
+1 put 9223372036854775808 62
+1 get 9223372036854775808
+-> 0
+epoch 0 certified 3
+0.3 v0 put 5 61
+0.3 v1 put 9223372036854775808 62
+0.5 v1 get 9223372036854775808 62
+done 1
+== 5 --shards 8 --counter 20
+0 put 0 00
+1 put 2305843009213693952 01
+2 put 4611686018427387904 02
+4 put 9223372036854775808 04
+3 put 6917529027641081856 00
+3 put 6917529027641081856 01
+3 put 6917529027641081856 02
+3 put 6917529027641081856 03
+3 put 6917529027641081856 04
+3 put 6917529027641081856 05
+3 put 6917529027641081856 06
+3 put 6917529027641081856 07
+3 put 6917529027641081856 08
+3 put 6917529027641081856 09
+0 get 0
+1 get 2305843009213693952
+2 get 4611686018427387904
+4 get 9223372036854775808
+epoch
+0 get 0
+-> 10
+epoch 0 certified 16
+0.3 v1 put 2305843009213693952 01
+0.4 v2 put 4611686018427387904 02
+0.5 v1 get 2305843009213693952 01
+0.5 v3 put 6917529027641081856 00
+0.6 v2 get 4611686018427387904 02
+0.6 v4 put 9223372036854775808 04
+0.7 v3 put 6917529027641081856 01
+0.8 v4 get 9223372036854775808 04
+0.9 v0 put 0 00
+0.9 v3 put 6917529027641081856 02
+0.11 v0 get 0 00
+0.11 v3 put 6917529027641081856 03
+0.13 v3 put 6917529027641081856 04
+0.15 v3 put 6917529027641081856 05
+0.17 v3 put 6917529027641081856 06
+0.19 v3 put 6917529027641081856 07
+clock end worker 3 at 0.20
+== 5 --shards 16 --counter 16 --hot 1
+1 put 3458764513820540928 61
+1 put 3458764513820540929 61
+1 put 3458764513820540930 61
+1 put 3458764513820540931 61
+2 put 9223372036854775808 62
+2 put 9223372036854775809 62
+2 put 9223372036854775810 62
+4 put 14987979559889010688 64
+epoch
+1 get 3458764513820540928
+1 get 3458764513820540929
+1 get 3458764513820540930
+1 get 3458764513820540931
+2 get 9223372036854775808
+2 get 9223372036854775809
+2 get 9223372036854775810
+4 get 14987979559889010688
+epoch
+0 get 5
+-> 10
+epoch 0 certified 8
+0.5 v1 put 3458764513820540928 61
+0.7 v1 put 3458764513820540929 61
+0.9 v1 put 3458764513820540930 61
+0.10 v2 put 9223372036854775808 62
+0.11 v1 put 3458764513820540931 61
+0.12 v2 put 9223372036854775809 62
+0.14 v2 put 9223372036854775810 62
+0.15 v4 put 14987979559889010688 64
+clock end worker 3 at 2.10
+== 8 --shards 2
+1 put 0 00
+5 put 9223372036854775808 00
+1 put 0 01
+5 put 9223372036854775808 01
+epoch
+7 get 0
+2 get 9223372036854775808
+-> 0
+epoch 0 certified 4
+0.2 v1 put 0 00
+0.3 v5 put 9223372036854775808 00
+0.4 v1 put 0 01
+0.5 v5 put 9223372036854775808 01
+epoch 1 certified 2
+1.3 v2 get 9223372036854775808 01
+1.3 v7 get 0 01
+done 2
+== 2 --shards 16
+0 put 0 61
+1 put 1152921504606846976 62
+0 put 17293822569102704640 63
+1 get 1152921504606846976
+epoch
+1 get 0
+-> 0
+epoch 0 certified 4
+0.3 v1 put 1152921504606846976 62
+0.5 v1 get 1152921504606846976 62
+0.17 v0 put 0 61
+0.19 v0 put 17293822569102704640 63
+epoch 1 certified 1
+1.17 v1 get 0 61
+done 2
+== 3 --shards 4
+2 put 9223372036854775808 61
+epoch
+2 get 9223372036854775808
+-> 0
+epoch 0 certified 1
+0.4 v2 put 9223372036854775808 61
+epoch 1 certified 1
+1.3 v2 get 9223372036854775808 61
+done 2
+";
+
+#[test]
+fn workers_apart_are_served(rt: HostRuntime) -> Result<(), Fail> {
+    let cases = cases_of(rt.alloc(), APART)?;
+    assert_eq!(rt; cases.len(), 7);
+    for case in &cases {
+        assert_served(&rt, rt.alloc(), case)?;
+    }
+    Ok(())
+}
+
+// Two workers at one key: the report is one of these, as the one or the other comes first, or between.
+const ORDERS: [&str; 3] = [
+    "epoch 0 certified 3\n0.3 v0 put 5 61\n0.5 v1 put 5 62\n0.7 v0 get 5 62\ndone 1\n",
+    "epoch 0 certified 3\n0.2 v1 put 5 62\n0.4 v0 put 5 61\n0.6 v0 get 5 61\ndone 1\n",
+    "epoch 0 certified 3\n0.3 v0 put 5 61\n0.5 v0 get 5 61\n0.7 v1 put 5 62\ndone 1\n",
+];
+
+#[test]
+fn workers_at_one_key_are_served_in_some_order(rt: HostRuntime) -> Result<(), Fail> {
+    let line = host_line(rt.alloc(), "2 --shards 2")?;
+    for turn in 0..50 {
+        let script = "0 put 5 61\n1 put 5 62\n0 get 5\n";
+        let (objects, status) = served(&rt, rt.alloc(), &line, script, 100_000)?;
+        assert_eq!(rt; status, Status::Done { epochs: 1 }, "{turn}");
+        let written = objects.out.bytes();
+        assert!(rt; ORDERS.iter().any(|order| order.as_bytes() == written), "{turn}");
+    }
+    Ok(())
+}
+
+// Worker 0 is held at its first request until worker 1 is at its second: whoever serves workers one after the other fails.
+#[test]
+fn workers_serve_beside_each_other(rt: HostRuntime) -> Result<(), Fail> {
+    let line = host_line(rt.alloc(), "2 --shards 2")?;
+    let script = "0 put 5 61\n1 put 9223372036854775808 62\n1 get 9223372036854775808\n";
+    let gate = HoldingGate::new();
+    let none: (&[u64], &[u64], &[u64]) = (&[], &[], &[]);
+    let (objects, status) = program_at(
+        &rt,
+        rt.alloc(),
+        &line,
+        script.as_bytes(),
+        1000,
+        none,
+        &gate,
+    )?;
+    assert!(rt; !gate.has_given_up());
+    assert_eq!(rt; status, Status::Done { epochs: 1 });
+    let report = "\
+epoch 0 certified 3
+0.3 v0 put 5 61
+0.3 v1 put 9223372036854775808 62
+0.5 v1 get 9223372036854775808 62
+done 1
+";
+    assert_eq!(rt; objects.out.bytes(), report.as_bytes());
+    Ok(())
+}
+
+// So many workers ask for these keys in turn, so often in each of so many phases.
+fn contending(
+    alloc: Global,
+    workers: u16,
+    keys: &[u64],
+    rounds: usize,
+    phases: usize,
+) -> Result<String, Fail> {
+    let mut script = String::new(alloc);
+    for phase in 0..phases {
+        if phase != 0 {
+            script.push_str("epoch\n")?;
+        }
+        for round in 0..rounds {
+            add_round(alloc, &mut script, workers, keys, round)?;
+        }
+    }
+    Ok(script)
+}
+
+// Each worker asks for a key: every third one puts its number there.
+fn add_round(
+    alloc: Global,
+    script: &mut String,
+    workers: u16,
+    keys: &[u64],
+    round: usize,
+) -> Result<(), Fail> {
+    for worker in 0..workers {
+        let Some(key) = keys.get(round % keys.len().max(1)) else {
+            return Ok(());
+        };
+        let ask = if (usize::from(worker) + round) % 3 == 0 {
+            format!(in alloc; "{worker} put {key} {worker:04x}\n")?
+        } else {
+            format!(in alloc; "{worker} get {key}\n")?
+        };
+        script.push_str(&ask)?;
+    }
+    Ok(())
+}
+
+// All is done, and a check of the vault writes the same: nothing was refused, and no alarm was false.
+fn assert_checked<R: Threads + Wait + Sync + Abort>(
+    rt: &R,
+    alloc: Global,
+    objects: &Objects,
+    status: Status,
+    epochs: u64,
+    turn: usize,
+) -> Result<(), Fail> {
+    assert_eq!(rt; status, Status::Done { epochs }, "{turn}");
+    let (again, status) = checked(rt, alloc, objects.vault.bytes())?;
+    assert_eq!(rt; again.out.bytes(), objects.out.bytes(), "{turn}");
+    assert_eq!(rt; status, Status::Done { epochs }, "{turn}");
+    Ok(())
+}
+
+// Lines of answers, of which there is one for each request.
+fn answers_in(report: &[u8]) -> usize {
+    report
+        .split(|byte| *byte == b'\n')
+        .filter(|line| line.starts_with(b"0.") || line.starts_with(b"1."))
+        .count()
+}
+
+#[test]
+fn a_script_that_contends_is_served_a_hundred_times(rt: HostRuntime) -> Result<(), Fail> {
+    let line = host_line(rt.alloc(), "4 --shards 2 --hot 3")?;
+    let script = contending(rt.alloc(), 4, &[5, 9223372036854775808, 5, 6], 8, 2)?;
+    for turn in 0..100 {
+        let (objects, status) = served(&rt, rt.alloc(), &line, &script, 100_000)?;
+        assert_eq!(rt; answers_in(objects.out.bytes()), 64, "{turn}");
+        assert_checked(&rt, rt.alloc(), &objects, status, 2, turn)?;
+    }
+    Ok(())
+}
+
+#[test]
+fn all_of_64_workers_ask_for_one_hot_key(rt: HostRuntime) -> Result<(), Fail> {
+    let line = host_line(rt.alloc(), "64 --shards 2 --hot 1")?;
+    let script = contending(rt.alloc(), 64, &[5], 2, 2)?;
+    let (objects, status) = served(&rt, rt.alloc(), &line, &script, 100_000)?;
+    assert_eq!(rt; answers_in(objects.out.bytes()), 256);
+    assert_checked(&rt, rt.alloc(), &objects, status, 2, 0)
+}

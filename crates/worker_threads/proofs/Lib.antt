@@ -1,0 +1,18 @@
+-- How the phases of workers in threads are proved, in reading order: one worker, what the script asks, what turns do to a world,
+-- the law of a phase, and the code.
+mod ToilLemmas
+mod AskedLemmas
+mod ShapeLemmas
+mod FilledLemmas
+mod EndLemmas
+mod StopLemmas
+mod ServedLemmas
+mod WorldLemmas
+mod LeadLemmas
+mod BoundLemmas
+mod PromiseLemmas
+mod SeatLemmas
+mod MakingLemmas
+mod TableLemmas
+mod PostLemmas
+mod CallLemmas

@@ -1,0 +1,33 @@
+use Rattle.std.proofs.Common.{sym, ◌∙◌, subst, arith}
+use Rattle.host_core.specs.World.{World}
+use Rattle.host_shard.specs.Content.{Content}
+use Rattle.host_table.specs.Terms.{IsClockOf}
+use Rattle.host_world.specs.Behind.{with_logs}
+use Rattle.host_world.specs.ShippedHost.{shipped_host}
+use Rattle.host_world.proofs.FrontLaws.{length-before_each, clock_with}
+use Rattle.worker_threads.proofs.BoundLemmas.{bounded_behind}
+use Rattle.worker_threads.proofs.MakingLemmas.{clock_of, terms_of_world, place_is}
+use Rattle.worker_threads.proofs.laws.tables_are_of_their_worlds.Goals as goal
+
+pub returns : goal.returns
+returns c = record {
+  clocks = λ functions settings script logs world terms digests behind phase lent some header i there.
+      let orders = c.worlds_are_orderly.ensures.orderly functions settings script in
+      let before : World Content = with_logs logs world in
+      let count = length-before_each logs world.workers in
+      subst (IsClockOf terms) (clock_with (shipped_host functions settings script) logs world i)
+      (clock_of functions settings script before (orders before digests behind)
+      (bounded_behind functions settings script digests orders before behind) phase terms lent some header i (omega (arith, there, count)));
+  of_world = λ functions settings script logs world terms digests behind phase lent digest workers.
+      let orders = c.worlds_are_orderly.ensures.orderly functions settings script in
+      let before : World Content = with_logs logs world in
+      let terms_are = terms_of_world functions settings script before (orders before digests behind)
+      (bounded_behind functions settings script digests orders before behind) phase terms lent digest (workers ∙ sym (length-before_each logs world.workers)) in
+      record { digest = digest; workers = workers; places = terms_are.places; contents = terms_are.contents };
+  places = λ functions settings script logs world terms digests behind phase lent place request small is.
+      let orders = c.worlds_are_orderly.ensures.orderly functions settings script in
+      let before : World Content = with_logs logs world in
+      place_is functions settings script before (orders before digests behind)
+      (bounded_behind functions settings script digests orders before behind) phase terms lent place request small
+      (record { there = is.there; owns = is.owns });
+}

@@ -1,0 +1,160 @@
+use Rattle.std.proofs.Common.{◌≡◌, ℕ, List, [], map, length, get_or, sym, ◌∙◌, ap, subst, arith}
+use Rattle.std.proofs.lemmas.List.{length-map}
+use Rattle.merkle_records.specs.Merkle.{GivesDigests}
+use Rattle.script_text.specs.declared.task.Task.{Task}
+use Rattle.host_core.specs.World.{World}
+use Rattle.host_shard.specs.Content.{Content}
+use Rattle.host_shard.specs.Shown.{shown_content}
+use Rattle.host_table.specs.Calls.{told_by}
+use Rattle.host_table.specs.Table.{table, terms}
+use Rattle.host_table.specs.Terms.{Terms, IsMaking}
+use Rattle.host_world.specs.declared.settings.Settings.{Settings}
+use Rattle.host_world.specs.Behind.{host_of}
+use Rattle.host_world.specs.Lending.{all_contents}
+use Rattle.host_world.specs.Shown.{shown_world, digests_of, requests_of}
+use Rattle.host_serving.specs.Leading.{Leads}
+use Rattle.worker_threads.specs.Parts.{ArePlaces}
+use Rattle.worker_threads.specs.Phase.{ArePlacesFor, first_stopped}
+use Rattle.worker_threads.proofs.CallLemmas.{phase_places, lent_count, later_is, to_serve, served_at_once, goes_on, hosts_then, no_end}
+use Rattle.worker_threads.proofs.ServedLemmas.{none_stopped, some_stopped}
+use Rattle.worker_threads.proofs.phases.serve_phase_at_once.Goals as goal
+
+-- what the phase asks
+asked : (script seen : List (List Task)) (phase at : ℕ) (tasks : List Task) → seen ≡ script → at ≡ phase → tasks ≡ get_or seen at [] → tasks ≡ get_or script phase []
+asked script seen phase at tasks same now is =
+    is ∙ ap (λ (s : List (List Task)). get_or s at []) same ∙ ap (λ (n : ℕ). get_or script n []) now
+
+pub make-requires : goal.make-requires
+make-requires g c =
+    let old = c.args.world.now in
+    let functions = g.D.Digests.functions (digests_of old) in
+    let stands = c.requires.behind in
+    let sized = subst (λ d. GivesDigests (g.D.Digests.functions d).digest) c.digests-d.ensures.value c.digests_have_32_bytes.ensures.sized in
+    let count = c.tables_can_be_made.ensures.workers functions old.settings (requests_of old) stands.0 (shown_world old) sized stands.1.behind in
+    record {
+      making =
+          subst (λ (settings : Settings). IsMaking settings.header settings.header.verifiers c.in_ok-contents.contents.items) (sym c.settings.ensures.value)
+          (subst (λ (n : ℕ). IsMaking old.settings.header n c.in_ok-contents.contents.items) count
+          (c.tables_can_be_made.ensures.making functions old.settings (requests_of old) stands.0 (shown_world old) c.in_ok-contents.contents.items sized
+          stands.1.behind c.requires.counters c.requires.begins c.in_ok-contents.ensures.lent));
+    }
+
+pub serve_at_table-requires-clause-shift : goal.serve_at_table-requires-clause-shift
+serve_at_table-requires-clause-shift g c κs within =
+    let old = c.args.world.now in
+    let functions = g.D.Digests.functions (digests_of old) in
+    let stands = c.requires.behind in
+    let sized = subst (λ d. GivesDigests (g.D.Digests.functions d).digest) c.digests-d.ensures.value c.digests_have_32_bytes.ensures.sized in
+    let made : Terms = terms g.D.Digests.functions c.in-Ok.records in
+    let tasks_are = asked (requests_of old) c.requests.result.now old.phase c.phase.result c.phase-tasks.result.now
+    c.requests.ensures.value c.phase.ensures.value c.phase-tasks.ensures.value in
+    let lent : map shown_content made.contents ≡ all_contents (shown_world old).shards =
+    ap (λ (t : Terms). map shown_content t.contents) c.in-Ok.ensures.terms ∙ c.in_ok-contents.ensures.lent in
+    let host = host_of functions old in
+    let are : ArePlacesFor host (shown_world old) (get_or (requests_of old) old.phase []) (length (get_or (requests_of old) old.phase [])) c.in_ok-places.places.items =
+    subst (λ (ts : List Task). ArePlacesFor host (shown_world old) ts (length ts) c.in_ok-places.places.items) tasks_are c.in_ok-places.ensures.places in
+    record {
+      digests = sym (ap (λ (t : Terms). t.digest) c.in-Ok.ensures.terms);
+      places =
+          subst (λ (ts : List Task). ArePlaces made ts c.as_slice.result.now) (sym tasks_are)
+          (subst (ArePlaces made (get_or (requests_of old) old.phase [])) (sym c.as_slice.ensures.value)
+          (phase_places host (shown_world old) (requests_of old) made c.in_ok-places.places.items stands.1.behind.keys are
+          (c.tables_are_of_their_worlds.ensures.places functions old.settings (requests_of old) stands.0 (shown_world old) made sized
+          stands.1.behind c.requires.begins.phase lent)));
+    }
+
+pub serve_at_table-requires-clause-ready : goal.serve_at_table-requires-clause-ready
+serve_at_table-requires-clause-ready g c κs within =
+    let old = c.args.world.now in
+    let functions = g.D.Digests.functions (digests_of old) in
+    let stands = c.requires.behind in
+    let sized = subst (λ d. GivesDigests (g.D.Digests.functions d).digest) c.digests-d.ensures.value c.digests_have_32_bytes.ensures.sized in
+    let made : Terms = terms g.D.Digests.functions c.in-Ok.records in
+    let header = ap (λ (settings : Settings). settings.header) c.settings.ensures.value in
+    let lent : map shown_content made.contents ≡ all_contents (shown_world old).shards =
+    ap (λ (t : Terms). map shown_content t.contents) c.in-Ok.ensures.terms ∙ c.in_ok-contents.ensures.lent in
+    let count = c.tables_can_be_made.ensures.workers functions old.settings (requests_of old) stands.0 (shown_world old) sized stands.1.behind in
+    let some : _ = (c.tables_can_be_made.ensures.making functions old.settings (requests_of old) stands.0 (shown_world old) made.contents sized
+    stands.1.behind c.requires.counters c.requires.begins lent).places in
+    to_serve (host_of functions old) (shown_world old) made (table c.in-Ok.records) c.lend_workers-workers.result.items c.in-Ok.hands.items c.settings.result.header.verifiers
+    (c.lend_workers-workers.ensures.lent ∙ ap (λ (w : World Content). w.workers) c.in_ok-contents.ensures.left)
+    (ap (λ (t : Terms). t.workers) c.in-Ok.ensures.terms)
+    (count ∙ sym (ap (λ h. h.verifiers) header))
+    c.in-Ok.ensures.hands c.in-Ok.ensures.new c.requires.running
+    (c.tables_are_of_their_worlds.ensures.clocks functions old.settings (requests_of old) stands.0 (shown_world old) made sized
+    stands.1.behind c.requires.begins.phase lent some (ap (λ (t : Terms). t.header) c.in-Ok.ensures.terms ∙ header))
+
+pub first_end_of-end-requires : goal.first_end_of-end-requires
+first_end_of-end-requires g c =
+    let old = c.args.world.now in
+    let functions = g.D.Digests.functions (digests_of old) in
+    let stands = c.requires.behind in
+    let sized = subst (λ d. GivesDigests (g.D.Digests.functions d).digest) c.digests-d.ensures.value c.digests_have_32_bytes.ensures.sized in
+    let count = c.tables_can_be_made.ensures.workers functions old.settings (requests_of old) stands.0 (shown_world old) sized stands.1.behind in
+    let few = stands.1.behind.settings_fit.header.verifiers in
+    let lent : length c.lend_workers-workers.result.items ≡ length (shown_world old).workers =
+    ap (λ ws. length ws) (c.lend_workers-workers.ensures.lent ∙ ap (λ (w : World Content). w.workers) c.in_ok-contents.ensures.left) in
+    let seen : length c.as_slice-2.result.now ≡ length c.in_ok-workers.workers.items = ap (λ ws. length ws) c.as_slice-2.ensures.value in
+    record { few = omega (arith, seen, c.in_ok-workers.ensures.served.count, lent, count, few) }
+
+pub take_back-requires : goal.take_back-requires
+take_back-requires g c =
+    let made : Terms = terms g.D.Digests.functions c.in-Ok.records in
+    record {
+      as_many = c.close-contents.ensures.phase.as_many
+          ∙ ap (λ (t : Terms). length t.contents) c.in-Ok.ensures.terms
+          ∙ sym (length-map c.in_ok-contents.contents.items shown_content)
+          ∙ ap (λ (xs : List Content). length xs) c.in_ok-contents.ensures.lent
+          ∙ sym (lent_count (shown_world c.args.world.now) (shown_world c.lend.new.self) (shown_world c.lend_workers-workers.new.self)
+          c.in_ok-contents.ensures.left c.lend_workers-workers.ensures.left);
+    }
+
+pub returns : goal.returns
+returns g c =
+    let old = c.args.world.now in
+    let new = c.take_workers.new.self in
+    let functions = g.D.Digests.functions (digests_of old) in
+    let host = host_of functions old in
+    let stands = c.requires.behind in
+    let sized = subst (λ d. GivesDigests (g.D.Digests.functions d).digest) c.digests-d.ensures.value c.digests_have_32_bytes.ensures.sized in
+    let made : Terms = terms g.D.Digests.functions c.in-Ok.records in
+    let header = ap (λ (settings : Settings). settings.header) c.settings.ensures.value in
+    let lent : map shown_content made.contents ≡ all_contents (shown_world old).shards =
+    ap (λ (t : Terms). map shown_content t.contents) c.in-Ok.ensures.terms ∙ c.in_ok-contents.ensures.lent in
+    let count = c.tables_can_be_made.ensures.workers functions old.settings (requests_of old) stands.0 (shown_world old) sized stands.1.behind in
+    let later = later_is (shown_world old) (shown_world c.lend.new.self) (shown_world c.lend_workers-workers.new.self) (shown_world c.take_back.new.self)
+    (shown_world new) (map shown_content c.close-contents.result.items) c.in_ok-workers.workers.items
+    c.in_ok-contents.ensures.left c.lend_workers-workers.ensures.left c.take_back.ensures.filled c.take_workers.ensures.taken in
+    let at_once = served_at_once functions old.settings (requests_of old) (shown_world old) (shown_world new) made (table c.in-Ok.records)
+    c.close-contents.result.items c.lend_workers-workers.result.items c.in_ok-workers.workers.items c.in_ok-workers.hands.items c.phase-tasks.result.now
+    c.requires.begins c.requires.running
+    (c.tables_are_of_their_worlds.ensures.of_world functions old.settings (requests_of old) stands.0 (shown_world old) made sized stands.1.behind c.requires.begins.phase lent
+    (ap (λ (t : Terms). t.digest) c.in-Ok.ensures.terms ∙ ap (λ d. (g.D.Digests.functions d).digest) c.digests-d.ensures.value)
+    (ap (λ (t : Terms). t.workers) c.in-Ok.ensures.terms ∙ ap (λ h. h.verifiers) header ∙ sym count))
+    c.close-contents.ensures.phase
+    (c.lend_workers-workers.ensures.lent ∙ ap (λ (w : World Content). w.workers) c.in_ok-contents.ensures.left)
+    (asked (requests_of old) c.requests.result.now old.phase c.phase.result c.phase-tasks.result.now
+    c.requests.ensures.value c.phase.ensures.value c.phase-tasks.ensures.value)
+    c.in_ok-workers.ensures.served later in
+    let workers_are : (shown_world new).workers ≡ c.in_ok-workers.workers.items = ap (λ (w : World Content). w.workers) later in
+    let end_is : c.first_end_of-end.result ≡ first_stopped 0 (shown_world new).workers =
+    c.first_end_of-end.ensures.first ∙ ap (first_stopped 0) (c.as_slice-2.ensures.value ∙ sym workers_are) in
+    let way : Leads host (shown_world old) (shown_world new) c.first_end_of-end.result =
+    subst (Leads host (shown_world old) (shown_world new)) (sym end_is)
+    (c.phases_at_once_are_lists_of_events.ensures.leads functions old.settings (requests_of old) stands.0 (shown_world old) (shown_world new) made c.close-contents.result.items
+    (map told_by c.in_ok-workers.hands.items) sized stands.1.each stands.1.behind c.requires.counters at_once) in
+    let one_host = hosts_then old c.take_back.new.self new
+    (hosts_then old c.lend_workers-workers.new.self c.take_back.new.self (hosts_then old c.lend.new.self c.lend_workers-workers.new.self c.lend.ensures.host c.lend_workers-workers.ensures.host)
+    c.take_back.ensures.host) c.take_workers.ensures.host in
+    let on = goes_on g.D.Digests.functions old new c.first_end_of-end.result one_host at_once.count way in
+    record {
+      leads = way;
+      served = c.phases_at_once_are_lists_of_events.ensures.served functions old.settings (requests_of old) (shown_world old) (shown_world new) made c.close-contents.result.items
+          (map told_by c.in_ok-workers.hands.items) at_once;
+      phase = ap (λ (w : World Content). w.phase) later;
+      running = λ none before. none_stopped host (shown_world new) (sym end_is ∙ no_end c.first_end_of-end.result none);
+      stopped = some_stopped host (shown_world new) c.first_end_of-end.result (sym end_is);
+      host = one_host;
+      behind = (stands.0, on stands.0 stands.1);
+      goes_on = on;
+    }

@@ -1,0 +1,24 @@
+use Rattle.std.proofs.Common.{[], ◌∙◌, sym, ap, subst}
+use Rattle.host_core.specs.World.{Worker}
+use Rattle.host_table.specs.Calls.{told_by}
+use Rattle.host_table.specs.Hands.{worker_of}
+use Rattle.worker_threads.specs.Parts.{HasDone, asked_of}
+use Rattle.worker_threads.specs.Toil.{noted}
+use Rattle.worker_threads.proofs.ToilLemmas.{nothing-done, at_ok}
+use Rattle.worker_threads.proofs.post.Post.serve_own.Goals as goal
+
+pub returns : goal.returns
+returns g c =
+    let old = c.args.self.now in
+    let toil = c.serve_own.new.self in
+    let has = c.note.ensures.has ∙ ap (λ (w : Worker). noted w toil) {y = record old.worker { log = [] }} c.new-toil.ensures.lent in
+    record {
+      through = record {
+        free = c.serve_own.ensures.at_work.free;
+        number = c.serve_own.ensures.worker;
+        part = λ fine.
+            subst (λ (w : Worker). HasDone (asked_of (worker_of old.hand) c.args.shift.now.tasks.now) (told_by c.serve_own.new.hand) old.worker w) (sym has)
+            (at_ok c.serve_own.result (sym c.is_err-self.ensures.value ∙ fine) c.serve_own.ensures.goes_on [] old.worker
+            (nothing-done old.hand old.worker (noted old.worker c.new-toil.result) c.new-toil.ensures.begun c.requires.posted.running c.requires.posted.new));
+      };
+    }

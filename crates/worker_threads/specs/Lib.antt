@@ -1,0 +1,6 @@
+-- What the clauses on workers in threads cite, in reading order.
+pub mod Parts
+pub mod Toil
+pub mod Posts
+pub mod Phase
+pub use Rattle.host_serving.specs

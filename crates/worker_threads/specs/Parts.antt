@@ -1,0 +1,77 @@
+-- A worker's part of a phase at a table: what it is asked, where that is served, and what it did of it.
+use Rattle.std.specs.Prelude.{◌≡◌, ℕ, ◌+◌, ◌==◌, false, is_some, List, [], ◌∷◌, ◌++◌, length, Option, Some, None, if◌then◌else◌}
+use Rattle.std.specs.List.{flat_map}
+use Rattle.std.specs.Option.{ForSome}
+use Rattle.lamport_clocks.specs.Reading.{Reading}
+use Rattle.record_text.specs.declared.request.Request.{Request}
+use Rattle.log_codec.specs.declared.command.Command.{Command}
+use Rattle.atomic_table.specs.Seated.{TableId}
+use Rattle.script_text.specs.declared.task.Task.{Task}
+use Rattle.host_core.specs.World.{Worker}
+use Rattle.host_table.specs.declared.told.Entry.{Entry}
+use Rattle.host_table.specs.declared.told.Stop.{Stop}
+use Rattle.host_table.specs.declared.views.Row.{Row}
+use Rattle.host_table.specs.Calls.{IsNew, told_by}
+use Rattle.host_table.specs.Hands.{worker_of, IsFree}
+use Rattle.host_table.specs.Terms.{Terms, IsClockOf, IsPlaceOf}
+use Rattle.table_order.specs.Phases.{first_clock}
+use Rattle.worker_threads.specs.declared.post.Post.{Post}
+
+-- ---- what is asked
+
+-- what a phase asks of a worker, in order
+abbrev pub asked_of : ℕ → List Task → List Request
+asked_of i [] = []
+asked_of i (task ∷ tasks) = if task.worker == i then task.request ∷ asked_of i tasks else asked_of i tasks
+
+-- the place of each task's key at a table
+abbrev pub ArePlaces : Terms → List Task → List ℕ → Type 0
+ArePlaces terms [] [] = Unit {0}
+ArePlaces terms (task ∷ tasks) (place ∷ places) = IsPlaceOf terms place task.request.key × ArePlaces terms tasks places
+ArePlaces terms [] (place ∷ places) = ⊥
+ArePlaces terms (task ∷ tasks) [] = ⊥
+
+-- ---- what is done
+
+-- the commands of what was served
+abbrev pub commands_of : List Entry → List Command
+commands_of entries = flat_map (λ entry. entry.plan.commands) entries
+
+-- the clock behind what was served
+abbrev pub last_clock : Reading → List Entry → Reading
+last_clock clock [] = clock
+last_clock clock (entry ∷ entries) = last_clock entry.later entries
+
+-- What is asked is served in order: all of it, or up to a request at which the clock ended.
+abbrev pub AreDone : List Request → List Entry → Option Stop → Type 0
+AreDone asked [] None = asked ≡ []
+AreDone asked [] (Some stop) = (more : List Request) × (asked ≡ stop.request ∷ more)
+AreDone asked (entry ∷ entries) stop = (more : List Request) × (asked ≡ entry.request ∷ more) × AreDone more entries stop
+
+-- The worker did what it was asked, from its clock on: it logged the commands, its clock is behind them, and where the clock
+-- ended it is stopped.
+pub record HasDone (asked : List Request) (row : Row) (old new : Worker) : Type 0 where
+  pub done : AreDone asked row.list row.stop
+  pub begins : ForSome (first_clock row.list row.stop) (λ clock. clock ≡ old.clock)
+  pub log : new.log ≡ old.log ++ commands_of row.list
+  pub clock : new.clock ≡ last_clock old.clock row.list
+  pub served : new.served ≡ old.served + length row.list
+  pub stopped : new.stopped ≡ is_some row.stop
+  pub holds : new.holds ≡ old.holds
+  pub stuck : new.stuck ≡ old.stuck
+
+-- ---- a worker at its post
+
+-- A worker before the phase: it runs, its clock stands in the phase, and its hand has done nothing.
+pub record IsPosted (terms : Terms) (table : TableId) (post : Post) : Type 0 where
+  pub free : IsFree table post.hand
+  pub new : IsNew post.hand
+  pub running : post.worker.stopped ≡ false
+  pub clock : IsClockOf terms post.worker.clock
+  pub served : post.wanting ≡ false
+
+-- A worker behind it: where memory was not wanting it has done its part.
+pub record IsThrough (table : TableId) (tasks : List Task) (old new : Post) : Type 0 where
+  pub free : IsFree table new.hand
+  pub number : worker_of new.hand ≡ worker_of old.hand
+  pub part : new.wanting ≡ false → HasDone (asked_of (worker_of old.hand) tasks) (told_by new.hand) old.worker new.worker

@@ -1,0 +1,54 @@
+-- A phase that all workers served at once: where its requests were served, what the table tells of it, and where clocks ended.
+use Rattle.std.specs.Prelude.{◌≡◌, ℕ, suc, ◌<◌, true, List, [], ◌∷◌, length, map, get_or, slice_get, Option, Some, None, if◌then◌else◌}
+use Rattle.record_text.specs.declared.request.Request.{Request}
+use Rattle.script_text.specs.declared.task.Task.{Task}
+use Rattle.host_core.specs.Host.{Host}
+use Rattle.host_core.specs.World.{Worker, World, worker_at, shard_at}
+use Rattle.host_core.specs.WorldEvent.{IsPlace}
+use Rattle.host_shard.specs.declared.content.Content as code
+use Rattle.host_shard.specs.Content.{Content}
+use Rattle.host_shard.specs.Shown.{shown_content}
+use Rattle.host_table.specs.declared.views.Row.{Row}
+use Rattle.host_table.specs.Phase.{IsPhase, row_at}
+use Rattle.host_table.specs.Terms.{Terms}
+use Rattle.host_world.specs.declared.fault.ClockEnd.{ClockEnd}
+use Rattle.host_world.specs.Lending.{filled}
+use Rattle.host_world.specs.Places.{place_of}
+use Rattle.host_serving.specs.Standing.{IsServedUpTo, NoneStopped}
+use Rattle.table_order.specs.Phases.{AreTermsOf}
+use Rattle.worker_threads.specs.Parts.{asked_of, HasDone}
+
+-- ---- places
+
+-- the place of this number is there, and owns the request
+pub record IsPlaceFor (host : Host Content Request) (world : World Content) (request : Request) (place : ℕ) : Type 0 where
+  pub there : IsPlace world (place_of place)
+  pub owns : host.owns (place_of place).shard (shard_at world (place_of place).shard).contents (place_of place).seat request ≡ true
+
+-- the places are those of the first so many tasks' requests, in order
+pub record ArePlacesFor (host : Host Content Request) (world : World Content) (tasks : List Task) (count : ℕ) (places : List ℕ) : Type 0 where
+  pub as_many : length places ≡ count
+  pub each : (i : ℕ) (task : Task) → i < count → slice_get tasks i ≡ Some task → IsPlaceFor host world task.request (get_or places i 0)
+
+-- ---- ends
+
+-- where the clock of the first stopped worker ended, of workers whose numbers begin at one
+abbrev pub first_stopped : ℕ → List Worker → Option ClockEnd
+first_stopped i [] = None
+first_stopped i (worker ∷ workers) =
+    if worker.stopped then Some (record { worker = i; at = worker.clock.at }) else first_stopped (suc i) workers
+
+-- ---- the whole
+
+-- The phase begins, a table was made of the world and told this of it, each worker has done its part of the tasks, and the
+-- later world has the contents that the table gave.
+pub record IsServedAtOnce (host : Host Content Request) (tasks : List Task) (world later : World Content) (terms : Terms)
+    (after : List code.Content) (rows : List Row) : Type 0 where
+  pub begins : IsServedUpTo host world 0
+  pub running : NoneStopped host world
+  pub made : AreTermsOf host world terms
+  pub closed : IsPhase terms after rows
+  pub count : length later.workers ≡ length world.workers
+  pub parts : (i : ℕ) → i < length world.workers
+      → HasDone (asked_of i tasks) (row_at rows i) (worker_at host world i) (worker_at host later i)
+  pub is : later ≡ record world { shards = filled world.shards (map shown_content after); workers = later.workers }

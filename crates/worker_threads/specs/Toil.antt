@@ -1,0 +1,76 @@
+-- A worker in the middle of its part of a phase.
+use Rattle.std.specs.Prelude.{◌≡◌, ℕ, false, List, ◌++◌, Option, Some, None, Result, Ok, Err}
+use Rattle.std.specs.List.{flat_map, AllByRecursion}
+use Rattle.lamport_clocks.specs.Reading.{Reading}
+use Rattle.record_hash.specs.Functions.{DigestFunctions}
+use Rattle.record_text.specs.declared.request.Request.{Request}
+use Rattle.record_text.specs.Format.{short_keys}
+use Rattle.log_codec.specs.Command.{IsCommand}
+use Rattle.want_of_memory.specs.declared.memory.Memory.{Memory}
+use Rattle.atomic_table.specs.Seated.{TableId}
+use Rattle.host_core.specs.World.{Worker}
+use Rattle.host_plan.specs.declared.plans.Plan.{Plan}
+use Rattle.host_table.specs.declared.hand.Hand.{Hand}
+use Rattle.host_table.specs.Calls.{Ends, Serves, told_by}
+use Rattle.host_table.specs.Hands.{worker_of, entries, stop, IsFree}
+use Rattle.host_table.specs.Table.{table, terms}
+use Rattle.host_table.specs.Terms.{Terms, IsClockOf}
+use Rattle.host_table.specs.Told.{TakesUp}
+use Rattle.worker_threads.specs.declared.post.Post.{Post}
+use Rattle.worker_threads.specs.declared.shift.Shift.{Shift}
+use Rattle.worker_threads.specs.declared.toil.Toil.{Toil}
+use Rattle.worker_threads.specs.Parts.{ArePlaces, HasDone, IsPosted}
+
+-- ---- what the workers share
+
+-- The digests are the table's, and the places are those of the tasks' keys.
+pub record IsShift {D : Type 0} (functions : D → DigestFunctions) (shift : Shift D) : Type 0 where
+  pub digests : (functions shift.d.now).digest ≡ (terms functions shift.records.now).digest
+  pub places : ArePlaces (terms functions shift.records.now) shift.tasks.now shift.places.now
+
+-- what a worker asks of its post
+pub record CanServe {D : Type 0} (functions : D → DigestFunctions) (shift : Shift D) (post : Post) : Type 0 where
+  pub shift_is : IsShift functions shift
+  pub posted : IsPosted (terms functions shift.records.now) (table shift.records.now) post
+
+-- ---- one request
+
+-- it has told nothing more, but which places it found held
+pub record HasWaited (old new : Hand) : Type 0 where
+  pub worker : worker_of new ≡ worker_of old
+  pub entries : entries new ≡ entries old
+  pub stop : stop new ≡ stop old
+
+-- What comes of a request, once its place was free: it is served, by this plan, or the clock ends there; or memory was wanting.
+abbrev pub Settles : Terms → Hand → ℕ → Request → Reading → Result (Option Plan) Memory → Hand → Reading → Type 0
+Settles terms old place request clock (Ok (Some plan)) new later =
+    (held : Hand) × HasWaited old held × Serves terms held new place request clock later plan
+Settles terms old place request clock (Ok None) new later =
+    (held : Hand) × HasWaited old held × Ends terms held new place request clock × (later ≡ clock)
+Settles terms old place request clock (Err memory) new later = HasWaited old new × (later ≡ clock)
+
+-- ---- a worker at it
+
+-- It holds no place, its clock stands in the phase, behind what it served, and it goes on as long as that did not end. What
+-- it logged has texts.
+pub record IsAtWork (terms : Terms) (table : TableId) (hand : Hand) (toil : Toil) : Type 0 where
+  pub free : IsFree table hand
+  pub clock : IsClockOf terms toil.clock
+  pub chained : TakesUp (entries hand) toil.clock
+  pub going : toil.stopped ≡ false → stop hand ≡ None
+  pub typed : AllByRecursion (AllByRecursion (IsCommand short_keys)) toil.log.items
+
+-- the worker with what it did
+abbrev pub noted : Worker → Toil → Worker
+noted worker toil = record worker {
+  log = flat_map (λ commands. commands) toil.log.items;
+  clock = toil.clock;
+  served = toil.served;
+  stopped = toil.stopped;
+}
+
+-- Whatever it was asked and has done before: this much more is asked and done.
+abbrev pub GoesOn : List Request → Hand → Toil → Hand → Toil → Type 0
+GoesOn asked hand toil later_hand later = (before : List Request) (worker : Worker)
+    → HasDone before (told_by hand) worker (noted worker toil)
+    → HasDone (before ++ asked) (told_by later_hand) worker (noted worker later)

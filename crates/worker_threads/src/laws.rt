@@ -1,0 +1,97 @@
+//! Why a phase that all workers served at once was one list of events. These functions do nothing: their contracts are the laws.
+ghost use Rattle.std.specs.Prelude.{◌≡◌, ℕ, ◌^◌, ◌<◌, ◌≤◌, false, List, [], length, map, get_or};
+ghost use Rattle.log_codec.specs.declared.command.Command.{Command};
+ghost use Rattle.merkle_records.specs.Merkle.{GivesDigests};
+ghost use Rattle.record_hash.specs.Functions.{DigestFunctions};
+ghost use Rattle.record_text.specs.declared.request.Request.{Request};
+ghost use Rattle.script_text.specs.declared.task.Task.{Task};
+ghost use Rattle.host_core.specs.World.{World, worker_at};
+ghost use Rattle.host_shard.specs.declared.content.Content as code;
+ghost use Rattle.host_shard.specs.Content.{Content};
+ghost use Rattle.host_shard.specs.Shown.{shown_content};
+ghost use Rattle.host_table.specs.declared.views.Row.{Row};
+ghost use Rattle.host_table.specs.Terms.{Terms, IsClockOf, IsMaking, IsPlaceOf};
+ghost use Rattle.host_world.specs.declared.settings.Settings.{Settings};
+ghost use Rattle.host_world.specs.Behind.{IsBehindSetup, with_logs};
+ghost use Rattle.host_world.specs.Lending.{all_contents};
+ghost use Rattle.host_world.specs.ShippedHost.{shipped_host};
+ghost use Rattle.host_serving.specs.Leading.{Leads};
+ghost use Rattle.host_serving.specs.Standing.{IsServedOut, IsServedUpTo};
+ghost use Rattle.table_order.specs.Phases.{AreTermsOf};
+ghost use Rattle.worker_threads.specs.Phase.{IsPlaceFor, IsServedAtOnce, first_stopped};
+
+use host_fits::{the_shipped_host_is_steady, the_shipped_host_keeps_its_promise};
+use host_world::worlds_are_orderly;
+use record_hash::Digests;
+use table_order::{a_phase_of_a_table_has_one_order, tables_tell_of_a_phase, worlds_make_tables};
+
+/// Of what a world's places have at a phase's begin a table can be made for its workers.
+pub(crate) fn tables_can_be_made()
+    ensures workers { (functions : DigestFunctions) (settings : Settings) (script : List (List Task)) (logs : List (List Command))
+        (world : World Content) → GivesDigests functions.digest
+        → IsBehindSetup functions settings script (with_logs logs world)
+        → length world.workers ≡ settings.header.verifiers }
+    ensures making { (functions : DigestFunctions) (settings : Settings) (script : List (List Task)) (logs : List (List Command))
+        (world : World Content) (contents : List code.Content) → GivesDigests functions.digest
+        → IsBehindSetup functions settings script (with_logs logs world) → settings.shards ≤ settings.header.end
+        → IsServedUpTo (shipped_host functions settings script) world 0
+        → map shown_content contents ≡ all_contents world.shards
+        → IsMaking settings.header (length world.workers) contents }
+{
+    worlds_are_orderly();
+    the_shipped_host_keeps_its_promise();
+    worlds_make_tables();
+}
+
+/// A table of what a world's places have is one of the world: its workers' clocks are of it, and a request's place is its key's.
+pub(crate) fn tables_are_of_their_worlds()
+    ensures clocks { (functions : DigestFunctions) (settings : Settings) (script : List (List Task)) (logs : List (List Command))
+        (world : World Content) (terms : Terms) → GivesDigests functions.digest
+        → IsBehindSetup functions settings script (with_logs logs world) → world.closing ≡ false
+        → map shown_content terms.contents ≡ all_contents world.shards → 0 < length terms.contents
+        → terms.header ≡ settings.header → (i : ℕ) → i < length world.workers
+        → IsClockOf terms (worker_at (shipped_host functions settings script) world i).clock }
+    ensures of_world { (functions : DigestFunctions) (settings : Settings) (script : List (List Task)) (logs : List (List Command))
+        (world : World Content) (terms : Terms) → GivesDigests functions.digest
+        → IsBehindSetup functions settings script (with_logs logs world) → world.closing ≡ false
+        → map shown_content terms.contents ≡ all_contents world.shards
+        → terms.digest ≡ functions.digest → terms.workers ≡ length world.workers
+        → AreTermsOf (shipped_host functions settings script) world terms }
+    ensures places { (functions : DigestFunctions) (settings : Settings) (script : List (List Task)) (logs : List (List Command))
+        (world : World Content) (terms : Terms) → GivesDigests functions.digest
+        → IsBehindSetup functions settings script (with_logs logs world) → world.closing ≡ false
+        → map shown_content terms.contents ≡ all_contents world.shards
+        → (place : ℕ) (request : Request) → request.key < 2 ^ 64
+        → IsPlaceFor (shipped_host functions settings script) world request place → IsPlaceOf terms place request.key }
+{
+    worlds_are_orderly();
+}
+
+/// What workers at a table did of a phase was one list of events: these lead from the world that the table was made of to the one
+/// with the contents that it gave and the workers as they are then, and the first end is that of the first worker that is
+/// stopped. No worker has more to do in the phase.
+pub(crate) fn phases_at_once_are_lists_of_events()
+    ensures leads { (functions : DigestFunctions) (settings : Settings) (script : List (List Task)) (logs : List (List Command))
+        (world later : World Content) (terms : Terms) (after : List code.Content) (rows : List Row)
+        → GivesDigests functions.digest → length logs ≡ length world.workers
+        → IsBehindSetup functions settings script (with_logs logs world) → settings.shards ≤ settings.header.end
+        → IsServedAtOnce (shipped_host functions settings script) (get_or script world.phase []) world later terms after rows
+        → Leads (shipped_host functions settings script) world later (first_stopped 0 later.workers) }
+    ensures served { (functions : DigestFunctions) (settings : Settings) (script : List (List Task))
+        (world later : World Content) (terms : Terms) (after : List code.Content) (rows : List Row)
+        → IsServedAtOnce (shipped_host functions settings script) (get_or script world.phase []) world later terms after rows
+        → IsServedOut (shipped_host functions settings script) later }
+{
+    worlds_are_orderly();
+    the_shipped_host_keeps_its_promise();
+    tables_tell_of_a_phase();
+    a_phase_of_a_table_has_one_order();
+    the_shipped_host_is_steady();
+}
+
+/// Digests have 32 bytes.
+pub(crate) fn digests_have_32_bytes<D: Digests>(d: &D)
+    ensures sized { GivesDigests (D.functions d.now).digest }
+{
+    let _digests = d;
+}

@@ -1,0 +1,116 @@
+//! A phase of a script, served by all workers at once.
+ghost use Rattle.std.specs.Prelude.{◌≡◌, ◌≤◌, ◌<◌, List, IfOk, IfSome, OnOk, Ok, None, length, get_or};
+ghost use Rattle.std.specs.List.{AllByRecursion};
+ghost use Rattle.log_codec.specs.declared.command.Command.{Command};
+ghost use Rattle.host_world.specs.Behind.{host_of, StandsBehind, StandsWith, AreOfOneHost};
+ghost use Rattle.host_world.specs.Shown.{shown_world, digests_of, requests_of, settings_of};
+ghost use Rattle.host_serving.specs.Leading.{Leads};
+ghost use Rattle.host_serving.specs.Standing.{turns_of, IsServedUpTo, IsServedOut, NoneStopped, SomeStopped};
+ghost use Rattle.worker_threads.specs.Phase.{ArePlacesFor, first_stopped};
+
+use crate::laws::{
+    digests_have_32_bytes, phases_at_once_are_lists_of_events, tables_are_of_their_worlds,
+    tables_can_be_made,
+};
+use crate::posting::serve_at_table;
+use crate::shift::Shift;
+use fv_outside::Gate;
+use host_table::Records;
+use host_world::{ClockEnd, Worker, World};
+use record_hash::Digests;
+use script_text::Task;
+use std::alloc::Global;
+use std::sync::Wait;
+use std::thread::Threads;
+use want_of_memory::Memory;
+
+// The place at which each request is served.
+fn places_for<D: Digests>(
+    alloc: Global,
+    world: &World<'_, D>,
+    tasks: &[Task],
+) -> Result<Vec<u32>, Memory>
+    requires behind { StandsBehind (D.functions (digests_of world.now)) world.now }
+    ensures places { IfOk result (λ places. ArePlacesFor (host_of (D.functions (digests_of world.now)) world.now)
+        (shown_world world.now) tasks.now (length tasks.now) places.items) }
+{
+    let mut places = Vec::with_capacity(alloc, tasks.len())?;
+    for task in tasks {
+        places.push(world.place_for(&task.request))?;
+    }
+    Ok(places)
+}
+
+// Where the clock of the first stopped worker ended.
+fn first_end_of(workers: &[Worker]) -> Option<ClockEnd>
+    requires few { length workers.now ≤ 65536 }
+    ensures first { result ≡ first_stopped 0 workers.now }
+{
+    for (number, worker) in workers.iter().enumerate() {
+        if worker.is_stopped() {
+            return Some(ClockEnd {
+                worker: number as u16,
+                at: worker.clock().at(),
+            });
+        }
+    }
+    None
+}
+
+/// Serves the requests of the world's phase, all workers at once, each in a thread of its own and its requests in the script's
+/// order, past the gate. A worker whose clock ends serves no more in this phase. What they did was one list of events, and the
+/// answer is the first end that these come to. After want of memory the world is of no more use.
+pub fn serve_phase_at_once<R: Threads + Wait + Sync, D: Digests + Sync, G: Gate + Sync>(
+    rt: &R,
+    alloc: Global,
+    world: &mut World<'_, D>,
+    gate: &G,
+) -> Result<Option<ClockEnd>, Memory>
+    requires behind { StandsBehind (D.functions (digests_of world.old)) world.old }
+    requires counters { (settings_of world.old).shards ≤ (settings_of world.old).header.end }
+    requires begins { IsServedUpTo (host_of (D.functions (digests_of world.old)) world.old) (shown_world world.old) 0 }
+    requires running { NoneStopped (host_of (D.functions (digests_of world.old)) world.old) (shown_world world.old) }
+    requires workers { AllByRecursion (λ turn. turn.0 < length (shown_world world.old).workers)
+        (turns_of (host_of (D.functions (digests_of world.old)) world.old) (shown_world world.old).phase) }
+    ensures leads { IfOk result (λ end. Leads (host_of (D.functions (digests_of world.old)) world.old)
+        (shown_world world.old) (shown_world world.new) end) }
+    ensures served { OnOk result (IsServedOut (host_of (D.functions (digests_of world.old)) world.old)
+        (shown_world world.new)) }
+    ensures phase { OnOk result ((shown_world world.new).phase ≡ (shown_world world.old).phase) }
+    ensures running { result ≡ Ok None
+        → NoneStopped (host_of (D.functions (digests_of world.old)) world.old) (shown_world world.old)
+        → NoneStopped (host_of (D.functions (digests_of world.old)) world.old) (shown_world world.new) }
+    ensures stopped { IfOk result (λ end. IfSome end
+        (λ _. SomeStopped (host_of (D.functions (digests_of world.old)) world.old) (shown_world world.new))) }
+    ensures host { AreOfOneHost world.old world.new }
+    ensures behind { OnOk result (StandsBehind (D.functions (digests_of world.new)) world.new) }
+    ensures goes_on { OnOk result ((logs : List (List Command)) → StandsWith (D.functions (digests_of world.old)) world.old logs
+        → StandsWith (D.functions (digests_of world.new)) world.new logs) }
+{
+    tables_can_be_made();
+    tables_are_of_their_worlds();
+    phases_at_once_are_lists_of_events();
+    let d = world.digests();
+    digests_have_32_bytes(d);
+    let header = world.settings().header;
+    let tasks = world.requests().phase(world.phase());
+    let places = places_for(alloc, world, tasks)?;
+    let contents = world.lend()?;
+    let workers = world.lend_workers();
+    let Ok((records, hands)) = Records::make(alloc, d, &header, contents, header.verifiers) else {
+        return Err(Memory);
+    };
+    let shift = Shift {
+        alloc,
+        d,
+        tasks,
+        places: places.as_slice(),
+        records: &records,
+    };
+    let (workers, hands) = serve_at_table(rt, &shift, gate, workers, hands)?;
+    let end = first_end_of(workers.as_slice());
+    let contents = records.close(hands);
+    world.take_back(contents);
+    world.take_workers(workers);
+    Ok(end)
+}
