@@ -12,7 +12,7 @@ use Rattle.stamp_order.proofs.MergedLaws.{merged-filter, merged-flat_map}
 use Rattle.verifier_run.specs.Course.{Course}
 use Rattle.soundness.specs.History.{Event}
 use Rattle.soundness.specs.Certified.{event_moment, all_events, order_of, order_within, operations_by, operations_in, operations_of, epochs_from}
-use Rattle.bundle_report.specs.Report.{EpochTold, no_text}
+use Rattle.bundle_report.specs.Report.{EpochTold}
 use Rattle.bundle_report.specs.BundleReport.{epoch_lines, histories_in}
 use Rattle.bundle_report.specs.RunReport.{courses_of, operations_among}
 use Rattle.bundle_report.specs.SoFar.{epoch_operations, lines_told, lines_from}
@@ -90,8 +90,3 @@ lines-behind {A} tell courses epoch (suc count) more =
     ∙ ap (λ (text : List A). lines_told tell courses epoch ++ text) (lines-behind tell courses (suc epoch) count more)
     ∙ sym (append_assoc (lines_told tell courses epoch) (lines_from tell courses (suc epoch) count) (lines_from tell courses (suc epoch + count) more))
     ∙ ap (λ (e : ℕ). lines_from tell courses epoch (suc count) ++ lines_from tell courses e more) same
-
--- Where nothing is written of an epoch there are no lines.
-pub lines-none : (courses : List (Course Operation)) (epoch count : ℕ) → lines_from no_text courses epoch count ≡ []
-lines-none courses epoch zero = refl
-lines-none courses epoch (suc count) = lines-none courses (suc epoch) count

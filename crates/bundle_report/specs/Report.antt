@@ -1,5 +1,5 @@
--- What is told of an epoch: its lines without receipts, or with them; nothing; or its operations themselves.
-use Rattle.std.specs.Prelude.{ℕ, Bool, true, false, List, [], ◌++◌, length}
+-- What is told of an epoch: its lines without receipts, or with them; or its operations themselves.
+use Rattle.std.specs.Prelude.{ℕ, Bool, true, false, List, ◌++◌, length}
 use Rattle.std.specs.List.{flat_map}
 use Rattle.lamport_clocks.specs.declared.header.Header.{Header}
 use Rattle.record_hash.specs.Functions.{DigestFunctions}
@@ -31,10 +31,6 @@ tagged_text functions first epoch ops =
 abbrev pub told_by : Bool → DigestFunctions → Header → EpochText
 told_by false functions header = plain_text
 told_by true functions header = tagged_text functions header.first
-
--- nothing is written
-abbrev pub no_text : EpochText
-no_text epoch ops = []
 
 -- the operations themselves
 abbrev pub operations_told : EpochTold Operation

@@ -1,11 +1,10 @@
 -- What is written of an epoch, by how it is told.
 use Rattle.record_hash.specs.Functions.{DigestFunctions}
-use Rattle.bundle_report.specs.Report.{EpochText, plain_text, tagged_text, no_text}
+use Rattle.bundle_report.specs.Report.{EpochText, plain_text, tagged_text}
 use Rattle.certified_epochs.specs.declared.telling.Telling.{Telling}
-use Rattle.certified_epochs.specs.declared.telling.Telling.TheVariants.{Plain, Receipts, Nothing}
+use Rattle.certified_epochs.specs.declared.telling.Telling.TheVariants.{Plain, Receipts}
 
 -- where digests compute these functions
 abbrev pub text_by : {D : Type 0} → (D → DigestFunctions) → Telling D → EpochText
 text_by functions Plain = plain_text
 text_by functions (Receipts digests first) = tagged_text (functions digests.now) first
-text_by functions Nothing = no_text
