@@ -23,13 +23,16 @@ use record_hash::Digests;
 use run_reports::logs_of_no_bytes_certify_nothing;
 use script_text::Requests;
 use std::alloc::Global;
+use std::sync::Wait;
+use std::thread::Threads;
 
 /// Serves the script of a load to its end, or up to where a clock ends, as `serve_script` does. In place of the report the
 /// sink takes the summary: how many epochs are certified, and how often each worker got, put and deleted in them.
 ///
 /// At `Ok` the whole summary is written, and the answer says how the run ends. At want of memory or where the vault failed
 /// nothing is written, and where the sink failed it has a front of the summary.
-pub fn serve_load<D: Digests, V: Sink, O: Sink, G: Gate>(
+pub fn serve_load<R: Threads + Wait + Sync, D: Digests + Sync, V: Sink, O: Sink, G: Gate + Sync>(
+    rt: &R,
     alloc: Global,
     d: &D,
     settings: &Settings,
@@ -51,14 +54,15 @@ pub fn serve_load<D: Digests, V: Sink, O: Sink, G: Gate>(
 {
     scripts_ask_for_keys_in_range();
     match World::new(alloc, d, settings, requests) {
-        Ok(world) => sum_up_world(alloc, world, load, gate, vault, out),
+        Ok(world) => sum_up_world(rt, alloc, world, load, gate, vault, out),
         Err(WorldFault::ClockEnd(end)) => sum_up_nothing(alloc, settings, load, end, vault, out),
         Err(WorldFault::Memory) => Err(RoundStop::Memory),
     }
 }
 
 // Serves the load of a world that is set up. The lines of what is certified are dropped: the rounds count it.
-fn sum_up_world<D: Digests, V: Sink, O: Sink, G: Gate>(
+fn sum_up_world<R: Threads + Wait + Sync, D: Digests + Sync, V: Sink, O: Sink, G: Gate + Sync>(
+    rt: &R,
     alloc: Global,
     world: World<'_, D>,
     load: &Load,
@@ -82,7 +86,7 @@ fn sum_up_world<D: Digests, V: Sink, O: Sink, G: Gate>(
     has_a_phase(world.requests());
     let mut dropped = SureSink::new(alloc, 0, usize::MAX)?;
     let mut runner = Runner::new(alloc, world, vault)?;
-    serve_phases(&mut runner, false, gate, vault, &mut dropped)?;
+    serve_phases(rt, &mut runner, false, gate, vault, &mut dropped)?;
     runner.sum_up(load, out)
 }
 

@@ -90,7 +90,13 @@ fn serve_world<R: Threads + Wait + Sync, D: Digests + Sync, V: Sink, O: Sink, G:
 }
 
 /// Serves phase after phase, and closes each, until a clock ends or the script does.
-pub(crate) fn serve_phases<R: Threads + Wait + Sync, D: Digests + Sync, V: Sink, O: Sink, G: Gate + Sync>(
+pub(crate) fn serve_phases<
+    R: Threads + Wait + Sync,
+    D: Digests + Sync,
+    V: Sink,
+    O: Sink,
+    G: Gate + Sync,
+>(
     rt: &R,
     runner: &mut Runner<'_, D>,
     receipts: bool,
