@@ -2,5 +2,6 @@ mod CommandLemmas
 mod FlagLemmas
 mod NumberLemmas
 mod RangeLemmas
+mod AskedLemmas
 mod WordsLemmas
 mod WordsFacts

@@ -7,8 +7,7 @@ use Rattle.std.specs.Str.{all_ascii_digits}
 use Rattle.std.specs.Str.Parse.{digits_value, ParsesUnsigned}
 use Rattle.std.proofs.lemmas.Bool.Decides.{nat_tests}
 use Rattle.std.proofs.lemmas.Str.Parse.{IsNumeralModel, numerals_by_value, tells_all_ascii_digits, parse_digits}
-use Rattle.program_words.specs.Numbers.{begins_well, is_numeral, in_range, number_between}
-use Rattle.program_words.specs.HostWords.{needed_in}
+use Rattle.program_words.specs.Numbers.{begins_well, is_numeral, in_range, number_between, needed_in}
 
 -- digits that are tested one by one
 pub all_digits : (word : List ℕ) → list_all is_ascii_digit word ≡ all_ascii_digits word
@@ -45,10 +44,13 @@ found_most : (least most number found : ℕ) (test : Bool) → Some found ≡ (i
 found_most least most number found true is = grind (arith, nat_tests, is)
 found_most least most number found false is = absurd (cc)
 
-pub needed_most : (least most found : ℕ) (word : Option (List ℕ)) → Some found ≡ needed_in least most word → found ≤ most
+pub between_most : (least most found : ℕ) (word : List ℕ) → Some found ≡ number_between least most word → found ≤ most
 unfolding number_between
+between_most least most found word is = found_most least most (digits_value 10 word) found (is_numeral word) is
+
+pub needed_most : (least most found : ℕ) (word : Option (List ℕ)) → Some found ≡ needed_in least most word → found ≤ most
 needed_most least most found None is = absurd (cc)
-needed_most least most found (Some word) is = found_most least most (digits_value 10 word) found (is_numeral word) is
+needed_most least most found (Some word) is = between_most least most found word is
 
 -- ---- what a numeral is read as
 
@@ -70,18 +72,18 @@ value_if : {E : Type 0} (r : Result ℕ E) (P : Type 0) (value number : ℕ) →
 value_if (Ok x) P value number holds is = sym holds.1 ∙ (let same : x ≡ number = cc in same)
 value_if (Err e) P value number holds is = absurd (cc)
 
-pub value_read : {E : Type 0} (r : Result ℕ E) (word : List ℕ) (number : ℕ) → ParsesUnsigned 32 10 word r → is_numeral word ≡ true → r ≡ Ok number
+pub value_read : {E : Type 0} (r : Result ℕ E) (word : List ℕ) (number : ℕ) → ParsesUnsigned 64 10 word r → is_numeral word ≡ true → r ≡ Ok number
     → digits_value 10 word ≡ number
 value_read r word number parses well is =
-    value_if r _ _ _ (parse_digits own 32 word r parses (digits word well)) is
+    value_if r _ _ _ (parse_digits own 64 word r parses (digits word well)) is
 
 not_small : {E : Type 0} (r : Result ℕ E) (e : E) (n limit value : ℕ) → OkIff r ((0 < n) × (value < limit)) value → r ≡ Err e → 0 < n → limit ≤ value
 not_small (Ok x) e n limit value holds is some = absurd (cc)
 not_small (Err e') e n limit value holds is some = grind (arith, holds)
 
--- one that is not read has more than 32 bits
-pub value_large : {E : Type 0} (r : Result ℕ E) (e : E) (word : List ℕ) → ParsesUnsigned 32 10 word r → is_numeral word ≡ true → r ≡ Err e
-    → 2 ^ 32 ≤ digits_value 10 word
+-- one that is not read has more than 64 bits
+pub value_large : {E : Type 0} (r : Result ℕ E) (e : E) (word : List ℕ) → ParsesUnsigned 64 10 word r → is_numeral word ≡ true → r ≡ Err e
+    → 2 ^ 64 ≤ digits_value 10 word
 value_large r e word parses well is =
-    not_small r e (length word) (2 ^ 32) (digits_value 10 word)
-    (parse_digits own 32 word r parses (digits word well)) is (some_digits word well)
+    not_small r e (length word) (2 ^ 64) (digits_value 10 word)
+    (parse_digits own 64 word r parses (digits word well)) is (some_digits word well)

@@ -1,22 +1,16 @@
--- The numbers of what words ask for are in their ranges.
+-- Numbers that words spell are in their ranges.
 use Rattle.std.proofs.Common.{◌≡◌, ℕ, ◌-◌, ◌<◌, ◌≤◌, ◌^◌, ◌==◌, Bool, true, false, List, [], ◌∷◌, Option, Some, None, IfSome, if◌then◌else◌, option_and_then, unwrap_or, refl, ◌∙◌, arith, subst}
-use Rattle.std.specs.Prelude.{codes, Result, Ok, Err, IfOk}
+use Rattle.std.specs.Prelude.{codes}
 use Rattle.std.specs.List.{list_any}
 use Rattle.std.specs.Option.{option_map}
-use Rattle.std.specs.Str.{bytes_eq}
 use Rattle.std.specs.Str.Parse.{digits_value}
 use Rattle.std.proofs.lemmas.Bool.Decides.{nat_tests}
 use Rattle.clap.specs.Walk.{Row, Text, first_of}
-use Rattle.clap.specs.Words.{Kinds, fault_of, subcommand_of}
-use Rattle.program_words.specs.Key.{key_in}
-use Rattle.program_words.specs.Numbers.{is_numeral, in_range, number_between, is_shard_count}
-use Rattle.program_words.specs.HostWords.{most_verifiers, most_touches, greatest_end, needed_in, optional_in, shards_in, given, numbers_in, IsPower, AreHostNumbers}
-use Rattle.program_words.specs.CommandLine.{fastver_app}
-use Rattle.program_words.specs.Words.{check_as, run_as, asked_as, asked_by, unless_fault, asked_of, IsInRange}
+use Rattle.program_words.specs.Numbers.{is_numeral, in_range, number_between, needed_in, optional_in, given}
+use Rattle.program_words.specs.HostWords.{most_verifiers, most_touches, greatest_end, is_shard_count, shards_in, numbers_in, IsPower, AreHostNumbers}
+use Rattle.program_words.specs.LoadWords.{most_ops, most_keys, usual_keys, most_every, usual_every, load_in, AreLoadNumbers}
 use Rattle.program_words.specs.declared.host_words.HostNumbers.{HostNumbers}
-use Rattle.program_words.specs.declared.words.Asked.{Asked}
-use Rattle.program_words.specs.declared.words.Asked.TheVariants.{Audit, Accept}
-use Rattle.program_words.specs.declared.words.WordsFault.{WordsFault}
+use Rattle.program_words.specs.declared.load_words.LoadNumbers.{LoadNumbers}
 
 -- ---- one number
 
@@ -33,7 +27,7 @@ needed_range : (least most found : ℕ) (word : Option Text) → needed_in least
 needed_range least most found None is = absurd (cc)
 needed_range least most found (Some word) is = between_range least most found word is
 
-mapped : {A B : Type 0} (f : A → B) (o : Option A) (b : B) → option_map f o ≡ Some b → (a : A) × ((o ≡ Some a) × (f a ≡ b))
+pub mapped : {A B : Type 0} (f : A → B) (o : Option A) (b : B) → option_map f o ≡ Some b → (a : A) × ((o ≡ Some a) × (f a ≡ b))
 mapped f None b is = absurd (cc)
 mapped f (Some a) b is = (a, (refl, (let same : f a ≡ b = cc in same)))
 
@@ -79,11 +73,11 @@ shards_power n any =
     (power_among n 9 512 (1024 ∷ []) (omega arith) (omega arith) refl
     (power_among n 10 1024 [] (omega arith) (omega arith) refl (none_among n)))))))))) any
 
-then_found : {A B : Type 0} (o : Option A) (f : A → Option B) (b : B) → given o f ≡ Some b → (a : A) × ((o ≡ Some a) × (f a ≡ Some b))
+pub then_found : {A B : Type 0} (o : Option A) (f : A → Option B) (b : B) → given o f ≡ Some b → (a : A) × ((o ≡ Some a) × (f a ≡ Some b))
 then_found None f b is = absurd (cc)
 then_found (Some a) f b is = (a, (refl, is))
 
-and_then_found : {A B : Type 0} (o : Option A) (f : A → Option B) (b : B) → option_and_then f o ≡ Some b → (a : A) × ((o ≡ Some a) × (f a ≡ Some b))
+pub and_then_found : {A B : Type 0} (o : Option A) (f : A → Option B) (b : B) → option_and_then f o ≡ Some b → (a : A) × ((o ≡ Some a) × (f a ≡ Some b))
 and_then_found None f b is = absurd (cc)
 and_then_found (Some a) f b is = (a, (refl, is))
 
@@ -97,7 +91,7 @@ shards_range found word is =
     let c = counted (is_shard_count m.0) m.0 found m.1.1 in
     subst IsPower c.1 (shards_power m.0 c.0)
 
--- ---- all numbers
+-- ---- the numbers of a host
 
 pub numbers_range : (rows : List Row) (numbers : HostNumbers) → numbers_in rows ≡ Some numbers → AreHostNumbers numbers
 numbers_range rows numbers is =
@@ -121,43 +115,25 @@ numbers_range rows numbers is =
       end = end.1;
     })
 
--- ---- what is asked for
+-- ---- the numbers of a load
 
-run_range : (rows : List Row) (key : List ℕ) (asked : Asked) → run_as rows key ≡ Some asked → IsInRange asked
-run_range rows key asked is =
-    let m = mapped _ (numbers_in rows) asked is in
-    subst IsInRange m.1.1 (numbers_range rows m.0 m.1.0)
-
-as_range : (rows : List Row) (key : List ℕ) (asked : Asked) (check audit run accept : Bool)
-    → (if check then Some (check_as rows key) else if audit then Some (Audit key) else if run then run_as rows key else if accept then Some (Accept key) else None)
-    ≡ Some asked → IsInRange asked
-as_range rows key asked true audit run accept is =
-    let same : check_as rows key ≡ asked = cc in
-    subst IsInRange same tt
-as_range rows key asked false true run accept is =
-    let same : Audit key ≡ asked = cc in
-    subst IsInRange same tt
-as_range rows key asked false false true accept is = run_range rows key asked is
-as_range rows key asked false false false true is =
-    let same : Accept key ≡ asked = cc in
-    subst IsInRange same tt
-as_range rows key asked false false false false is = absurd (cc)
-
-by_range : (command : Text × List Row) (asked : Asked) → asked_by command ≡ Some asked → IsInRange asked
-by_range command asked is =
-    let k = and_then_found (option_and_then key_in (first_of (codes "key") command.1)) (asked_as command.0 command.1) asked is in
-    as_range command.1 k.0 asked (bytes_eq command.0 (codes "check")) (bytes_eq command.0 (codes "audit")) (bytes_eq command.0 (codes "run"))
-    (bytes_eq command.0 (codes "accept")) k.1.1
-
-free : {X : Type 0} (faults : Kinds) (answer : Option X) (x : X) → unless_fault faults answer ≡ Some x → answer ≡ Some x
-free [] answer x is = is
-free (fault ∷ more) answer x is = absurd (cc)
-
-pub asked_range : (words : List Text) (asked : Asked) → asked_of words ≡ Some asked → IsInRange asked
-asked_range words asked is =
-    let sub = and_then_found (subcommand_of fastver_app words) asked_by asked (free (fault_of fastver_app words) _ asked is) in
-    by_range sub.0 asked sub.1.1
-
-pub result_range : (answer : Result Asked WordsFault) (words : List Text) → IfOk answer (λ asked. asked_of words ≡ Some asked) → IfOk answer IsInRange
-result_range (Ok asked) words is = asked_range words asked is
-result_range (Err fault) words is = tt
+pub load_range : (rows : List Row) (load : LoadNumbers) → load_in rows ≡ Some load → AreLoadNumbers load
+load_range rows load is =
+    let s = then_found (needed_in 0 (2 ^ 64 - 1) (first_of (codes "seed") rows)) _ load is in
+    let o = then_found (needed_in 0 most_ops (first_of (codes "ops") rows)) _ load s.1.1 in
+    let k = then_found (optional_in 1 most_keys (first_of (codes "keys") rows)) _ load o.1.1 in
+    let e = then_found (optional_in 1 most_every (first_of (codes "every") rows)) _ load k.1.1 in
+    let made : LoadNumbers = record { seed = s.0; ops = o.0; keys = unwrap_or k.0 usual_keys; every = unwrap_or e.0 usual_every } in
+    let same : made ≡ load = (let inside : Some made ≡ Some load = e.1.1 in cc) in
+    let seed = needed_range 0 (2 ^ 64 - 1) s.0 (first_of (codes "seed") rows) s.1.0 in
+    let ops = needed_range 0 most_ops o.0 (first_of (codes "ops") rows) o.1.0 in
+    let keys = or_range 1 most_keys usual_keys k.0 (optional_range 1 most_keys k.0 (first_of (codes "keys") rows) k.1.0) (omega arith) (omega arith) in
+    let every = or_range 1 most_every usual_every e.0 (optional_range 1 most_every e.0 (first_of (codes "every") rows) e.1.0) (omega arith) (omega arith) in
+    subst AreLoadNumbers same (record {
+      seed = omega (arith, seed.1);
+      ops = ops.1;
+      some_keys = keys.0;
+      keys = keys.1;
+      some_every = every.0;
+      every = every.1;
+    })

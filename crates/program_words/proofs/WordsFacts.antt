@@ -5,7 +5,7 @@ use Rattle.clap.proofs.OnLiterals.{clap_on_literals}
 use Rattle.hex.proofs.OnLiterals.{hex_on_literals}
 use Rattle.program_words.specs.Numbers.{number_between}
 use Rattle.program_words.specs.Words.{asked_of}
-use Rattle.program_words.specs.declared.words.Asked.TheVariants.{Check, Audit, Run, Accept}
+use Rattle.program_words.specs.declared.words.Asked.TheVariants.{Check, Audit, Run, Gen, Accept}
 use Rattle.program_words.specs.declared.host_words.HostNumbers.{HostNumbers}
 
 abbrev key : List ℕ
@@ -97,3 +97,27 @@ no_counter = refl
 first_zero : asked_of (host_words ++ codes "--first=01" ∷ []) ≡ None
 unfolding clap_on_literals hex_on_literals number_between
 first_zero = refl
+
+-- ---- gen
+
+abbrev load_words : List (List ℕ)
+load_words = codes "fastver" ∷ codes "gen" ∷ codes "--key=00112233445566778899aabbccddeeff" ∷ codes "--verifiers=1" ∷ codes "--shards=2" ∷ codes "--ops=3" ∷ []
+
+-- the greatest seed, one that is greater, and none
+greatest_seed : asked_of (load_words ++ codes "--seed=18446744073709551615" ∷ [])
+    ≡ Some (Gen (record { key = key; load = record { seed = 18446744073709551615; ops = 3; keys = 1024; every = 10000 }; numbers = numbers; logs = None }))
+unfolding clap_on_literals hex_on_literals number_between
+greatest_seed = refl
+
+no_such_seed : asked_of (load_words ++ codes "--seed=18446744073709551616" ∷ []) ≡ None
+unfolding clap_on_literals hex_on_literals number_between
+no_such_seed = refl
+
+no_seed : asked_of load_words ≡ None
+unfolding clap_on_literals hex_on_literals number_between
+no_seed = refl
+
+-- a load has no receipts
+no_receipts : asked_of (load_words ++ codes "--seed=0" ∷ codes "--receipts" ∷ []) ≡ None
+unfolding clap_on_literals hex_on_literals number_between
+no_receipts = refl

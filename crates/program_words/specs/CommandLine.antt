@@ -39,12 +39,19 @@ with_host_options app =
 abbrev pub run_app : App
 run_app = with_flag (with_host_options (command_with_key (codes "run"))) (codes "receipts")
 
+-- the command `gen`, with the options of a load and of a host
+abbrev pub gen_app : App
+gen_app =
+    let needed = with_option (with_option (command_with_key (codes "gen")) (codes "seed") true) (codes "ops") true in
+    with_host_options (with_option (with_option needed (codes "keys") false) (codes "every") false)
+
 -- the program with no command yet, where one is required
 abbrev pub bare_app : App
 bare_app = on_top (λ s. record s { subcommand_required = true }) (new_app (codes "fastver"))
 
--- the program's command line: `check`, `audit`, `run` and `accept`
+-- the program's command line: `check`, `audit`, `run`, `gen` and `accept`
 abbrev pub fastver_app : App
 fastver_app =
     let judging = with_subcommand (with_subcommand bare_app check_app.top) (command_with_key (codes "audit")).top in
-    with_subcommand (with_subcommand judging run_app.top) (command_with_key (codes "accept")).top
+    let serving = with_subcommand (with_subcommand judging run_app.top) gen_app.top in
+    with_subcommand serving (command_with_key (codes "accept")).top

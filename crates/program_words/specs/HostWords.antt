@@ -1,8 +1,8 @@
--- What the words behind `run` say: the numbers of a host, and where its logs go.
-use Rattle.std.specs.Prelude.{◌≡◌, ℕ, ◌-◌, ◌^◌, ◌<◌, ◌≤◌, IfSome, List, Option, Some, None, codes, option_and_then, unwrap_or, if◌then◌else◌}
-use Rattle.std.specs.Option.{option_map}
+-- What the words behind `run` and `gen` say of a host: its numbers.
+use Rattle.std.specs.Prelude.{◌≡◌, ℕ, ◌-◌, ◌^◌, ◌<◌, ◌≤◌, ◌==◌, IfSome, Bool, List, [], ◌∷◌, Option, Some, None, codes, option_and_then, unwrap_or, if◌then◌else◌}
+use Rattle.std.specs.List.{list_any}
 use Rattle.clap.specs.Walk.{Row, Text, first_of}
-use Rattle.program_words.specs.Numbers.{number_between, is_shard_count}
+use Rattle.program_words.specs.Numbers.{given, needed_in, optional_in}
 use Rattle.program_words.specs.declared.host_words.HostNumbers.{HostNumbers}
 
 -- the most verifiers of a host
@@ -17,23 +17,13 @@ most_touches = 1000000
 abbrev pub greatest_end : ℕ
 greatest_end = 16777215
 
--- the number of an option that is to be given, if it is in this range
-abbrev pub needed_in : ℕ → ℕ → Option Text → Option ℕ
-needed_in least most word = option_and_then (number_between least most) word
-
--- the number of an option that may be given, if it is; where it is given and out of this range there is no answer
-abbrev pub optional_in : ℕ → ℕ → Option Text → Option (Option ℕ)
-optional_in least most None = Some None
-optional_in least most (Some word) = option_map Some (number_between least most word)
+-- so many shards there can be: a power of two from 2 to 1,024
+abbrev pub is_shard_count : ℕ → Bool
+is_shard_count shards = list_any (λ count. shards == count) (2 ∷ 4 ∷ 8 ∷ 16 ∷ 32 ∷ 64 ∷ 128 ∷ 256 ∷ 512 ∷ 1024 ∷ [])
 
 -- how many shards there are to be
 abbrev pub shards_in : Option Text → Option ℕ
 shards_in word = option_and_then (λ shards. if is_shard_count shards then Some shards else None) (needed_in 2 1024 word)
-
--- the same as `option_and_then`, read from left to right
-abbrev pub given : {A B : Type 0} → Option A → (A → Option B) → Option B
-given None behind = None
-given (Some value) behind = behind value
 
 -- the numbers of a host in what was found of a command's options, if each that is needed is there and each is in its range
 abbrev pub numbers_in : List Row → Option HostNumbers

@@ -9,9 +9,11 @@ use Rattle.clap.specs.Faults.{fault_of}
 use Rattle.program_words.specs.Key.{key_in}
 use Rattle.program_words.specs.Found.{flag_in}
 use Rattle.program_words.specs.CommandLine.{fastver_app}
+use Rattle.program_words.specs.Numbers.{given}
 use Rattle.program_words.specs.HostWords.{AreHostNumbers, numbers_in}
+use Rattle.program_words.specs.LoadWords.{AreLoadNumbers, load_in}
 use Rattle.program_words.specs.declared.words.Asked.{Asked}
-use Rattle.program_words.specs.declared.words.Asked.TheVariants.{Check, Audit, Run, Accept}
+use Rattle.program_words.specs.declared.words.Asked.TheVariants.{Check, Audit, Run, Gen, Accept}
 
 -- what `check` asks for with this key and with what was found of its flag
 abbrev pub check_as : List Row → List ℕ → Asked
@@ -26,12 +28,25 @@ run_as rows key = option_map (λ numbers. Run (record {
   receipts = flag_in (codes "receipts") rows;
 })) (numbers_in rows)
 
+-- what `gen` asks for with this key and with what was found of its options
+abbrev pub gen_as : List Row → List ℕ → Option Asked
+gen_as rows key =
+    given (load_in rows) (λ load.
+    given (numbers_in rows) (λ numbers.
+    Some (Gen (record {
+      key = key;
+      load = load;
+      numbers = numbers;
+      logs = first_of (codes "logs") rows;
+    }))))
+
 -- what the command of this name asks for with this key and with what was found of its options
 abbrev pub asked_as : Text → List Row → List ℕ → Option Asked
 asked_as name rows key =
     if bytes_eq name (codes "check") then Some (check_as rows key)
     else if bytes_eq name (codes "audit") then Some (Audit key)
     else if bytes_eq name (codes "run") then run_as rows key
+    else if bytes_eq name (codes "gen") then gen_as rows key
     else if bytes_eq name (codes "accept") then Some (Accept key)
     else None
 
@@ -53,4 +68,5 @@ abbrev pub IsInRange : Asked → Type 0
 IsInRange (Check check) = Unit {0}
 IsInRange (Audit key) = Unit {0}
 IsInRange (Run run) = AreHostNumbers run.numbers
+IsInRange (Gen gen) = AreLoadNumbers gen.load × AreHostNumbers gen.numbers
 IsInRange (Accept key) = Unit {0}

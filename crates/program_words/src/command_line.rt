@@ -2,7 +2,7 @@
 ghost use Rattle.std.specs.Prelude.{◌≡◌, IfOk, false};
 ghost use Rattle.clap.specs.Words.{app_of, rule_of};
 ghost use Rattle.clap.specs.declared.builder.command.Command.TheViews.{out-Command as fields_of};
-ghost use Rattle.program_words.specs.CommandLine.{check_app, command_with_key, fastver_app, flag_rule, option_rule, run_app, with_flag, with_host_options, with_option};
+ghost use Rattle.program_words.specs.CommandLine.{check_app, command_with_key, fastver_app, flag_rule, gen_app, option_rule, run_app, with_flag, with_host_options, with_option};
 
 use clap::{Arg, ArgAction, Command};
 use std::alloc::{AllocError, Global};
@@ -14,12 +14,14 @@ pub(crate) fn fastver_command<'a>(alloc: Global) -> Result<Command<'a>, AllocErr
     let check = check_command(alloc)?;
     let audit = command_with_key(alloc, "audit")?;
     let run = run_command(alloc)?;
+    let load = gen_command(alloc)?;
     let accept = command_with_key(alloc, "accept")?;
     Command::new(alloc, "fastver")
         .subcommand_required(true)
         .subcommand(check)?
         .subcommand(audit)?
         .subcommand(run)?
+        .subcommand(load)?
         .subcommand(accept)
 }
 
@@ -40,6 +42,19 @@ fn run_command<'a>(alloc: Global) -> Result<Command<'a>, AllocError>
     let run = command_with_key(alloc, "run")?;
     let run = with_host_options(alloc, run)?;
     with_flag(alloc, run, "receipts")
+}
+
+// The command `gen`, with the options of a load and of a host.
+fn gen_command<'a>(alloc: Global) -> Result<Command<'a>, AllocError>
+    ensures app { IfOk result (λ command. app_of command ≡ gen_app) }
+    ensures local { IfOk result (λ command. (fields_of command).has_globals ≡ false) }
+{
+    let load = command_with_key(alloc, "gen")?;
+    let load = with_option(alloc, load, "seed", true)?;
+    let load = with_option(alloc, load, "ops", true)?;
+    let load = with_option(alloc, load, "keys", false)?;
+    let load = with_option(alloc, load, "every", false)?;
+    with_host_options(alloc, load)
 }
 
 // A command with the options for the numbers of a host and for the path of its logs.

@@ -1,13 +1,11 @@
-//! What the words behind `run` say: the numbers of a host, and where its logs go.
-ghost use Rattle.std.specs.Prelude.{◌≡◌, ◌≤◌, ◌==◌, Some, None, IfOk, IfSome, codes, option_and_then, true, length};
-ghost use Rattle.std.specs.Char.{is_ascii_digit};
-ghost use Rattle.std.specs.List.{list_all};
+//! What the words behind `run` and `gen` say of a host: its numbers, and where its logs go.
+ghost use Rattle.std.specs.Prelude.{◌≡◌, ◌==◌, Some, None, IfOk, codes, true};
 ghost use Rattle.clap.specs.Words.{first_of, found_of, rows_of};
-ghost use Rattle.program_words.specs.Numbers.{begins_well, is_numeral, number_between, is_shard_count};
-ghost use Rattle.program_words.specs.HostWords.{needed_in, optional_in, shards_in, numbers_in};
+ghost use Rattle.program_words.specs.HostWords.{is_shard_count, shards_in, numbers_in};
 
 use crate::found::word_of;
 use crate::key::Key;
+use crate::numbers::{needed, optional};
 use clap::ArgMatches;
 use std::alloc::{AllocError, Global};
 use std::marker::Model;
@@ -108,26 +106,6 @@ pub(crate) fn logs_of(alloc: Global, found: &ArgMatches<'_>) -> Result<Option<Pa
     }
 }
 
-// The number of an option that is to be given.
-fn needed(found: &ArgMatches<'_>, name: &str, least: u32, most: u32) -> Option<u32>
-    ensures value { result ≡ needed_in least most (first_of name.now (rows_of (found_of found.now))) }
-{
-    match word_of(found, name) {
-        Some(word) => number_between(word, least, most),
-        None => None,
-    }
-}
-
-// The number of an option that may be given, if it is. Where it is given and out of its range there is no answer.
-fn optional(found: &ArgMatches<'_>, name: &str, least: u32, most: u32) -> Option<Option<u32>>
-    ensures value { result ≡ optional_in least most (first_of name.now (rows_of (found_of found.now))) }
-{
-    match word_of(found, name) {
-        Some(word) => number_between(word, least, most).map(Some),
-        None => Some(None),
-    }
-}
-
 // How many shards there are to be.
 fn shards_of(found: &ArgMatches<'_>) -> Option<u32>
     ensures value { result ≡ shards_in (first_of (codes "shards") (rows_of (found_of found.now))) }
@@ -143,42 +121,4 @@ fn is_shard_count(shards: u32) -> bool
     ensures value { result ≡ is_shard_count shards }
 {
     matches!(shards, 2 | 4 | 8 | 16 | 32 | 64 | 128 | 256 | 512 | 1024)
-}
-
-// The number that a word spells in decimal, if it is in this range.
-fn number_between(word: &str, least: u32, most: u32) -> Option<u32>
-    ensures value { result ≡ number_between least most word.now }
-{
-    if !is_numeral(word.as_bytes()) {
-        return None;
-    }
-    match word.parse::<u32>() {
-        Ok(number) if least <= number && number <= most => Some(number),
-        _ => None,
-    }
-}
-
-// Whether these are digits, one or more, of which the first is no zero where others follow it.
-fn is_numeral(word: &[u8]) -> bool
-    ensures value { result ≡ is_numeral word.now }
-{
-    begins_well(word) && are_digits(word)
-}
-
-// Whether all of these are digits.
-fn are_digits(word: &[u8]) -> bool
-    ensures value { result ≡ list_all is_ascii_digit word.now }
-{
-    word.iter().all(|digit| digit.is_ascii_digit())
-}
-
-// Whether there is a first digit, and it is no zero where others follow it.
-fn begins_well(word: &[u8]) -> bool
-    ensures value { result ≡ begins_well word.now }
-{
-    match word {
-        [] => false,
-        [_] => true,
-        [first, ..] => *first != b'0',
-    }
 }

@@ -2,12 +2,13 @@
 ghost use Rattle.std.specs.Prelude.{◌≡◌, ◌≢◌, ◌↔◌, IfOk, Some, None, Ok, Err, codes, map, option_and_then};
 ghost use Rattle.clap.specs.Words.{first_of, found_of, kind_of, rows_of, subcommand_rows_of};
 ghost use Rattle.program_words.specs.Key.{key_in};
-ghost use Rattle.program_words.specs.Words.{asked_as, asked_by, asked_of, check_as, IsInRange, run_as};
+ghost use Rattle.program_words.specs.Words.{asked_as, asked_by, asked_of, check_as, gen_as, IsInRange, run_as};
 
 use crate::command_line::fastver_command;
 use crate::found::{flag_of, word_of};
 use crate::host_words::{RunWords, logs_of, numbers_of};
 use crate::key::Key;
+use crate::load_words::{GenWords, load_of};
 use clap::error::ErrorKind;
 use clap::{ArgMatches, Error};
 use std::alloc::{AllocError, Global};
@@ -30,6 +31,8 @@ pub enum Asked {
     Audit(Key),
     /// To serve a script.
     Run(RunWords),
+    /// To serve a load that is made.
+    Gen(GenWords),
     /// To say whether a receipt is to be accepted.
     Accept(Key),
 }
@@ -101,6 +104,8 @@ fn asked_as(
         Ok(Some(Asked::Audit(key)))
     } else if name == "run" {
         run_as(alloc, found, key)
+    } else if name == "gen" {
+        gen_as(alloc, found, key)
     } else if name == "accept" {
         Ok(Some(Asked::Accept(key)))
     } else {
@@ -132,6 +137,24 @@ fn run_as(alloc: Global, found: &ArgMatches<'_>, key: Key) -> Result<Option<Aske
             })))
         }
         None => Ok(None),
+    }
+}
+
+// What `gen` asks for with this key.
+fn gen_as(alloc: Global, found: &ArgMatches<'_>, key: Key) -> Result<Option<Asked>, AllocError>
+    ensures value { IfOk result (λ asked. asked ≡ gen_as (rows_of (found_of found.now)) key) }
+{
+    match (load_of(found), numbers_of(found)) {
+        (Some(load), Some(numbers)) => {
+            let logs = logs_of(alloc, found)?;
+            Ok(Some(Asked::Gen(GenWords {
+                key,
+                load,
+                numbers,
+                logs,
+            })))
+        }
+        _ => Ok(None),
     }
 }
 

@@ -1,6 +1,6 @@
 //! Words that were judged by hand, as they stand on a command line.
 use crate::rows::{bytes_of, field, same, same_bytes};
-use program_words::{Asked, HostNumbers, WordsFault, read_words};
+use program_words::{Asked, HostNumbers, LoadNumbers, PathWord, WordsFault, read_words};
 use std::alloc::Global;
 use std::test::Fail;
 
@@ -21,6 +21,7 @@ fn told(answer: &Result<Asked, WordsFault>) -> (&str, &[u8]) {
         Ok(Asked::Audit(key)) => ("audit", key.as_slice()),
         Ok(Asked::Run(run)) if run.receipts => ("run with receipts", run.key.as_slice()),
         Ok(Asked::Run(run)) => ("run", run.key.as_slice()),
+        Ok(Asked::Gen(load)) => ("gen", load.key.as_slice()),
         Ok(Asked::Accept(key)) => ("accept", key.as_slice()),
         Err(WordsFault::Usage) => ("usage", b""),
         Err(WordsFault::Memory) => ("memory", b""),
@@ -44,6 +45,8 @@ fastver check --key 00112233445566778899aabbccddeeff --receipts | check with rec
 fastver check --receipts --key=00112233445566778899aabbccddeeff | check with receipts | 00112233445566778899aabbccddeeff
 fastver run --key 00112233445566778899aabbccddeeff --verifiers 1 --shards 2 --receipts | run with receipts | 00112233445566778899aabbccddeeff
 fastver run --receipts --shards=2 --verifiers=1 --key=00112233445566778899aabbccddeeff | run with receipts | 00112233445566778899aabbccddeeff
+fastver gen --key 00112233445566778899aabbccddeeff --seed 0 --ops 0 --verifiers 1 --shards 2 | gen | 00112233445566778899aabbccddeeff
+fastver gen --ops=0 --seed=0 --shards=2 --verifiers=1 --key=00112233445566778899AABBCCDDEEFF | gen | 00112233445566778899aabbccddeeff
 fastver accept --key 00112233445566778899aabbccddeeff | accept | 00112233445566778899aabbccddeeff
 fastver accept --key=00112233445566778899AABBCCDDEEFF | accept | 00112233445566778899aabbccddeeff
 fastver accept --key 303132333435363738393a3b3c3d3e3f404142434445464748494a4b4c4d4e4f505152535455565758595a5b5c5d5e5f606162636465666768696a6b6c6d6e6f | accept | most
@@ -104,6 +107,7 @@ fastver accept --key 00112233445566778899aabbccddeeff --receipts | receipts of a
 fastver accept --key 00112233445566778899aabbccddeeff --key 00112233445566778899aabbccddeeff | two keys to accept under
 fastver accept --key 00112233445566778899aabbccddeeff more | a word more for an accept
 fastver accept --key 00112233445566778899aabbccddeeff --shards 2 | an option of a run for an accept
+fastver accept --key 00112233445566778899aabbccddeeff --seed 0 | an option of a load for an accept
 fastver Accept --key 00112233445566778899aabbccddeeff | a capital letter
 check --key 00112233445566778899aabbccddeeff | no name
 fastver check --key 00112233445566778899aabbccddeeff --shards 2 | an option of a run
@@ -131,6 +135,10 @@ fastver run --key 00112233445566778899aabbccddeeff --verifiers 1 --shards 2 --re
 fastver run --key 00112233445566778899aabbccddeeff --verifiers 1 --shards 2 --logs --receipts | receipts in the place of a path
 fastver run --key 00112233445566778899aabbccddeeff --verifiers 1 --shards 2 --logs | no path
 fastver run --key 00112233445566778899aabbccddeeff --verifiers 1 --shards 2 more | a word more for a run
+fastver run --key 00112233445566778899aabbccddeeff --verifiers 1 --shards 2 --seed 0 | a seed for a run
+fastver gen --seed 0 --ops 0 --verifiers 1 --shards 2 | a load with no key
+fastver gen --key 00112233445566778899aabbccddee --seed 0 --ops 0 --verifiers 1 --shards 2 | 30 digits for a load
+fastver gen --key 00112233445566778899aabbccddeeff | a load with nothing else
 ";
 
 #[test]
@@ -172,23 +180,114 @@ fn numbers_in(row: &str) -> Result<HostNumbers, Fail> {
     })
 }
 
+// A row's path, or none.
+fn path_in<'a>(logs: &'a Option<PathWord>) -> &'a str {
+    match logs {
+        Some(path) => path.as_str(),
+        None => "none",
+    }
+}
+
+// A line that begins with a command and its key.
+fn line_of(alloc: Global, command: &str, words: &str) -> Result<String, Fail> {
+    let mut line = String::from_str(alloc, "fastver ")?;
+    line.push_str(command)?;
+    line.push_str(" --key 00112233445566778899aabbccddeeff ")?;
+    line.push_str(words)?;
+    Ok(line)
+}
+
 #[test]
 fn what_a_run_asks_for(rt: HostRuntime) -> Result<(), Fail> {
     for row in RUNNING.trim().lines() {
-        let mut line = String::from_str(
-            rt.alloc(),
-            "fastver run --key 00112233445566778899aabbccddeeff ",
-        )?;
-        line.push_str(field(row, 0)?)?;
+        let line = line_of(rt.alloc(), "run", field(row, 0)?)?;
         let Ok(Asked::Run(run)) = asked_by(rt.alloc(), &line)? else {
             return Err("no run is asked for")?;
         };
         same(&rt, row, &run.numbers, &numbers_in(row)?);
-        let logs = match &run.logs {
-            Some(path) => path.as_str(),
-            None => "none",
+        same(&rt, row, &path_in(&run.logs), &field(row, 3)?);
+    }
+    Ok(())
+}
+
+// What stands behind `fastver gen` and its key, the verifiers, shards, first epoch, last counter and threshold that it asks
+// for, the path of its logs, and the seed, requests, keys and requests of an epoch.
+const LOADING: &str = "
+--seed 0 --ops 0 --verifiers 1 --shards 2 | 1 2 0 16777215 | none | none | 0 0 1024 10000
+--seed 18446744073709551615 --ops 1000000 --verifiers 64 --shards 1024 --keys 65536 --every 1000000 | 64 1024 0 16777215 | none | none | 18446744073709551615 1000000 65536 1000000
+--every=1 --keys=1 --ops=1 --seed=1 --shards=4 --verifiers=2 --hot=1 --logs=a/b --first=4294967295 --counter=1 | 2 4 4294967295 1 | 1 | a/b | 1 1 1 1
+--counter 16777215 --first 0 --logs x --hot 1000000 --seed 4294967296 --ops 999999 --keys 65535 --every 999999 --verifiers 63 --shards 512 | 63 512 0 16777215 | 1000000 | x | 4294967296 999999 65535 999999
+";
+
+// The numbers of a row's load.
+fn load_in(row: &str) -> Result<LoadNumbers, Fail> {
+    let mut words = field(row, 4)?.split_whitespace();
+    Ok(LoadNumbers {
+        seed: words.next().ok_or("no seed")?.parse()?,
+        ops: words.next().ok_or("no requests")?.parse()?,
+        keys: words.next().ok_or("no keys")?.parse()?,
+        every: words.next().ok_or("no requests of an epoch")?.parse()?,
+    })
+}
+
+#[test]
+fn what_a_load_asks_for(rt: HostRuntime) -> Result<(), Fail> {
+    for row in LOADING.trim().lines() {
+        let line = line_of(rt.alloc(), "gen", field(row, 0)?)?;
+        let Ok(Asked::Gen(load)) = asked_by(rt.alloc(), &line)? else {
+            return Err("no load is asked for")?;
         };
-        same(&rt, row, &logs, &field(row, 3)?);
+        same(&rt, row, &load.load, &load_in(row)?);
+        same(&rt, row, &load.numbers, &numbers_in(row)?);
+        same(&rt, row, &path_in(&load.logs), &field(row, 3)?);
+    }
+    Ok(())
+}
+
+// What stands behind `fastver gen` and its key where that asks for nothing, and why.
+const REFUSED_LOADS: &str = "
+--ops 3 --verifiers 1 --shards 2 | no seed
+--seed 0 --verifiers 1 --shards 2 | no requests
+--seed 0 --ops 3 --shards 2 | no verifiers
+--seed 0 --ops 3 --verifiers 1 | no shards
+--seed 18446744073709551616 --ops 3 --verifiers 1 --shards 2 | a seed past 64 bits
+--seed 100000000000000000000000000000000000000000 --ops 3 --verifiers 1 --shards 2 | a seed of 42 digits
+--seed 00 --ops 3 --verifiers 1 --shards 2 | a seed of two zeros
+--seed +1 --ops 3 --verifiers 1 --shards 2 | a seed with a sign
+--seed=-1 --ops 3 --verifiers 1 --shards 2 | a seed below zero
+--seed= --ops 3 --verifiers 1 --shards 2 | a seed with no digit
+--seed --ops 3 --verifiers 1 --shards 2 | an option in the place of the seed
+--seed 0x1 --ops 3 --verifiers 1 --shards 2 | a seed that is not decimal
+--seed 0 --seed 0 --ops 3 --verifiers 1 --shards 2 | two seeds
+--seed 0 --ops 1000001 --verifiers 1 --shards 2 | too many requests
+--seed 0 --ops 03 --verifiers 1 --shards 2 | requests with a leading zero
+--seed 0 --ops 4294967296 --verifiers 1 --shards 2 | requests past 32 bits
+--seed 0 --ops 3 --verifiers 1 --shards 2 --keys 0 | no key to ask for
+--seed 0 --ops 3 --verifiers 1 --shards 2 --keys 65537 | too many keys to ask for
+--seed 0 --ops 3 --verifiers 1 --shards 2 --every 0 | an epoch of nothing
+--seed 0 --ops 3 --verifiers 1 --shards 2 --every 1000001 | too long an epoch
+--seed 0 --ops 3 --verifiers 0 --shards 2 | a load with no verifier
+--seed 0 --ops 3 --verifiers 65 --shards 2 | a load with too many verifiers
+--seed 0 --ops 3 --verifiers 1 --shards 1 | a load with one shard
+--seed 0 --ops 3 --verifiers 1 --shards 3 | a load with three shards
+--seed 0 --ops 3 --verifiers 1 --shards 2048 | a load with too many shards
+--seed 0 --ops 3 --verifiers 1 --shards 2 --hot 0 | a load with no touch
+--seed 0 --ops 3 --verifiers 1 --shards 2 --hot 1000001 | a load with too many touches
+--seed 0 --ops 3 --verifiers 1 --shards 2 --first 4294967296 | a load with an epoch past 32 bits
+--seed 0 --ops 3 --verifiers 1 --shards 2 --counter 0 | a load with a counter that never moves
+--seed 0 --ops 3 --verifiers 1 --shards 2 --counter 16777216 | a load with a counter past 24 bits
+--seed 0 --ops 3 --verifiers 1 --shards 2 --logs | a load with no path
+--seed 0 --ops 3 --verifiers 1 --shards 2 --receipts | receipts of a load
+--seed 0 --ops 3 --verifiers 1 --shards 2 more | a word more for a load
+";
+
+#[test]
+fn loads_that_are_refused(rt: HostRuntime) -> Result<(), Fail> {
+    for row in REFUSED_LOADS.trim().lines() {
+        let line = line_of(rt.alloc(), "gen", field(row, 0)?)?;
+        let why = field(row, 1)?;
+        let answer = asked_by(rt.alloc(), &line)?;
+        same(&rt, why, &told(&answer), &("usage", b"".as_slice()));
     }
     Ok(())
 }

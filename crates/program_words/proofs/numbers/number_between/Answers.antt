@@ -1,7 +1,7 @@
 use Rattle.std.proofs.Common.{◌≡◌, true, refl, sym, ◌∙◌, ap, arith}
 use Rattle.program_words.specs.Numbers.{is_numeral}
 use Rattle.program_words.proofs.NumberLemmas.{no_numeral, between, below, above, value_read, value_large}
-use Rattle.program_words.proofs.host_words.number_between.Goals as goal
+use Rattle.program_words.proofs.numbers.number_between.Goals as goal
 
 pub returns-then-not-is_numeral : goal.returns-then-not-is_numeral
 returns-then-not-is_numeral c = record {
