@@ -45,7 +45,7 @@ pub(crate) struct Runner<'a, D> {
     pub(crate) end: Option<ClockEnd>,
 }
 
-impl<'a, D: Digests + Sync> Runner<'a, D> {
+impl<'a, D: Digests> Runner<'a, D> {
     /// Before the first phase: writes the header of the bundle to the vault.
     pub(crate) fn new<V: Sink>(
         alloc: Global,
@@ -79,36 +79,6 @@ impl<'a, D: Digests + Sync> Runner<'a, D> {
             buffers,
             end: None,
         })
-    }
-
-    /// A phase: its requests are served, and what was logged goes to the vault. A clock may end in it.
-    pub(crate) fn phase<R: Threads + Wait + Sync, V: Sink, G: Gate + Sync>(
-        &mut self,
-        rt: &R,
-        gate: &G,
-        vault: &mut V,
-    ) -> Result<(), RoundStop>
-        requires runs { IsUnderWay D.functions self.old (V.held vault.old) }
-        requires begins { IsAtPhase (host_of (D.functions (digests_of self.old.world)) self.old.world)
-            (shown_world self.old.world) self.old.end }
-        requires workers { AllByRecursion (λ turn. turn.0 < length (shown_world self.old.world).workers)
-            (turns_of (host_of (D.functions (digests_of self.old.world)) self.old.world) (shown_world self.old.world).phase) }
-        ensures runs { (receipts : Bool) (outputs : Outputs) → Runs receipts D.functions self.old outputs → outputs.vault_after ≡ V.held vault.old
-            → OnOk result (Runs receipts D.functions self.new (record outputs { vault_after = V.held vault.new })) }
-        ensures served { OnOk result (IsAtClose (host_of (D.functions (digests_of self.new.world)) self.new.world)
-            (shown_world self.new.world) self.new.end) }
-        ensures same_phase { OnOk result ((shown_world self.new.world).phase ≡ (shown_world self.old.world).phase) }
-        ensures cut { (receipts : Bool) (outputs : Outputs) → Runs receipts D.functions self.old outputs → outputs.vault_after ≡ V.held vault.old
-            → OnErr result (IsCutOff receipts (D.functions (digests_of self.old.world)) (record outputs { vault_after = V.held vault.new })) }
-        ensures host { AreOfOneHost self.old.world self.new.world }
-        ensures stop { result ≢ Err RoundStop.WriteFault }
-        ensures vault_fault { result ≡ Err RoundStop.VaultFault → Rose (V.faults vault.old) (V.faults vault.new) }
-        ensures never_falls { V.faults vault.old ≤ V.faults vault.new }
-        ensures name { V.name vault.new ≡ V.name vault.old }
-    {
-        what_is_due_stays_due();
-        self.end = serve_phase_at_once(rt, self.alloc, &mut self.world, gate)?;
-        self.pass_on(vault)
     }
 
     /// A close, the last one or another: the workers move on to the next epoch, what they logged goes to the vault, and the
@@ -151,46 +121,6 @@ impl<'a, D: Digests + Sync> Runner<'a, D> {
         self.pass_on(vault)?;
         let telling = self.telling(receipts);
         self.rounds.certify(&telling, out)
-    }
-
-    /// A phase and its close, which is the last one at the script's end, or where a clock ended in the phase.
-    pub(crate) fn epoch<R: Threads + Wait + Sync, V: Sink, O: Sink, G: Gate + Sync>(
-        &mut self,
-        rt: &R,
-        at_end: bool,
-        receipts: bool,
-        gate: &G,
-        vault: &mut V,
-        out: &mut O,
-    ) -> Result<(), RoundStop>
-        requires runs { IsUnderWayWith receipts D.functions self.old (V.held vault.old) (O.held out.old) }
-        requires begins { IsAtPhase (host_of (D.functions (digests_of self.old.world)) self.old.world)
-            (shown_world self.old.world) self.old.end }
-        requires workers { AllByRecursion (λ turn. turn.0 < length (shown_world self.old.world).workers)
-            (turns_of (host_of (D.functions (digests_of self.old.world)) self.old.world) (shown_world self.old.world).phase) }
-        requires at_end { (at_end ≡ true) ↔ (length (requests_of self.old.world) ≤ suc (shown_world self.old.world).phase) }
-        ensures runs { (outputs : Outputs) → Runs receipts D.functions self.old outputs → outputs.vault_after ≡ V.held vault.old
-            → outputs.out_after ≡ O.held out.old
-            → OnOk result (RunsWhole receipts D.functions self.new (record outputs { vault_after = V.held vault.new; out_after = O.held out.new })) }
-        ensures ended { (at_end ≡ true) ⊎ (self.new.end ≢ None)
-            → OnOk result (IsAtEnd (host_of (D.functions (digests_of self.new.world)) self.new.world) (shown_world self.new.world) self.new.end) }
-        ensures opened { at_end ≡ false → self.new.end ≡ None
-            → OnOk result (IsAtPhase (host_of (D.functions (digests_of self.new.world)) self.new.world) (shown_world self.new.world) self.new.end
-            × ((shown_world self.new.world).phase ≡ suc (shown_world self.old.world).phase)) }
-        ensures cut { (outputs : Outputs) → Runs receipts D.functions self.old outputs → outputs.vault_after ≡ V.held vault.old
-            → outputs.out_after ≡ O.held out.old
-            → OnErr result (IsCutOff receipts (D.functions (digests_of self.old.world))
-            (record outputs { vault_after = V.held vault.new; out_after = O.held out.new })) }
-        ensures host { AreOfOneHost self.old.world self.new.world }
-        ensures vault_fault { result ≡ Err RoundStop.VaultFault → Rose (V.faults vault.old) (V.faults vault.new) }
-        ensures write_fault { result ≡ Err RoundStop.WriteFault → Rose (O.faults out.old) (O.faults out.new) }
-        ensures vault_never_falls { V.faults vault.old ≤ V.faults vault.new }
-        ensures never_falls { O.faults out.old ≤ O.faults out.new }
-        ensures name { V.name vault.new ≡ V.name vault.old }
-    {
-        self.phase(rt, gate, vault)?;
-        let last = closes_last(at_end, self.end);
-        self.close_epoch(last, receipts, vault, out)
     }
 
     /// Behind the last close: writes the last line of the report.
@@ -251,6 +181,78 @@ impl<'a, D: Digests + Sync> Runner<'a, D> {
         hand_out_all(&mut self.world, self.buffers.as_mut_slice())?;
         self.rounds
             .take(self.world.digests(), self.buffers.as_slice(), vault)
+    }
+}
+
+impl<'a, D: Digests + Sync> Runner<'a, D> {
+    /// A phase: its requests are served, and what was logged goes to the vault. A clock may end in it.
+    pub(crate) fn phase<R: Threads + Wait + Sync, V: Sink, G: Gate + Sync>(
+        &mut self,
+        rt: &R,
+        gate: &G,
+        vault: &mut V,
+    ) -> Result<(), RoundStop>
+        requires runs { IsUnderWay D.functions self.old (V.held vault.old) }
+        requires begins { IsAtPhase (host_of (D.functions (digests_of self.old.world)) self.old.world)
+            (shown_world self.old.world) self.old.end }
+        requires workers { AllByRecursion (λ turn. turn.0 < length (shown_world self.old.world).workers)
+            (turns_of (host_of (D.functions (digests_of self.old.world)) self.old.world) (shown_world self.old.world).phase) }
+        ensures runs { (receipts : Bool) (outputs : Outputs) → Runs receipts D.functions self.old outputs → outputs.vault_after ≡ V.held vault.old
+            → OnOk result (Runs receipts D.functions self.new (record outputs { vault_after = V.held vault.new })) }
+        ensures served { OnOk result (IsAtClose (host_of (D.functions (digests_of self.new.world)) self.new.world)
+            (shown_world self.new.world) self.new.end) }
+        ensures same_phase { OnOk result ((shown_world self.new.world).phase ≡ (shown_world self.old.world).phase) }
+        ensures cut { (receipts : Bool) (outputs : Outputs) → Runs receipts D.functions self.old outputs → outputs.vault_after ≡ V.held vault.old
+            → OnErr result (IsCutOff receipts (D.functions (digests_of self.old.world)) (record outputs { vault_after = V.held vault.new })) }
+        ensures host { AreOfOneHost self.old.world self.new.world }
+        ensures stop { result ≢ Err RoundStop.WriteFault }
+        ensures vault_fault { result ≡ Err RoundStop.VaultFault → Rose (V.faults vault.old) (V.faults vault.new) }
+        ensures never_falls { V.faults vault.old ≤ V.faults vault.new }
+        ensures name { V.name vault.new ≡ V.name vault.old }
+    {
+        what_is_due_stays_due();
+        self.end = serve_phase_at_once(rt, self.alloc, &mut self.world, gate)?;
+        self.pass_on(vault)
+    }
+
+    /// A phase and its close, which is the last one at the script's end, or where a clock ended in the phase.
+    pub(crate) fn epoch<R: Threads + Wait + Sync, V: Sink, O: Sink, G: Gate + Sync>(
+        &mut self,
+        rt: &R,
+        at_end: bool,
+        receipts: bool,
+        gate: &G,
+        vault: &mut V,
+        out: &mut O,
+    ) -> Result<(), RoundStop>
+        requires runs { IsUnderWayWith receipts D.functions self.old (V.held vault.old) (O.held out.old) }
+        requires begins { IsAtPhase (host_of (D.functions (digests_of self.old.world)) self.old.world)
+            (shown_world self.old.world) self.old.end }
+        requires workers { AllByRecursion (λ turn. turn.0 < length (shown_world self.old.world).workers)
+            (turns_of (host_of (D.functions (digests_of self.old.world)) self.old.world) (shown_world self.old.world).phase) }
+        requires at_end { (at_end ≡ true) ↔ (length (requests_of self.old.world) ≤ suc (shown_world self.old.world).phase) }
+        ensures runs { (outputs : Outputs) → Runs receipts D.functions self.old outputs → outputs.vault_after ≡ V.held vault.old
+            → outputs.out_after ≡ O.held out.old
+            → OnOk result (RunsWhole receipts D.functions self.new (record outputs { vault_after = V.held vault.new; out_after = O.held out.new })) }
+        ensures ended { (at_end ≡ true) ⊎ (self.new.end ≢ None)
+            → OnOk result (IsAtEnd (host_of (D.functions (digests_of self.new.world)) self.new.world) (shown_world self.new.world) self.new.end) }
+        ensures opened { at_end ≡ false → self.new.end ≡ None
+            → OnOk result (IsAtPhase (host_of (D.functions (digests_of self.new.world)) self.new.world) (shown_world self.new.world) self.new.end
+            × ((shown_world self.new.world).phase ≡ suc (shown_world self.old.world).phase)) }
+        ensures cut { (outputs : Outputs) → Runs receipts D.functions self.old outputs → outputs.vault_after ≡ V.held vault.old
+            → outputs.out_after ≡ O.held out.old
+            → OnErr result (IsCutOff receipts (D.functions (digests_of self.old.world))
+            (record outputs { vault_after = V.held vault.new; out_after = O.held out.new })) }
+        ensures host { AreOfOneHost self.old.world self.new.world }
+        ensures vault_fault { result ≡ Err RoundStop.VaultFault → Rose (V.faults vault.old) (V.faults vault.new) }
+        ensures write_fault { result ≡ Err RoundStop.WriteFault → Rose (O.faults out.old) (O.faults out.new) }
+        ensures vault_never_falls { V.faults vault.old ≤ V.faults vault.new }
+        ensures never_falls { O.faults out.old ≤ O.faults out.new }
+        ensures name { V.name vault.new ≡ V.name vault.old }
+    {
+        self.phase(rt, gate, vault)?;
+        let last = closes_last(at_end, self.end);
+        self.close_epoch(last, receipts, vault, out)
     }
 }
 

@@ -31,19 +31,26 @@ loop-number-init g c = record {
   name = refl;
 }
 
-pub epoch-requires : goal.epoch-requires
-epoch-requires g c =
+pub epoch-requires-clause-runs : goal.epoch-requires-clause-runs
+epoch-requires-clause-runs g c κs within = c.loop-number.invariant.under_way
+
+pub epoch-requires-clause-begins : goal.epoch-requires-clause-begins
+epoch-requires-clause-begins g c κs within = c.loop-number.invariant.begins
+
+pub epoch-requires-clause-workers : goal.epoch-requires-clause-workers
+epoch-requires-clause-workers g c κs within =
     let now = c.loop-number.runner in
     let inv = c.loop-number.invariant in
-    let old = c.args.runner.now.world in
+    turns-now c.args.runner.now.world now.world (shown_world now.world).phase inv.host c.requires.tasks
+    (runs-workers c.args.receipts g.D.Digests.functions now inv.under_way.0 inv.under_way.1)
+
+pub epoch-requires-clause-at_end : goal.epoch-requires-clause-at_end
+epoch-requires-clause-at_end g c κs within =
+    let now = c.loop-number.runner in
+    let inv = c.loop-number.invariant in
     let size : length (requests_of now.world) ≡ c.len-phases.result =
     ap (λ (script : List (List Task)). length script) (inv.host.requests ∙ sym c.requests.ensures.value) ∙ sym c.len-phases.ensures.value in
-    record {
-      runs = inv.under_way;
-      begins = inv.begins;
-      workers = turns-now old now.world (shown_world now.world).phase inv.host c.requires.tasks (runs-workers c.args.receipts g.D.Digests.functions now inv.under_way.0 inv.under_way.1);
-      at_end = (λ is. absurd (false≢true is), λ over. absurd (omega (arith, over, size, inv.phase, c.loop-number-test.true)));
-    }
+    (λ is. absurd (false≢true is), λ over. absurd (omega (arith, over, size, inv.phase, c.loop-number-test.true)))
 
 pub loop-number-preserved : goal.loop-number-preserved
 loop-number-preserved g c =
@@ -80,7 +87,7 @@ returns-then-is_some-clause-runs g c = λ outputs runs held written.
     (c.loop-number.invariant.runs outputs runs held written) refl refl
 
 pub epoch-requires-2-clause-workers : goal.epoch-requires-2-clause-workers
-epoch-requires-2-clause-workers g c =
+epoch-requires-2-clause-workers g c κs within =
     let now = c.loop-number.runner in
     let inv = c.loop-number.invariant in
     turns-now c.args.runner.now.world now.world (shown_world now.world).phase inv.host c.requires.tasks

@@ -15,9 +15,14 @@ use Rattle.verifier_threads.specs.Serving.{Outputs, ServesTo, setup_end}
 use Rattle.verifier_threads.proofs.EndingLemmas.{opening-cut}
 use Rattle.verifier_threads.proofs.serving.serve_script.Goals as goal
 
-pub serve_world-requires : goal.serve_world-requires
-serve_world-requires g c =
-    let says = c.in-Ok.ensures in
+pub serve_world-requires-clause-setup : goal.serve_world-requires-clause-setup
+serve_world-requires-clause-setup g c κs within = c.in-Ok.ensures.set_up ∙ ap (λ (h : Host Content Request). set_up h) (sym c.in-Ok.ensures.host)
+
+pub serve_world-requires-clause-settings : goal.serve_world-requires-clause-settings
+serve_world-requires-clause-settings g c κs within = subst IsSettings (sym c.in-Ok.ensures.numbers) c.requires.settings
+
+pub serve_world-requires-clause-counters : goal.serve_world-requires-clause-counters
+serve_world-requires-clause-counters g c κs within =
     let settings = c.args.settings.now in
     let suffices : settings.shards ≤ settings.header.end =
     elim (cases_lt settings.header.end settings.shards) [
@@ -26,14 +31,12 @@ serve_world-requires g c =
           absurd (let both = sym c.in-Ok.is ∙ end in cc)
       | inr enough ↦ enough
     ] in
-    record {
-      setup = says.set_up ∙ ap (λ (h : Host Content Request). set_up h) (sym says.host);
-      settings = subst IsSettings (sym says.numbers) c.requires.settings;
-      counters = subst (λ (s : Settings). s.shards ≤ s.header.end) (sym says.numbers) suffices;
-      tasks =
-          subst (λ (s : Settings). AreTasks s.header.verifiers (requests_of c.in-Ok.world)) (sym says.numbers)
-          (subst (AreTasks settings.header.verifiers) (sym says.asked) c.requires.tasks);
-    }
+    subst (λ (s : Settings). s.shards ≤ s.header.end) (sym c.in-Ok.ensures.numbers) suffices
+
+pub serve_world-requires-clause-tasks : goal.serve_world-requires-clause-tasks
+serve_world-requires-clause-tasks g c κs within =
+    subst (λ (s : Settings). AreTasks s.header.verifiers (requests_of c.in-Ok.world)) (sym c.in-Ok.ensures.numbers)
+    (subst (AreTasks c.args.settings.now.header.verifiers) (sym c.in-Ok.ensures.asked) c.requires.tasks)
 
 pub serve_nothing-requires : goal.serve_nothing-requires
 serve_nothing-requires g c =

@@ -23,17 +23,23 @@ new-requires g c = record {
   some = omega (arith, c.has_a_phase.ensures.some, ap (λ (script : List (List Task)). length script) c.requests.ensures.value);
 }
 
-pub serve_phases-requires : goal.serve_phases-requires
-serve_phases-requires g c =
-    let world_is = c.in_ok-runner.ensures.world in
+pub serve_phases-requires-clause-runs : goal.serve_phases-requires-clause-runs
+serve_phases-requires-clause-runs g c κs within =
+    (_, c.in_ok-runner.ensures.runs c.args.receipts (g.O.Sink.held c.args.out.now), refl, refl)
+
+pub serve_phases-requires-clause-begins : goal.serve_phases-requires-clause-begins
+serve_phases-requires-clause-begins g c κs within =
     let end = c.in_ok-runner.runner.end in
-    record {
-      runs = (_, c.in_ok-runner.ensures.runs c.args.receipts (g.O.Sink.held c.args.out.now), refl, refl);
-      begins =
-          subst (λ (w : code.World _). IsAtPhase (host_of (g.D.Digests.functions (digests_of w)) w) (shown_world w) end) (sym world_is) c.in_ok-runner.ensures.begins;
-      first = ap (λ (w : code.World _). (shown_world w).phase) world_is ∙ ap (λ (w : World Content). w.phase) c.requires.setup;
-      tasks = subst (λ (w : code.World _). AreTasks w.settings.header.verifiers (requests_of w)) (sym world_is) c.requires.tasks;
-    }
+    subst (λ (w : code.World _). IsAtPhase (host_of (g.D.Digests.functions (digests_of w)) w) (shown_world w) end) (sym c.in_ok-runner.ensures.world)
+    c.in_ok-runner.ensures.begins
+
+pub serve_phases-requires-clause-first : goal.serve_phases-requires-clause-first
+serve_phases-requires-clause-first g c κs within =
+    ap (λ (w : code.World _). (shown_world w).phase) c.in_ok-runner.ensures.world ∙ ap (λ (w : World Content). w.phase) c.requires.setup
+
+pub serve_phases-requires-clause-tasks : goal.serve_phases-requires-clause-tasks
+serve_phases-requires-clause-tasks g c κs within =
+    subst (λ (w : code.World _). AreTasks w.settings.header.verifiers (requests_of w)) (sym c.in_ok-runner.ensures.world) c.requires.tasks
 
 pub finish-requires : goal.finish-requires
 finish-requires g c = record {

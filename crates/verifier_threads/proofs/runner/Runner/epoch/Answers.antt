@@ -10,12 +10,8 @@ use Rattle.verifier_threads.proofs.PassingLemmas.{ok_then, err_any}
 use Rattle.verifier_threads.proofs.PhaseLemmas.{closes-last, plus-both}
 use Rattle.verifier_threads.proofs.runner.Runner.epoch.Goals as goal
 
-pub phase-requires : goal.phase-requires
-phase-requires g c = record {
-  runs = (c.args.receipts, c.requires.runs.0, c.requires.runs.1, c.requires.runs.2);
-  begins = c.requires.begins;
-  workers = c.requires.workers;
-}
+pub phase-requires-clause-runs : goal.phase-requires-clause-runs
+phase-requires-clause-runs g c κs within = (c.args.receipts, c.requires.runs.0, c.requires.runs.1, c.requires.runs.2)
 
 pub close_epoch-requires : goal.close_epoch-requires
 close_epoch-requires g c =

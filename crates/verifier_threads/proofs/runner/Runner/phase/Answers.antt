@@ -15,14 +15,18 @@ use Rattle.verifier_threads.proofs.PassingLemmas.{ok_any, err_any, ok_then, runs
 use Rattle.verifier_threads.proofs.PhaseLemmas.{moved, at-close}
 use Rattle.verifier_threads.proofs.runner.Runner.phase.Goals as goal
 
-pub serve_phase_at_once-requires : goal.serve_phase_at_once-requires
-serve_phase_at_once-requires g c = record {
-  behind = runs-behind c.requires.runs.0 g.D.Digests.functions c.args.self.now c.requires.runs.1 c.requires.runs.2;
-  begins = c.requires.begins.begins;
-  workers = c.requires.workers;
-  running = c.requires.begins.running;
-  counters = c.requires.runs.2.running.counters;
-}
+pub serve_phase_at_once-requires-clause-behind : goal.serve_phase_at_once-requires-clause-behind
+serve_phase_at_once-requires-clause-behind g c κs within =
+    runs-behind c.requires.runs.0 g.D.Digests.functions c.args.self.now c.requires.runs.1 c.requires.runs.2
+
+pub serve_phase_at_once-requires-clause-begins : goal.serve_phase_at_once-requires-clause-begins
+serve_phase_at_once-requires-clause-begins g c κs within = c.requires.begins.begins
+
+pub serve_phase_at_once-requires-clause-running : goal.serve_phase_at_once-requires-clause-running
+serve_phase_at_once-requires-clause-running g c κs within = c.requires.begins.running
+
+pub serve_phase_at_once-requires-clause-counters : goal.serve_phase_at_once-requires-clause-counters
+serve_phase_at_once-requires-clause-counters g c κs within = c.requires.runs.2.running.counters
 
 pub pass_on-requires : goal.pass_on-requires
 pass_on-requires g c = record {
