@@ -14,12 +14,13 @@ fastver audit --key 00000000000000000000000000000000 --receipts
 fastver check --key 00000000000000000000000000000000 --receipts --receipts
 fastver check --key 00000000000000000000000000000000 --receipts=yes
 fastver run --key 00000000000000000000000000000000 --verifiers 1 --shards 2 --receipts yes
+fastver run --key 00000000000000000000000000000000 --verifiers 1 --shards 2 --receipts=yes
 ";
 
 #[test]
 fn words_are_refused(rt: HostRuntime) -> Result<(), Fail> {
     let text = text_of(rt.alloc(), "P/C/")?;
-    assert_eq!(rt; REFUSED.lines().count(), 9);
+    assert_eq!(rt; REFUSED.lines().count(), 10);
     for line in REFUSED.lines() {
         // A read that is made fails.
         let asked = ask(&rt, rt.alloc(), line, &text, (&[0], &[]))?;
