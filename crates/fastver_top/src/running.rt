@@ -30,7 +30,14 @@ const HOST_CACHE: u32 = 128;
 
 /// Reads a script of no more than so many bytes to its end, names the vault if the words say so, and serves the script: the
 /// vault takes the bundle of the logs, and the sink its report, with receipts if the words say so.
-pub fn run_script<R: Threads + Wait + Sync, D: Digests + Sync, S: Source, O: Sink, V: Vault, G: Gate + Sync>(
+pub fn run_script<
+    R: Threads + Wait + Sync,
+    D: Digests + Sync,
+    S: Source,
+    O: Sink,
+    V: Vault,
+    G: Gate + Sync,
+>(
     rt: &R,
     alloc: Global,
     d: &D,
@@ -94,7 +101,17 @@ fn serve<R: Threads + Wait + Sync, D: Digests + Sync, V: Vault, O: Sink, G: Gate
     match name_vault(run, vault) {
         Ok(()) => {
             let settings = settings_for(&run.numbers);
-            serve_script(rt, alloc, d, &settings, requests, run.receipts, gate, vault, out)
+            serve_script(
+                rt,
+                alloc,
+                d,
+                &settings,
+                requests,
+                run.receipts,
+                gate,
+                vault,
+                out,
+            )
         }
         Err(_) => Err(RoundStop::VaultFault),
     }

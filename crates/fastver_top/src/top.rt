@@ -91,9 +91,9 @@ pub fn fastver<R: Threads + Wait + Sync, S: Source, O: Sink, V: Vault, G: Gate +
         → IfSome (S.left source.old) (CollidesFor asked) }
 {
     match read_words(alloc, words) {
-        Ok(Asked::Check(words)) => {
-            let d = digests_under(&words.key);
-            check(rt, alloc, &d, INPUT_LIMIT, source, out, words.receipts)
+        Ok(Asked::Check(checking)) => {
+            let d = digests_under(&checking.key);
+            check(rt, alloc, &d, INPUT_LIMIT, source, out, checking.receipts)
         }
         Ok(Asked::Audit(key)) => audit_text(alloc, &digests_under(&key), INPUT_LIMIT, source, out),
         Ok(Asked::Run(run)) => {

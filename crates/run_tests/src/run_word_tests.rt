@@ -11,7 +11,7 @@ fastver run
 fastver run --key 00000000000000000000000000000000 --verifiers 0 --shards 2 --logs x
 fastver run --key 00000000000000000000000000000000 --verifiers 1 --shards 3 --logs x
 fastver run --key 000000000000000000000000000000 --verifiers 1 --shards 2 --logs x
-fastver run --key 00000000000000000000000000000000 --verifiers 1 --shards 2 --logs x --receipts=yes
+fastver run --key 00000000000000000000000000000000 --verifiers 65 --shards 2 --logs x
 fastver run --key 00000000000000000000000000000000 --verifiers 1 --shards 2 --logs x --counter 16777216
 ";
 

@@ -36,10 +36,10 @@ returns-in-Ok-Check-clause-answers g c = λ asked known.
       faults = g.V.Sink.faults c.args.vault.now;
       faults_after = g.V.Sink.faults c.args.vault.now;
     } in
-    let own = asked_is _ asked (Check c.in-Ok-Check.words') c.in-Ok-Check.field-0 known c.in-Ok-Check.ensures.asked c.in-Ok-Check.field-0-is in
+    let own = asked_is _ asked (Check c.in-Ok-Check.checking) c.in-Ok-Check.field-0 known c.in-Ok-Check.ensures.asked c.in-Ok-Check.field-0-is in
     subst (λ (a : Asked). AnswersFor a (2 ^ 40) c.check.result read wrote kept) own
-    (subst (λ (block : List ℕ). AnswersTo (check_answer c.in-Ok-Check.words'.receipts (sha_functions block)) reading_end (2 ^ 40) c.check.result read wrote)
-    c.digests_under.ensures.value c.check.ensures.answers)
+    (subst (λ (block : List ℕ). AnswersTo (check_answer c.in-Ok-Check.checking.receipts (sha_functions block)) reading_end (2 ^ 40) c.check.result read wrote)
+    c.digests_under-d.ensures.value c.check.ensures.answers)
 
 pub returns-in-Ok-Audit-clause-answers : goal.returns-in-Ok-Audit-clause-answers
 returns-in-Ok-Audit-clause-answers g c = λ asked known.
@@ -66,7 +66,7 @@ returns-in-Ok-Audit-clause-answers g c = λ asked known.
     let own = asked_is _ asked (Audit c.in-Ok-Audit.key) c.in-Ok-Audit.field-0 known c.in-Ok-Audit.ensures.asked c.in-Ok-Audit.field-0-is in
     subst (λ (a : Asked). AnswersFor a (2 ^ 40) c.audit_text.result read wrote kept) own
     (subst (λ (block : List ℕ). AnswersTo (audit_answer (sha_functions block)) reading_end (2 ^ 40) c.audit_text.result read wrote)
-    c.digests_under-in-Ok-Audit.ensures.value c.audit_text.ensures.answers)
+    c.digests_under.ensures.value c.audit_text.ensures.answers)
 
 pub returns-in-Ok-Run-clause-answers : goal.returns-in-Ok-Run-clause-answers
 returns-in-Ok-Run-clause-answers g c = λ asked known.
@@ -94,7 +94,7 @@ returns-in-Ok-Run-clause-answers g c = λ asked known.
     let own = asked_is _ asked (Run run) c.in-Ok-Run.field-0 known c.in-Ok-Run.ensures.asked c.in-Ok-Run.field-0-is in
     subst (λ (a : Asked). AnswersFor a (2 ^ 40) c.run_script.result read wrote kept) own
     (subst (λ (block : List ℕ). RunsTo (sha_functions block) run (2 ^ 40) c.run_script.result read wrote kept)
-    c.digests_under-d.ensures.value c.run_script.ensures.runs)
+    c.digests_under-d-in-Ok-Run.ensures.value c.run_script.ensures.runs)
 
 pub returns-in-Ok-Accept-clause-answers : goal.returns-in-Ok-Accept-clause-answers
 returns-in-Ok-Accept-clause-answers g c = λ asked known.
