@@ -64,15 +64,7 @@ pub(crate) fn program_at<R: Threads + Wait + Sync, G: Gate + Sync>(
     let mut source = MemorySource::new(alloc, bytes, piece, fails.0)?;
     let mut out = MemorySink::new(alloc, ROOM, piece, fails.1)?;
     let mut vault = MemoryVault::new(alloc, ROOM, piece, fails.2)?;
-    let status = fastver(
-        rt,
-        alloc,
-        &words,
-        &mut source,
-        &mut out,
-        &mut vault,
-        gate,
-    );
+    let status = fastver(rt, alloc, &words, &mut source, &mut out, &mut vault, gate);
     Ok((Objects { source, out, vault }, status))
 }
 

@@ -174,7 +174,10 @@ fn workers_at_one_key_are_served_in_some_order(rt: HostRuntime) -> Result<(), Fa
         let (objects, status) = served(&rt, rt.alloc(), &line, script, 100_000)?;
         assert_eq!(rt; status, Status::Done { epochs: 1 }, "{turn}");
         let written = objects.out.bytes();
-        assert!(rt; ORDERS.iter().any(|order| order.as_bytes() == written), "{turn}");
+        assert!(rt;
+            ORDERS.iter().any(|order| order.as_bytes() == written),
+            "{turn}"
+        );
     }
     Ok(())
 }
