@@ -1,0 +1,163 @@
+//! What a receipt and a certificate come to, whole, in other texts, and with one bit or one letter changed.
+use crate::asking::{ACCEPT, Asked, REPORT, ask, line_at, text_of};
+use std::alloc::Global;
+use std::process::Abort;
+use std::sync::Wait;
+use std::test::Fail;
+use std::thread::Threads;
+
+// The letters of a text, its status and, if something is written, that line.
+const TEXTS: &str = "
+P/C/    | done 0 | accepted 0.3 v0 put 5 6162
+P/C     | done 0 | accepted 0.3 v0 put 5 6162
+G/C/    | done 0 | accepted 0.5 v0 get 5 6162
+P/D/    | done 0 | accepted 0.3 v0 put 5 6162
+L/D/    | done 0 | accepted 1.5 v0 get 5 6162
+L/C/    | not certified | not certified
+Q/C/    | not tagged | not tagged
+P/E/    | not tagged | not tagged
+Q/E/    | not tagged | not tagged
+L/E/    | not tagged | not tagged
+        | bad script line 1 Shape |
+/       | bad script line 1 Shape |
+C/P/    | bad script line 1 Shape |
+/P/C/   | bad script line 1 Shape |
+P^/C^/  | bad script line 1 Hex |
+P0/C/   | bad script line 1 Hex |
+P/      | bad script line 2 Shape |
+P//C/   | bad script line 2 Shape |
+P/P/    | bad script line 2 Shape |
+P/C^/   | bad script line 2 Hex |
+P/C0    | bad script line 2 Hex |
+P/C//   | bad script line 3 Shape |
+P/C/P/  | bad script line 3 Shape |
+P/C/C/  | bad script line 3 Shape |
+";
+
+// The field of a row at this place, counted from 0.
+fn field(row: &str, place: usize) -> Result<&str, Fail> {
+    match row.split('|').nth(place) {
+        Some(text) => Ok(text.trim()),
+        None => Err("a row with too few fields")?,
+    }
+}
+
+// The exit status that goes with these words.
+fn number_of(words: &str) -> u8 {
+    match words {
+        "done 0" => 0,
+        "not tagged" => 11,
+        "not certified" => 12,
+        _ => 6,
+    }
+}
+
+// The vault is as it was made.
+fn assert_unused<R: Abort>(rt: &R, asked: &Asked) {
+    assert!(rt; asked.vault.bytes().is_empty());
+    assert!(rt; asked.vault.name_taken().is_none());
+}
+
+#[test]
+fn texts_are_accepted_or_refused(rt: HostRuntime) -> Result<(), Fail> {
+    for row in TEXTS.trim_matches('\n').lines() {
+        let text = text_of(rt.alloc(), field(row, 0)?)?;
+        let asked = ask(&rt, rt.alloc(), ACCEPT, &text, (&[], &[]))?;
+        let (words, line) = (field(row, 1)?, field(row, 2)?);
+        assert_eq!(rt; asked.status.line().as_slice(), words.as_bytes(), "{row}");
+        assert_eq!(rt; asked.status.number(), number_of(words), "{row}");
+        // What is written is the line and its end, or nothing.
+        let written = asked.out.bytes();
+        assert_eq!(rt;
+            written.strip_suffix(b"\n").unwrap_or(b""),
+            line.as_bytes(),
+            "{row}"
+        );
+        assert_eq!(rt; written.is_empty(), line.is_empty(), "{row}");
+        assert_unused(&rt, &asked);
+    }
+    Ok(())
+}
+
+// The bytes of digits with one bit changed, as digits.
+fn changed(alloc: Global, digits: &str, bit: usize) -> Result<String, Fail> {
+    let mut bytes = hex::decode(alloc, digits)?;
+    if let Some(byte) = bytes.get_mut(bit / 8) {
+        *byte ^= 1 << (bit % 8);
+    }
+    Ok(hex::encode(alloc, bytes.as_slice())?)
+}
+
+// What these digits come to, of a receipt and of a certificate.
+fn accept<R: Threads + Wait + Sync>(
+    rt: &R,
+    alloc: Global,
+    receipt: &str,
+    certificate: &str,
+) -> Result<Asked, Fail> {
+    let text = format!(in alloc; "receipt {receipt}\ncertificate {certificate}\n")?;
+    ask(rt, alloc, ACCEPT, text.as_bytes(), (&[], &[]))
+}
+
+// A text is refused: because its tag isn't that of what it says, or because it says nothing.
+fn assert_refused<R: Abort>(rt: &R, bit: usize, asked: &Asked, is_read: bool) {
+    let (number, written): (u8, &str) = if is_read {
+        (11, "not tagged\n")
+    } else {
+        (6, "")
+    };
+    assert_eq!(rt; asked.status.number(), number, "{bit}");
+    assert_eq!(rt; asked.out.bytes(), written.as_bytes(), "{bit}");
+}
+
+// The digits of the receipt of the put, and those of the first certificate.
+fn digits() -> Result<(&'static str, &'static str), Fail> {
+    let receipt = line_at(REPORT, 2)?.strip_prefix("receipt ");
+    let certificate = line_at(REPORT, 5)?.strip_prefix("certificate ");
+    match (receipt, certificate) {
+        (Some(receipt), Some(certificate)) => Ok((receipt, certificate)),
+        _ => Err("lines that are none")?,
+    }
+}
+
+#[test]
+fn no_bit_of_a_receipt_may_change(rt: HostRuntime) -> Result<(), Fail> {
+    let (receipt, certificate) = digits()?;
+    for bit in 0..8 * 64 {
+        let other = changed(rt.alloc(), receipt, bit)?;
+        let asked = accept(&rt, rt.alloc(), &other, certificate)?;
+        // The slow program reads no receipt in 31 of them: the 8 bits of its first byte, the 7 that make a get or a put
+        // another command, and the 16 of the kind and of the length of its value.
+        let is_read = !matches!(bit, 0..8 | 153..160 | 224..240);
+        assert_refused(&rt, bit, &asked, is_read);
+    }
+    Ok(())
+}
+
+#[test]
+fn no_bit_of_a_certificate_may_change(rt: HostRuntime) -> Result<(), Fail> {
+    let (receipt, certificate) = digits()?;
+    for bit in 0..8 * 41 {
+        let other = changed(rt.alloc(), certificate, bit)?;
+        let asked = accept(&rt, rt.alloc(), receipt, &other)?;
+        // The slow program reads no certificate in 8 of them: the bits of its first byte.
+        assert_refused(&rt, bit, &asked, 8 <= bit);
+    }
+    Ok(())
+}
+
+#[test]
+fn no_letter_may_be_a_capital(rt: HostRuntime) -> Result<(), Fail> {
+    let text = text_of(rt.alloc(), "P/C/")?;
+    for place in 0..text.len() {
+        let mut other = Vec::from_slice(rt.alloc(), &text)?;
+        if let Some(byte) = other.get_mut(place) {
+            *byte = byte.to_ascii_uppercase();
+        }
+        let asked = ask(&rt, rt.alloc(), ACCEPT, &other, (&[], &[]))?;
+        let number = if other == text { 0 } else { 6 };
+        assert_eq!(rt; asked.status.number(), number, "{place}");
+        assert_eq!(rt; asked.out.bytes().is_empty(), other != text, "{place}");
+    }
+    Ok(())
+}
