@@ -5,7 +5,7 @@ scripts with a line that is none.
 """
 # What the slow program does and the built one doesn't yet, so that it must refuse words that ask for it: commands and
 # options, and more workers than so many.
-LATER = ["gen"]
+LATER = []
 MOST_WORKERS = 64
 
 BITS = 64
