@@ -243,7 +243,7 @@ fn add_round(
         let Some(key) = keys.get(round % keys.len().max(1)) else {
             return Ok(());
         };
-        let ask = if (usize::from(worker) + round) % 3 == 0 {
+        let ask = if (usize::from(worker) % 3 + round % 3) % 3 == 0 {
             format!(in alloc; "{worker} put {key} {worker:04x}\n")?
         } else {
             format!(in alloc; "{worker} get {key}\n")?
