@@ -55,7 +55,15 @@ fn digests_that_collide_certify_what_is_not_serial(rt: HostRuntime) -> Result<()
         let bytes = bytes_of(&rt, rt.alloc(), case);
         let mut source = MemorySource::new(rt.alloc(), &bytes, 7, &[])?;
         let mut out = MemorySink::new(rt.alloc(), 10_000, 7, &[])?;
-        let status = check(&rt, rt.alloc(), &ToyDigests, 1 << 40, &mut source, &mut out, false);
+        let status = check(
+            &rt,
+            rt.alloc(),
+            &ToyDigests,
+            1 << 40,
+            &mut source,
+            &mut out,
+            false,
+        );
         let label = case.label;
         assert_eq!(rt; out.bytes(), case.report.as_bytes(), "{label}");
         assert_eq!(rt; status.number(), case.status, "{label}");
