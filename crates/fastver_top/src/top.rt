@@ -88,10 +88,11 @@ pub fn fastver<R: Threads + Wait + Sync, S: Source, O: Sink, V: Vault, G: Gate +
     ensures vault { ((run : RunWords) → asked_of (map (λ word. word.now) words.now) ≢ Some (Asked.Run run))
         → ((load : GenWords) → asked_of (map (λ word. word.now) words.now) ≢ Some (Asked.Gen load)) → vault.new ≡ vault.old }
 
-    // The headline, of any bytes and with nothing premised of who made them: the answer lines of a check, of the source's
-    // bytes or of those that a run or a load wrote to its vault, are all the operations of the certified epochs, in an order that keeps each verifier's; there is nothing to exhibit and each
-    // get answers the last put to its key, or the exhibit is a real collision: two different strings with one digest,
-    // or two different multisets with one sum. What an audit exhibits is such a collision.
+    // The headline, of any bytes and with nothing premised of who made them: the answer lines of a check, of the source's bytes or
+    // of those that a run or a load wrote to its vault, are all the operations of the certified epochs, in an order that keeps
+    // each verifier's; there is nothing to exhibit and each get answers the last put to its key, or the exhibit is a real
+    // collision: two different strings with one digest, or two different multisets with one sum. What an audit exhibits is such
+    // a collision.
     ensures headline { (asked : Asked) → asked_of (map (λ word. word.now) words.now) ≡ Some asked
         → IfSome (bundle_for asked (S.left source.old) (V.held vault.new)) (IsSoundFor asked) }
     ensures collides { (asked : Asked) → asked_of (map (λ word. word.now) words.now) ≡ Some asked → result ≡ Status.Exhibit
