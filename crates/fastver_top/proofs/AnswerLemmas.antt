@@ -2,7 +2,7 @@
 use Rattle.std.proofs.Common.{◌≡◌, ℕ, List, Option, Some, None, IfSome, refl, sym, ◌∙◌, ap, inr, arith}
 use Rattle.fv_outside.specs.Consumed.{TookAtMost}
 use Rattle.record_hash.specs.ShaDigests.{sha_under}
-use Rattle.program_words.specs.declared.words.Asked.TheVariants.{Check, Audit, Run, Accept}
+use Rattle.program_words.specs.declared.words.Asked.TheVariants.{Check, Audit, Run, Gen, Accept}
 use Rattle.report_text.specs.declared.status.Status.TheVariants.{Memory}
 use Rattle.report_text.proofs.AnsweringLaws.{answers-none}
 use Rattle.bundle_frames.specs.Extent.{reading_end}
@@ -13,6 +13,7 @@ use Rattle.fastver_top.specs.Auditing.{sha_audit_answer}
 use Rattle.fastver_top.specs.Answers.{asked_key, AnswersFor, bundle_for, IsSoundFor}
 use Rattle.check_core.specs.declared.stops.ReadStop.TheVariants as reads
 use Rattle.fastver_top.proofs.RunLemmas.{cut-none, runs-memory}
+use Rattle.fastver_top.proofs.LoadLemmas.{gens-nothing}
 use Rattle.fastver_top.proofs.AcceptLemmas.{answers-unread}
 
 abbrev inside : Asked → Option Asked → Asked
@@ -43,6 +44,8 @@ answers-nothing (Run run) most left held vault name r r' w w' v v' =
     runs-memory (sha_under run.key) run most _ _ _ (took_none most left)
     (cut-none run.receipts (sha_under run.key) (record { vault = vault; vault_after = vault; out = held; out_after = held }) refl refl)
     (inr (record { unnamed = refl; vault = refl; out = refl }))
+answers-nothing (Gen load) most left held vault name r r' w w' v v' =
+    gens-nothing (sha_under load.key) load _ _ (record { unnamed = refl; vault = refl; out = refl })
 answers-nothing (Accept key) most left held vault name r r' w w' v v' =
     answers-unread (sha_under key) most
     (record { left = left; left_after = left; faults = r; faults_after = r' }) (record { held = held; held_after = held; faults = w; faults_after = w' })

@@ -4,5 +4,6 @@ mod ReadLemmas
 mod ServedLemmas
 mod RunLemmas
 mod SettingLemmas
+mod LoadLemmas
 mod AcceptLemmas
 mod AnswerLemmas

@@ -2,7 +2,7 @@
 use Rattle.std.specs.Prelude.{◌≡◌, ◌⊎◌, ℕ, List, Option, None}
 use Rattle.record_hash.specs.ShaDigests.{sha_under}
 use Rattle.program_words.specs.declared.words.Asked.{Asked}
-use Rattle.program_words.specs.declared.words.Asked.TheVariants.{Check, Audit, Run, Accept}
+use Rattle.program_words.specs.declared.words.Asked.TheVariants.{Check, Audit, Run, Gen, Accept}
 use Rattle.report_text.specs.declared.status.Status.{Status}
 use Rattle.report_text.specs.declared.status.Status.TheVariants as statuses
 use Rattle.report_text.specs.Answer.{Reading, Writing, AnswersTo}
@@ -12,6 +12,7 @@ use Rattle.bundle_report.specs.Answer.{sha_check_answer}
 use Rattle.bundle_report.specs.Headline.{IsShaSound}
 use Rattle.fastver_top.specs.Auditing.{sha_audit_answer, ExhibitCollides}
 use Rattle.fastver_top.specs.Running.{Keeping, RunsTo}
+use Rattle.fastver_top.specs.Generating.{GensTo, IsGenStatus}
 use Rattle.fastver_top.specs.Accepting.{sha_accept_answer, AnswersWhole, IsAcceptStatus}
 
 -- the key that was given
@@ -19,15 +20,17 @@ abbrev pub asked_key : Asked → List ℕ
 asked_key (Check check) = check.key
 asked_key (Audit key) = key
 asked_key (Run run) = run.key
+asked_key (Gen load) = load.key
 asked_key (Accept key) = key
 
 -- What the program does, by what was asked, where it reads no more than so many bytes: the text and the status that a check,
--- an audit or an acceptance answers to the source's bytes, and how a run serves them as a script.
+-- an audit or an acceptance answers to the source's bytes, how a run serves them as a script, and how a load is served.
 abbrev pub AnswersFor : Asked → ℕ → Status → Reading → Writing → Keeping → Type 0
 AnswersFor (Check check) most result reading writing keeping =
     AnswersTo (sha_check_answer check.receipts check.key) reading_end most result reading writing
 AnswersFor (Audit key) most result reading writing keeping = AnswersTo (sha_audit_answer key) reading_end most result reading writing
 AnswersFor (Run run) most result reading writing keeping = RunsTo (sha_under run.key) run most result reading writing keeping
+AnswersFor (Gen load) most result reading writing keeping = GensTo (sha_under load.key) load result writing keeping
 AnswersFor (Accept key) most result reading writing keeping = AnswersWhole (sha_accept_answer key) most result reading writing
 
 -- a status that an audit can end with
@@ -54,20 +57,24 @@ IsRunStatus (statuses.InputLimit taken) = Unit {0}
 
 -- a status that the program can end with
 abbrev pub IsProgramStatus : Status → Type 0
-IsProgramStatus status = IsAuditStatus status ⊎ (IsRunStatus status ⊎ (IsAcceptStatus status ⊎ status ≡ statuses.Usage))
+IsProgramStatus status =
+    IsAuditStatus status ⊎ (IsRunStatus status ⊎ (IsGenStatus status ⊎ (IsAcceptStatus status ⊎ status ≡ statuses.Usage)))
 
 -- a status that the program can end with, by what was asked
 abbrev pub IsStatusOf : Asked → Status → Type 0
 IsStatusOf (Check check) status = IsCheckStatus status
 IsStatusOf (Audit key) status = IsAuditStatus status
 IsStatusOf (Run run) status = IsRunStatus status
+IsStatusOf (Gen load) status = IsGenStatus status
 IsStatusOf (Accept key) status = IsAcceptStatus status
 
--- the bundle that it is about: what the source has, and of a run what the vault then holds; an acceptance is about none
+-- the bundle that it is about: what the source has, and of a run or a load what the vault then holds; an acceptance is about
+-- none
 abbrev pub bundle_for : Asked → Option (List ℕ) → Option (List ℕ) → Option (List ℕ)
 bundle_for (Check check) left held = left
 bundle_for (Audit key) left held = left
 bundle_for (Run run) left held = held
+bundle_for (Gen load) left held = held
 bundle_for (Accept key) left held = None
 
 -- the headline, under the key that was given

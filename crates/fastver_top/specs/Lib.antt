@@ -1,6 +1,7 @@
 -- What the clauses of the top call cite, in reading order.
 pub mod Auditing
 pub mod Running
+pub mod Generating
 pub mod Accepting
 pub mod Answers
 pub use Rattle.check_core.specs

@@ -2,7 +2,8 @@
 //!
 //! `fastver` in `top.rt` is what the program runs: `program_words` reads its words, a check is `check_core`'s,
 //! and an audit is `audit_text` in `auditing.rt`, which asks `collision_exhibit` for what there is to exhibit. A run is
-//! `run_script` in `running.rt`: a script is read whole by `scripts.rt`, and `verifier_threads` serves it. `accept_text` in
+//! `run_script` in `running.rt`: a script is read whole by `scripts.rt`, and `verifier_threads` serves it. `serve_generated`
+//! in `generating.rt` serves a load that is made of a seed in place of a script, and writes its summary. `accept_text` in
 //! `accepting.rt` reads a receipt and a certificate by `receipt_lines`, and says by `receipts` whether the receipt is accepted.
 //! The crate stands on these, and on the objects of `fv_outside`. Begin with `fastver`, beside
 //! `specs/Answers.antt`.
@@ -11,6 +12,7 @@
 mod accepting;
 mod audit_end;
 mod auditing;
+mod generating;
 mod reading;
 mod running;
 mod scripts;
@@ -19,6 +21,7 @@ mod top;
 pub use accepting::accept_text;
 pub use audit_end::AuditEnd;
 pub use auditing::audit_text;
+pub use generating::serve_generated;
 pub use reading::read_all;
 pub use record_text::{Exhibit, Refusal};
 pub use report_text::Status;

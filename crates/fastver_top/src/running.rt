@@ -15,7 +15,7 @@ use host_fits::scripts_ask_for_keys_in_range;
 use host_rounds::RoundStop;
 use host_world::Settings;
 use lamport_clocks::Header;
-use program_words::{HostNumbers, RunWords};
+use program_words::{HostNumbers, PathWord, RunWords};
 use record_hash::Digests;
 use report_text::Status;
 use run_reports::a_check_of_the_logs_ends_as_the_host_promises;
@@ -98,7 +98,7 @@ fn serve<R: Threads + Wait + Sync, D: Digests + Sync, V: Vault, O: Sink, G: Gate
     ensures vault_fault { result ≡ Err RoundStop.VaultFault → Rose (V.faults vault.old) (V.faults vault.new) }
     ensures write_fault { result ≡ Err RoundStop.WriteFault → Rose (O.faults out.old) (O.faults out.new) }
 {
-    match name_vault(run, vault) {
+    match name_vault(&run.logs, vault) {
         Ok(()) => {
             let settings = settings_for(&run.numbers);
             serve_script(
@@ -117,22 +117,22 @@ fn serve<R: Threads + Wait + Sync, D: Digests + Sync, V: Vault, O: Sink, G: Gate
     }
 }
 
-// Names the vault, if the words say so.
-fn name_vault<V: Vault>(run: &RunWords, vault: &mut V) -> Result<(), Failed>
+/// Names the vault, if words say how.
+pub(crate) fn name_vault<V: Vault>(logs: &Option<PathWord>, vault: &mut V) -> Result<(), Failed>
     requires fresh { V.fresh vault.old }
-    ensures named { OnOk result (IsNamedFor run.now.logs (V.name vault.old) (V.name vault.new)) }
+    ensures named { OnOk result (IsNamedFor logs.now (V.name vault.old) (V.name vault.new)) }
     ensures unnamed { OnErr result (V.name vault.new ≡ V.name vault.old) }
     ensures bytes { V.held vault.new ≡ V.held vault.old }
     ensures counts { Counts (V.faults vault.old) (V.faults vault.new) result }
 {
-    match &run.logs {
+    match logs {
         Some(path) => vault.name(path.as_str()),
         None => Ok(()),
     }
 }
 
-// What a host of these numbers is set to.
-fn settings_for(numbers: &HostNumbers) -> Settings
+/// What a host of these numbers is set to.
+pub(crate) fn settings_for(numbers: &HostNumbers) -> Settings
     ensures value { result ≡ settings_for numbers.now }
     ensures in_range { AreHostNumbers numbers.now → IsSettings result }
 {
@@ -148,8 +148,8 @@ fn settings_for(numbers: &HostNumbers) -> Settings
     }
 }
 
-// The status of a run that stops so.
-fn status_of(stop: RoundStop) -> Status
+/// The status of a run that stops so.
+pub(crate) fn status_of(stop: RoundStop) -> Status
     ensures value { result ≡ run_stopped stop }
 {
     match stop {

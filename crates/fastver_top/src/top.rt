@@ -4,6 +4,7 @@ ghost use Rattle.record_hash.specs.Hmac.{key_block};
 ghost use Rattle.program_words.specs.Words.{asked_of};
 ghost use Rattle.program_words.specs.declared.words.Asked.{Asked};
 ghost use Rattle.program_words.specs.declared.host_words.RunWords.{RunWords};
+ghost use Rattle.program_words.specs.declared.load_words.GenWords.{GenWords};
 ghost use Rattle.fv_outside.specs.Consumed.{TookAtMost};
 ghost use Rattle.report_text.specs.Answer.{IsEnd};
 ghost use Rattle.fastver_top.specs.Answers.{AnswersFor, bundle_for, CollidesFor, IsProgramStatus, IsSoundFor, IsStatusOf};
@@ -12,6 +13,7 @@ ghost use Rattle.fastver_top.specs.Accepting.{IsBeforeAnswer};
 
 use crate::accepting::accept_text;
 use crate::auditing::audit_text;
+use crate::generating::serve_generated;
 use crate::running::run_script;
 use check_core::check;
 use fv_outside::{Gate, Sink, Source, Vault};
@@ -31,8 +33,9 @@ pub const INPUT_LIMIT: u64 = 1 << 40;
 /// each certified epoch and each certified operation, and a last line; with `--receipts` also what a client can keep of them.
 /// `fastver audit --key HEX` writes what there is to exhibit of the certified epochs, and the same last line. `fastver run` with a
 /// key and the numbers of a host reads a script, serves it, writes the bundle of its logs to the vault, and to the sink the
-/// report of that bundle. `fastver accept --key HEX` reads a receipt and a certificate, and writes whether the receipt is accepted. But by
-/// a run the vault is left as it is.
+/// report of that bundle. `fastver gen` with a key, a seed and such numbers makes a script in place of reading one, serves it so,
+/// and writes how often each worker got, put and deleted, in place of the report. `fastver accept --key HEX` reads a receipt and
+/// a certificate, and writes whether the receipt is accepted. But by a run and by a load the vault is left as it is.
 #[tactic(auto, using(crate::proofs::AnswerLemmas::left_is_sound))]
 pub fn fastver<R: Threads + Wait + Sync, S: Source, O: Sink, V: Vault, G: Gate + Sync>(
     rt: &R,
@@ -52,7 +55,7 @@ pub fn fastver<R: Threads + Wait + Sync, S: Source, O: Sink, V: Vault, G: Gate +
     ensures refused { asked_of (map (λ word. word.now) words.now) ≡ None → result ≡ Status.Usage ⊎ result ≡ Status.Memory }
 
     // Where they ask for something: what is written, the status, what was taken of the source, and the faults. A check and an
-    // audit answer to the source's bytes, and a run serves them as a script, under the key of the words.
+    // audit answer to the source's bytes, a run serves them as a script, and a load is served as one, under the key of the words.
     ensures answers { (asked : Asked) → asked_of (map (λ word. word.now) words.now) ≡ Some asked
         → AnswersFor asked (2 ^ 40) result
         (record { left = S.left source.old; left_after = S.left source.new; faults = S.faults source.old; faults_after = S.faults source.new })
@@ -75,14 +78,18 @@ pub fn fastver<R: Threads + Wait + Sync, S: Source, O: Sink, V: Vault, G: Gate +
     ensures run_unnamed { (run : RunWords) → asked_of (map (λ word. word.now) words.now) ≡ Some (Asked.Run run)
         → IsBeforeRun result → vault.new ≡ vault.old }
 
-    // Where they ask for nothing, nothing is read and nothing written, whatever the answer. But by a run the vault is never
-    // named or written.
+    // A load is made of its seed: nothing is read.
+    ensures gen_unread { (load : GenWords) → asked_of (map (λ word. word.now) words.now) ≡ Some (Asked.Gen load) → source.new ≡ source.old }
+
+    // Where they ask for nothing, nothing is read and nothing written, whatever the answer. But by a run and by a load the vault
+    // is never named or written.
     ensures unread { asked_of (map (λ word. word.now) words.now) ≡ None → source.new ≡ source.old }
     ensures unwritten { asked_of (map (λ word. word.now) words.now) ≡ None → out.new ≡ out.old }
-    ensures vault { ((run : RunWords) → asked_of (map (λ word. word.now) words.now) ≢ Some (Asked.Run run)) → vault.new ≡ vault.old }
+    ensures vault { ((run : RunWords) → asked_of (map (λ word. word.now) words.now) ≢ Some (Asked.Run run))
+        → ((load : GenWords) → asked_of (map (λ word. word.now) words.now) ≢ Some (Asked.Gen load)) → vault.new ≡ vault.old }
 
     // The headline, of any bytes and with nothing premised of who made them: the answer lines of a check, of the source's
-    // bytes or of those that a run wrote to its vault, are all the operations of the certified epochs, in an order that keeps each verifier's; there is nothing to exhibit and each
+    // bytes or of those that a run or a load wrote to its vault, are all the operations of the certified epochs, in an order that keeps each verifier's; there is nothing to exhibit and each
     // get answers the last put to its key, or the exhibit is a real collision: two different strings with one digest,
     // or two different multisets with one sum. What an audit exhibits is such a collision.
     ensures headline { (asked : Asked) → asked_of (map (λ word. word.now) words.now) ≡ Some asked
@@ -99,6 +106,10 @@ pub fn fastver<R: Threads + Wait + Sync, S: Source, O: Sink, V: Vault, G: Gate +
         Ok(Asked::Run(run)) => {
             let d = digests_under(&run.key);
             run_script(rt, alloc, &d, &run, INPUT_LIMIT, source, out, vault, gate)
+        }
+        Ok(Asked::Gen(load)) => {
+            let d = digests_under(&load.key);
+            serve_generated(rt, alloc, &d, &load, out, vault, gate)
         }
         Ok(Asked::Accept(key)) => {
             accept_text(alloc, &digests_under(&key), INPUT_LIMIT, source, out)

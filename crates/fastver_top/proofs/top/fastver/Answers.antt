@@ -1,13 +1,14 @@
 use Rattle.std.proofs.Common.{◌^◌, ℕ, List, subst}
 use Rattle.record_hash.specs.ShaDigests.{sha_functions}
 use Rattle.program_words.specs.declared.words.Asked.{Asked}
-use Rattle.program_words.specs.declared.words.Asked.TheVariants.{Check, Audit, Run, Accept}
+use Rattle.program_words.specs.declared.words.Asked.TheVariants.{Check, Audit, Run, Gen, Accept}
 use Rattle.bundle_frames.specs.Extent.{reading_end}
 use Rattle.report_text.specs.Answer.{Reading, Writing, AnswersTo}
 use Rattle.bundle_report.specs.Answer.{check_answer}
 use Rattle.fastver_top.specs.Auditing.{audit_answer}
 use Rattle.fastver_top.specs.Answers.{AnswersFor}
 use Rattle.fastver_top.specs.Running.{Keeping, RunsTo}
+use Rattle.fastver_top.specs.Generating.{GensTo}
 use Rattle.fastver_top.specs.Accepting.{accept_answer, AnswersWhole}
 use Rattle.fastver_top.proofs.AnswerLemmas.{answers-nothing, asked_is}
 use Rattle.fastver_top.proofs.top.fastver.Goals as goal
@@ -95,6 +96,34 @@ returns-in-Ok-Run-clause-answers g c = λ asked known.
     subst (λ (a : Asked). AnswersFor a (2 ^ 40) c.run_script.result read wrote kept) own
     (subst (λ (block : List ℕ). RunsTo (sha_functions block) run (2 ^ 40) c.run_script.result read wrote kept)
     c.digests_under-d-in-Ok-Run.ensures.value c.run_script.ensures.runs)
+
+pub returns-in-Ok-Gen-clause-answers : goal.returns-in-Ok-Gen-clause-answers
+returns-in-Ok-Gen-clause-answers g c = λ asked known.
+    let read : Reading = record {
+      left = g.S.Source.left c.args.source.now;
+      left_after = g.S.Source.left c.args.source.now;
+      faults = g.S.Source.faults c.args.source.now;
+      faults_after = g.S.Source.faults c.args.source.now;
+    } in
+    let wrote : Writing = record {
+      held = g.O.Sink.held c.args.out.now;
+      held_after = g.O.Sink.held c.serve_generated.new.out;
+      faults = g.O.Sink.faults c.args.out.now;
+      faults_after = g.O.Sink.faults c.serve_generated.new.out;
+    } in
+    let kept : Keeping = record {
+      held = g.V.Sink.held c.args.vault.now;
+      held_after = g.V.Sink.held c.serve_generated.new.vault;
+      name = g.V.Sink.name c.args.vault.now;
+      name_after = g.V.Sink.name c.serve_generated.new.vault;
+      faults = g.V.Sink.faults c.args.vault.now;
+      faults_after = g.V.Sink.faults c.serve_generated.new.vault;
+    } in
+    let load = c.in-Ok-Gen.load in
+    let own = asked_is _ asked (Gen load) c.in-Ok-Gen.field-0 known c.in-Ok-Gen.ensures.asked c.in-Ok-Gen.field-0-is in
+    subst (λ (a : Asked). AnswersFor a (2 ^ 40) c.serve_generated.result read wrote kept) own
+    (subst (λ (block : List ℕ). GensTo (sha_functions block) load c.serve_generated.result wrote kept)
+    c.digests_under-d-in-Ok-Gen.ensures.value c.serve_generated.ensures.generates)
 
 pub returns-in-Ok-Accept-clause-answers : goal.returns-in-Ok-Accept-clause-answers
 returns-in-Ok-Accept-clause-answers g c = λ asked known.

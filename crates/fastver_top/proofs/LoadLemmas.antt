@@ -1,0 +1,238 @@
+-- A load asks what a line of a script can ask, and what serving it does, by how it ends.
+use Rattle.std.proofs.Common.{◌≡◌, ◌⊎◌, ℕ, zero, suc, ◌+◌, ◌*◌, ◌^◌, ◌/◌, ◌%◌, ◌<◌, ◌≤◌, Bool, true, false, nat_lt, List, [], ◌∷◌, ◌++◌, length, get_or, Some, None, Ok, Err, inl, inr, refl, sym, subst, arith, if◌then◌else◌}
+use Rattle.std.specs.Int.{w64, bytes_high_first, byte_at, to_be_bytes}
+use Rattle.std.specs.List.{AllByRecursion, onto_first}
+use Rattle.std.specs.Option.{ForSome}
+use Rattle.std.proofs.lemmas.Bool.{false≢true}
+use Rattle.std.proofs.lemmas.Nat.{mod_below}
+use Rattle.fv_outside.specs.Faults.{Rose}
+use Rattle.fv_outside.proofs.WrittenLaws.{Grows-same}
+use Rattle.record_hash.specs.Functions.{DigestFunctions}
+use Rattle.record_text.specs.declared.request.Request.{Request}
+use Rattle.record_text.proofs.FieldLaws.{AreBytes}
+use Rattle.program_words.specs.declared.load_words.GenWords.{GenWords}
+use Rattle.report_text.specs.declared.status.Status.TheVariants as statuses
+use Rattle.report_text.specs.Answer.{IsEnd, Writing}
+use Rattle.script_text.specs.declared.shape.Shape.{Shape}
+use Rattle.script_text.specs.declared.task.Task.{Task}
+use Rattle.script_text.specs.declared.task.Line.{Line}
+use Rattle.script_text.specs.declared.task.Line.TheVariants as said
+use Rattle.script_text.specs.Script.{phases_of}
+use Rattle.script_text.specs.Text.{IsTask, AreTasks}
+use Rattle.script_text.specs.Generator.{key_for, request_for, task_for, closes_behind, close_behind, lines_made}
+use Rattle.host_rounds.specs.declared.stops.RoundStop.{RoundStop}
+use Rattle.host_rounds.specs.declared.stops.RoundStop.TheVariants as rounds
+use Rattle.verifier_threads.specs.declared.ending.RunEnd.{RunEnd}
+use Rattle.verifier_threads.specs.declared.ending.RunEnd.TheVariants as ends
+use Rattle.verifier_threads.specs.Serving.{Outputs, status_at}
+use Rattle.verifier_threads.specs.Summing.{IsCutBefore, IsCutInSummary, SumsTo}
+use Rattle.fastver_top.specs.Running.{run_stopped, settings_for, Keeping, outputs_of, IsNamedFor, IsUntouched}
+use Rattle.fastver_top.specs.Generating.{shape_for, script_for, load_for, GensTo}
+
+-- ---- what a load asks
+
+-- the bytes of a number are bytes
+bytes_fit : (k n i : ℕ) → get_or (bytes_high_first k n) i 0 < 256
+bytes_fit zero n zero = omega arith
+bytes_fit zero n (suc i) = omega arith
+bytes_fit (suc k) n zero = byte_fits k n
+  where
+    byte_fits : (at n : ℕ) → byte_at at n < 256
+    byte_fits zero n = mod_below n 256 (omega arith)
+    byte_fits (suc at) n = mod_below (n / 256 ^ suc at) 256 (omega arith)
+bytes_fit (suc k) n (suc i) = bytes_fit k n i
+
+-- what a line can ask
+abbrev IsAskable : Request → Type 0
+IsAskable request =
+    (request.key < 2 ^ 64) × ForSome request.value (λ bytes. length bytes ≤ 64) × ForSome request.value AreBytes
+    × (request.put ≡ false → request.value ≡ None)
+
+-- a get, a put of eight bytes and a put of none
+abbrev get_of : ℕ → Request
+get_of key = record { put = false; key = key; value = None }
+
+abbrev put_of : ℕ → ℕ → Request
+put_of key draw = record { put = true; key = key; value = Some (to_be_bytes w64 draw) }
+
+abbrev del_of : ℕ → Request
+del_of key = record { put = true; key = key; value = None }
+
+get_asked : (key : ℕ) → key < 2 ^ 64 → IsAskable (get_of key)
+get_asked key fits = (fits, λ bytes is. absurd (cc), λ bytes is. absurd (cc), λ _. refl)
+
+put_asked : (key draw : ℕ) → key < 2 ^ 64 → IsAskable (put_of key draw)
+put_asked key draw fits = (
+  fits,
+  λ bytes is. let same : to_be_bytes w64 draw ≡ bytes = cc in subst (λ (b : List ℕ). length b ≤ 64) same (omega arith),
+  λ bytes is. let same : to_be_bytes w64 draw ≡ bytes = cc in subst AreBytes same (bytes_fit 8 draw),
+  λ is. absurd (false≢true (sym is)),
+)
+
+del_asked : (key : ℕ) → key < 2 ^ 64 → IsAskable (del_of key)
+del_asked key fits = (fits, λ bytes is. absurd (cc), λ bytes is. absurd (cc), λ is. absurd (false≢true (sym is)))
+
+asked_for : (key draw : ℕ) → key < 2 ^ 64 → IsAskable (request_for key draw)
+unfolding request_for
+asked_for key draw fits = go (nat_lt (draw / 2 ^ 60) 8) (nat_lt (draw / 2 ^ 60) 15)
+  where
+    go : (get put : Bool) → IsAskable (if get then get_of key else if put then put_of key draw else del_of key)
+    go true true = get_asked key fits
+    go true false = get_asked key fits
+    go false true = put_asked key draw fits
+    go false false = del_asked key fits
+
+key_fits : (shape : Shape) (worker draw : ℕ) → key_for shape worker draw < 2 ^ 64
+unfolding key_for
+key_fits shape worker draw =
+    mod_below ((draw / 2 ^ 33 % shape.keys * shape.verifiers + worker) * 11400714819323198485) (2 ^ 64) (omega arith)
+
+task_fits : (shape : Shape) (number first second : ℕ) → 0 < shape.verifiers → IsTask shape.verifiers (task_for shape number first second)
+unfolding task_for
+task_fits shape number first second some =
+    let asked = asked_for (key_for shape (number % shape.verifiers) first) second (key_fits shape (number % shape.verifiers) first) in
+    record { worker = mod_below number shape.verifiers some; key = asked.0; size = asked.1; bytes = asked.2; get = asked.3 }
+
+-- what a line says can be asked
+abbrev IsSaid : ℕ → Line → Type 0
+IsSaid verifiers (said.Task task) = IsTask verifiers task
+IsSaid verifiers said.Epoch = Unit {0}
+
+both-said : (verifiers : ℕ) (front back : List Line) → AllByRecursion (IsSaid verifiers) front → AllByRecursion (IsSaid verifiers) back
+    → AllByRecursion (IsSaid verifiers) (front ++ back)
+both-said verifiers [] back fronts backs = backs
+both-said verifiers (line ∷ front) back fronts backs = (fronts.0, both-said verifiers front back fronts.1 backs)
+
+close-said : (verifiers : ℕ) (shape : Shape) (count : ℕ) → AllByRecursion (IsSaid verifiers) (close_behind shape count)
+unfolding close_behind
+close-said verifiers shape count = go (closes_behind shape count)
+  where
+    go : (closes : Bool) → AllByRecursion (IsSaid verifiers) (if closes then said.Epoch ∷ [] else [])
+    go true = (tt, tt)
+    go false = tt
+
+made-said : (x : ℕ) (shape : Shape) (count : ℕ) → 0 < shape.verifiers → AllByRecursion (IsSaid shape.verifiers) (lines_made x shape count)
+unfolding lines_made
+made-said x shape zero some = tt
+made-said x shape (suc count) some =
+    both-said shape.verifiers (lines_made x shape count) _ (made-said x shape count some)
+    (task_fits shape count _ _ some, close-said shape.verifiers shape (suc count))
+
+onto-asked : (verifiers : ℕ) (task : Task) (phases : List (List Task)) → IsTask verifiers task → AreTasks verifiers phases → AreTasks verifiers (onto_first task phases)
+onto-asked verifiers task [] own are = ((own, tt), tt)
+onto-asked verifiers task (phase ∷ phases) own are = ((own, are.0), are.1)
+
+phases-asked : (verifiers : ℕ) (lines : List Line) → AllByRecursion (IsSaid verifiers) lines → AreTasks verifiers (phases_of lines)
+unfolding phases_of
+phases-asked verifiers [] are = (tt, tt)
+phases-asked verifiers (said.Epoch ∷ lines) are = (tt, phases-asked verifiers lines are.1)
+phases-asked verifiers (said.Task task ∷ lines) are = onto-asked verifiers task (phases_of lines) are.0 (phases-asked verifiers lines are.1)
+
+-- Each of its tasks is one that a line can ask.
+pub load-asks : (words : GenWords) → 0 < words.numbers.verifiers → AreTasks words.numbers.verifiers (script_for words)
+load-asks words some =
+    phases-asked words.numbers.verifiers (lines_made words.load.seed (shape_for words) words.load.ops)
+    (made-said words.load.seed (shape_for words) words.load.ops some)
+
+-- ---- how it ends
+
+module _ (functions : DigestFunctions) (words : GenWords) (writing : Writing) (keeping : Keeping) where
+  abbrev own_outputs : Outputs
+  own_outputs = outputs_of writing keeping
+
+  -- memory was wanting
+  pub gens-memory : IsCutBefore own_outputs → IsNamedFor words.logs keeping.name keeping.name_after ⊎ IsUntouched keeping.name keeping.name_after own_outputs
+      → GensTo functions words statuses.Memory writing keeping
+  gens-memory before named = record {
+    summed = λ end. absurd end;
+    before = λ _. before;
+    cut = λ is. absurd (cc);
+    named = named;
+    named_at_end = λ is. absurd (not_end is);
+    write_fault = λ is. absurd (cc);
+    vault_fault = λ is. absurd (cc);
+  }
+    where
+      not_end : IsEnd statuses.Memory ⊎ (statuses.Memory ≡ statuses.WriteFault) → ⊥
+      not_end (inl is) = is
+      not_end (inr is) = cc
+
+  -- nothing was done
+  pub gens-nothing : IsUntouched keeping.name keeping.name_after own_outputs → GensTo functions words statuses.Memory writing keeping
+  gens-nothing untouched =
+      gens-memory (record { bytes = []; vault = Grows-same own_outputs.vault own_outputs.vault_after untouched.vault; out = untouched.out }) (inr untouched)
+
+  -- the vault failed
+  gens-vault_fault : IsCutBefore own_outputs → IsNamedFor words.logs keeping.name keeping.name_after ⊎ IsUntouched keeping.name keeping.name_after own_outputs
+      → Rose keeping.faults keeping.faults_after → GensTo functions words statuses.VaultFault writing keeping
+  gens-vault_fault before named rose = record {
+    summed = λ end. absurd end;
+    before = λ _. before;
+    cut = λ is. absurd (cc);
+    named = named;
+    named_at_end = λ is. absurd (not_end is);
+    write_fault = λ is. absurd (cc);
+    vault_fault = λ _. rose;
+  }
+    where
+      not_end : IsEnd statuses.VaultFault ⊎ (statuses.VaultFault ≡ statuses.WriteFault) → ⊥
+      not_end (inl is) = is
+      not_end (inr is) = cc
+
+  -- the sink failed
+  gens-write_fault : IsCutInSummary functions (settings_for words.numbers) (script_for words) (load_for words.load) own_outputs
+      → IsNamedFor words.logs keeping.name keeping.name_after → Rose writing.faults writing.faults_after
+      → GensTo functions words statuses.WriteFault writing keeping
+  gens-write_fault cut named rose = record {
+    summed = λ end. absurd end;
+    before = λ is. absurd (neither is);
+    cut = λ _. cut;
+    named = inl named;
+    named_at_end = λ _. named;
+    write_fault = λ _. rose;
+    vault_fault = λ is. absurd (cc);
+  }
+    where
+      neither : (statuses.WriteFault ≡ statuses.Memory) ⊎ (statuses.WriteFault ≡ statuses.VaultFault) → ⊥
+      neither (inl is) = cc
+      neither (inr is) = cc
+
+  -- it was not served to its end
+  pub gens-stopped : (stop : RoundStop) → SumsTo functions (settings_for words.numbers) (script_for words) (load_for words.load) (Err stop) own_outputs
+      → ((stop ≡ rounds.VaultFault → ⊥) → IsNamedFor words.logs keeping.name keeping.name_after)
+      → IsNamedFor words.logs keeping.name keeping.name_after ⊎ IsUntouched keeping.name keeping.name_after own_outputs
+      → (stop ≡ rounds.VaultFault → Rose keeping.faults keeping.faults_after) → (stop ≡ rounds.WriteFault → Rose writing.faults writing.faults_after)
+      → GensTo functions words (run_stopped stop) writing keeping
+  gens-stopped rounds.Memory sums named first vault out = gens-memory sums first
+  gens-stopped rounds.VaultFault sums named first vault out = gens-vault_fault sums first (vault refl)
+  gens-stopped rounds.WriteFault sums named first vault out = gens-write_fault sums (named (λ is. cc)) (out refl)
+
+  -- it was
+  pub gens-served : (end : RunEnd) → SumsTo functions (settings_for words.numbers) (script_for words) (load_for words.load) (Ok end) own_outputs
+      → IsNamedFor words.logs keeping.name keeping.name_after → GensTo functions words (status_at end) writing keeping
+  gens-served (ends.Done epochs) sums named = record {
+    summed = λ _. record { end = ends.Done epochs; is = refl; summed = sums };
+    before = λ is. absurd (neither is);
+    cut = λ is. absurd (cc);
+    named = inl named;
+    named_at_end = λ _. named;
+    write_fault = λ is. absurd (cc);
+    vault_fault = λ is. absurd (cc);
+  }
+    where
+      neither : (statuses.Done epochs ≡ statuses.Memory) ⊎ (statuses.Done epochs ≡ statuses.VaultFault) → ⊥
+      neither (inl is) = cc
+      neither (inr is) = cc
+  gens-served (ends.ClockEnd clock) sums named = record {
+    summed = λ _. record { end = ends.ClockEnd clock; is = refl; summed = sums };
+    before = λ is. absurd (neither is);
+    cut = λ is. absurd (cc);
+    named = inl named;
+    named_at_end = λ _. named;
+    write_fault = λ is. absurd (cc);
+    vault_fault = λ is. absurd (cc);
+  }
+    where
+      neither : (statuses.ClockEnd clock.worker clock.at ≡ statuses.Memory) ⊎ (statuses.ClockEnd clock.worker clock.at ≡ statuses.VaultFault) → ⊥
+      neither (inl is) = cc
+      neither (inr is) = cc

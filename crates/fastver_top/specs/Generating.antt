@@ -1,0 +1,80 @@
+-- What a load that is made of a seed does: which load it is, how it is served, and what stands in the vault and the sink then.
+use Rattle.std.specs.Prelude.{◌≡◌, ◌⊎◌, List}
+use Rattle.fv_outside.specs.Faults.{Rose}
+use Rattle.record_hash.specs.Functions.{DigestFunctions}
+use Rattle.program_words.specs.declared.load_words.GenWords.{GenWords}
+use Rattle.program_words.specs.declared.load_words.LoadNumbers.{LoadNumbers}
+use Rattle.report_text.specs.declared.status.Status.{Status}
+use Rattle.report_text.specs.declared.status.Status.TheVariants as statuses
+use Rattle.report_text.specs.Answer.{IsEnd, Writing}
+use Rattle.script_text.specs.declared.shape.Shape.{Shape}
+use Rattle.script_text.specs.declared.task.Task.{Task}
+use Rattle.script_text.specs.Generator.{generated}
+use Rattle.verifier_threads.specs.declared.ending.RunEnd.{RunEnd}
+use Rattle.verifier_threads.specs.declared.loads.Load.{Load}
+use Rattle.verifier_threads.specs.Serving.{Outputs, status_at}
+use Rattle.verifier_threads.specs.Summing.{IsSummed, IsCutBefore, IsCutInSummary}
+use Rattle.fastver_top.specs.Running.{settings_for, Keeping, outputs_of, IsNamedFor, IsUntouched}
+
+-- ---- which load
+
+-- the shape of the load that words ask for
+abbrev pub shape_for : GenWords → Shape
+shape_for words = record {
+  ops = words.load.ops;
+  verifiers = words.numbers.verifiers;
+  keys = words.load.keys;
+  every = words.load.every;
+}
+
+-- the script that the generator makes of their seed
+abbrev pub script_for : GenWords → List (List Task)
+script_for words = generated words.load.seed (shape_for words)
+
+-- the load as its summary names it
+abbrev pub load_for : LoadNumbers → Load
+load_for numbers = record { seed = numbers.seed; ops = numbers.ops }
+
+-- ---- how it ends
+
+-- a status that it can end with
+abbrev pub IsGenStatus : Status → Type 0
+IsGenStatus (statuses.Done epochs) = Unit {0}
+IsGenStatus statuses.Usage = ⊥
+IsGenStatus statuses.Memory = Unit {0}
+IsGenStatus statuses.ReadFault = ⊥
+IsGenStatus statuses.WriteFault = Unit {0}
+IsGenStatus statuses.VaultFault = Unit {0}
+IsGenStatus (statuses.BadScript line cause) = ⊥
+IsGenStatus (statuses.BadBundle offset) = ⊥
+IsGenStatus (statuses.Refused verifier index refusal) = ⊥
+IsGenStatus (statuses.Unbalanced epoch added evicted) = ⊥
+IsGenStatus (statuses.ClockEnd worker at) = Unit {0}
+IsGenStatus statuses.NotTagged = ⊥
+IsGenStatus statuses.NotCertified = ⊥
+IsGenStatus statuses.Exhibit = ⊥
+IsGenStatus (statuses.InputLimit taken) = ⊥
+
+-- The load is served, and the status says how that ended.
+pub record EndsSummed (functions : DigestFunctions) (words : GenWords) (result : Status) (outputs : Outputs) : Type 0 where
+  pub end : RunEnd
+  pub is : result ≡ status_at end
+  pub summed : IsSummed functions (settings_for words.numbers) (script_for words) (load_for words.load) end outputs
+
+-- ---- the whole
+
+-- A load of these words.
+pub record GensTo (functions : DigestFunctions) (words : GenWords) (result : Status) (writing : Writing) (keeping : Keeping) : Type 0 where
+  -- where it ends it served the script that is made of the seed: the vault took the bundle of the logs, and the sink the summary
+  pub summed : IsEnd result → EndsSummed functions words result (outputs_of writing keeping)
+  -- where memory was wanting or the vault failed, nothing is written
+  pub before : (result ≡ statuses.Memory) ⊎ (result ≡ statuses.VaultFault) → IsCutBefore (outputs_of writing keeping)
+  -- where the sink failed, all is served, and it has a front of the summary
+  pub cut : result ≡ statuses.WriteFault
+      → IsCutInSummary functions (settings_for words.numbers) (script_for words) (load_for words.load) (outputs_of writing keeping)
+  -- the vault is named before anything is written, if the words give it a name, and else it is not named
+  pub named : IsNamedFor words.logs keeping.name keeping.name_after ⊎ IsUntouched keeping.name keeping.name_after (outputs_of writing keeping)
+  pub named_at_end : IsEnd result ⊎ (result ≡ statuses.WriteFault) → IsNamedFor words.logs keeping.name keeping.name_after
+  -- a fault comes only where the object's own count of faults rose
+  pub write_fault : result ≡ statuses.WriteFault → Rose writing.faults writing.faults_after
+  pub vault_fault : result ≡ statuses.VaultFault → Rose keeping.faults keeping.faults_after

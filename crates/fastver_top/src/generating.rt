@@ -1,0 +1,108 @@
+//! A load that is made of a seed and served, and with which status that ends.
+ghost use Rattle.std.specs.Prelude.{◌≡◌, ◌≢◌, ◌⊎◌, Err};
+ghost use Rattle.fv_outside.specs.Faults.{Rose};
+ghost use Rattle.program_words.specs.HostWords.{AreHostNumbers};
+ghost use Rattle.program_words.specs.LoadWords.{AreLoadNumbers};
+ghost use Rattle.script_text.specs.Text.{AreTasks};
+ghost use Rattle.verifier_threads.specs.Summing.{SumsTo};
+ghost use Rattle.fastver_top.specs.Running.{IsNamedFor, IsUntouched, settings_for};
+ghost use Rattle.fastver_top.specs.Generating.{GensTo, IsGenStatus, load_for, shape_for};
+
+use crate::running::{name_vault, settings_for, status_of};
+use fv_outside::{Gate, Sink, Vault};
+use host_rounds::RoundStop;
+use program_words::{GenWords, LoadNumbers};
+use record_hash::Digests;
+use report_text::Status;
+use script_text::{Requests, Shape, generate};
+use std::alloc::Global;
+use std::sync::Wait;
+use std::thread::Threads;
+use verifier_threads::{Load, RunEnd, serve_load};
+
+/// Makes the load that the words ask for, names the vault if they say so, and serves it: the vault takes the bundle of the
+/// logs, and the sink the summary of the load. Nothing is read.
+///
+/// The load is made whole before its first request is served. It has a million requests at most, and takes about a hundred
+/// bytes of memory for each.
+pub fn serve_generated<
+    R: Threads + Wait + Sync,
+    D: Digests + Sync,
+    O: Sink,
+    V: Vault,
+    G: Gate + Sync,
+>(rt: &R, alloc: Global, d: &D, words: &GenWords, out: &mut O, vault: &mut V, gate: &G) -> Status
+    requires load { AreLoadNumbers words.now.load }
+    requires numbers { AreHostNumbers words.now.numbers }
+    requires fresh { V.fresh vault.old }
+    ensures outcomes { IsGenStatus result }
+
+    // How the load was served, what stands in vault and sink, and the faults.
+    ensures generates { GensTo (D.functions d.now) words.now result
+        (record { held = O.held out.old; held_after = O.held out.new; faults = O.faults out.old; faults_after = O.faults out.new })
+        (record { held = V.held vault.old; held_after = V.held vault.new; name = V.name vault.old; name_after = V.name vault.new; faults = V.faults vault.old; faults_after = V.faults vault.new }) }
+{
+    let shape = shape_for(words);
+    let requests = match generate(alloc, words.load.seed, &shape) {
+        Ok(requests) => requests,
+        Err(_) => return Status::Memory,
+    };
+    match serve(rt, alloc, d, words, &requests, gate, vault, out) {
+        Ok(end) => end.status(),
+        Err(stop) => status_of(stop),
+    }
+}
+
+// Names the vault if the words say so, and serves a load.
+fn serve<R: Threads + Wait + Sync, D: Digests + Sync, V: Vault, O: Sink, G: Gate + Sync>(
+    rt: &R,
+    alloc: Global,
+    d: &D,
+    words: &GenWords,
+    requests: &Requests,
+    gate: &G,
+    vault: &mut V,
+    out: &mut O,
+) -> Result<RunEnd, RoundStop>
+    requires numbers { AreHostNumbers words.now.numbers }
+    requires tasks { AreTasks words.now.numbers.verifiers requests.now }
+    requires fresh { V.fresh vault.old }
+    ensures sums { SumsTo (D.functions d.now) (settings_for words.now.numbers) requests.now (load_for words.now.load) result
+        (record { vault = V.held vault.old; vault_after = V.held vault.new; out = O.held out.old; out_after = O.held out.new }) }
+    ensures named { result ≢ Err RoundStop.VaultFault → IsNamedFor words.now.logs (V.name vault.old) (V.name vault.new) }
+    ensures named_first { IsNamedFor words.now.logs (V.name vault.old) (V.name vault.new) ⊎ IsUntouched (V.name vault.old) (V.name vault.new)
+        (record { vault = V.held vault.old; vault_after = V.held vault.new; out = O.held out.old; out_after = O.held out.new }) }
+    ensures vault_fault { result ≡ Err RoundStop.VaultFault → Rose (V.faults vault.old) (V.faults vault.new) }
+    ensures write_fault { result ≡ Err RoundStop.WriteFault → Rose (O.faults out.old) (O.faults out.new) }
+{
+    match name_vault(&words.logs, vault) {
+        Ok(()) => {
+            let settings = settings_for(&words.numbers);
+            let load = load_for(&words.load);
+            serve_load(rt, alloc, d, &settings, requests, &load, gate, vault, out)
+        }
+        Err(_) => Err(RoundStop::VaultFault),
+    }
+}
+
+// The shape of the load that words ask for.
+fn shape_for(words: &GenWords) -> Shape
+    ensures value { result ≡ shape_for words.now }
+{
+    Shape {
+        ops: words.load.ops,
+        verifiers: words.numbers.verifiers,
+        keys: words.load.keys,
+        every: words.load.every,
+    }
+}
+
+// The load of these numbers, as its summary names it.
+fn load_for(numbers: &LoadNumbers) -> Load
+    ensures value { result ≡ load_for numbers.now }
+{
+    Load {
+        seed: numbers.seed,
+        ops: numbers.ops,
+    }
+}
