@@ -31,6 +31,10 @@ pub record RunsSoFar : Type 0 where
   pub bytes : ℕ
   pub summary : Counted
 
+-- the same with other runs
+abbrev pub with_runs : List FedRun → RunsSoFar → RunsSoFar
+with_runs runs so_far = record so_far { runs = runs }
+
 -- the lines of the epochs that are counted, or what else is told of them
 abbrev pub lines_counted : {A : Type 0} → EpochTold A → DigestFunctions → Header → List (List ℕ) → RunsSoFar → List A
 lines_counted tell functions header logs so_far = lines_from tell (courses_of (scheme_of functions header) header logs) header.first so_far.judged.count

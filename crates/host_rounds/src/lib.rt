@@ -9,6 +9,7 @@
 mod feeding;
 mod framing;
 mod laws;
+mod lending;
 mod opening;
 mod rounds;
 mod stops;

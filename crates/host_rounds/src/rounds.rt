@@ -40,9 +40,9 @@ use std::marker::Model;
 /// After an error it is of no more use.
 #[derive(Drop)]
 pub struct Rounds {
-    runs: Vec<FedRun>,
+    pub(crate) runs: Vec<FedRun>,
     certifier: Certifier,
-    bytes: u64,
+    pub(crate) bytes: u64,
     summary: Summary,
 }
 

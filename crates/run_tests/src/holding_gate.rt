@@ -1,32 +1,29 @@
-//! A gate that holds one worker until another comes.
+//! Gates that hold one thread until another comes, and give up in the end.
 use fv_outside::Gate;
 use std::sync::atomic::{AtomicU64, Ordering};
 
-// How often it looks whether the other is there, before it gives up.
+// How often a gate looks whether the other is there, before it gives up.
 const MOST_TURNS: u64 = 1 << 30;
 
-/// A gate that holds worker 0 at its first request until worker 1 is at its second. It gives up in the end, and keeps that.
+// Whether somebody has come, for whom others wait.
 #[derive(Drop)]
-pub(crate) struct HoldingGate {
+struct Flag {
     come: AtomicU64,
     given_up: AtomicU64,
 }
 
-impl HoldingGate {
-    /// Nobody has come yet.
-    pub(crate) fn new() -> Self {
-        HoldingGate {
+impl Flag {
+    fn new() -> Self {
+        Flag {
             come: AtomicU64::new(0),
             given_up: AtomicU64::new(0),
         }
     }
 
-    /// Whether worker 0 went on alone.
-    pub(crate) fn has_given_up(&self) -> bool {
-        self.given_up.load(Ordering::SeqCst) != 0
+    fn raise(&self) {
+        self.come.store(1, Ordering::SeqCst);
     }
 
-    // Waits until worker 1 is at its second request.
     fn wait(&self) {
         for _ in 0..MOST_TURNS {
             if self.come.load(Ordering::SeqCst) != 0 {
@@ -35,13 +32,74 @@ impl HoldingGate {
         }
         self.given_up.store(1, Ordering::SeqCst);
     }
+
+    fn has_given_up(&self) -> bool {
+        self.given_up.load(Ordering::SeqCst) != 0
+    }
+}
+
+/// A gate that holds worker 0 at its first request until worker 1 is at its second.
+#[derive(Drop)]
+pub(crate) struct HoldingGate {
+    second: Flag,
+}
+
+impl HoldingGate {
+    /// Nobody has come yet.
+    pub(crate) fn new() -> Self {
+        HoldingGate {
+            second: Flag::new(),
+        }
+    }
+
+    /// Whether worker 0 went on alone.
+    pub(crate) fn has_given_up(&self) -> bool {
+        self.second.has_given_up()
+    }
 }
 
 impl Gate for HoldingGate {
     fn enter(&self, worker: u16, request: u64) {
         match (worker, request) {
-            (0, 0) => self.wait(),
-            (1, 1) => self.come.store(1, Ordering::SeqCst),
+            (0, 0) => self.second.wait(),
+            (1, 1) => self.second.raise(),
+            _ => {}
+        }
+    }
+}
+
+/// A gate for one worker and its verifier, which passes as number 1: it holds the verifier at its first poll until the worker
+/// is at request 40, and the worker there until the verifier polls again.
+#[derive(Drop)]
+pub(crate) struct FeedingGate {
+    request: Flag,
+    poll: Flag,
+}
+
+impl FeedingGate {
+    /// Nobody has come yet.
+    pub(crate) fn new() -> Self {
+        FeedingGate {
+            request: Flag::new(),
+            poll: Flag::new(),
+        }
+    }
+
+    /// Whether one of the two went on alone.
+    pub(crate) fn has_given_up(&self) -> bool {
+        self.request.has_given_up() || self.poll.has_given_up()
+    }
+}
+
+impl Gate for FeedingGate {
+    fn enter(&self, number: u16, time: u64) {
+        match (number, time) {
+            (1, 0) => self.request.wait(),
+            (0, 40) => {
+                self.request.raise();
+                self.poll.wait();
+            }
+            (1, 1) => self.poll.raise(),
             _ => {}
         }
     }

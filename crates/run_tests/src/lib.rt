@@ -2,12 +2,14 @@
 //!
 //! What each script must come to was worked out by hand, or comes from the slow program. `script_tests.rt` has scripts that
 //! are served, scripts that are bad, and clocks that end; `worker_tests.rt` scripts of many workers, and `hot_tests.rt` such
-//! with hot keys; `load_tests.rt` loads that are made of a seed; `fault_tests.rt` has objects that fail, one call after the other, and objects that never do;
+//! with hot keys; `feed_tests.rt` verifiers that are fed beside their workers; `load_tests.rt` loads that are made of a seed; `fault_tests.rt` has objects that fail, one call after the other, and objects that never do;
 //! `run_word_tests.rt` has words that are refused. Begin with `serving.rt`, which runs a script.
 #![tactic(auto)]
 
 #[cfg(test)]
 mod fault_tests;
+#[cfg(test)]
+mod feed_tests;
 #[cfg(test)]
 mod holding_gate;
 #[cfg(test)]

@@ -125,3 +125,69 @@ pub(crate) fn assert_served<R: Threads + Wait + Sync + Abort>(
 pub(crate) fn assert_front<R: Abort>(rt: &R, label: &str, written: &[u8], text: &[u8]) {
     assert!(rt; text.starts_with(written), "{label}");
 }
+
+/// So many workers ask for these keys in turn, so often in each of so many phases.
+pub(crate) fn contending(
+    alloc: Global,
+    workers: u16,
+    keys: &[u64],
+    rounds: usize,
+    phases: usize,
+) -> Result<String, Fail> {
+    let mut script = String::new(alloc);
+    for phase in 0..phases {
+        if phase != 0 {
+            script.push_str("epoch\n")?;
+        }
+        for round in 0..rounds {
+            add_round(alloc, &mut script, workers, keys, round)?;
+        }
+    }
+    Ok(script)
+}
+
+// Each worker asks for a key: every third one puts its number there.
+fn add_round(
+    alloc: Global,
+    script: &mut String,
+    workers: u16,
+    keys: &[u64],
+    round: usize,
+) -> Result<(), Fail> {
+    for worker in 0..workers {
+        let Some(key) = keys.get(round % keys.len().max(1)) else {
+            return Ok(());
+        };
+        let ask = if (usize::from(worker) % 3 + round % 3) % 3 == 0 {
+            format!(in alloc; "{worker} put {key} {worker:04x}\n")?
+        } else {
+            format!(in alloc; "{worker} get {key}\n")?
+        };
+        script.push_str(&ask)?;
+    }
+    Ok(())
+}
+
+/// All is done, and a check of the vault writes the same: nothing was refused, and no alarm was false.
+pub(crate) fn assert_checked<R: Threads + Wait + Sync + Abort>(
+    rt: &R,
+    alloc: Global,
+    objects: &Objects,
+    status: Status,
+    epochs: u64,
+    turn: usize,
+) -> Result<(), Fail> {
+    assert_eq!(rt; status, Status::Done { epochs }, "{turn}");
+    let (again, status) = checked(rt, alloc, objects.vault.bytes())?;
+    assert_eq!(rt; again.out.bytes(), objects.out.bytes(), "{turn}");
+    assert_eq!(rt; status, Status::Done { epochs }, "{turn}");
+    Ok(())
+}
+
+/// Lines of answers, of which there is one for each request.
+pub(crate) fn answers_in(report: &[u8]) -> usize {
+    report
+        .split(|byte| *byte == b'\n')
+        .filter(|line| line.starts_with(b"0.") || line.starts_with(b"1."))
+        .count()
+}

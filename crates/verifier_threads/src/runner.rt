@@ -3,6 +3,7 @@ ghost use Rattle.std.specs.Prelude.{◌≡◌, ◌≢◌, ◌↔◌, ◌⊎◌, 
 ghost use Rattle.std.specs.List.{AllByRecursion};
 ghost use Rattle.fv_outside.specs.Faults.{Rose};
 ghost use Rattle.bundle_report.specs.Report.{told_by};
+ghost use Rattle.certified_epochs.specs.declared.fed_run.FedRun.{FedRun};
 ghost use Rattle.certified_epochs.specs.Telling.{text_by};
 ghost use Rattle.host_core.specs.World.{set_up};
 ghost use Rattle.host_core.specs.WorldEvent.{IsLast};
@@ -13,7 +14,7 @@ ghost use Rattle.host_serving.specs.Leading.{first_of};
 ghost use Rattle.host_serving.specs.Standing.{turns_of};
 ghost use Rattle.verifier_threads.specs.Serving.{Outputs, IsServed, IsCutOff, IsCutAtEnd, end_by};
 ghost use Rattle.verifier_threads.specs.Summing.{IsSummed, IsCutInSummary};
-ghost use Rattle.verifier_threads.specs.Running.{Runs, RunsWhole, IsUnderWay, IsUnderWayWith, IsUnderWayWhole, IsAtPhase, IsAtClose, IsAtEnd, all_handed_out};
+ghost use Rattle.verifier_threads.specs.Running.{Runs, RunsWhole, IsUnderWay, IsUnderWayWith, IsUnderWayWhole, IsFedUnderWay, HaveTakenRound, IsAtPhase, IsAtClose, IsAtEnd, all_handed_out, with_runs_of};
 
 use crate::ending::RunEnd;
 use crate::handing::hand_out_all;
@@ -213,10 +214,33 @@ impl<'a, D: Digests> Runner<'a, D> {
         self.rounds
             .take(self.world.digests(), self.buffers.as_slice(), vault)
     }
+
+    // Hands out what all workers logged, where the verifiers' runs have already taken it: it goes to the vault.
+    fn set_down<V: Sink>(&mut self, vault: &mut V) -> Result<(), RoundStop>
+        requires runs { IsFedUnderWay D.functions self.old (V.held vault.old) }
+        ensures runs { (receipts : Bool) (outputs : Outputs) (before : List FedRun) → Runs receipts D.functions (with_runs_of before self.old) outputs
+            → HaveTakenRound D.functions before self.old → outputs.vault_after ≡ V.held vault.old
+            → OnOk result (Runs receipts D.functions self.new (record outputs { vault_after = V.held vault.new })) }
+        ensures handed { OnOk result (shown_world self.new.world ≡ all_handed_out (shown_world self.old.world)) }
+        ensures end { self.new.end ≡ self.old.end }
+        ensures cut { (receipts : Bool) (outputs : Outputs) (before : List FedRun) → Runs receipts D.functions (with_runs_of before self.old) outputs
+            → outputs.vault_after ≡ V.held vault.old
+            → OnErr result (IsCutOff receipts (D.functions (digests_of self.old.world)) (record outputs { vault_after = V.held vault.new })) }
+        ensures host { AreOfOneHost self.old.world self.new.world }
+        ensures stop { result ≢ Err RoundStop.WriteFault }
+        ensures vault_fault { result ≡ Err RoundStop.VaultFault → Rose (V.faults vault.old) (V.faults vault.new) }
+        ensures never_falls { V.faults vault.old ≤ V.faults vault.new }
+        ensures name { V.name vault.new ≡ V.name vault.old }
+    {
+        what_is_due_stays_due();
+        hand_out_all(&mut self.world, self.buffers.as_mut_slice())?;
+        self.rounds.write(self.buffers.as_slice(), vault)
+    }
 }
 
 impl<'a, D: Digests + Sync> Runner<'a, D> {
-    /// A phase: its requests are served, and what was logged goes to the vault. A clock may end in it.
+    /// A phase: its requests are served, and the verifiers read what is logged meanwhile. Then that goes to the vault. A clock may
+    /// end in it.
     pub(crate) fn phase<R: Threads + Wait + Sync, V: Sink, G: Gate + Sync>(
         &mut self,
         rt: &R,
@@ -242,8 +266,12 @@ impl<'a, D: Digests + Sync> Runner<'a, D> {
         ensures name { V.name vault.new ≡ V.name vault.old }
     {
         what_is_due_stays_due();
-        self.end = serve_phase_at_once(rt, self.alloc, &mut self.world, gate)?;
-        self.pass_on(vault)
+        let bytes = self.rounds.bytes();
+        let mut runs = self.rounds.lend_runs();
+        self.end =
+            serve_phase_at_once(rt, self.alloc, &mut self.world, gate, &mut runs, bytes)?;
+        self.rounds.take_back(runs);
+        self.set_down(vault)
     }
 
     /// A phase and its close, which is the last one at the script's end, or where a clock ended in the phase.

@@ -15,4 +15,5 @@ mod SeatLemmas
 mod MakingLemmas
 mod TableLemmas
 mod PostLemmas
+mod FeedLemmas
 mod CallLemmas

@@ -4,7 +4,9 @@ use Rattle.std.specs.List.{flat_map}
 use Rattle.std.specs.Option.{ForSome}
 use Rattle.lamport_clocks.specs.Reading.{Reading}
 use Rattle.record_text.specs.declared.request.Request.{Request}
+use Rattle.record_text.specs.Format.{short_keys}
 use Rattle.log_codec.specs.declared.command.Command.{Command}
+use Rattle.log_codec.specs.Log.{log_text}
 use Rattle.atomic_table.specs.Seated.{TableId}
 use Rattle.script_text.specs.declared.task.Task.{Task}
 use Rattle.host_core.specs.World.{Worker}
@@ -15,6 +17,7 @@ use Rattle.host_table.specs.Calls.{IsNew, told_by}
 use Rattle.host_table.specs.Hands.{worker_of, IsFree}
 use Rattle.host_table.specs.Terms.{Terms, IsClockOf, IsPlaceOf}
 use Rattle.table_order.specs.Phases.{first_clock}
+use Rattle.verifier_feeds.specs.Feeds.{SameOutbox, put_in}
 use Rattle.worker_threads.specs.declared.post.Post.{Post}
 
 -- ---- what is asked
@@ -62,16 +65,19 @@ pub record HasDone (asked : List Request) (row : Row) (old new : Worker) : Type 
 
 -- ---- a worker at its post
 
--- A worker before the phase: it runs, its clock stands in the phase, and its hand has done nothing.
+-- A worker before the phase: it runs, its clock stands in the phase, its hand has done nothing, and its outbox is empty.
 pub record IsPosted (terms : Terms) (table : TableId) (post : Post) : Type 0 where
   pub free : IsFree table post.hand
   pub new : IsNew post.hand
   pub running : post.worker.stopped ≡ false
   pub clock : IsClockOf terms post.worker.clock
+  pub empty : put_in post.outbox ≡ []
   pub served : post.wanting ≡ false
 
--- A worker behind it: where memory was not wanting it has done its part.
+-- A worker behind it: where memory was not wanting it has done its part, and its outbox has just what is in its log.
 pub record IsThrough (table : TableId) (tasks : List Task) (old new : Post) : Type 0 where
   pub free : IsFree table new.hand
   pub number : worker_of new.hand ≡ worker_of old.hand
   pub part : new.wanting ≡ false → HasDone (asked_of (worker_of old.hand) tasks) (told_by new.hand) old.worker new.worker
+  pub put : new.wanting ≡ false → put_in new.outbox ≡ log_text short_keys new.worker.log
+  pub lane : SameOutbox old.outbox new.outbox

@@ -6,6 +6,7 @@ use Rattle.record_hash.specs.Functions.{DigestFunctions}
 use Rattle.record_text.specs.declared.request.Request.{Request}
 use Rattle.record_text.specs.Format.{short_keys}
 use Rattle.log_codec.specs.Command.{IsCommand}
+use Rattle.log_codec.specs.Log.{log_text}
 use Rattle.want_of_memory.specs.declared.memory.Memory.{Memory}
 use Rattle.atomic_table.specs.Seated.{TableId}
 use Rattle.host_core.specs.World.{Worker}
@@ -16,6 +17,8 @@ use Rattle.host_table.specs.Hands.{worker_of, entries, stop, IsFree}
 use Rattle.host_table.specs.Table.{table, terms}
 use Rattle.host_table.specs.Terms.{Terms, IsClockOf}
 use Rattle.host_table.specs.Told.{TakesUp}
+use Rattle.verifier_feeds.specs.declared.outbox.Outbox.{Outbox}
+use Rattle.verifier_feeds.specs.Feeds.{put_in}
 use Rattle.worker_threads.specs.declared.post.Post.{Post}
 use Rattle.worker_threads.specs.declared.shift.Shift.{Shift}
 use Rattle.worker_threads.specs.declared.toil.Toil.{Toil}
@@ -59,6 +62,14 @@ pub record IsAtWork (terms : Terms) (table : TableId) (hand : Hand) (toil : Toil
   pub chained : TakesUp (entries hand) toil.clock
   pub going : toil.stopped ≡ false → stop hand ≡ None
   pub typed : AllByRecursion (AllByRecursion (IsCommand short_keys)) toil.log.items
+
+-- the bytes of what it logged
+abbrev pub logged_by : Toil → List ℕ
+logged_by toil = log_text short_keys (flat_map (λ commands. commands) toil.log.items)
+
+-- the outbox has just these
+abbrev pub HasPutIn : Toil → Outbox → Type 0
+HasPutIn toil outbox = put_in outbox ≡ logged_by toil
 
 -- the worker with what it did
 abbrev pub noted : Worker → Toil → Worker

@@ -1,7 +1,7 @@
 //! A phase of a host's script, served by all its workers at once: each has a thread of its own, and takes the records from a
-//! table.
+//! table. What each logs its verifier reads at the same time, in a thread of its own too.
 //!
-//! The crate stands on `host_table` for the table, on `table_order` for why what the workers did was one list of events,
+//! The crate stands on `host_table` for the table, on `verifier_feeds` for the way to the verifiers, on `table_order` for why what the workers did was one list of events,
 //! and on `host_world`, which lends its records and workers for a phase. Begin with `serve_phase_at_once` in `phases.rt`, beside
 //! `specs/Parts.antt`.
 #![tactic(auto)]
@@ -12,7 +12,9 @@ mod post;
 mod posting;
 mod serving;
 mod shift;
+mod station;
 mod toil;
 
 pub use phases::serve_phase_at_once;
 pub use post::Post;
+pub use station::Station;

@@ -1,7 +1,12 @@
 //! A phase of a script, served by all workers at once.
-ghost use Rattle.std.specs.Prelude.{◌≡◌, ◌≤◌, ◌<◌, List, IfOk, IfSome, OnOk, Ok, None, length, get_or};
+ghost use Rattle.std.specs.Prelude.{◌≡◌, ◌≤◌, ◌<◌, List, All, IfOk, IfSome, OnOk, Ok, None, length, map, get_or};
 ghost use Rattle.std.specs.List.{AllByRecursion};
+ghost use Rattle.record_text.specs.Format.{short_keys};
 ghost use Rattle.log_codec.specs.declared.command.Command.{Command};
+ghost use Rattle.log_codec.specs.Log.{log_text};
+ghost use Rattle.verifier_run.specs.Progress.{weight};
+ghost use Rattle.host_core.specs.World.{logs_of};
+ghost use Rattle.host_rounds.specs.Feeding.{AllTake};
 ghost use Rattle.host_world.specs.Behind.{host_of, StandsBehind, StandsWith, AreOfOneHost};
 ghost use Rattle.host_world.specs.Shown.{shown_world, digests_of, requests_of, settings_of};
 ghost use Rattle.host_serving.specs.Leading.{Leads};
@@ -12,14 +17,16 @@ use crate::laws::{
     digests_have_32_bytes, phases_at_once_are_lists_of_events, tables_are_of_their_worlds,
     tables_can_be_made,
 };
-use crate::posting::serve_at_table;
+use crate::posting::{Crew, serve_at_table};
 use crate::shift::Shift;
+use certified_epochs::FedRun;
 use fv_outside::Gate;
 use host_table::Records;
 use host_world::{ClockEnd, Worker, World};
 use record_hash::Digests;
 use script_text::Task;
 use std::alloc::Global;
+use std::mem;
 use std::sync::Wait;
 use std::thread::Threads;
 use want_of_memory::Memory;
@@ -60,11 +67,16 @@ fn first_end_of(workers: &[Worker]) -> Option<ClockEnd>
 /// Serves the requests of the world's phase, all workers at once, each in a thread of its own and its requests in the script's
 /// order, past the gate. A worker whose clock ends serves no more in this phase. What they did was one list of events, and the
 /// answer is the first end that these come to. After want of memory the world is of no more use.
+///
+/// Each worker's verifier takes what is in the worker's log, as it comes: its run is that of the worker's number, and was fed so
+/// many bytes at most. Before each poll it enters the gate, by its number behind those of the workers.
 pub fn serve_phase_at_once<R: Threads + Wait + Sync, D: Digests + Sync, G: Gate + Sync>(
     rt: &R,
     alloc: Global,
     world: &mut World<'_, D>,
     gate: &G,
+    runs: &mut Vec<FedRun>,
+    bytes: u64,
 ) -> Result<Option<ClockEnd>, Memory>
     requires behind { StandsBehind (D.functions (digests_of world.old)) world.old }
     requires counters { (settings_of world.old).shards ≤ (settings_of world.old).header.end }
@@ -72,6 +84,8 @@ pub fn serve_phase_at_once<R: Threads + Wait + Sync, D: Digests + Sync, G: Gate 
     requires running { NoneStopped (host_of (D.functions (digests_of world.old)) world.old) (shown_world world.old) }
     requires workers { AllByRecursion (λ turn. turn.0 < length (shown_world world.old).workers)
         (turns_of (host_of (D.functions (digests_of world.old)) world.old) (shown_world world.old).phase) }
+    requires runs { length runs.old.items ≡ length (shown_world world.old).workers }
+    requires few { All (λ fed. weight fed.run ≤ bytes) runs.old.items }
     ensures leads { IfOk result (λ end. Leads (host_of (D.functions (digests_of world.old)) world.old)
         (shown_world world.old) (shown_world world.new) end) }
     ensures served { OnOk result (IsServedOut (host_of (D.functions (digests_of world.old)) world.old)
@@ -86,6 +100,8 @@ pub fn serve_phase_at_once<R: Threads + Wait + Sync, D: Digests + Sync, G: Gate 
     ensures behind { OnOk result (StandsBehind (D.functions (digests_of world.new)) world.new) }
     ensures goes_on { OnOk result ((logs : List (List Command)) → StandsWith (D.functions (digests_of world.old)) world.old logs
         → StandsWith (D.functions (digests_of world.new)) world.new logs) }
+    ensures taken { OnOk result (AllTake (D.functions (digests_of world.old)) (map (log_text short_keys) (logs_of (shown_world world.new)))
+        runs.old.items runs.new.items) }
 {
     tables_can_be_made();
     tables_are_of_their_worlds();
@@ -106,11 +122,17 @@ pub fn serve_phase_at_once<R: Threads + Wait + Sync, D: Digests + Sync, G: Gate 
         tasks,
         places: places.as_slice(),
         records: &records,
+        workers: header.verifiers,
     };
-    let (workers, hands) = serve_at_table(rt, &shift, gate, workers, hands)?;
-    let end = first_end_of(workers.as_slice());
-    let contents = records.close(hands);
-    world.take_back(contents);
-    world.take_workers(workers);
+    let crew = Crew {
+        workers,
+        hands,
+        runs: mem::replace(runs, Vec::new(alloc)),
+    };
+    let left = serve_at_table(rt, &shift, gate, crew, bytes)?;
+    let end = first_end_of(left.workers.as_slice());
+    *runs = left.runs;
+    world.take_back(records.close(left.hands));
+    world.take_workers(left.workers);
     Ok(end)
 }

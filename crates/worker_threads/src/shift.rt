@@ -18,6 +18,8 @@ pub(crate) struct Shift<'a, D: Digests> {
     pub(crate) tasks: &'a [Task],
     pub(crate) places: &'a [u32],
     pub(crate) records: &'a Records<D>,
+    // How many workers there are.
+    pub(crate) workers: u16,
 }
 
 impl<D: Digests> Shift<'_, D> {

@@ -9,6 +9,7 @@ use record_hash::Digests;
 use record_text::Request;
 use std::alloc::Global;
 use std::sync::Wait;
+use verifier_feeds::Outbox;
 use want_of_memory::Memory;
 
 /// What a worker has while it serves: its log, deed by deed, its clock, how many requests it has served, and whether its clock
@@ -22,7 +23,7 @@ pub(crate) struct Toil {
 }
 
 impl Toil {
-    ghost use Rattle.std.specs.Prelude.{◌≡◌, [], ◌∷◌, OnOk};
+    ghost use Rattle.std.specs.Prelude.{◌≡◌, [], ◌∷◌, ◌++◌, OnOk};
     ghost use Rattle.std.specs.List.{AllByRecursion};
     ghost use Rattle.record_text.specs.Format.{short_keys};
     ghost use Rattle.log_codec.specs.Command.{IsCommand};
@@ -30,7 +31,8 @@ impl Toil {
     ghost use Rattle.host_table.specs.Table.{table, terms};
     ghost use Rattle.host_table.specs.Terms.{IsPlaceOf};
     ghost use Rattle.worker_threads.specs.Parts.{asked_of};
-    ghost use Rattle.worker_threads.specs.Toil.{GoesOn, IsAtWork, IsShift, noted};
+    ghost use Rattle.verifier_feeds.specs.Feeds.{SameOutbox, put_in};
+    ghost use Rattle.worker_threads.specs.Toil.{GoesOn, HasPutIn, IsAtWork, IsShift, logged_by, noted};
 
     /// What a worker has that has done nothing in the phase yet. The worker lends its log.
     pub(crate) fn new(alloc: Global, worker: &mut Worker) -> Self
@@ -55,16 +57,54 @@ impl Toil {
         worker.note_turns(self.log, self.clock, self.served, self.stopped);
     }
 
-    /// Serves what the phase asks of the hand's worker, in order, until its clock ends.
-    pub(crate) fn serve_own<R: Wait, D: Digests, G: Gate>(
+    /// Does the worker's part of the phase, and puts its log into the outbox: what it had, and what it logs. Behind the last
+    /// request that goes on its way as a whole.
+    pub(crate) fn serve_part<R: Wait, D: Digests, G: Gate>(
         &mut self,
         rt: &R,
         shift: &Shift<'_, D>,
         gate: &G,
         hand: &mut Hand,
+        outbox: &mut Outbox,
     ) -> Result<(), Memory>
         requires shift { IsShift D.functions shift.now }
         requires at_work { IsAtWork (terms D.functions shift.now.records.now) (table shift.now.records.now) hand.old self.old }
+        requires empty { put_in outbox.old ≡ [] }
+        ensures at_work { IsAtWork (terms D.functions shift.now.records.now) (table shift.now.records.now) hand.new self.new }
+        ensures worker { worker_of hand.new ≡ worker_of hand.old }
+        ensures goes_on { OnOk result (GoesOn (asked_of (worker_of hand.old) shift.now.tasks.now) hand.old self.old hand.new self.new) }
+        ensures put { OnOk result (HasPutIn self.new outbox.new) }
+        ensures lane { SameOutbox outbox.old outbox.new }
+    {
+        self.put_all(outbox)?;
+        self.serve_own(rt, shift, gate, hand, outbox)?;
+        outbox.end()
+    }
+
+    // Puts all that is logged so far into the outbox.
+    fn put_all(&self, outbox: &mut Outbox) -> Result<(), Memory>
+        ensures put { OnOk result (put_in outbox.new ≡ put_in outbox.old ++ logged_by self.now) }
+        ensures lane { SameOutbox outbox.old outbox.new }
+    {
+        for commands in &self.log {
+            outbox.put(commands.as_slice())?;
+        }
+        Ok(())
+    }
+
+    // Serves what the phase asks of the hand's worker, in order, until its clock ends.
+    fn serve_own<R: Wait, D: Digests, G: Gate>(
+        &mut self,
+        rt: &R,
+        shift: &Shift<'_, D>,
+        gate: &G,
+        hand: &mut Hand,
+        outbox: &mut Outbox,
+    ) -> Result<(), Memory>
+        requires shift { IsShift D.functions shift.now }
+        requires at_work { IsAtWork (terms D.functions shift.now.records.now) (table shift.now.records.now) hand.old self.old }
+        ensures put { HasPutIn self.old outbox.old → OnOk result (HasPutIn self.new outbox.new) }
+        ensures lane { SameOutbox outbox.old outbox.new }
         ensures at_work { IsAtWork (terms D.functions shift.now.records.now) (table shift.now.records.now) hand.new self.new }
         ensures worker { worker_of hand.new ≡ worker_of hand.old }
         ensures goes_on { OnOk result (GoesOn (asked_of (worker_of hand.old) shift.now.tasks.now) hand.old self.old hand.new self.new) }
@@ -72,7 +112,7 @@ impl Toil {
         let number = hand.worker();
         for (task, place) in shift.tasks.iter().zip(shift.places) {
             if task.worker == number {
-                self.serve(rt, shift, gate, hand, *place as usize, &task.request)?;
+                self.serve(rt, shift, gate, hand, *place as usize, &task.request, outbox)?;
             }
         }
         Ok(())
@@ -87,6 +127,7 @@ impl Toil {
         hand: &mut Hand,
         place: usize,
         request: &Request,
+        outbox: &mut Outbox,
     ) -> Result<(), Memory>
         requires shift { IsShift D.functions shift.now }
         requires place { IsPlaceOf (terms D.functions shift.now.records.now) place request.now.key }
@@ -94,6 +135,8 @@ impl Toil {
         ensures at_work { IsAtWork (terms D.functions shift.now.records.now) (table shift.now.records.now) hand.new self.new }
         ensures worker { worker_of hand.new ≡ worker_of hand.old }
         ensures goes_on { OnOk result (GoesOn (request.now ∷ []) hand.old self.old hand.new self.new) }
+        ensures put { HasPutIn self.old outbox.old → OnOk result (HasPutIn self.new outbox.new) }
+        ensures lane { SameOutbox outbox.old outbox.new }
     {
         if self.stopped {
             return Ok(());
@@ -105,6 +148,7 @@ impl Toil {
         self.log.reserve(1)?;
         match shift.attempt_until(rt, hand, place, request, &mut self.clock)? {
             Some(plan) => {
+                outbox.put(plan.commands.as_slice())?;
                 self.log.push_reserved(plan.commands);
                 self.served = served;
             }

@@ -2,7 +2,8 @@ use Rattle.std.proofs.Common.{◌≡◌, ℕ, List, [], map, length, get_or, sym
 use Rattle.std.proofs.lemmas.List.{length-map}
 use Rattle.merkle_records.specs.Merkle.{GivesDigests}
 use Rattle.script_text.specs.declared.task.Task.{Task}
-use Rattle.host_core.specs.World.{World}
+use Rattle.certified_epochs.specs.declared.fed_run.FedRun.{FedRun}
+use Rattle.host_core.specs.World.{Worker, World}
 use Rattle.host_shard.specs.Content.{Content}
 use Rattle.host_shard.specs.Shown.{shown_content}
 use Rattle.host_table.specs.Calls.{told_by}
@@ -15,7 +16,9 @@ use Rattle.host_world.specs.Shown.{shown_world, digests_of, requests_of}
 use Rattle.host_serving.specs.Leading.{Leads}
 use Rattle.worker_threads.specs.Parts.{ArePlaces}
 use Rattle.worker_threads.specs.Phase.{ArePlacesFor, first_stopped}
+use Rattle.worker_threads.specs.Posts.{AreToWatch, HaveTakenLogs}
 use Rattle.worker_threads.proofs.CallLemmas.{phase_places, lent_count, later_is, to_serve, served_at_once, goes_on, hosts_then, no_end}
+use Rattle.worker_threads.proofs.FeedLemmas.{all_take}
 use Rattle.worker_threads.proofs.ServedLemmas.{none_stopped, some_stopped}
 use Rattle.worker_threads.proofs.phases.serve_phase_at_once.Goals as goal
 
@@ -84,6 +87,12 @@ serve_at_table-requires-clause-ready g c κs within =
     (c.tables_are_of_their_worlds.ensures.clocks functions old.settings (requests_of old) stands.0 (shown_world old) made sized
     stands.1.behind c.requires.begins.phase lent some (ap (λ (t : Terms). t.header) c.in-Ok.ensures.terms ∙ header))
 
+pub serve_at_table-requires-clause-watch : goal.serve_at_table-requires-clause-watch
+serve_at_table-requires-clause-watch g c κs within =
+    let lent : length c.lend_workers-workers.result.items ≡ length (shown_world c.args.world.now).workers =
+    ap (λ ws. length ws) (c.lend_workers-workers.ensures.lent ∙ ap (λ (w : World Content). w.workers) c.in_ok-contents.ensures.left) in
+    record { count = c.requires.runs ∙ sym lent; few = c.requires.few }
+
 pub first_end_of-end-requires : goal.first_end_of-end-requires
 first_end_of-end-requires g c =
     let old = c.args.world.now in
@@ -94,14 +103,14 @@ first_end_of-end-requires g c =
     let few = stands.1.behind.settings_fit.header.verifiers in
     let lent : length c.lend_workers-workers.result.items ≡ length (shown_world old).workers =
     ap (λ ws. length ws) (c.lend_workers-workers.ensures.lent ∙ ap (λ (w : World Content). w.workers) c.in_ok-contents.ensures.left) in
-    let seen : length c.as_slice-2.result.now ≡ length c.in_ok-workers.workers.items = ap (λ ws. length ws) c.as_slice-2.ensures.value in
-    record { few = omega (arith, seen, c.in_ok-workers.ensures.served.count, lent, count, few) }
+    let seen : length c.as_slice-2.result.now ≡ length c.in_ok-left.left.workers.items = ap (λ ws. length ws) c.as_slice-2.ensures.value in
+    record { few = omega (arith, seen, c.in_ok-left.ensures.served.count, lent, count, few) }
 
 pub take_back-requires : goal.take_back-requires
 take_back-requires g c =
     let made : Terms = terms g.D.Digests.functions c.in-Ok.records in
     record {
-      as_many = c.close-contents.ensures.phase.as_many
+      as_many = c.close.ensures.phase.as_many
           ∙ ap (λ (t : Terms). length t.contents) c.in-Ok.ensures.terms
           ∙ sym (length-map c.in_ok-contents.contents.items shown_content)
           ∙ ap (λ (xs : List Content). length xs) c.in_ok-contents.ensures.lent
@@ -123,38 +132,44 @@ returns g c =
     ap (λ (t : Terms). map shown_content t.contents) c.in-Ok.ensures.terms ∙ c.in_ok-contents.ensures.lent in
     let count = c.tables_can_be_made.ensures.workers functions old.settings (requests_of old) stands.0 (shown_world old) sized stands.1.behind in
     let later = later_is (shown_world old) (shown_world c.lend.new.self) (shown_world c.lend_workers-workers.new.self) (shown_world c.take_back.new.self)
-    (shown_world new) (map shown_content c.close-contents.result.items) c.in_ok-workers.workers.items
+    (shown_world new) (map shown_content c.close.result.items) c.in_ok-left.left.workers.items
     c.in_ok-contents.ensures.left c.lend_workers-workers.ensures.left c.take_back.ensures.filled c.take_workers.ensures.taken in
     let at_once = served_at_once functions old.settings (requests_of old) (shown_world old) (shown_world new) made (table c.in-Ok.records)
-    c.close-contents.result.items c.lend_workers-workers.result.items c.in_ok-workers.workers.items c.in_ok-workers.hands.items c.phase-tasks.result.now
+    c.close.result.items c.lend_workers-workers.result.items c.in_ok-left.left.workers.items c.in_ok-left.left.hands.items c.phase-tasks.result.now
     c.requires.begins c.requires.running
     (c.tables_are_of_their_worlds.ensures.of_world functions old.settings (requests_of old) stands.0 (shown_world old) made sized stands.1.behind c.requires.begins.phase lent
     (ap (λ (t : Terms). t.digest) c.in-Ok.ensures.terms ∙ ap (λ d. (g.D.Digests.functions d).digest) c.digests-d.ensures.value)
     (ap (λ (t : Terms). t.workers) c.in-Ok.ensures.terms ∙ ap (λ h. h.verifiers) header ∙ sym count))
-    c.close-contents.ensures.phase
+    c.close.ensures.phase
     (c.lend_workers-workers.ensures.lent ∙ ap (λ (w : World Content). w.workers) c.in_ok-contents.ensures.left)
     (asked (requests_of old) c.requests.result.now old.phase c.phase.result c.phase-tasks.result.now
     c.requests.ensures.value c.phase.ensures.value c.phase-tasks.ensures.value)
-    c.in_ok-workers.ensures.served later in
-    let workers_are : (shown_world new).workers ≡ c.in_ok-workers.workers.items = ap (λ (w : World Content). w.workers) later in
+    c.in_ok-left.ensures.served later in
+    let workers_are : (shown_world new).workers ≡ c.in_ok-left.left.workers.items = ap (λ (w : World Content). w.workers) later in
     let end_is : c.first_end_of-end.result ≡ first_stopped 0 (shown_world new).workers =
     c.first_end_of-end.ensures.first ∙ ap (first_stopped 0) (c.as_slice-2.ensures.value ∙ sym workers_are) in
     let way : Leads host (shown_world old) (shown_world new) c.first_end_of-end.result =
     subst (Leads host (shown_world old) (shown_world new)) (sym end_is)
-    (c.phases_at_once_are_lists_of_events.ensures.leads functions old.settings (requests_of old) stands.0 (shown_world old) (shown_world new) made c.close-contents.result.items
-    (map told_by c.in_ok-workers.hands.items) sized stands.1.each stands.1.behind c.requires.counters at_once) in
+    (c.phases_at_once_are_lists_of_events.ensures.leads functions old.settings (requests_of old) stands.0 (shown_world old) (shown_world new) made c.close.result.items
+    (map told_by c.in_ok-left.left.hands.items) sized stands.1.each stands.1.behind c.requires.counters at_once) in
     let one_host = hosts_then old c.take_back.new.self new
     (hosts_then old c.lend_workers-workers.new.self c.take_back.new.self (hosts_then old c.lend.new.self c.lend_workers-workers.new.self c.lend.ensures.host c.lend_workers-workers.ensures.host)
     c.take_back.ensures.host) c.take_workers.ensures.host in
     let on = goes_on g.D.Digests.functions old new c.first_end_of-end.result one_host at_once.count way in
+    let took : HaveTakenLogs functions (shown_world new).workers c.args.runs.now.items c.in_ok-left.left.runs.items =
+    subst (λ d. HaveTakenLogs (g.D.Digests.functions d) (shown_world new).workers c.args.runs.now.items c.in_ok-left.left.runs.items) c.digests-d.ensures.value
+    (subst (λ (runs : List FedRun). HaveTakenLogs (g.D.Digests.functions c.digests-d.result.now) (shown_world new).workers runs c.in_ok-left.left.runs.items) refl
+    (subst (λ (workers : List Worker). HaveTakenLogs (g.D.Digests.functions c.digests-d.result.now) workers c.args.runs.now.items c.in_ok-left.left.runs.items) (sym workers_are)
+    c.in_ok-left.ensures.taken)) in
     record {
       leads = way;
-      served = c.phases_at_once_are_lists_of_events.ensures.served functions old.settings (requests_of old) (shown_world old) (shown_world new) made c.close-contents.result.items
-          (map told_by c.in_ok-workers.hands.items) at_once;
+      served = c.phases_at_once_are_lists_of_events.ensures.served functions old.settings (requests_of old) (shown_world old) (shown_world new) made c.close.result.items
+          (map told_by c.in_ok-left.left.hands.items) at_once;
       phase = ap (λ (w : World Content). w.phase) later;
       running = λ none before. none_stopped host (shown_world new) (sym end_is ∙ no_end c.first_end_of-end.result none);
       stopped = some_stopped host (shown_world new) c.first_end_of-end.result (sym end_is);
       host = one_host;
       behind = (stands.0, on stands.0 stands.1);
       goes_on = on;
+      taken = all_take functions (shown_world new).workers c.args.runs.now.items c.in_ok-left.left.runs.items took;
     }

@@ -1,12 +1,16 @@
-use Rattle.std.proofs.Common.{◌≡◌, ◌++◌, false, map, All}
+use Rattle.std.proofs.Common.{◌≡◌, ◌≤◌, ◌++◌, map, All}
 use Rattle.std.specs.Vec.Iter.{into_iter_items}
+use Rattle.verifier_run.specs.Progress.{weight}
 use Rattle.worker_threads.specs.Posts.{worker_in, hand_in}
+use Rattle.worker_threads.specs.Stations.{IsOpened, run_in}
 use Rattle.worker_threads.proofs.posting.man.Given as goal
 
--- the workers so far are at their posts, each with its hand
+-- the workers so far are at their posts, each with its hand, and their verifiers beside them
 abbrev pub invariant-loop-worker : goal.invariant-loop-worker
 invariant-loop-worker l = record {
-  workers : map worker_in l.posts.items ≡ l.yielded;
-  hands : map hand_in l.posts.items ++ into_iter_items l.hands ≡ l.fn.hands.items;
-  ready : All (λ post. post.wanting ≡ false) l.posts.items;
+  workers : map worker_in l.stations.items ≡ l.yielded;
+  hands : map hand_in l.stations.items ++ into_iter_items l.hands ≡ l.fn.crew.hands.items;
+  runs : map run_in l.stations.items ++ into_iter_items l.runs ≡ l.fn.crew.runs.items;
+  few : All (λ fed. weight fed.run ≤ l.fn.bytes) (into_iter_items l.runs);
+  opened : All IsOpened l.stations.items;
 }

@@ -1,4 +1,6 @@
 use Rattle.std.proofs.Common.{[], ◌∙◌, sym, ap, subst}
+use Rattle.record_text.specs.Format.{short_keys}
+use Rattle.log_codec.specs.Log.{log_text}
 use Rattle.host_core.specs.World.{Worker}
 use Rattle.host_table.specs.Calls.{told_by}
 use Rattle.host_table.specs.Hands.{worker_of}
@@ -10,15 +12,19 @@ use Rattle.worker_threads.proofs.post.Post.serve_own.Goals as goal
 pub returns : goal.returns
 returns g c =
     let old = c.args.self.now in
-    let toil = c.serve_own.new.self in
+    let toil = c.serve_part.new.self in
     let has = c.note.ensures.has ∙ ap (λ (w : Worker). noted w toil) {y = record old.worker { log = [] }} c.new-toil.ensures.lent in
     record {
       through = record {
-        free = c.serve_own.ensures.at_work.free;
-        number = c.serve_own.ensures.worker;
+        free = c.serve_part.ensures.at_work.free;
+        number = c.serve_part.ensures.worker;
         part = λ fine.
-            subst (λ (w : Worker). HasDone (asked_of (worker_of old.hand) c.args.shift.now.tasks.now) (told_by c.serve_own.new.hand) old.worker w) (sym has)
-            (at_ok c.serve_own.result (sym c.is_err-self.ensures.value ∙ fine) c.serve_own.ensures.goes_on [] old.worker
+            subst (λ (w : Worker). HasDone (asked_of (worker_of old.hand) c.args.shift.now.tasks.now) (told_by c.serve_part.new.hand) old.worker w) (sym has)
+            (at_ok c.serve_part.result (sym c.is_err-self.ensures.value ∙ fine) c.serve_part.ensures.goes_on [] old.worker
             (nothing-done old.hand old.worker (noted old.worker c.new-toil.result) c.new-toil.ensures.begun c.requires.posted.running c.requires.posted.new));
+        put = λ fine.
+            at_ok c.serve_part.result (sym c.is_err-self.ensures.value ∙ fine) c.serve_part.ensures.put
+            ∙ sym (ap (λ (w : Worker). log_text short_keys w.log) has);
+        lane = c.serve_part.ensures.lane;
       };
     }

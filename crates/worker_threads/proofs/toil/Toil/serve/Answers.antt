@@ -1,6 +1,12 @@
-use Rattle.std.proofs.Common.{◌≡◌, ◌+◌, true, [], ◌∷◌, ◌++◌, refl, rules}
+use Rattle.std.proofs.Common.{◌≡◌, ℕ, ◌+◌, true, List, [], ◌∷◌, ◌++◌, refl, sym, ◌∙◌, ap, rules}
+use Rattle.std.specs.List.{flat_map}
+use Rattle.record_text.specs.Format.{short_keys}
+use Rattle.log_codec.specs.declared.command.Command.{Command}
+use Rattle.log_codec.specs.Log.{log_text}
+use Rattle.verifier_feeds.specs.Feeds.{put_in}
 use Rattle.host_table.specs.Calls.{told_by}
 use Rattle.worker_threads.specs.declared.toil.Toil.{Toil}
+use Rattle.worker_threads.proofs.FeedLemmas.{logged-more}
 use Rattle.worker_threads.proofs.ToilLemmas.{has-passed, goes-served, goes-ended}
 use Rattle.worker_threads.proofs.toil.Toil.serve.Goals as goal
 
@@ -15,6 +21,13 @@ returns-in-Some-2-clause-goes_on g c = λ before worker has.
     let served : later.served ≡ c.args.self.now.served + 1 = search rules in
     goes-served before c.args.request.now c.args.hand.now c.attempt_until.new.hand worker c.args.self.now later (c.requires.at_work.going c.if-self.false) _ c.args.place
     settles.0 settles.1 c.in-Some-2.plan settles.2 log served refl has
+
+pub returns-in-Some-2-clause-put : goal.returns-in-Some-2-clause-put
+returns-in-Some-2-clause-put g c = λ before.
+    let log : c.push_reserved.new.self.items ≡ c.args.self.now.log.items ++ c.in-Some-2.plan.commands ∷ [] = search rules in
+    let put : put_in c.put.new.self ≡ put_in c.args.outbox.now ++ log_text short_keys c.in-Some-2.plan.commands = search rules in
+    put ∙ ap (λ (bytes : List ℕ). bytes ++ log_text short_keys c.in-Some-2.plan.commands) before
+    ∙ sym (ap (λ (deeds : List (List Command)). log_text short_keys (flat_map (λ c. c) deeds)) log ∙ logged-more c.args.self.now.log.items c.in-Some-2.plan.commands)
 
 pub returns-in-None-clause-goes_on : goal.returns-in-None-clause-goes_on
 returns-in-None-clause-goes_on g c = λ before worker has.

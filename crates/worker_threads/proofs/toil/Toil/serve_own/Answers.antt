@@ -30,6 +30,8 @@ loop-task-preserved-in-Continue-1 g c =
     record {
       at_work = c.serve.ensures.at_work;
       worker = c.serve.ensures.worker ∙ c.loop-task.invariant.worker;
+      put = λ before. c.in_ok-serve.ensures.put (c.loop-task.invariant.put before);
+      lane = search rules;
       goes_on = λ before worker has.
           subst (λ (requests : List Request). HasDone requests (told_by c.serve.new.hand) worker (noted worker c.serve.new.self))
           (asked-own before number (length passed) (length (passed ++ (c.in-Some.task, c.in-Some.place) ∷ [])) (omega (arith, more))
@@ -49,6 +51,8 @@ loop-task-preserved g c =
     record {
       at_work = c.loop-task.invariant.at_work;
       worker = c.loop-task.invariant.worker;
+      put = c.loop-task.invariant.put;
+      lane = c.loop-task.invariant.lane;
       goes_on = λ before worker has.
           subst (λ (requests : List Request). HasDone requests (told_by c.loop-task.hand) worker (noted worker c.loop-task.self))
           (asked-other before number (length passed) (length (passed ++ (c.in-Some.task, c.in-Some.place) ∷ [])) (omega (arith, more))

@@ -1,0 +1,96 @@
+//! A round in which the runs are fed elsewhere: they are lent, and what they then have taken is written.
+ghost use Rattle.std.specs.Prelude.{◌≡◌, ◌+◌, ◌≤◌, length, IfOk};
+ghost use Rattle.std.specs.List.{AllByRecursion};
+
+use crate::feeding::with_more;
+use crate::framing::write_round;
+use crate::laws::rounds_make_a_bundle;
+use crate::rounds::Rounds;
+use crate::stops::RoundStop;
+use certified_epochs::FedRun;
+use fv_outside::Sink;
+use host_log::LogBuffer;
+use record_text::Operation;
+use std::mem;
+use verifier_run::pieces_do_not_matter;
+use want_of_memory::Memory;
+
+impl Rounds {
+    ghost use Rattle.std.specs.Prelude.{◌≡◌, ◌≢◌, ◌≤◌, ℕ, [], List, Option, Err, length, OnOk, OnErr};
+    ghost use Rattle.fv_outside.specs.Faults.{Rose};
+    ghost use Rattle.fv_outside.specs.Written.{GrowsByFront};
+    ghost use Rattle.lamport_clocks.specs.declared.header.Header.{Header};
+    ghost use Rattle.record_hash.specs.Functions.{DigestFunctions};
+    ghost use Rattle.bundle_report.specs.Report.{EpochText};
+    ghost use Rattle.certified_epochs.specs.declared.fed_run.FedRun.{FedRun};
+    ghost use Rattle.host_log.specs.Frames.{pieces_text};
+    ghost use Rattle.host_rounds.specs.Round.{logs_with, pieces_of};
+    ghost use Rattle.host_rounds.specs.Feeding.{AllTake};
+    ghost use Rattle.host_rounds.specs.SoFar.{HaveRun, Keeps, lines_counted, with_runs};
+
+    /// Lends the runs, one of each verifier, to be fed and handed back.
+    pub fn lend_runs(&mut self) -> Vec<FedRun>
+        ensures runs { result.items ≡ self.old.runs }
+        ensures rest { self.new ≡ with_runs [] self.old }
+    {
+        let alloc = *self.runs.allocator();
+        mem::replace(&mut self.runs, Vec::new(alloc))
+    }
+
+    /// So many bytes at most were fed to each run.
+    pub fn bytes(&self) -> u64
+        ensures value { result ≡ self.now.bytes }
+    {
+        self.bytes
+    }
+
+    /// Takes the runs back, or others in their stead.
+    pub fn take_back(&mut self, runs: Vec<FedRun>)
+        ensures runs { self.new ≡ with_runs runs.items self.old }
+    {
+        self.runs = runs;
+    }
+
+    /// Writes the logs of a round, one of each verifier, to the vault in frames, where the runs have already taken them. Of 2^63
+    /// bytes or more in all it answers want of memory.
+    pub fn write<V: Sink>(&mut self, logs: &[LogBuffer], vault: &mut V) -> Result<(), RoundStop>
+        requires few { length logs.now ≤ 64 }
+
+        // Whatever runs took them, with whatever logs before. Of epochs no more are counted yet, and their lines stay what they
+        // were.
+        ensures keeps { (functions : DigestFunctions) (header : Header) (before : List (List ℕ)) (held : Option (List ℕ)) (runs : List FedRun)
+            → Keeps functions header before (with_runs runs self.old) held (V.held vault.old) → AllTake functions logs.now runs self.old.runs
+            → OnOk result (Keeps functions header (logs_with before logs.now) self.new held (V.held vault.new)) }
+        ensures counted { OnOk result (self.new.judged ≡ self.old.judged) }
+        ensures lines { (tell : EpochText) (functions : DigestFunctions) (header : Header) (before : List (List ℕ)) (runs : List FedRun)
+            → HaveRun functions header before (with_runs runs self.old)
+            → OnOk result (lines_counted tell functions header (logs_with before logs.now) self.new ≡ lines_counted tell functions header before self.old) }
+        ensures runs { OnOk result (self.new.runs ≡ self.old.runs) }
+
+        // What the vault had before stays, in any case.
+        ensures grown { GrowsByFront (V.held vault.old) (V.held vault.new) (pieces_text (pieces_of 0 logs.now)) }
+        ensures stop { result ≢ Err RoundStop.WriteFault }
+        ensures vault_fault { result ≡ Err RoundStop.VaultFault → Rose (V.faults vault.old) (V.faults vault.new) }
+        ensures never_falls { V.faults vault.old ≤ V.faults vault.new }
+        ensures name { V.name vault.new ≡ V.name vault.old }
+    {
+        rounds_make_a_bundle();
+        pieces_do_not_matter::<Operation>();
+        if write_round(logs, vault).is_err() {
+            return Err(RoundStop::VaultFault);
+        }
+        self.bytes = with_all(self.bytes, logs)?;
+        Ok(())
+    }
+}
+
+// So many bytes, and those of all logs, if they are not too many.
+fn with_all(bytes: u64, logs: &[LogBuffer]) -> Result<u64, Memory>
+    ensures each { IfOk result (λ all. AllByRecursion (λ log. bytes + length log ≤ all) logs.now) }
+{
+    let mut all = bytes;
+    for log in logs {
+        all = with_more(all, log.bytes().len())?;
+    }
+    Ok(all)
+}

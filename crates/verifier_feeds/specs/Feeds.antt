@@ -1,0 +1,82 @@
+-- The two ends of a feed: what a worker has put in, and what its verifier's run has taken.
+use Rattle.std.specs.Prelude.{◌≡◌, ℕ, ◌≤◌, Bool, false, List, [], ◌++◌}
+use Rattle.std.specs.List.{flat_map}
+use Rattle.record_hash.specs.Functions.{DigestFunctions}
+use Rattle.merkle_records.specs.Scheme.{scheme_of}
+use Rattle.verifier_run.specs.Kept.{keeps_operations}
+use Rattle.verifier_run.specs.Progress.{fed, weight}
+use Rattle.certified_epochs.specs.declared.fed_run.FedRun.{FedRun}
+use Rattle.log_rings.specs.declared.parcel.Parcel.{Parcel}
+use Rattle.log_rings.specs.Lanes.{sent, received_by, AreEnds, SameSender, SameReceiver}
+use Rattle.verifier_feeds.specs.declared.outbox.Outbox.{Outbox}
+use Rattle.verifier_feeds.specs.declared.inbox.Inbox.{Inbox}
+
+-- ---- the worker's end
+
+-- the bytes of parcels, one behind another
+abbrev pub bytes_of : List Parcel → List ℕ
+bytes_of parcels = flat_map (λ parcel. parcel.buffer) parcels
+
+-- the parcels that were sent, and then those that wait
+abbrev pub queued : Outbox → List Parcel
+queued outbox = sent outbox.sender ++ outbox.backlog.items
+
+-- all bytes that were put in
+abbrev pub put_in : Outbox → List ℕ
+put_in outbox = bytes_of (queued outbox) ++ outbox.buffer
+
+-- both are the sending end of one lane
+abbrev pub SameOutbox : Outbox → Outbox → Type 0
+SameOutbox old new = SameSender old.sender new.sender
+
+-- ---- the verifier's end
+
+-- both are the receiving end of one lane
+abbrev pub SameInbox : Inbox → Inbox → Type 0
+SameInbox old new = SameReceiver old.receiver new.receiver
+
+-- the run
+abbrev pub run_of : Inbox → FedRun
+run_of inbox = inbox.fed
+
+-- whether memory was wanting
+abbrev pub is_wanting : Inbox → Bool
+is_wanting inbox = inbox.wanting
+
+-- the run has taken no more bytes than are counted
+abbrev pub HasRoom : Inbox → Type 0
+HasRoom inbox = weight inbox.fed.run ≤ inbox.bytes
+
+-- The run took these bytes: whatever comes next, it makes of it what the old one makes of these bytes and that.
+pub record HasTaken (functions : DigestFunctions) (bytes : List ℕ) (old new : FedRun) : Type 0 where
+  pub header : new.run.course.machine.header ≡ old.run.course.machine.header
+  pub goes_on : (more : List ℕ) → fed keeps_operations (scheme_of functions old.run.course.machine.header) new.run more
+      ≡ fed keeps_operations (scheme_of functions old.run.course.machine.header) old.run (bytes ++ more)
+
+-- An inbox whose run took a piece, and for which memory was not wanting before.
+pub record GoesOnBy (functions : DigestFunctions) (piece : List ℕ) (old new : Inbox) : Type 0 where
+  pub went : old.wanting ≡ false
+  pub is_fed : new.fed.is_starved ≡ false
+  pub header : new.fed.run.course.machine.header ≡ old.fed.run.course.machine.header
+  pub taken : new.fed.run ≡ fed keeps_operations (scheme_of functions old.fed.run.course.machine.header) old.fed.run piece
+
+-- What an inbox took in all, with these bytes behind what it had taken before, where memory is wanting for none.
+abbrev pub TakesOn : DigestFunctions → List ℕ → Inbox → Inbox → Type 0
+TakesOn functions more old new =
+    (first : FedRun) (bytes : List ℕ) → (is_wanting old ≡ false → HasTaken functions bytes first (run_of old))
+    → is_wanting new ≡ false → HasTaken functions (bytes ++ more) first (run_of new)
+
+-- ---- both
+
+-- They are the two ends of one lane.
+abbrev pub AreEndsOfOne : Outbox → Inbox → Type 0
+AreEndsOfOne outbox inbox = AreEnds outbox.sender inbox.receiver
+
+-- A feed that is open: nothing was put in, nothing came out, and this is its run.
+pub record IsOpen (run : FedRun) (outbox : Outbox) (inbox : Inbox) : Type 0 where
+  pub ends : AreEndsOfOne outbox inbox
+  pub empty : put_in outbox ≡ []
+  pub fresh : received_by inbox.receiver ≡ []
+  pub run_is : run_of inbox ≡ run
+  pub room : HasRoom inbox
+  pub going : is_wanting inbox ≡ false

@@ -1,0 +1,112 @@
+//! The verifier's end of a feed.
+ghost use Rattle.std.specs.Prelude.{◌≡◌};
+
+use certified_epochs::FedRun;
+use fv_outside::Gate;
+use log_rings::Receiver;
+use record_hash::Digests;
+use std::sync::Wait;
+use std::thread::yield_now;
+use want_of_memory::Memory;
+
+/// So many polls in a row that find nothing end a verifier's watch.
+const MOST_EMPTY_POLLS: u32 = 1_024;
+
+/// So many bytes are not fed in all: a run counts them in 64 bits.
+const MOST_BYTES: u64 = 1 << 63;
+
+/// A verifier's run, with the end of the lane from which it is fed, and whether memory was wanting for it.
+#[derive(Drop)]
+pub struct Inbox {
+    pub(crate) receiver: Receiver,
+    pub(crate) fed: FedRun,
+    // So many bytes at most were fed to the run in all.
+    pub(crate) bytes: u64,
+    pub(crate) wanting: bool,
+}
+
+impl Inbox {
+    ghost use Rattle.std.specs.Prelude.{◌≡◌, [], length, false, IfOk, OnOk};
+    ghost use Rattle.log_rings.specs.Lanes.{received_by, waiting};
+    ghost use Rattle.verifier_feeds.specs.Feeds.{HasRoom, SameInbox, HasTaken, GoesOnBy, TakesOn, bytes_of, run_of, is_wanting};
+
+    /// Feeds the run what comes through the lane, until that is its worker's last parcel of the round, or until 1,024 polls in a
+    /// row found nothing. Before each poll it enters the gate, by this number.
+    pub fn watch<R: Wait, D: Digests, G: Gate>(&mut self, rt: &R, d: &D, gate: &G, number: u16)
+        requires room { HasRoom self.old }
+        requires fresh { received_by self.old.receiver ≡ [] }
+        ensures room { HasRoom self.new }
+        ensures lane { SameInbox self.old self.new }
+        ensures taken { is_wanting self.new ≡ false
+            → HasTaken (D.functions d.now) (bytes_of (received_by self.new.receiver)) (run_of self.old) (run_of self.new) }
+    {
+        let mut polls = 0;
+        let mut empty_polls = 0;
+        for _ in rt.forever() {
+            if empty_polls >= MOST_EMPTY_POLLS {
+                return;
+            }
+            gate.enter(number, polls);
+            polls = polls.saturating_add(1);
+            match self.receiver.poll() {
+                Some(parcel) => {
+                    self.take(d, parcel.buffer.bytes());
+                    if parcel.last {
+                        return;
+                    }
+                    empty_polls = 0;
+                }
+                None => {
+                    empty_polls += 1;
+                    yield_now();
+                }
+            }
+        }
+        unreachable!()
+    }
+
+    /// Feeds the run so many parcels that are known to wait in the lane.
+    pub(crate) fn take_left<D: Digests>(&mut self, d: &D, left: usize)
+        requires room { HasRoom self.old }
+        requires left { left ≡ length (waiting self.old.receiver) }
+        ensures room { HasRoom self.new }
+        ensures taken { TakesOn (D.functions d.now) (bytes_of (waiting self.old.receiver)) self.old self.new }
+    {
+        for _ in 0..left {
+            let parcel = self.receiver.next();
+            self.take(d, parcel.buffer.bytes());
+        }
+    }
+
+    /// Feeds the run a piece of its log, where memory isn't wanting.
+    pub(crate) fn take<D: Digests>(&mut self, d: &D, piece: &[u8])
+        requires room { HasRoom self.old }
+        ensures room { HasRoom self.new }
+        ensures lane { self.new.receiver ≡ self.old.receiver }
+        ensures goes_on { is_wanting self.new ≡ false → GoesOnBy (D.functions d.now) piece.now self.old self.new }
+    {
+        if self.wanting {
+            return;
+        }
+        match self.bytes.checked_add(piece.len() as u64) {
+            Some(bytes) if bytes < MOST_BYTES => {
+                self.fed.feed(d, piece);
+                self.bytes = bytes;
+                self.wanting = self.fed.is_starved;
+            }
+            _ => self.wanting = true,
+        }
+    }
+
+    /// The run, where memory was not wanting for it.
+    pub fn into_run(self) -> Result<FedRun, Memory>
+        ensures run { IfOk result (λ run. run ≡ run_of self) }
+        ensures fed { OnOk result (is_wanting self ≡ false) }
+    {
+        if self.wanting {
+            Err(Memory)
+        } else {
+            Ok(self.fed)
+        }
+    }
+}

@@ -1,0 +1,37 @@
+//! A feed is opened.
+ghost use Rattle.std.specs.Prelude.{◌≤◌, IfOk};
+ghost use Rattle.verifier_run.specs.Progress.{weight};
+ghost use Rattle.verifier_feeds.specs.Feeds.{IsOpen};
+
+use crate::inbox::Inbox;
+use crate::outbox::Outbox;
+use certified_epochs::FedRun;
+use host_log::LogBuffer;
+use log_rings::Lane;
+use std::alloc::Global;
+use std::collections::VecDeque;
+use want_of_memory::Memory;
+
+/// So many parcels a lane holds.
+const LANE_CAPACITY: usize = 16;
+
+/// Opens the feed of a run that was fed so many bytes at most: a lane of 16 parcels, with nothing in it, and its two ends.
+pub fn open(alloc: Global, run: FedRun, bytes: u64) -> Result<(Outbox, Inbox), Memory>
+    requires few { weight run.run ≤ bytes }
+    ensures open { IfOk result (λ ends. IsOpen run ends.0 ends.1) }
+{
+    let (sender, receiver) = Lane::new(alloc, LANE_CAPACITY)?;
+    let outbox = Outbox {
+        sender,
+        backlog: VecDeque::new(alloc),
+        buffer: LogBuffer::new(alloc),
+        parcels: 0,
+    };
+    let inbox = Inbox {
+        receiver,
+        fed: run,
+        bytes,
+        wanting: false,
+    };
+    Ok((outbox, inbox))
+}

@@ -1,0 +1,39 @@
+//! The two ends of a feed come together again.
+ghost use Rattle.std.specs.Prelude.{◌≡◌, false};
+ghost use Rattle.certified_epochs.specs.declared.fed_run.FedRun.{FedRun};
+ghost use Rattle.log_rings.specs.Lanes.{received_by};
+ghost use Rattle.host_rounds.specs.Feeding.{Takes};
+ghost use Rattle.verifier_feeds.specs.Feeds.{AreEndsOfOne, HasRoom, HasTaken, TakesOn, bytes_of, is_wanting, put_in, run_of};
+
+use crate::inbox::Inbox;
+use crate::outbox::Outbox;
+use log_rings::Lane;
+use record_hash::Digests;
+
+/// Feeds the run what is left: what is in the lane, then what waited for room in it, then what is in no parcel.
+pub fn settle<D: Digests>(outbox: &mut Outbox, inbox: &mut Inbox, d: &D)
+    requires ends { AreEndsOfOne outbox.old inbox.old }
+    requires room { HasRoom inbox.old }
+    ensures all { (first : FedRun)
+        → (is_wanting inbox.old ≡ false → HasTaken (D.functions d.now) (bytes_of (received_by inbox.old.receiver)) first (run_of inbox.old))
+        → is_wanting inbox.new ≡ false
+        → Takes (D.functions d.now) (put_in outbox.old) first (run_of inbox.new) }
+    ensures room { HasRoom inbox.new }
+{
+    let settled = Lane::settle(&mut outbox.sender, &mut inbox.receiver);
+    inbox.take_left(d, settled.left);
+    take_waiting(outbox, inbox, d);
+    inbox.take(d, outbox.buffer.bytes());
+}
+
+// Feeds the run what waits for room in the lane, the oldest first.
+fn take_waiting<D: Digests>(outbox: &mut Outbox, inbox: &mut Inbox, d: &D)
+    requires room { HasRoom inbox.old }
+    ensures room { HasRoom inbox.new }
+    ensures taken { TakesOn (D.functions d.now) (bytes_of outbox.old.backlog.items) inbox.old inbox.new }
+    ensures rest { outbox.new.buffer ≡ outbox.old.buffer }
+{
+    while let Some(parcel) = outbox.backlog.pop_front() {
+        inbox.take(d, parcel.buffer.bytes());
+    }
+}

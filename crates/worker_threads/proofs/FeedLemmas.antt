@@ -1,0 +1,38 @@
+-- What the verifiers' runs took in a phase.
+use Rattle.std.proofs.Common.{◌≡◌, ℕ, zero, suc, ◌<◌, List, [], ◌∷◌, ◌++◌, map, length, get_or, refl, sym, ◌∙◌, ap, subst, append-nil, arith}
+use Rattle.std.specs.List.{flat_map}
+use Rattle.std.proofs.lemmas.Grind.{flat_map-append}
+use Rattle.record_hash.specs.Functions.{DigestFunctions}
+use Rattle.record_text.specs.Format.{short_keys}
+use Rattle.log_codec.specs.declared.command.Command.{Command}
+use Rattle.log_codec.specs.Command.{command_text}
+use Rattle.log_codec.specs.Log.{log_text}
+use Rattle.certified_epochs.specs.declared.fed_run.FedRun.{FedRun}
+use Rattle.host_core.specs.World.{Worker}
+use Rattle.host_rounds.specs.Feeding.{Takes, AllTake}
+use Rattle.worker_threads.specs.Posts.{HaveTakenLogs}
+
+-- what is logged with one deed more
+pub logged-more : (deeds : List (List Command)) (commands : List Command)
+    → log_text short_keys (flat_map (λ c. c) (deeds ++ commands ∷ [])) ≡ log_text short_keys (flat_map (λ c. c) deeds) ++ log_text short_keys commands
+logged-more deeds commands =
+    ap (log_text short_keys) (flat_map-append (λ (c : List Command). c) deeds (commands ∷ []) ∙ ap (λ (cs : List Command). flat_map (λ c. c) deeds ++ cs) (append-nil commands))
+    ∙ flat_map-append (command_text short_keys) (flat_map (λ c. c) deeds) commands
+
+-- the runs of all verifiers took what is in their workers' logs
+pub all_take : (functions : DigestFunctions) (workers : List Worker) (old new : List FedRun) → HaveTakenLogs functions workers old new
+    → AllTake functions (map (log_text short_keys) (map (λ worker. worker.log) workers)) old new
+all_take functions workers old new took = go workers old new took.olds took.news took.each
+  where
+    go : (workers : List Worker) (old new : List FedRun) → length old ≡ length workers → length new ≡ length workers
+        → ((i : ℕ) (d : Worker) (run : FedRun) → i < length workers → Takes functions (log_text short_keys (get_or workers i d).log) (get_or old i run) (get_or new i run))
+        → AllTake functions (map (log_text short_keys) (map (λ worker. worker.log) workers)) old new
+    go [] [] [] olds news each = tt
+    go [] [] (run ∷ new) olds news each = absurd (omega (arith, news))
+    go [] (run ∷ old) new olds news each = absurd (omega (arith, olds))
+    go (worker ∷ workers) [] new olds news each = absurd (omega (arith, olds))
+    go (worker ∷ workers) (first ∷ old) [] olds news each = absurd (omega (arith, news))
+    go (worker ∷ workers) (first ∷ old) (run ∷ new) olds news each = (
+      each 0 worker run (omega arith),
+      go workers old new (omega (arith, olds)) (omega (arith, news)) (λ i d r there. each (suc i) d r (omega (arith, there))),
+    )
