@@ -1,5 +1,5 @@
 -- Runs that took a round elsewhere.
-use Rattle.std.proofs.Common.{◌≡◌, ℕ, ◌+◌, ◌≤◌, List, [], ◌∷◌, ◌++◌, length, sym, subst, arith}
+use Rattle.std.proofs.Common.{◌≡◌, ℕ, suc, ◌+◌, ◌≤◌, List, [], ◌∷◌, ◌++◌, length, refl, sym, ap, subst, arith}
 use Rattle.std.specs.List.{AllByRecursion}
 use Rattle.record_hash.specs.Functions.{DigestFunctions}
 use Rattle.record_text.specs.declared.operation.Operation.{Operation}
@@ -32,3 +32,12 @@ pub counted-more : (bytes now all : ℕ) (logs : List (List ℕ)) (log : List �
     → bytes + length log ≤ all → AllByRecursion (λ log. bytes + length log ≤ all) (logs ++ log ∷ [])
 counted-more bytes now all [] log rises each one = (one, tt)
 counted-more bytes now all (first ∷ logs) log rises each one = (omega (arith, rises, each.0), counted-more bytes now all logs log rises each.1 one)
+
+-- as many logs as runs
+pub round-length : (functions : DigestFunctions) (round : List (List ℕ)) (olds news : List FedRun) → AllTake functions round olds news → length round ≡ length olds
+round-length functions [] [] [] takes = refl
+round-length functions [] [] (new ∷ news) takes = absurd takes
+round-length functions [] (old ∷ olds) news takes = absurd takes
+round-length functions (log ∷ round) [] news takes = absurd takes
+round-length functions (log ∷ round) (old ∷ olds) [] takes = absurd takes
+round-length functions (log ∷ round) (old ∷ olds) (new ∷ news) takes = ap suc (round-length functions round olds news takes.1)

@@ -5,3 +5,4 @@ mod FeedingLemmas
 mod FramingLemmas
 mod OpeningLemmas
 mod RunLemmas
+mod LendingLemmas

@@ -20,11 +20,12 @@ use Rattle.host_world.specs.Shown.{shown_world, digests_of, requests_of}
 use Rattle.host_world.specs.Behind.{StandsBehind, AreOfOneHost, host_of}
 use Rattle.host_serving.specs.Leading.{Leads, first_of}
 use Rattle.certified_epochs.specs.declared.fed_run.FedRun.{FedRun}
+use Rattle.host_rounds.specs.Feeding.{AllTake}
 use Rattle.host_rounds.specs.Round.{logs_with}
-use Rattle.host_rounds.specs.SoFar.{RunsSoFar, Keeps, HaveRun, AllCounted, lines_counted, lines_due}
+use Rattle.host_rounds.specs.SoFar.{RunsSoFar, Keeps, HaveRun, AllCounted, lines_counted, lines_due, with_runs}
 use Rattle.verifier_threads.specs.declared.runner.Runner.{Runner}
 use Rattle.verifier_threads.specs.Serving.{Outputs, IsCutOff, texts_of}
-use Rattle.verifier_threads.specs.Running.{IsRunning, Runs, RunsWhole, all_handed_out}
+use Rattle.verifier_threads.specs.Running.{IsRunning, Runs, RunsWhole, all_handed_out, with_runs_of}
 use Rattle.verifier_threads.proofs.RunningLemmas.{of_one_host, leads-length, running-behind, running-led, running-handed, StaysDue, cut-due, counted-due}
 
 -- ---- answers
@@ -90,6 +91,22 @@ module _ (receipts : Bool) (functions : DigestFunctions) (settings : Settings) (
       running.keeps.vault grown
       (counted-due stays receipts functions settings.header (texts_of running.logs) rounds outputs.out outputs.out_after running.keeps.runs running.written)
 
+-- ---- runs that are lent
+
+-- with the runs that it lent it is what it was, whatever runs it took in their stead
+pub rounds-back : (old lent back : RunsSoFar) (runs before : List FedRun) → lent ≡ with_runs [] old → back ≡ with_runs runs lent → before ≡ old.runs
+    → with_runs before back ≡ old
+rounds-back old lent back runs before one two three =
+    ap (with_runs before) (two ∙ ap (with_runs runs) one) ∙ ap (λ (rs : List FedRun). with_runs rs old) three
+
+-- what the runs took is what the workers of the later world logged
+pub took-round : {D : Type 0} (functions : D → DigestFunctions) (old middle : code.World D) (lent back : RunsSoFar) (before after : List FedRun) → AreOfOneHost old middle
+    → back ≡ with_runs after lent → AllTake (functions (digests_of old)) (texts_of (logs_of (shown_world middle))) before after
+    → AllTake (functions (digests_of middle)) (texts_of (logs_of (shown_world middle))) before back.runs
+took-round {D} functions old middle lent back before after same is takes =
+    subst (λ (d : D). AllTake (functions d) (texts_of (logs_of (shown_world middle))) before back.runs) (sym same.digests)
+    (subst (λ (r : RunsSoFar). AllTake (functions (digests_of old)) (texts_of (logs_of (shown_world middle))) before r.runs) (sym is) takes)
+
 -- ---- runners
 
 module _ (receipts : Bool) {D : Type 0} (functions : D → DigestFunctions) (old : Runner D) (outputs : Outputs) (runs : Runs receipts functions old outputs) where
@@ -125,6 +142,14 @@ module _ (receipts : Bool) {D : Type 0} (functions : D → DigestFunctions) (old
         (running-led _ _ _ _ (shown_world old.world) old.rounds old.end outputs runs.running (shown_world world) next way));
     buffers = runs.buffers ∙ sym (leads-length host_now (shown_world old.world) (shown_world world) next way);
   }
+
+  -- the same where its verifiers' runs were lent, and others taken in their stead
+  pub runs-fed : (world : code.World D) (next end : Option ClockEnd) (back : RunsSoFar) (before : List FedRun) → AreOfOneHost old.world world
+      → Leads host_now (shown_world old.world) (shown_world world) next → end ≡ first_of old.end next → with_runs before back ≡ old.rounds
+      → Runs receipts functions (with_runs_of before (record old { world = world; end = end; rounds = back })) outputs
+  runs-fed world next end back before same way is rounds_are =
+      subst (λ (rounds : RunsSoFar). Runs receipts functions (record old { world = world; end = end; rounds = rounds }) outputs) (sym rounds_are)
+      (runs-led world next end same way is)
 
   -- it stops with nothing written since
   pub runs-cut : StaysDue → (vault out : Option (List ℕ)) → outputs.vault_after ≡ vault → outputs.out_after ≡ out

@@ -1,4 +1,4 @@
-use Rattle.std.proofs.Common.{◌+◌, ◌≤◌, length}
+use Rattle.std.proofs.Common.{◌+◌, ◌≤◌, length, take}
 use Rattle.std.specs.List.{AllByRecursion}
 use Rattle.host_rounds.proofs.lending.with_all.Given as goal
 
@@ -6,5 +6,5 @@ use Rattle.host_rounds.proofs.lending.with_all.Given as goal
 abbrev pub invariant-loop-log : goal.invariant-loop-log
 invariant-loop-log l = record {
   rises : l.fn.bytes ≤ l.all;
-  each : AllByRecursion (λ log. l.fn.bytes + length log ≤ l.all) l.yielded;
+  each : AllByRecursion (λ log. l.fn.bytes + length log ≤ l.all) (take l.log-index l.logs);
 }

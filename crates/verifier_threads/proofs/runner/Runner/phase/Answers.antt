@@ -1,17 +1,20 @@
 use Rattle.std.proofs.Common.{◌≡◌, ℕ, List, Option, Some, None, Ok, OnErr, refl, sym, ◌∙◌, ap, subst}
 use Rattle.record_hash.specs.Functions.{DigestFunctions}
-use Rattle.host_core.specs.World.{World}
+use Rattle.host_core.specs.World.{World, logs_of}
 use Rattle.host_shard.specs.Content.{Content}
 use Rattle.host_world.specs.declared.fault.ClockEnd.{ClockEnd}
 use Rattle.host_world.specs.Shown.{shown_world, digests_of}
 use Rattle.host_world.specs.Behind.{host_of}
 use Rattle.host_serving.specs.Leading.{first_of}
+use Rattle.certified_epochs.specs.declared.fed_run.FedRun.{FedRun}
+use Rattle.host_rounds.specs.Feeding.{AllTake}
+use Rattle.host_rounds.specs.SoFar.{RunsSoFar}
 use Rattle.verifier_threads.specs.declared.runner.Runner.{Runner}
-use Rattle.verifier_threads.specs.Serving.{Outputs, IsCutOff}
-use Rattle.verifier_threads.specs.Running.{Runs, IsAtClose, all_handed_out}
-use Rattle.verifier_threads.proofs.RunningLemmas.{one_host, host_same}
+use Rattle.verifier_threads.specs.Serving.{Outputs, IsCutOff, texts_of}
+use Rattle.verifier_threads.specs.Running.{Runs, IsAtClose, all_handed_out, with_runs_of}
+use Rattle.verifier_threads.proofs.RunningLemmas.{one_host, host_same, running-workers}
 use Rattle.verifier_threads.proofs.StandingLemmas.{close_handed}
-use Rattle.verifier_threads.proofs.PassingLemmas.{ok_any, err_any, ok_then, runs-behind, runs-led, runs-cut}
+use Rattle.verifier_threads.proofs.PassingLemmas.{ok_any, err_any, ok_then, rounds-back, run-count, runs-behind, runs-cut, runs-fed, took-round}
 use Rattle.verifier_threads.proofs.PhaseLemmas.{moved, at-close}
 use Rattle.verifier_threads.proofs.runner.Runner.phase.Goals as goal
 
@@ -28,16 +31,25 @@ serve_phase_at_once-requires-clause-running g c κs within = c.requires.begins.r
 pub serve_phase_at_once-requires-clause-counters : goal.serve_phase_at_once-requires-clause-counters
 serve_phase_at_once-requires-clause-counters g c κs within = c.requires.runs.2.running.counters
 
-pub pass_on-requires : goal.pass_on-requires
-pass_on-requires g c = record {
-  runs = (
-    c.requires.runs.0,
-    c.requires.runs.1,
-    runs-led c.requires.runs.0 g.D.Digests.functions c.args.self.now c.requires.runs.1 c.requires.runs.2 c.serve_phase_at_once.new.world c.in_ok-self.field-0 c.in_ok-self.field-0
-        c.serve_phase_at_once.ensures.host c.in_ok-self.ensures.leads (ap (λ (e : Option ClockEnd). first_of e c.in_ok-self.field-0) (sym c.requires.begins.unended)),
-    c.requires.runs.3,
-  );
-}
+pub serve_phase_at_once-requires-clause-runs : goal.serve_phase_at_once-requires-clause-runs
+serve_phase_at_once-requires-clause-runs g c κs within =
+    let r = c.requires.runs.2.running in
+    ap (λ (rs : List FedRun). length rs) c.lend_runs-runs.ensures.runs ∙ run-count _ _ _ _ r.keeps.runs ∙ sym (running-workers _ _ _ _ _ _ _ _ r)
+
+pub set_down-requires-clause-runs : goal.set_down-requires-clause-runs
+set_down-requires-clause-runs g c κs within =
+    let before = c.lend_runs-runs.result.items in (
+      c.requires.runs.0,
+      c.requires.runs.1,
+      before,
+      runs-fed c.requires.runs.0 g.D.Digests.functions c.args.self.now c.requires.runs.1 c.requires.runs.2 c.serve_phase_at_once.new.world c.in_ok-self.field-0 c.in_ok-self.field-0
+      c.take_back.new.self before c.serve_phase_at_once.ensures.host c.in_ok-self.ensures.leads
+      (ap (λ (e : Option ClockEnd). first_of e c.in_ok-self.field-0) (sym c.requires.begins.unended))
+      (rounds-back c.args.self.now.rounds c.lend_runs-runs.new.self c.take_back.new.self c.serve_phase_at_once.new.runs.items before c.lend_runs-runs.ensures.rest c.take_back.ensures.runs c.lend_runs-runs.ensures.runs),
+      took-round g.D.Digests.functions c.args.self.now.world c.serve_phase_at_once.new.world c.lend_runs-runs.new.self c.take_back.new.self before c.serve_phase_at_once.new.runs.items
+      c.serve_phase_at_once.ensures.host c.take_back.ensures.runs c.in_ok-self.ensures.taken,
+      c.requires.runs.3,
+    )
 
 pub returns-in_err-self-clause-cut : goal.returns-in_err-self-clause-cut
 returns-in_err-self-clause-cut g c = λ receipts outputs runs held.
@@ -46,9 +58,14 @@ returns-in_err-self-clause-cut g c = λ receipts outputs runs held.
 
 pub returns-clause-runs : goal.returns-clause-runs
 returns-clause-runs g c = λ receipts outputs runs held.
-    c.pass_on.ensures.runs receipts outputs
-    (runs-led receipts g.D.Digests.functions c.args.self.now outputs runs c.serve_phase_at_once.new.world c.in_ok-self.field-0 c.in_ok-self.field-0
-    c.serve_phase_at_once.ensures.host c.in_ok-self.ensures.leads (ap (λ (e : Option ClockEnd). first_of e c.in_ok-self.field-0) (sym c.requires.begins.unended)))
+    let before = c.lend_runs-runs.result.items in
+    c.set_down.ensures.runs receipts outputs before
+    (runs-fed receipts g.D.Digests.functions c.args.self.now outputs runs c.serve_phase_at_once.new.world c.in_ok-self.field-0 c.in_ok-self.field-0
+    c.take_back.new.self before c.serve_phase_at_once.ensures.host c.in_ok-self.ensures.leads
+    (ap (λ (e : Option ClockEnd). first_of e c.in_ok-self.field-0) (sym c.requires.begins.unended))
+    (rounds-back c.args.self.now.rounds c.lend_runs-runs.new.self c.take_back.new.self c.serve_phase_at_once.new.runs.items before c.lend_runs-runs.ensures.rest c.take_back.ensures.runs c.lend_runs-runs.ensures.runs))
+    (took-round g.D.Digests.functions c.args.self.now.world c.serve_phase_at_once.new.world c.lend_runs-runs.new.self c.take_back.new.self before c.serve_phase_at_once.new.runs.items
+    c.serve_phase_at_once.ensures.host c.take_back.ensures.runs c.in_ok-self.ensures.taken)
     held
 
 pub returns-clause-served : goal.returns-clause-served
@@ -56,29 +73,32 @@ returns-clause-served g c =
     let functions = g.D.Digests.functions in
     let old = c.args.self.now.world in
     let middle = c.serve_phase_at_once.new.world in
-    let new = c.pass_on.new.self in
+    let new = c.set_down.new.self in
     let host = host_of (functions (digests_of old)) old in
     let end = c.in_ok-self.field-0 in
-    ok_then c.pass_on.result c.pass_on.ensures.handed
+    ok_then c.set_down.result c.set_down.ensures.handed
     (λ handed. moved IsAtClose host _ (all_handed_out (shown_world middle)) (shown_world new.world) end new.end
-    (host_same functions old new.world (one_host old middle new.world c.serve_phase_at_once.ensures.host c.pass_on.ensures.host)) handed c.pass_on.ensures.end
+    (host_same functions old new.world (one_host old middle new.world c.serve_phase_at_once.ensures.host c.set_down.ensures.host)) handed c.set_down.ensures.end
     (close_handed host (shown_world middle) end
     (at-close host (shown_world old) (shown_world middle) end c.in_ok-self.ensures.served c.requires.begins.running
     (λ is. c.in_ok-self.ensures.running (ap (λ (e : Option ClockEnd). Ok e) is)) c.in_ok-self.ensures.stopped)))
 
 pub returns-clause-same_phase : goal.returns-clause-same_phase
 returns-clause-same_phase g c =
-    ok_then c.pass_on.result c.pass_on.ensures.handed
+    ok_then c.set_down.result c.set_down.ensures.handed
     (λ handed. ap (λ (w : World Content). w.phase) handed ∙ c.in_ok-self.ensures.phase)
 
 pub returns-clause-cut : goal.returns-clause-cut
 returns-clause-cut g c = λ receipts outputs runs held.
     let functions = g.D.Digests.functions in
-    subst (λ d. OnErr c.pass_on.result (IsCutOff receipts (functions d) (record outputs { vault_after = g.V.Sink.held c.pass_on.new.vault }))) c.serve_phase_at_once.ensures.host.digests
-    (c.pass_on.ensures.cut receipts outputs
-    (runs-led receipts functions c.args.self.now outputs runs c.serve_phase_at_once.new.world c.in_ok-self.field-0 c.in_ok-self.field-0
-    c.serve_phase_at_once.ensures.host c.in_ok-self.ensures.leads (ap (λ (e : Option ClockEnd). first_of e c.in_ok-self.field-0) (sym c.requires.begins.unended)))
+    let before = c.lend_runs-runs.result.items in
+    subst (λ d. OnErr c.set_down.result (IsCutOff receipts (functions d) (record outputs { vault_after = g.V.Sink.held c.set_down.new.vault }))) c.serve_phase_at_once.ensures.host.digests
+    (c.set_down.ensures.cut receipts outputs before
+    (runs-fed receipts functions c.args.self.now outputs runs c.serve_phase_at_once.new.world c.in_ok-self.field-0 c.in_ok-self.field-0
+    c.take_back.new.self before c.serve_phase_at_once.ensures.host c.in_ok-self.ensures.leads
+    (ap (λ (e : Option ClockEnd). first_of e c.in_ok-self.field-0) (sym c.requires.begins.unended))
+    (rounds-back c.args.self.now.rounds c.lend_runs-runs.new.self c.take_back.new.self c.serve_phase_at_once.new.runs.items before c.lend_runs-runs.ensures.rest c.take_back.ensures.runs c.lend_runs-runs.ensures.runs))
     held)
 
 pub returns-clause-host : goal.returns-clause-host
-returns-clause-host g c = one_host c.args.self.now.world c.serve_phase_at_once.new.world c.pass_on.new.self.world c.serve_phase_at_once.ensures.host c.pass_on.ensures.host
+returns-clause-host g c = one_host c.args.self.now.world c.serve_phase_at_once.new.world c.set_down.new.self.world c.serve_phase_at_once.ensures.host c.set_down.ensures.host

@@ -1,0 +1,15 @@
+use Rattle.std.proofs.Common.{◌≡◌, ◌+◌, ◌++◌, List, length}
+use Rattle.log_rings.specs.declared.parcel.Parcel.{Parcel}
+use Rattle.log_rings.specs.Lanes.{waiting}
+use Rattle.verifier_feeds.specs.Feeds.{HasRoom, TakesOn, bytes_of}
+use Rattle.verifier_feeds.proofs.inbox.Inbox.take_left.Given as goal
+
+-- so many parcels of those that waited are taken, and the others wait
+abbrev pub invariant-loop : goal.invariant-loop
+invariant-loop g l = record {
+  room : HasRoom l.self;
+  some : List Parcel;
+  were : waiting l.initial.self.receiver ≡ some ++ waiting l.self.receiver;
+  left : length some + length (waiting l.self.receiver) ≡ l.left;
+  taken : TakesOn (g.D.Digests.functions l.d) (bytes_of some) l.initial.self l.self;
+}
