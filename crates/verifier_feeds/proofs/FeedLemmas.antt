@@ -1,8 +1,13 @@
 -- What a run took, piece by piece, and what a worker put in.
-use Rattle.std.proofs.Common.{◌≡◌, ℕ, false, List, [], ◌∷◌, ◌++◌, refl, sym, ◌∙◌, ap, subst, append_assoc, append-nil}
+use Rattle.std.proofs.Common.{◌≡◌, ℕ, suc, ◌<◌, false, List, [], ◌∷◌, ◌++◌, length, take, get_or, Option, Some, take-suc, refl, sym, ◌∙◌, ap, subst, append_assoc, append-nil, arith}
+use Rattle.std.specs.Option.{option_to_list}
 use Rattle.std.proofs.lemmas.Grind.{flat_map-append}
 use Rattle.record_hash.specs.Functions.{DigestFunctions}
 use Rattle.record_text.specs.declared.operation.Operation.{Operation}
+use Rattle.record_text.specs.Format.{short_keys}
+use Rattle.log_codec.specs.declared.command.Command.{Command}
+use Rattle.log_codec.specs.Command.{command_text}
+use Rattle.log_codec.specs.Log.{log_text}
 use Rattle.merkle_records.specs.Scheme.{Scheme, scheme_of}
 use Rattle.lamport_clocks.specs.declared.header.Header.{Header}
 use Rattle.verifier_run.specs.Kept.{keeps_operations}
@@ -52,12 +57,20 @@ module _ (functions : DigestFunctions) where
       (two first (bytes ++ some) (λ middle_going. one first bytes before middle_going) going)
 
   -- one parcel more
-  pub takes-parcel : PiecesJoin → (parcels : List Parcel) (parcel : Parcel) (old middle new : Inbox) → TakesOn functions (bytes_of parcels) old middle
-      → (is_wanting new ≡ false → GoesOnBy functions parcel.buffer middle new) → TakesOn functions (bytes_of (parcels ++ parcel ∷ [])) old new
-  takes-parcel join parcels parcel old middle new so_far step =
+  pub takes-parcel : PiecesJoin → (parcels : List Parcel) (parcel : Parcel) (piece : List ℕ) (old middle new : Inbox) → TakesOn functions (bytes_of parcels) old middle
+      → piece ≡ parcel.buffer → (is_wanting new ≡ false → GoesOnBy functions piece middle new) → TakesOn functions (bytes_of (parcels ++ parcel ∷ [])) old new
+  takes-parcel join parcels parcel piece old middle new so_far is step =
       subst (λ (all : List ℕ). TakesOn functions all old new)
       (ap (λ (xs : List ℕ). bytes_of parcels ++ xs) (sym (append-nil parcel.buffer)) ∙ sym (flat_map-append (λ (p : Parcel). p.buffer) parcels (parcel ∷ [])))
-      (takes-then (bytes_of parcels) parcel.buffer old middle new so_far (takes-one join parcel.buffer middle new step))
+      (takes-then (bytes_of parcels) parcel.buffer old middle new so_far
+      (takes-one join parcel.buffer middle new (λ going. subst (λ (bytes : List ℕ). GoesOnBy functions bytes middle new) is (step going))))
+
+  -- the same by another name of what came in all
+  pub takes-received : PiecesJoin → (parcels all : List Parcel) (parcel : Parcel) (piece : List ℕ) (old middle new : Inbox) → all ≡ parcels ++ parcel ∷ []
+      → TakesOn functions (bytes_of parcels) old middle → piece ≡ parcel.buffer → (is_wanting new ≡ false → GoesOnBy functions piece middle new)
+      → TakesOn functions (bytes_of all) old new
+  takes-received join parcels all parcel piece old middle new are so_far is step =
+      subst (λ (ps : List Parcel). TakesOn functions (bytes_of ps) old new) (sym are) (takes-parcel join parcels parcel piece old middle new so_far is step)
 
   -- the last piece: what the run has come to
   pub takes-last : (bytes piece : List ℕ) (first : FedRun) (old new : Inbox) → (is_wanting old ≡ false → HasTaken functions bytes first (run_of old))
@@ -77,3 +90,27 @@ all-put received left sent backlog rest is =
     ap (λ (xs : List ℕ). xs ++ rest)
     (ap (λ (xs : List ℕ). xs ++ bytes_of backlog) (sym (flat_map-append bytes received left) ∙ ap bytes_of is)
     ∙ sym (flat_map-append bytes sent backlog))
+
+-- where none is left behind some, these are all
+pub none-left : {X : Type 0} (some all rest : List X) → all ≡ some ++ rest → length rest ≡ 0 → all ≡ some
+none-left some all [] is count = is ∙ append-nil some
+none-left some all (x ∷ rest) is count = absurd (omega (arith, count))
+
+-- what was the oldest
+pub oldest : {X : Type 0} (old new : List X) (found : Option X) (x : X) → found ≡ Some x → old ≡ option_to_list found ++ new → old ≡ x ∷ new
+oldest old new found x some is = is ∙ ap (λ (o : Option _). option_to_list o ++ new) some
+
+-- commands that are written, with one more
+pub written-more : (commands : List Command) (k n : ℕ) (command : Command) (queued buffer after first : List ℕ) → n ≡ suc k → k < length commands
+    → command ≡ get_or commands k command → queued ++ buffer ≡ first ++ log_text short_keys (take k commands) → after ≡ buffer ++ command_text short_keys command
+    → queued ++ after ≡ first ++ log_text short_keys (take n commands)
+written-more commands k n command queued buffer after first next there is so_far pushed =
+    ap (λ (bytes : List ℕ). queued ++ bytes) pushed
+    ∙ sym (append_assoc queued buffer (command_text short_keys command))
+    ∙ ap (λ (bytes : List ℕ). bytes ++ command_text short_keys command) so_far
+    ∙ append_assoc first (log_text short_keys (take k commands)) (command_text short_keys command)
+    ∙ ap (λ (bytes : List ℕ). first ++ bytes)
+    (ap (λ (bytes : List ℕ). log_text short_keys (take k commands) ++ bytes) (sym (append-nil (command_text short_keys command)))
+    ∙ sym (flat_map-append (command_text short_keys) (take k commands) (command ∷ []))
+    ∙ sym (ap (λ (m : ℕ). log_text short_keys (take m commands)) next
+    ∙ ap (log_text short_keys) (take-suc commands k command there ∙ ap (λ (c : Command). take k commands ++ c ∷ []) (sym is))))

@@ -5,8 +5,10 @@ use certified_epochs::FedRun;
 use fv_outside::Gate;
 use log_rings::Receiver;
 use record_hash::Digests;
+use record_text::Operation;
 use std::sync::Wait;
 use std::thread::yield_now;
+use verifier_run::pieces_do_not_matter;
 use want_of_memory::Memory;
 
 /// So many polls in a row that find nothing end a verifier's watch.
@@ -40,6 +42,7 @@ impl Inbox {
         ensures taken { is_wanting self.new ≡ false
             → HasTaken (D.functions d.now) (bytes_of (received_by self.new.receiver)) (run_of self.old) (run_of self.new) }
     {
+        pieces_do_not_matter::<Operation>();
         let mut polls = 0;
         let mut empty_polls = 0;
         for _ in rt.forever() {
@@ -72,6 +75,7 @@ impl Inbox {
         ensures room { HasRoom self.new }
         ensures taken { TakesOn (D.functions d.now) (bytes_of (waiting self.old.receiver)) self.old self.new }
     {
+        pieces_do_not_matter::<Operation>();
         for _ in 0..left {
             let parcel = self.receiver.next();
             self.take(d, parcel.buffer.bytes());

@@ -9,6 +9,8 @@ use crate::inbox::Inbox;
 use crate::outbox::Outbox;
 use log_rings::Lane;
 use record_hash::Digests;
+use record_text::Operation;
+use verifier_run::pieces_do_not_matter;
 
 /// Feeds the run what is left: what is in the lane, then what waited for room in it, then what is in no parcel.
 pub fn settle<D: Digests>(outbox: &mut Outbox, inbox: &mut Inbox, d: &D)
@@ -33,6 +35,7 @@ fn take_waiting<D: Digests>(outbox: &mut Outbox, inbox: &mut Inbox, d: &D)
     ensures taken { TakesOn (D.functions d.now) (bytes_of outbox.old.backlog.items) inbox.old inbox.new }
     ensures rest { outbox.new.buffer ≡ outbox.old.buffer }
 {
+    pieces_do_not_matter::<Operation>();
     while let Some(parcel) = outbox.backlog.pop_front() {
         inbox.take(d, parcel.buffer.bytes());
     }

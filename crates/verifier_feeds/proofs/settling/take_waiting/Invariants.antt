@@ -1,14 +1,18 @@
-use Rattle.std.proofs.Common.{◌≡◌, ◌++◌, List}
+use Rattle.std.proofs.Common.{◌≡◌, ◌++◌, List, length}
 use Rattle.log_rings.specs.declared.parcel.Parcel.{Parcel}
 use Rattle.verifier_feeds.specs.Feeds.{HasRoom, TakesOn, bytes_of}
 use Rattle.verifier_feeds.proofs.settling.take_waiting.Given as goal
 
 -- the oldest parcels of those that waited are taken
-abbrev pub invariant-loop : goal.invariant-loop
-invariant-loop g l = record {
+abbrev pub invariant-loop-parcel : goal.invariant-loop-parcel
+invariant-loop-parcel g l = record {
   room : HasRoom l.inbox;
   some : List Parcel;
   were : l.initial.outbox.backlog.items ≡ some ++ l.outbox.backlog.items;
   taken : TakesOn (g.D.Digests.functions l.d) (bytes_of some) l.initial.inbox l.inbox;
   rest : l.outbox.buffer ≡ l.initial.outbox.buffer;
 }
+
+-- fewer wait at each turn
+abbrev pub decreases-loop-parcel : goal.decreases-loop-parcel
+decreases-loop-parcel g l = length l.outbox.backlog.items

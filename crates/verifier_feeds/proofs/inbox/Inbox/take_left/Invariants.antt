@@ -1,4 +1,4 @@
-use Rattle.std.proofs.Common.{◌≡◌, ◌+◌, ◌++◌, List, length}
+use Rattle.std.proofs.Common.{◌≡◌, ◌++◌, List, length}
 use Rattle.log_rings.specs.declared.parcel.Parcel.{Parcel}
 use Rattle.log_rings.specs.Lanes.{waiting}
 use Rattle.verifier_feeds.specs.Feeds.{HasRoom, TakesOn, bytes_of}
@@ -9,7 +9,7 @@ abbrev pub invariant-loop : goal.invariant-loop
 invariant-loop g l = record {
   room : HasRoom l.self;
   some : List Parcel;
+  count : length some ≡ l.counter;
   were : waiting l.initial.self.receiver ≡ some ++ waiting l.self.receiver;
-  left : length some + length (waiting l.self.receiver) ≡ l.left;
   taken : TakesOn (g.D.Digests.functions l.d) (bytes_of some) l.initial.self l.self;
 }

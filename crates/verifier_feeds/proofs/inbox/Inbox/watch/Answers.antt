@@ -1,0 +1,51 @@
+use Rattle.std.proofs.Common.{◌≡◌, ◌++◌, ◌∷◌, [], List, refl, sym, ◌∙◌, ap, subst, arith, rules}
+use Rattle.log_rings.specs.declared.parcel.Parcel.{Parcel}
+use Rattle.log_rings.specs.declared.lane.Receiver.{Receiver}
+use Rattle.log_rings.specs.Lanes.{received_by}
+use Rattle.verifier_feeds.specs.Feeds.{TakesOn, bytes_of, run_of}
+use Rattle.verifier_feeds.proofs.FeedLemmas.{none-taken, takes-none, takes-received}
+use Rattle.verifier_feeds.proofs.inbox.Inbox.watch.Goals as goal
+
+pub loop-init : goal.loop-init
+loop-init g c = record {
+  few = search rules;
+  room = c.requires.room;
+  lane = search rules;
+  taken = subst (λ (ps : List Parcel). TakesOn (g.D.Digests.functions c.args.d.now) (bytes_of ps) c.args.self.now c.args.self.now) (sym c.requires.fresh)
+      (takes-none (g.D.Digests.functions c.args.d.now) c.args.self.now);
+}
+
+pub returns-then-empty_polls-ge-MOST_EMPTY_POLLS-clause-taken : goal.returns-then-empty_polls-ge-MOST_EMPTY_POLLS-clause-taken
+returns-then-empty_polls-ge-MOST_EMPTY_POLLS-clause-taken g c =
+    c.loop.invariant.taken (run_of c.args.self.now) [] (λ going. none-taken (g.D.Digests.functions c.args.d.now) (run_of c.args.self.now))
+
+pub returns-then-parcel-clause-taken : goal.returns-then-parcel-clause-taken
+returns-then-parcel-clause-taken g c =
+    let functions = g.D.Digests.functions c.args.d.now in
+    let received : received_by c.take.new.self.receiver ≡ received_by c.loop.self.receiver ++ c.in-Some-poll.parcel ∷ [] =
+    ap (λ (r : Receiver). received_by r) c.take.ensures.lane ∙ c.in-Some-poll.ensures.some.0 in
+    takes-received functions c.pieces_do_not_matter.ensures.joined (received_by c.loop.self.receiver) (received_by c.take.new.self.receiver) c.in-Some-poll.parcel c.bytes.result.now
+    c.args.self.now _ c.take.new.self received c.loop.invariant.taken c.bytes.ensures.value c.take.ensures.goes_on
+    (run_of c.args.self.now) [] (λ going. none-taken functions (run_of c.args.self.now))
+
+pub loop-preserved-in-Some-poll : goal.loop-preserved-in-Some-poll
+loop-preserved-in-Some-poll g c =
+    let functions = g.D.Digests.functions c.args.d.now in
+    let received : received_by c.take.new.self.receiver ≡ received_by c.loop.self.receiver ++ c.in-Some-poll.parcel ∷ [] =
+    ap (λ (r : Receiver). received_by r) c.take.ensures.lane ∙ c.in-Some-poll.ensures.some.0 in
+    record {
+      few = omega arith;
+      room = c.take.ensures.room;
+      lane = search rules;
+      taken =
+          takes-received functions c.pieces_do_not_matter.ensures.joined (received_by c.loop.self.receiver) (received_by c.take.new.self.receiver) c.in-Some-poll.parcel c.bytes.result.now
+          c.args.self.now _ c.take.new.self received c.loop.invariant.taken c.bytes.ensures.value c.take.ensures.goes_on;
+    }
+
+pub loop-preserved : goal.loop-preserved
+loop-preserved g c = record {
+  few = omega (arith, c.if-empty_polls-ge-MOST_EMPTY_POLLS.false);
+  room = c.loop.invariant.room;
+  lane = search rules;
+  taken = subst (λ (ps : List Parcel). TakesOn (g.D.Digests.functions c.args.d.now) (bytes_of ps) c.args.self.now c.loop.self) (sym c.in-None-poll.ensures.none.0) c.loop.invariant.taken;
+}

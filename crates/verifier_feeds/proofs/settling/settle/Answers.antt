@@ -1,0 +1,24 @@
+use Rattle.std.proofs.Common.{◌≡◌, ◌++◌, ℕ, List, refl, sym, ◌∙◌, ap, subst}
+use Rattle.log_rings.specs.declared.parcel.Parcel.{Parcel}
+use Rattle.log_rings.specs.Lanes.{received_by, waiting, sent}
+use Rattle.host_rounds.specs.Feeding.{Takes}
+use Rattle.verifier_feeds.specs.Feeds.{bytes_of, run_of}
+use Rattle.verifier_feeds.proofs.FeedLemmas.{takes-last, all-put}
+use Rattle.verifier_feeds.proofs.settling.settle.Goals as goal
+
+pub returns-clause-all : goal.returns-clause-all
+returns-clause-all g c = λ first before going.
+    let functions = g.D.Digests.functions c.args.d.now in
+    let outbox = c.args.outbox.now in
+    let received = received_by c.args.inbox.now.receiver in
+    let left = waiting c.settle-settled.new.receiver in
+    let backlog = outbox.backlog.items in
+    let bytes = (bytes_of received ++ bytes_of left) ++ bytes_of backlog in
+    let is : received ++ left ≡ sent outbox.sender =
+    ap (λ (ps : List Parcel). ps ++ left) (sym c.settle-settled.ensures.received) ∙ c.settle-settled.ensures.all ∙ c.settle-settled.ensures.sent in
+    let rest = c.bytes.ensures.value ∙ c.take_waiting.ensures.rest in
+    subst (λ (all : List ℕ). Takes functions all first (run_of c.take.new.self))
+    (ap (λ (piece : List ℕ). bytes ++ piece) rest ∙ all-put received left (sent outbox.sender) backlog outbox.buffer is)
+    (takes-last functions bytes c.bytes.result.now first c.take_waiting.new.inbox c.take.new.self
+    (c.take_waiting.ensures.taken first (bytes_of received ++ bytes_of left) (c.take_left.ensures.taken first (bytes_of received) before))
+    (c.take.ensures.goes_on going))
