@@ -1,12 +1,13 @@
 -- What the verifiers' runs took in a phase.
-use Rattle.std.proofs.Common.{◌≡◌, ℕ, zero, suc, ◌<◌, List, [], ◌∷◌, ◌++◌, map, length, get_or, refl, sym, ◌∙◌, ap, subst, append-nil, arith}
-use Rattle.std.specs.List.{flat_map}
+use Rattle.std.proofs.Common.{◌≡◌, ℕ, zero, suc, ◌<◌, ◌≤◌, All, List, [], ◌∷◌, ◌++◌, map, length, get_or, refl, sym, ◌∙◌, ap, subst, append-nil, arith}
+use Rattle.std.specs.List.{flat_map, AllByRecursion}
 use Rattle.std.proofs.lemmas.Grind.{flat_map-append}
 use Rattle.record_hash.specs.Functions.{DigestFunctions}
 use Rattle.record_text.specs.Format.{short_keys}
 use Rattle.log_codec.specs.declared.command.Command.{Command}
 use Rattle.log_codec.specs.Command.{command_text}
 use Rattle.log_codec.specs.Log.{log_text}
+use Rattle.verifier_run.specs.Progress.{weight}
 use Rattle.certified_epochs.specs.declared.fed_run.FedRun.{FedRun}
 use Rattle.host_core.specs.World.{Worker}
 use Rattle.host_rounds.specs.Feeding.{Takes, AllTake}
@@ -36,3 +37,12 @@ all_take functions workers old new took = go workers old new took.olds took.news
       each 0 worker run (omega arith),
       go workers old new (omega (arith, olds)) (omega (arith, news)) (λ i d r there. each (suc i) d r (omega (arith, there))),
     )
+
+-- runs that were fed so many bytes at most
+pub few_all : (bytes : ℕ) (runs : List FedRun) → AllByRecursion (λ fed. weight fed.run ≤ bytes) runs → All (λ fed. weight fed.run ≤ bytes) runs
+few_all bytes [] few = λ i d there. absurd (omega (arith, there))
+few_all bytes (run ∷ runs) few = go (few_all bytes runs few.1)
+  where
+    go : All (λ fed. weight fed.run ≤ bytes) runs → (i : ℕ) (d : FedRun) → i < length (run ∷ runs) → weight (get_or (run ∷ runs) i d).run ≤ bytes
+    go rest zero d there = few.0
+    go rest (suc i) d there = rest i d (omega (arith, there))

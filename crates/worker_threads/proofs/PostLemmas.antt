@@ -13,7 +13,7 @@ use Rattle.host_rounds.specs.Feeding.{Takes}
 use Rattle.atomic_table.specs.Seated.{TableId}
 use Rattle.script_text.specs.declared.task.Task.{Task}
 use Rattle.host_core.specs.World.{Worker}
-use Rattle.host_table.specs.declared.post.hand.Hand.{Hand}
+use Rattle.host_table.specs.declared.hand.Hand.{Hand}
 use Rattle.host_table.specs.declared.views.Row.{Row}
 use Rattle.host_table.specs.Calls.{IsNew, told_by}
 use Rattle.host_table.specs.Hands.{worker_of, IsFree}
@@ -94,19 +94,19 @@ module _ (terms : Terms) (table : TableId) (posts : List Station) (workers : Lis
           let counts = posts_are in
           let in_workers : i < length workers = omega (arith, there, counts.0) in
           let in_hands : i < length hands = omega (arith, there, counts.1) in
-          let open = All-get_or IsOpened posts i d there opened in
+          let feed = All-get_or IsOpened posts i d there opened in
           record {
            posted = record {
             free = subst (IsFree table) (hand_at i d) (All-get_or (IsFree table) hands i d.post.hand in_hands ready.all.free);
             new = subst IsNew (hand_at i d) (All-get_or IsNew hands i d.post.hand in_hands ready.new);
             running = subst (λ (w : Worker). w.stopped ≡ false) (worker_at i d) (All-get_or (λ w. w.stopped ≡ false) workers i d.post.worker in_workers ready.running);
             clock = subst (λ (w : Worker). IsClockOf terms w.clock) (worker_at i d) (All-get_or (λ w. IsClockOf terms w.clock) workers i d.post.worker in_workers ready.clocks);
-            empty = open.empty;
-            served = open.served;
+            empty = feed.empty;
+            served = feed.served;
            };
-           ends = open.ends;
-           fresh = open.fresh;
-           room = open.room;
+           ends = feed.ends;
+           fresh = feed.fresh;
+           room = feed.room;
           }
 
       go : (ps : List Station) → posts ≡ ps → All (IsManned terms table) posts

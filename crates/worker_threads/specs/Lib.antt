@@ -5,4 +5,3 @@ pub mod Stations
 pub mod Posts
 pub mod Phase
 pub use Rattle.host_serving.specs
-pub use Rattle.verifier_feeds.specs

@@ -74,10 +74,13 @@ pub record IsPosted (terms : Terms) (table : TableId) (post : Post) : Type 0 whe
   pub empty : put_in post.outbox ≡ []
   pub served : post.wanting ≡ false
 
--- A worker behind it: where memory was not wanting it has done its part, and its outbox has just what is in its log.
+-- A worker behind it: where memory was not wanting it has done its part.
 pub record IsThrough (table : TableId) (tasks : List Task) (old new : Post) : Type 0 where
   pub free : IsFree table new.hand
   pub number : worker_of new.hand ≡ worker_of old.hand
   pub part : new.wanting ≡ false → HasDone (asked_of (worker_of old.hand) tasks) (told_by new.hand) old.worker new.worker
+
+-- Where memory was not wanting its outbox has just what is in its log.
+pub record HasPutAll (old new : Post) : Type 0 where
   pub put : new.wanting ≡ false → put_in new.outbox ≡ log_text short_keys new.worker.log
   pub lane : SameOutbox old.outbox new.outbox

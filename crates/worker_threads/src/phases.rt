@@ -1,5 +1,5 @@
 //! A phase of a script, served by all workers at once.
-ghost use Rattle.std.specs.Prelude.{◌≡◌, ◌≤◌, ◌<◌, List, All, IfOk, IfSome, OnOk, Ok, None, length, map, get_or};
+ghost use Rattle.std.specs.Prelude.{◌≡◌, ◌≤◌, ◌<◌, List, IfOk, IfSome, OnOk, Ok, None, length, map, get_or};
 ghost use Rattle.std.specs.List.{AllByRecursion};
 ghost use Rattle.record_text.specs.Format.{short_keys};
 ghost use Rattle.log_codec.specs.declared.command.Command.{Command};
@@ -85,7 +85,7 @@ pub fn serve_phase_at_once<R: Threads + Wait + Sync, D: Digests + Sync, G: Gate 
     requires workers { AllByRecursion (λ turn. turn.0 < length (shown_world world.old).workers)
         (turns_of (host_of (D.functions (digests_of world.old)) world.old) (shown_world world.old).phase) }
     requires runs { length runs.old.items ≡ length (shown_world world.old).workers }
-    requires few { All (λ fed. weight fed.run ≤ bytes) runs.old.items }
+    requires few { AllByRecursion (λ fed. weight fed.run ≤ bytes) runs.old.items }
     ensures leads { IfOk result (λ end. Leads (host_of (D.functions (digests_of world.old)) world.old)
         (shown_world world.old) (shown_world world.new) end) }
     ensures served { OnOk result (IsServedOut (host_of (D.functions (digests_of world.old)) world.old)

@@ -19,7 +19,7 @@ pub struct Post {
 
 impl Post {
     ghost use Rattle.host_table.specs.Table.{table, terms};
-    ghost use Rattle.worker_threads.specs.Parts.{IsPosted, IsThrough};
+    ghost use Rattle.worker_threads.specs.Parts.{HasPutAll, IsPosted, IsThrough};
     ghost use Rattle.worker_threads.specs.Toil.{IsShift};
 
     /// Serves what the phase asks of this worker, in order, each request at its place, until its clock ends or memory is
@@ -33,6 +33,7 @@ impl Post {
         requires shift { IsShift D.functions shift.now }
         requires posted { IsPosted (terms D.functions shift.now.records.now) (table shift.now.records.now) self.old }
         ensures through { IsThrough (table shift.now.records.now) shift.now.tasks.now self.old self.new }
+        ensures put { HasPutAll self.old self.new }
     {
         let mut toil = Toil::new(shift.alloc, &mut self.worker);
         self.wanting = toil

@@ -24,7 +24,7 @@ impl Station {
     ghost use Rattle.host_rounds.specs.Feeding.{Takes};
     ghost use Rattle.log_rings.specs.Lanes.{received_by};
     ghost use Rattle.verifier_feeds.specs.Feeds.{AreEndsOfOne, HasRoom, HasTaken, SameInbox, bytes_of, is_wanting, run_of};
-    ghost use Rattle.worker_threads.specs.Parts.{IsPosted, IsThrough};
+    ghost use Rattle.worker_threads.specs.Parts.{HasPutAll, IsThrough};
     ghost use Rattle.worker_threads.specs.Stations.{IsManned, HasFed};
     ghost use Rattle.worker_threads.specs.Toil.{CanServe, IsShift};
 
@@ -55,6 +55,7 @@ impl Station {
         requires shift { IsShift D.functions shift.now }
         requires manned { IsManned (terms D.functions shift.now.records.now) (table shift.now.records.now) self.old }
         ensures through { IsThrough (table shift.now.records.now) shift.now.tasks.now self.old.post self.new.post }
+        ensures put { HasPutAll self.old.post self.new.post }
         ensures ends { AreEndsOfOne self.new.post.outbox self.new.inbox }
         ensures room { HasRoom self.new.inbox }
         ensures taken { is_wanting self.new.inbox ≡ false
@@ -71,7 +72,8 @@ impl Station {
         { inbox.watch(rt, shift.d, gate, number) };
         let mut work = ||
             requires { CanServe D.functions shift.now post.now }
-            ensures { IsThrough (table shift.entry.now.records.now) shift.entry.now.tasks.now post.entry.now post.exit.now }
+            ensures { IsThrough (table shift.entry.now.records.now) shift.entry.now.tasks.now post.entry.now post.exit.now
+                × HasPutAll post.entry.now post.exit.now }
         { post.serve_own(rt, shift, gate) };
         join_mut(rt, &mut watch, &mut work);
     }

@@ -1,5 +1,7 @@
-use Rattle.std.proofs.Common.{◌≡◌, ℕ, List, [], map, length, get_or, sym, ◌∙◌, ap, subst, arith}
+use Rattle.std.proofs.Common.{◌≡◌, ℕ, ◌≤◌, List, [], map, length, get_or, sym, ◌∙◌, ap, subst, arith}
 use Rattle.std.proofs.lemmas.List.{length-map}
+use Rattle.std.specs.List.{AllByRecursion}
+use Rattle.verifier_run.specs.Progress.{weight}
 use Rattle.merkle_records.specs.Merkle.{GivesDigests}
 use Rattle.script_text.specs.declared.task.Task.{Task}
 use Rattle.certified_epochs.specs.declared.fed_run.FedRun.{FedRun}
@@ -18,7 +20,7 @@ use Rattle.worker_threads.specs.Parts.{ArePlaces}
 use Rattle.worker_threads.specs.Phase.{ArePlacesFor, first_stopped}
 use Rattle.worker_threads.specs.Posts.{AreToWatch, HaveTakenLogs}
 use Rattle.worker_threads.proofs.CallLemmas.{phase_places, lent_count, later_is, to_serve, served_at_once, goes_on, hosts_then, no_end}
-use Rattle.worker_threads.proofs.FeedLemmas.{all_take}
+use Rattle.worker_threads.proofs.FeedLemmas.{all_take, few_all}
 use Rattle.worker_threads.proofs.ServedLemmas.{none_stopped, some_stopped}
 use Rattle.worker_threads.proofs.phases.serve_phase_at_once.Goals as goal
 
@@ -91,7 +93,12 @@ pub serve_at_table-requires-clause-watch : goal.serve_at_table-requires-clause-w
 serve_at_table-requires-clause-watch g c κs within =
     let lent : length c.lend_workers-workers.result.items ≡ length (shown_world c.args.world.now).workers =
     ap (λ ws. length ws) (c.lend_workers-workers.ensures.lent ∙ ap (λ (w : World Content). w.workers) c.in_ok-contents.ensures.left) in
-    record { count = c.requires.runs ∙ sym lent; few = c.requires.few }
+    let runs = ap (λ rs. rs.items) c.replace.ensures.value in
+    record {
+      count = ap (λ (rs : List FedRun). length rs) runs ∙ c.requires.runs ∙ sym lent;
+      few = few_all c.args.bytes c.replace.result.items
+          (subst (AllByRecursion (λ fed. weight fed.run ≤ c.args.bytes)) (sym runs) c.requires.few);
+    }
 
 pub first_end_of-end-requires : goal.first_end_of-end-requires
 first_end_of-end-requires g c =
@@ -158,8 +165,9 @@ returns g c =
     let on = goes_on g.D.Digests.functions old new c.first_end_of-end.result one_host at_once.count way in
     let took : HaveTakenLogs functions (shown_world new).workers c.args.runs.now.items c.in_ok-left.left.runs.items =
     subst (λ d. HaveTakenLogs (g.D.Digests.functions d) (shown_world new).workers c.args.runs.now.items c.in_ok-left.left.runs.items) c.digests-d.ensures.value
-    (subst (λ (runs : List FedRun). HaveTakenLogs (g.D.Digests.functions c.digests-d.result.now) (shown_world new).workers runs c.in_ok-left.left.runs.items) refl
-    (subst (λ (workers : List Worker). HaveTakenLogs (g.D.Digests.functions c.digests-d.result.now) workers c.args.runs.now.items c.in_ok-left.left.runs.items) (sym workers_are)
+    (subst (λ (runs : List FedRun). HaveTakenLogs (g.D.Digests.functions c.digests-d.result.now) (shown_world new).workers runs c.in_ok-left.left.runs.items)
+    (ap (λ rs. rs.items) c.replace.ensures.value)
+    (subst (λ (workers : List Worker). HaveTakenLogs (g.D.Digests.functions c.digests-d.result.now) workers c.replace.result.items c.in_ok-left.left.runs.items) (sym workers_are)
     c.in_ok-left.ensures.taken)) in
     record {
       leads = way;

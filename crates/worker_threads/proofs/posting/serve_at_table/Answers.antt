@@ -7,8 +7,8 @@ use Rattle.worker_threads.specs.Stations.{IsOpened, run_in}
 use Rattle.worker_threads.proofs.PostLemmas.{are_posted, served_well, taken_well}
 use Rattle.worker_threads.proofs.posting.serve_at_table.Goals as goal
 
-pub man-stations-requires-clause-hands : goal.man-stations-requires-clause-hands
-man-stations-requires-clause-hands g c κs within = c.requires.ready.all.count ∙ sym c.requires.ready.count
+pub man-requires-clause-hands : goal.man-requires-clause-hands
+man-requires-clause-hands g c = c.requires.ready.all.count ∙ sym c.requires.ready.count
 
 pub serve_all-requires-clause-manned : goal.serve_all-requires-clause-manned
 serve_all-requires-clause-manned g c κs within =

@@ -22,6 +22,8 @@ returns g c =
             subst (λ (w : Worker). HasDone (asked_of (worker_of old.hand) c.args.shift.now.tasks.now) (told_by c.serve_part.new.hand) old.worker w) (sym has)
             (at_ok c.serve_part.result (sym c.is_err-self.ensures.value ∙ fine) c.serve_part.ensures.goes_on [] old.worker
             (nothing-done old.hand old.worker (noted old.worker c.new-toil.result) c.new-toil.ensures.begun c.requires.posted.running c.requires.posted.new));
+      };
+      put = record {
         put = λ fine.
             at_ok c.serve_part.result (sym c.is_err-self.ensures.value ∙ fine) c.serve_part.ensures.put
             ∙ sym (ap (λ (w : Worker). log_text short_keys w.log) has);

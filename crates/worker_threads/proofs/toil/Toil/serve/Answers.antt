@@ -13,8 +13,8 @@ use Rattle.worker_threads.proofs.toil.Toil.serve.Goals as goal
 pub returns-then-self-clause-goes_on : goal.returns-then-self-clause-goes_on
 returns-then-self-clause-goes_on g c = λ before worker has. has-passed before (c.args.request.now ∷ []) (told_by c.args.hand.now) worker _ c.if-self.true has
 
-pub returns-in-Some-2-clause-goes_on : goal.returns-in-Some-2-clause-goes_on
-returns-in-Some-2-clause-goes_on g c = λ before worker has.
+pub returns-in_ok-put-in-Some-2-clause-goes_on : goal.returns-in_ok-put-in-Some-2-clause-goes_on
+returns-in_ok-put-in-Some-2-clause-goes_on g c = λ before worker has.
     let settles = rw c.in-Some-2.is at c.in_ok-plan.ensures.settles in
     let later : Toil = record { log = c.push_reserved.new.self; clock = c.attempt_until.new.clock; served = c.in-Some.served; stopped = c.args.self.now.stopped } in
     let log : later.log.items ≡ c.args.self.now.log.items ++ c.in-Some-2.plan.commands ∷ [] = search rules in
@@ -22,8 +22,8 @@ returns-in-Some-2-clause-goes_on g c = λ before worker has.
     goes-served before c.args.request.now c.args.hand.now c.attempt_until.new.hand worker c.args.self.now later (c.requires.at_work.going c.if-self.false) _ c.args.place
     settles.0 settles.1 c.in-Some-2.plan settles.2 log served refl has
 
-pub returns-in-Some-2-clause-put : goal.returns-in-Some-2-clause-put
-returns-in-Some-2-clause-put g c = λ before.
+pub returns-in_ok-put-in-Some-2-clause-put : goal.returns-in_ok-put-in-Some-2-clause-put
+returns-in_ok-put-in-Some-2-clause-put g c = λ before.
     let log : c.push_reserved.new.self.items ≡ c.args.self.now.log.items ++ c.in-Some-2.plan.commands ∷ [] = search rules in
     let put : put_in c.put.new.self ≡ put_in c.args.outbox.now ++ log_text short_keys c.in-Some-2.plan.commands = search rules in
     put ∙ ap (λ (bytes : List ℕ). bytes ++ log_text short_keys c.in-Some-2.plan.commands) before
