@@ -1,4 +1,4 @@
-use Rattle.std.proofs.Common.{◌≡◌, ℕ, List, Option, Some, None, Ok, OnErr, refl, sym, ◌∙◌, ap, subst}
+use Rattle.std.proofs.Common.{◌≡◌, ℕ, List, length, Option, Some, None, Ok, OnErr, refl, sym, ◌∙◌, ap, subst}
 use Rattle.record_hash.specs.Functions.{DigestFunctions}
 use Rattle.host_core.specs.World.{World, logs_of}
 use Rattle.host_shard.specs.Content.{Content}
@@ -36,9 +36,10 @@ serve_phase_at_once-requires-clause-runs g c κs within =
     let r = c.requires.runs.2.running in
     ap (λ (rs : List FedRun). length rs) c.lend_runs-runs.ensures.runs ∙ run-count _ _ _ _ r.keeps.runs ∙ sym (running-workers _ _ _ _ _ _ _ _ r)
 
-pub set_down-requires-clause-runs : goal.set_down-requires-clause-runs
-set_down-requires-clause-runs g c κs within =
-    let before = c.lend_runs-runs.result.items in (
+pub set_down-requires : goal.set_down-requires
+set_down-requires g c =
+    let before = c.lend_runs-runs.result.items in
+    record { runs = (
       c.requires.runs.0,
       c.requires.runs.1,
       before,
@@ -49,7 +50,7 @@ set_down-requires-clause-runs g c κs within =
       took-round g.D.Digests.functions c.args.self.now.world c.serve_phase_at_once.new.world c.lend_runs-runs.new.self c.take_back.new.self before c.serve_phase_at_once.new.runs.items
       c.serve_phase_at_once.ensures.host c.take_back.ensures.runs c.in_ok-self.ensures.taken,
       c.requires.runs.3,
-    )
+    ) }
 
 pub returns-in_err-self-clause-cut : goal.returns-in_err-self-clause-cut
 returns-in_err-self-clause-cut g c = λ receipts outputs runs held.
