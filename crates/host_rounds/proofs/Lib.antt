@@ -5,3 +5,7 @@ mod FeedingLemmas
 mod FramingLemmas
 mod OpeningLemmas
 mod RunLemmas
+mod WithPassLemmas
+mod SealingLemmas
+mod SettlingLemmas
+mod SealedLemmas

@@ -48,8 +48,8 @@ fn feed_one<D: Digests>(
     if fed.is_starved { Err(Memory) } else { Ok(()) }
 }
 
-// So many bytes more, if they are not too many.
-fn with_more(bytes: u64, more: usize) -> Result<u64, Memory>
+/// So many bytes more, if they are not too many.
+pub(crate) fn with_more(bytes: u64, more: usize) -> Result<u64, Memory>
     ensures sum { IfOk result (λ all. all ≡ bytes + more) }
     ensures few { OnOk result (bytes + more < 2 ^ 63) }
 {

@@ -1,5 +1,5 @@
 //! The rounds of a host, from the header of the bundle to how its report ends.
-ghost use Rattle.std.specs.Prelude.{◌≡◌, ◌≢◌, ℕ, ◌≤◌, ◌<◌, ◌^◌, List, Option, length, OnOk, OnErr, IfOk, Err};
+ghost use Rattle.std.specs.Prelude.{◌≡◌, ◌≢◌, ℕ, ◌≤◌, ◌<◌, ◌^◌, List, Option, length, map, OnOk, OnErr, IfOk, Err};
 ghost use Rattle.fv_outside.specs.Faults.{Rose};
 ghost use Rattle.fv_outside.specs.Written.{Grows, GrowsByFront};
 ghost use Rattle.lamport_clocks.specs.declared.header.Header.{Header};
@@ -12,6 +12,7 @@ ghost use Rattle.bundle_report.specs.Logs.{empty_logs};
 ghost use Rattle.bundle_report.specs.Report.{EpochText};
 ghost use Rattle.load_summary.specs.Summary.{summary_with_end};
 ghost use Rattle.certified_epochs.specs.Telling.{text_by};
+ghost use Rattle.certified_epochs.specs.Turn.{AreVerdictsOn};
 ghost use Rattle.host_log.specs.Frames.{pieces_text};
 ghost use Rattle.host_rounds.specs.Round.{logs_with, pieces_of};
 ghost use Rattle.host_rounds.specs.Bundle.{HasFront};
@@ -24,6 +25,7 @@ use crate::opening::open_runs;
 use crate::stops::RoundStop;
 use bundle_frames::write_header;
 use certified_epochs::{Certifier, FedRun, Telling};
+use epoch_gather::Verdict;
 use fv_outside::Sink;
 use host_log::LogBuffer;
 use lamport_clocks::Header;
@@ -40,9 +42,9 @@ use std::marker::Model;
 /// After an error it is of no more use.
 #[derive(Drop)]
 pub struct Rounds {
-    runs: Vec<FedRun>,
+    pub(crate) runs: Vec<FedRun>,
     certifier: Certifier,
-    bytes: u64,
+    pub(crate) bytes: u64,
     summary: Summary,
 }
 
@@ -124,13 +126,15 @@ impl Rounds {
     }
 
     /// Writes the lines of all epochs that the runs now certify and that are not written yet, and counts of each worker what it
-    /// did in them.
+    /// did in them. The verdicts on the first of these may have been settled when the logs were taken.
     pub fn certify<D: Digests, O: Sink>(
         &mut self,
+        settled: &[Verdict],
         telling: &Telling<D>,
         out: &mut O,
     ) -> Result<(), RoundStop>
         requires runs { HaveRunSome self.old }
+        requires settled { AreVerdictsOn self.old.judged (map (λ fed. fed.run) self.old.runs) settled.now }
         ensures runs { (functions : DigestFunctions) (header : Header) (logs : List (List ℕ)) → HaveRun functions header logs self.old
             → OnOk result (HaveRun functions header logs self.new) }
         ensures all { (functions : DigestFunctions) (header : Header) (logs : List (List ℕ)) → HaveRun functions header logs self.old
@@ -154,7 +158,8 @@ impl Rounds {
     {
         let runs = self.runs.as_mut_slice();
         let summary = &mut self.summary;
-        self.certifier.certify(runs, telling, summary, out)?;
+        self.certifier
+            .certify(settled, runs, telling, summary, out)?;
         Ok(())
     }
 
