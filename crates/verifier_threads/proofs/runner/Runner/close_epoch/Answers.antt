@@ -1,8 +1,9 @@
-use Rattle.std.proofs.Common.{◌≡◌, ◌⊎◌, ℕ, List, Option, Some, None, Ok, OnOk, OnErr, refl, sym, ◌∙◌, ap, subst}
+use Rattle.std.proofs.Common.{◌≡◌, ◌⊎◌, ℕ, List, map, Option, Some, None, Ok, OnOk, OnErr, refl, sym, ◌∙◌, ap, subst}
 use Rattle.std.proofs.lemmas.Result.{err_from_is_err_and}
 use Rattle.fv_outside.specs.Written.{Grows, GrowsByFront}
 use Rattle.record_hash.specs.Functions.{DigestFunctions}
 use Rattle.bundle_report.specs.Report.{EpochText, told_by}
+use Rattle.certified_epochs.specs.Turn.{AreVerdictsOn}
 use Rattle.host_core.specs.World.{World}
 use Rattle.host_shard.specs.Content.{Content}
 use Rattle.host_world.specs.declared.fault.ClockEnd.{ClockEnd}
@@ -24,16 +25,14 @@ close_phase-requires g c = record {
   last = c.requires.last;
 }
 
-pub pass_to_seal-requires : goal.pass_to_seal-requires
-pass_to_seal-requires g c = record {
-  runs = (
-    c.requires.runs.0,
-    c.requires.runs.1,
-    runs-led c.requires.runs.0 g.D.Digests.functions c.args.self.now c.requires.runs.1 c.requires.runs.2 c.close_phase.new.world c.in_ok-end.end c.earlier_end-self.result
-        c.close_phase.ensures.host c.in_ok-end.ensures.leads c.earlier_end-self.ensures.value,
-    c.requires.runs.3,
-  );
-}
+pub pass_to_seal-requires-clause-runs : goal.pass_to_seal-requires-clause-runs
+pass_to_seal-requires-clause-runs g c κs within = (
+  c.requires.runs.0,
+  c.requires.runs.1,
+  runs-led c.requires.runs.0 g.D.Digests.functions c.args.self.now c.requires.runs.1 c.requires.runs.2 c.close_phase.new.world c.in_ok-end.end c.earlier_end-self.result
+      c.close_phase.ensures.host c.in_ok-end.ensures.leads c.earlier_end-self.ensures.value,
+  c.requires.runs.3,
+)
 
 pub certify-requires : goal.certify-requires
 certify-requires g c =

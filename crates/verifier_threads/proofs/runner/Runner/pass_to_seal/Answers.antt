@@ -11,7 +11,7 @@ use Rattle.host_world.specs.declared.settings.Settings.{Settings}
 use Rattle.host_world.specs.Shown.{shown_world, digests_of, requests_of}
 use Rattle.host_log.specs.Frames.{pieces_text}
 use Rattle.host_rounds.specs.Round.{logs_with, pieces_of}
-use Rattle.host_rounds.specs.SoFar.{RunsSoFar, Keeps}
+use Rattle.host_rounds.specs.SoFar.{RunsSoFar, Keeps, HaveRun}
 use Rattle.bundle_report.specs.Report.{told_by}
 use Rattle.verifier_threads.specs.Serving.{Outputs, texts_of}
 use Rattle.verifier_threads.specs.Running.{IsRunning, with_no_log}
@@ -40,7 +40,15 @@ seal-requires-clause-each g c κs within =
     ap length (c.as_slice.ensures.value ∙ items) ∙ size ∙ running-workers _ _ _ _ _ _ _ _ runs.running ∙ sym (run-count _ _ _ _ runs.running.keeps.runs)
 
 pub seal-requires-clause-runs : goal.seal-requires-clause-runs
-seal-requires-clause-runs g c κs within = (_, _, _, c.requires.runs.2.running.keeps.runs)
+seal-requires-clause-runs g c κs within =
+    let old = c.args.self.now in
+    let running = c.requires.runs.2.running in
+    let header = old.world.settings.header in
+    let texts = texts_of running.logs in (
+      header,
+      texts,
+      subst (λ d. HaveRun (g.D.Digests.functions d) header texts old.rounds) (sym (c.digests-d.ensures.value ∙ c.hand_out_all.ensures.host.digests)) running.keeps.runs,
+    )
 
 pub returns-in_err-hand_out_all-clause-cut : goal.returns-in_err-hand_out_all-clause-cut
 returns-in_err-hand_out_all-clause-cut g c = λ receipts outputs runs held.
