@@ -28,10 +28,11 @@ use Rattle.bundle_report.specs.BundleReport.{end_of, histories_at}
 use Rattle.bundle_report.specs.SoFar.{runs_ended, lines_told, lines_from, runs_from, verdict_at, IsUneven, HaveTaken, HaveLogs}
 use Rattle.bundle_report.proofs.CertifyLaws.{can_be_judged, courses-length}
 use Rattle.bundle_report.proofs.LeftLaws.{run_of, left-parts, next-parts, next-operations, runs-length, runs-more}
+use Rattle.bundle_report.proofs.PartLaws.{later-parts}
 use Rattle.bundle_report.proofs.LinesLaws.{lines-more, lines-behind}
 use Rattle.bundle_report.proofs.SoFarLaws.{end-taken, counted-within, behind, next-tells, uneven-judged}
 use Rattle.certified_epochs.specs.declared.fed_run.FedRun.{FedRun}
-use Rattle.certified_epochs.specs.Turn.{courses_in, next_epoch, parts_left, Turned, no_turn, turn_by, turn_at, turn}
+use Rattle.certified_epochs.specs.Turn.{courses_in, IsVerdictAt, AreVerdictsOn, next_epoch, parts_left, Turned, no_turn, turn_by, turn_at, turn}
 
 -- ---- what a turn tells
 
@@ -214,24 +215,82 @@ fed-judged so_far runs have =
     (subst (λ (courses : List (Course Operation)). CanBeJudged (length (runs_of runs)) (parts_at 0 courses)) (courses_same runs)
     (next-judged so_far (runs_of runs) have))
 
+-- The verdict on gathered parts is that of the runs.
+pub gathered-verdict : (runs : List FedRun) (epoch : ℕ) (parts : List Part) (verdict : Verdict) → parts ≡ parts_at 0 (fed_courses runs)
+    → verdict ≡ verdict_of (length runs) epoch parts → IsVerdictAt (runs_of runs) 0 epoch verdict
+gathered-verdict runs epoch parts verdict gathered is =
+    is ∙ ap (verdict_of (length runs) epoch) gathered
+    ∙ ap (λ (courses : List (Course Operation)). verdict_of (length runs) epoch (parts_at 0 courses)) (sym (courses_same runs))
+    ∙ ap (λ (n : ℕ). verdict_of n epoch (parts_at 0 (courses_in (runs_of runs)))) (sym (runs_many runs))
+
+-- ---- verdicts that are handed in
+
+-- The epoch of the next part is as many behind the first as are counted.
+next_is : (scheme : Scheme) (header : Header) (logs : List (List ℕ)) (so_far : Judged) (runs : List (Progress Operation)) (epoch : ℕ)
+    → HaveTaken scheme header logs so_far runs → so_far.unbalanced ≡ None → next_epoch runs ≡ Some epoch → epoch ≡ header.first + so_far.count
+next_is scheme header [] so_far runs epoch taken even is = absurd (omega (arith, taken.whole, taken.header_good.some_verifiers))
+next_is scheme header (log ∷ logs) so_far runs epoch taken even is =
+    go (drop so_far.count (run_of scheme header 0 log).course.parts) refl
+  where
+    at : next_epoch runs ≡ option_map (λ part. part.epoch) (slice_get (drop so_far.count (run_of scheme header 0 log).course.parts) 0)
+    at = epoch_is scheme header log logs so_far runs taken even
+
+    go : (parts : List Part) → drop so_far.count (run_of scheme header 0 log).course.parts ≡ parts → epoch ≡ header.first + so_far.count
+    go [] none =
+        let absent = at ∙ ap (λ (ps : List Part). option_map (λ (p : Part). p.epoch) (slice_get ps 0)) none in
+        absurd (cc)
+    go (part ∷ parts) some =
+        let there = at ∙ ap (λ (ps : List Part). option_map (λ (p : Part). p.epoch) (slice_get ps 0)) some in
+        let own : part.epoch ≡ epoch = cc in
+        let next = next-tells scheme header log logs so_far runs taken (part ∷ parts) some in
+        sym own ∙ next.0
+
+-- what is known of one that is handed in for the epoch that comes
+pub handed-at : {V : Type 0} (P : ℕ → V → Type 0) (e : ℕ) (found : Option ℕ) (handed : Option V) → found ≡ Some e
+    → IfSome handed (λ verdict. (other : ℕ) → found ≡ Some other → P other verdict) → IfSome handed (P e)
+handed-at P e found None is known = tt
+handed-at P e found (Some verdict) is known = known e is
+
+-- A verdict by the runs is what the logs tell that they have taken.
+verdict_told : (scheme : Scheme) (header : Header) (logs : List (List ℕ)) (so_far : Judged) (runs : List (Progress Operation)) (index : ℕ)
+    → HaveTaken scheme header logs so_far runs
+    → verdict_of (length runs) (header.first + so_far.count + index) (parts_at index (courses_in runs)) ≡ verdict_at scheme header logs (so_far.count + index)
+verdict_told scheme header logs so_far runs index taken =
+    let same : header.first + so_far.count + index ≡ header.first + (so_far.count + index) = omega arith in
+    let epoch = header.first + (so_far.count + index) in
+    ap (λ (e : ℕ). verdict_of (length runs) e (parts_at index (courses_in runs))) same
+    ∙ ap (λ (rs : List (Progress Operation)). verdict_of (length rs) epoch (parts_at index (courses_in rs))) taken.runs_are
+    ∙ ap (λ (n : ℕ). verdict_of n epoch (parts_at index (courses_in (runs_from scheme header so_far.count 0 logs))))
+    (runs-length scheme header so_far.count 0 logs ∙ taken.whole)
+    ∙ ap (verdict_of header.verifiers epoch) (later-parts scheme header so_far.count index 0 logs)
+
+-- Of verdicts on the next epochs, the one at the place up to which certifying has come is that on the next.
+pub settled-next : (scheme : Scheme) (header : Header) (logs : List (List ℕ)) (start now : Judged) (first runs : List (Progress Operation)) (settled : List Verdict)
+    (verdict : Verdict) (epoch : ℕ) → HaveTaken scheme header logs start first → HaveTaken scheme header logs now runs → now.unbalanced ≡ None
+    → start.count ≤ now.count → AreVerdictsOn start first settled → slice_get settled (now.count - start.count) ≡ Some verdict → next_epoch runs ≡ Some epoch
+    → IsVerdictAt runs 0 epoch verdict
+settled-next scheme header logs start now first runs settled verdict epoch before taken even within are there next =
+    let index = now.count - start.count in
+    let place : start.count + index ≡ now.count + 0 = omega (arith, within) in
+    let own : epoch ≡ header.first + now.count + 0 = omega (arith, next_is scheme header logs now runs epoch taken even next) in
+    are scheme header logs before index verdict there
+    ∙ verdict_told scheme header logs start first index before
+    ∙ ap (verdict_at scheme header logs) place
+    ∙ sym (verdict_told scheme header logs now runs 0 taken)
+    ∙ ap (λ (e : ℕ). verdict_of (length runs) e (parts_at 0 (courses_in runs))) (sym own)
+
 -- a turn with its text
 pub with_text : {A : Type 0} (t : Turned A) (more : Bool) (now : Judged) (runs : List (Progress Operation)) (text : List A)
     → t ≡ record { more = more; judged = now; runs = runs; text = text } → t ≡ record { more = more; judged = now; runs = runs; text = t.text }
 with_text {A} t more now runs text is =
     is ∙ ap (λ (line : List A). record { more = more; judged = now; runs = runs; text = line }) (sym (ap (λ (u : Turned A). u.text) is))
 
-module _ {A : Type 0} (tell : EpochTold A) (so_far : Judged) (runs : List FedRun) (found : Option ℕ) (epoch : ℕ) (parts : List Part) (verdict : Verdict)
-    (is : found ≡ Some epoch) (next : found ≡ next_epoch (runs_of runs)) (gathered : parts ≡ parts_at 0 (fed_courses runs))
-    (judged_is : verdict ≡ verdict_of (length runs) epoch parts) where
+module _ {A : Type 0} (tell : EpochTold A) (so_far : Judged) (runs : List FedRun) (found : Option ℕ) (epoch : ℕ) (verdict : Verdict)
+    (is : found ≡ Some epoch) (next : found ≡ next_epoch (runs_of runs)) (judged_is : IsVerdictAt (runs_of runs) 0 epoch verdict) where
   -- by the verdict that was found
   pub turn-is : turn tell so_far (runs_of runs) ≡ turn_by tell so_far (runs_of runs) epoch verdict
   turn-is =
-      ap (turn_at tell so_far (runs_of runs)) (sym next ∙ is)
-      ∙ ap (turn_by tell so_far (runs_of runs) epoch)
-      (ap (λ (n : ℕ). verdict_of n epoch (parts_at 0 (courses_in (runs_of runs)))) (runs_many runs)
-      ∙ ap (λ (courses : List (Course Operation)). verdict_of (length runs) epoch (parts_at 0 courses)) (courses_same runs)
-      ∙ ap (verdict_of (length runs) epoch) (sym gathered)
-      ∙ sym judged_is)
+      ap (turn_at tell so_far (runs_of runs)) (sym next ∙ is) ∙ ap (turn_by tell so_far (runs_of runs) epoch) (sym judged_is)
 
   -- another one leaves the runs
   pub turn-other : (now : Judged) (found_so : Verdict) → so_far ≡ now → verdict ≡ found_so
@@ -327,30 +386,10 @@ less-left epoch (fed ∷ old) new found is next left =
         ap length (cond-false (nat_lt epoch part.epoch) _ _ dropped) in
         omega (arith, new_parts, fewer, rest, ap length some)
 
--- The epoch of the next part is as many behind the first as are counted.
-next_count : (scheme : Scheme) (header : Header) (logs : List (List ℕ)) (so_far : Judged) (runs : List (Progress Operation)) (epoch : ℕ)
-    → HaveTaken scheme header logs so_far runs → so_far.unbalanced ≡ None → next_epoch runs ≡ Some epoch → so_far.count ≤ epoch
-next_count scheme header [] so_far runs epoch taken even is = absurd (omega (arith, taken.whole, taken.header_good.some_verifiers))
-next_count scheme header (log ∷ logs) so_far runs epoch taken even is =
-    go (drop so_far.count (run_of scheme header 0 log).course.parts) refl
-  where
-    at : next_epoch runs ≡ option_map (λ part. part.epoch) (slice_get (drop so_far.count (run_of scheme header 0 log).course.parts) 0)
-    at = epoch_is scheme header log logs so_far runs taken even
-
-    go : (parts : List Part) → drop so_far.count (run_of scheme header 0 log).course.parts ≡ parts → so_far.count ≤ epoch
-    go [] none =
-        let absent = at ∙ ap (λ (ps : List Part). option_map (λ (p : Part). p.epoch) (slice_get ps 0)) none in
-        absurd (cc)
-    go (part ∷ parts) some =
-        let there = at ∙ ap (λ (ps : List Part). option_map (λ (p : Part). p.epoch) (slice_get ps 0)) some in
-        let own : part.epoch ≡ epoch = cc in
-        let next = next-tells scheme header log logs so_far runs taken (part ∷ parts) some in
-        omega (arith, own, next.0)
-
 pub count-small : (so_far : Judged) (runs : List FedRun) (found : Option ℕ) (epoch : ℕ) → HaveLogs so_far (runs_of runs)
     → so_far.unbalanced ≡ None → found ≡ Some epoch → found ≡ next_epoch (runs_of runs) → so_far.count ≤ epoch
 count-small so_far runs found epoch have even is next =
-    next_count have.0 have.1 have.2 so_far (runs_of runs) epoch have.3 even (sym next ∙ is)
+    omega (arith, next_is have.0 have.1 have.2 so_far (runs_of runs) epoch have.3 even (sym next ∙ is))
 
 -- what holds where there is an error, where there is one, and on success
 pub err_holds : {T E : Type 0} (P : Type 0) (r : Result T E) → is_err r ≡ true → OnErr r P → P

@@ -1,7 +1,9 @@
 -- One turn of certifying: the next epoch of runs that certified epochs were taken out of.
-use Rattle.std.specs.Prelude.{◌≡◌, ℕ, suc, Bool, true, false, List, [], length, map, slice_get, Option, Some, None}
+use Rattle.std.specs.Prelude.{◌≡◌, ℕ, suc, ◌+◌, Bool, true, false, List, [], length, map, slice_get, Option, Some, None}
 use Rattle.std.specs.List.{AllByRecursion}
 use Rattle.std.specs.Option.{option_map}
+use Rattle.lamport_clocks.specs.declared.header.Header.{Header}
+use Rattle.merkle_records.specs.Scheme.{Scheme}
 use Rattle.epoch_gather.specs.declared.outcome.Verdict.{Verdict}
 use Rattle.epoch_gather.specs.declared.outcome.Verdict.TheVariants as verdicts
 use Rattle.epoch_gather.specs.Verdict.{verdict_of}
@@ -14,6 +16,7 @@ use Rattle.bundle_report.specs.declared.judged.Judged.{Judged}
 use Rattle.bundle_report.specs.Report.{EpochTold}
 use Rattle.bundle_report.specs.RunReport.{parts_at, operations_among}
 use Rattle.bundle_report.specs.Judged.{first_parts}
+use Rattle.bundle_report.specs.SoFar.{HaveTaken}
 use Rattle.certified_epochs.specs.declared.fed_run.FedRun.{FedRun}
 
 -- no run was starved
@@ -35,6 +38,17 @@ courses_in runs = map (λ run. run.course) runs
 -- the epoch of the first part that the first run still has
 abbrev pub next_epoch : List (Progress Operation) → Option ℕ
 next_epoch runs = option_map (λ part. part.epoch) (slice_get (first_parts (courses_in runs)) 0)
+
+-- this is the verdict on an epoch, by what the runs have handed in of it, which stands at this place among their parts
+abbrev pub IsVerdictAt : List (Progress Operation) → ℕ → ℕ → Verdict → Type 0
+IsVerdictAt runs index epoch verdict = verdict ≡ verdict_of (length runs) epoch (parts_at index (courses_in runs))
+
+-- these are the verdicts on the next epochs, one after another, whatever logs the runs have taken
+abbrev pub AreVerdictsOn : Judged → List (Progress Operation) → List Verdict → Type 0
+AreVerdictsOn so_far runs verdicts =
+    (scheme : Scheme) (header : Header) (logs : List (List ℕ)) → HaveTaken scheme header logs so_far runs
+    → (index : ℕ) (verdict : Verdict) → slice_get verdicts index ≡ Some verdict
+    → IsVerdictAt runs index (header.first + so_far.count + index) verdict
 
 -- how many parts the first run still has
 abbrev pub parts_left : List FedRun → ℕ

@@ -1,5 +1,5 @@
 //! Certifying epoch by epoch, as the logs come.
-ghost use Rattle.std.specs.Prelude.{◌≡◌, ◌≢◌, ◌+◌, ◌-◌, ◌<◌, ◌≤◌, ◌++◌, ℕ, List, map, length, slice_get, true, false, IfOk, OnOk, OnErr, Ok, Err, None, Some};
+ghost use Rattle.std.specs.Prelude.{◌≡◌, ◌≢◌, ◌+◌, ◌-◌, ◌<◌, ◌≤◌, ◌++◌, ℕ, List, map, length, slice_get, true, false, IfOk, IfSome, OnOk, OnErr, Ok, Err, None, Some};
 ghost use Rattle.fv_outside.specs.Faults.{Counts, Rose};
 ghost use Rattle.fv_outside.specs.Written.{Grows, GrowsByFront};
 ghost use Rattle.lamport_clocks.specs.declared.header.Header.{Header};
@@ -21,15 +21,15 @@ ghost use Rattle.stamp_order.specs.Operations.{moment_of, merged_up_to};
 ghost use Rattle.verifier_run.specs.Taken.{left_of};
 ghost use Rattle.bundle_report.specs.RunReport.{operations_among};
 ghost use Rattle.certified_epochs.specs.Telling.{text_by};
-ghost use Rattle.certified_epochs.specs.Turn.{AreFed, next_epoch, parts_left, turn};
+ghost use Rattle.certified_epochs.specs.Turn.{AreFed, AreVerdictsOn, IsVerdictAt, next_epoch, parts_left, turn};
 
 use crate::ending::{end_of, first_refused};
 use crate::fed_run::FedRun;
-use crate::gathering::gather;
+use crate::gathering::verdict_on;
 use crate::lines::write_epoch_lines;
 use crate::telling::Telling;
 use bundle_report::{Judged, ReportStop, Uneven};
-use epoch_gather::{Verdict, verdict};
+use epoch_gather::Verdict;
 use fv_outside::Sink;
 use load_summary::Summary;
 use multiset_sum::Part;
@@ -82,12 +82,13 @@ impl Certifier {
     }
 
     /// Writes the lines of all epochs that the runs now certify and that are not written yet, counts their operations, and
-    /// takes what the runs have of these epochs out of them. Where a run is starved that is want of memory, and nothing is
-    /// written.
+    /// takes what the runs have of these epochs out of them. The verdicts on the first of these may have been settled
+    /// elsewhere; the others are found here. Where a run is starved that is want of memory, and nothing is written.
     ///
     /// After want of memory or where the sink failed it holds a front of these lines, and the certifier is of no more use.
     pub fn certify<D: Digests, O: Sink>(
         &mut self,
+        settled: &[Verdict],
         runs: &mut [FedRun],
         telling: &Telling<D>,
         summary: &mut Summary,
@@ -95,6 +96,7 @@ impl Certifier {
     ) -> Result<(), ReportStop>
         requires few { length runs.old ≤ 64 }
         requires logs { AreFed runs.old → HaveLogs self.old (map (λ fed. fed.run) runs.old) }
+        requires settled { AreFed runs.old → AreVerdictsOn self.old (map (λ fed. fed.run) runs.old) settled.now }
 
         // Of all logs that the runs have taken so far: what they certify is counted and written.
         ensures judged { (scheme : Scheme) (header : Header) (logs : List (List ℕ))
@@ -133,9 +135,11 @@ impl Certifier {
         if let Some(_) = self.judged.unbalanced {
             return Ok(());
         }
+        let before = self.judged.count;
         let mut page = Page::new();
         'epochs: loop {
-            if !self.certify_next(runs, telling, summary, &mut page, out)? {
+            let handed = settled.get(self.judged.count - before);
+            if !self.certify_next(handed, runs, telling, summary, &mut page, out)? {
                 break;
             }
         }
@@ -189,9 +193,11 @@ impl Certifier {
         }
     }
 
-    // Counts the operations of the next epoch and writes its lines, if it is certified, and answers whether it is.
+    // Counts the operations of the next epoch and writes its lines, if it is certified, and answers whether it is. The verdict
+    // on it may be handed in.
     fn certify_next<D: Digests, O: Sink>(
         &mut self,
+        handed: Option<&Verdict>,
         runs: &mut [FedRun],
         telling: &Telling<D>,
         summary: &mut Summary,
@@ -201,6 +207,8 @@ impl Certifier {
         requires few { length runs.old ≤ 64 }
         requires even { self.old.unbalanced ≡ None }
         requires logs { HaveLogs self.old (map (λ fed. fed.run) runs.old) }
+        requires handed { IfSome handed (λ verdict. (epoch : ℕ) → next_epoch (map (λ fed. fed.run) runs.old) ≡ Some epoch
+            → IsVerdictAt (map (λ fed. fed.run) runs.old) 0 epoch verdict.now) }
         ensures turned { IfOk result (λ more. turn (text_by D.functions telling.now) self.old (map (λ fed. fed.run) runs.old)
             ≡ record { more = more; judged = self.new; runs = map (λ fed. fed.run) runs.new; text = (turn (text_by D.functions telling.now) self.old (map (λ fed. fed.run) runs.old)).text }) }
         ensures text { OnOk result (Passes (O.held out.old) page.old (turn (text_by D.functions telling.now) self.old (map (λ fed. fed.run) runs.old)).text (O.held out.new) page.new) }
@@ -217,8 +225,7 @@ impl Certifier {
         let Some(epoch) = next_epoch(runs) else {
             return Ok(false);
         };
-        gather(&mut self.parts, 0, runs)?;
-        match verdict(&self.parts, runs.len() as u16, epoch) {
+        match verdict_on(&mut self.parts, handed, runs, epoch)? {
             Verdict::Balanced => {}
             Verdict::Unbalanced(added, evicted) => {
                 self.judged.unbalanced = Some(Uneven {

@@ -189,7 +189,7 @@ fn take_batch<R: Threads + Sync, D: Digests + Sync, O: Sink>(
     ensures never_falls { O.faults out.old ≤ O.faults out.new }
 {
     feed_batch(rt, d, batch, runs);
-    certifier.certify(runs, telling, summary, out)
+    certifier.certify(&[], runs, telling, summary, out)
 }
 
 // Writes the report of a bundle whose header is bad.

@@ -27,12 +27,6 @@ takes-few weigh functions bytes all (log ∷ round) (old ∷ olds) (new ∷ news
   takes-few weigh functions bytes all round olds news takes.1 few.1 counted.1,
 )
 
--- one log more is counted
-pub counted-more : (bytes now all : ℕ) (logs : List (List ℕ)) (log : List ℕ) → now ≤ all → AllByRecursion (λ log. bytes + length log ≤ now) logs
-    → bytes + length log ≤ all → AllByRecursion (λ log. bytes + length log ≤ all) (logs ++ log ∷ [])
-counted-more bytes now all [] log rises each one = (one, tt)
-counted-more bytes now all (first ∷ logs) log rises each one = (omega (arith, rises, each.0), counted-more bytes now all logs log rises each.1 one)
-
 -- as many logs as runs
 pub round-length : (functions : DigestFunctions) (round : List (List ℕ)) (olds news : List FedRun) → AllTake functions round olds news → length round ≡ length olds
 round-length functions [] [] [] takes = refl

@@ -1,8 +1,11 @@
 -- What the rounds of a host come to, for callers too, and what this crate's proofs rest on.
 pub mod RoundLaws
 mod BundleLemmas
-mod FeedingLemmas
 mod FramingLemmas
 mod OpeningLemmas
 mod RunLemmas
 mod LendingLemmas
+mod WithPassLemmas
+mod SealingLemmas
+mod SettlingLemmas
+mod SealedLemmas

@@ -188,17 +188,22 @@ module _ (functions : DigestFunctions) (header : Header) (logs : List (List ℕ)
       ∙ ap (λ (all : List (List ℕ)). lines_from tell (courses_of own_scheme header all) header.first so_far.judged.count) (sym (round-joined 0 logs round))
       ∙ lines-taken tell own_scheme header logs so_far.judged (map (λ fed. fed.run) so_far.runs) (pieces_of 0 round) have.taken
 
+  -- runs that took a round have taken the logs with it
+  pub round-taken : (round : List (List ℕ)) (news : List FedRun) → AllTake functions round so_far.runs news
+      → HaveTaken own_scheme header (logs_with logs round) so_far.judged (map (λ fed. fed.run) news)
+  round-taken round news takes =
+      subst (λ (all : List (List ℕ)). HaveTaken own_scheme header all so_far.judged (map (λ fed. fed.run) news)) (round-joined 0 logs round)
+      (subst (HaveTaken own_scheme header (joined_from 0 logs (pieces_of 0 round)) so_far.judged)
+      (sym (runs-took functions header 0 round so_far.runs news (runs_headers functions header logs so_far have) takes))
+      (taken-more own_scheme header logs so_far.judged (map (λ fed. fed.run) so_far.runs) (pieces_of 0 round) have.taken))
+
   -- the runs took a round
   pub round-run : (round : List (List ℕ)) (news : List FedRun) (bytes : ℕ) (summary : Counted) → summary ≡ so_far.summary → AllTake functions round so_far.runs news
       → AllByRecursion (λ fed. weight fed.run ≤ bytes) news
       → HaveRun functions header (logs_with logs round) (record { judged = so_far.judged; runs = news; bytes = bytes; summary = summary })
   round-run round news bytes summary same takes few = record {
     fed = all_fed functions round so_far.runs news takes;
-    taken =
-        subst (λ (all : List (List ℕ)). HaveTaken own_scheme header all so_far.judged (map (λ fed. fed.run) news)) (round-joined 0 logs round)
-        (subst (HaveTaken own_scheme header (joined_from 0 logs (pieces_of 0 round)) so_far.judged)
-        (sym (runs-took functions header 0 round so_far.runs news (runs_headers functions header logs so_far have) takes))
-        (taken-more own_scheme header logs so_far.judged (map (λ fed. fed.run) so_far.runs) (pieces_of 0 round) have.taken));
+    taken = round-taken round news takes;
     few = few;
     summed =
         same ∙ have.summed

@@ -4,3 +4,5 @@ pub mod Feeding
 pub mod Bundle
 pub mod SoFar
 pub mod Stops
+pub mod WithPass
+pub mod Sealing

@@ -51,6 +51,10 @@ pub record HaveRun (functions : DigestFunctions) (header : Header) (logs : List 
   pub few : AllByRecursion (λ fed. weight fed.run ≤ so_far.bytes) so_far.runs
   pub summed : so_far.summary ≡ counted_of header.verifiers (operations_counted functions header logs so_far)
 
+-- there are logs that the runs have taken by these functions
+abbrev pub HaveRunBy : DigestFunctions → RunsSoFar → Type 0
+HaveRunBy functions so_far = (header : Header) × (logs : List (List ℕ)) × HaveRun functions header logs so_far
+
 -- there are logs that the runs have taken
 abbrev pub HaveRunSome : RunsSoFar → Type 0
 HaveRunSome so_far = (functions : DigestFunctions) × (header : Header) × (logs : List (List ℕ)) × HaveRun functions header logs so_far

@@ -1,8 +1,7 @@
 //! A round in which the runs are fed elsewhere: they are lent, and what they then have taken is written.
-ghost use Rattle.std.specs.Prelude.{◌≡◌, ◌+◌, ◌≤◌, length, IfOk};
-ghost use Rattle.std.specs.List.{AllByRecursion};
+ghost use Rattle.std.specs.Prelude.{◌≡◌};
 
-use crate::feeding::with_more;
+use crate::counting::bytes_with;
 use crate::framing::write_round;
 use crate::laws::rounds_make_a_bundle;
 use crate::rounds::Rounds;
@@ -13,7 +12,6 @@ use host_log::LogBuffer;
 use record_text::Operation;
 use std::mem;
 use verifier_run::pieces_do_not_matter;
-use want_of_memory::Memory;
 
 impl Rounds {
     ghost use Rattle.std.specs.Prelude.{◌≡◌, ◌≢◌, ◌≤◌, ℕ, [], List, Option, Err, length, OnOk, OnErr};
@@ -79,18 +77,7 @@ impl Rounds {
         if write_round(logs, vault).is_err() {
             return Err(RoundStop::VaultFault);
         }
-        self.bytes = with_all(self.bytes, logs)?;
+        self.bytes = bytes_with(self.bytes, logs)?;
         Ok(())
     }
-}
-
-// So many bytes, and those of all logs, if they are not too many.
-fn with_all(bytes: u64, logs: &[LogBuffer]) -> Result<u64, Memory>
-    ensures each { IfOk result (λ all. AllByRecursion (λ log. bytes + length log ≤ all) logs.now) }
-{
-    let mut all = bytes;
-    for log in logs {
-        all = with_more(all, log.bytes().len())?;
-    }
-    Ok(all)
 }

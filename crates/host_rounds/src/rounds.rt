@@ -1,5 +1,5 @@
 //! The rounds of a host, from the header of the bundle to how its report ends.
-ghost use Rattle.std.specs.Prelude.{◌≡◌, ◌≢◌, ℕ, ◌≤◌, ◌<◌, ◌^◌, List, Option, length, OnOk, OnErr, IfOk, Err};
+ghost use Rattle.std.specs.Prelude.{◌≡◌, ◌≢◌, ℕ, ◌≤◌, ◌<◌, ◌^◌, List, Option, length, map, OnOk, OnErr, IfOk, Err};
 ghost use Rattle.fv_outside.specs.Faults.{Rose};
 ghost use Rattle.fv_outside.specs.Written.{Grows, GrowsByFront};
 ghost use Rattle.lamport_clocks.specs.declared.header.Header.{Header};
@@ -12,20 +12,19 @@ ghost use Rattle.bundle_report.specs.Logs.{empty_logs};
 ghost use Rattle.bundle_report.specs.Report.{EpochText};
 ghost use Rattle.load_summary.specs.Summary.{summary_with_end};
 ghost use Rattle.certified_epochs.specs.Telling.{text_by};
+ghost use Rattle.certified_epochs.specs.Turn.{AreVerdictsOn};
 ghost use Rattle.host_log.specs.Frames.{pieces_text};
 ghost use Rattle.host_rounds.specs.Round.{logs_with, pieces_of};
 ghost use Rattle.host_rounds.specs.Bundle.{HasFront};
 ghost use Rattle.host_rounds.specs.SoFar.{RunsSoFar, HaveRun, HaveRunSome, Keeps, AllCounted, lines_counted, lines_due, end_due};
 
-use crate::feeding::feed_all;
-use crate::framing::write_round;
 use crate::laws::rounds_make_a_bundle;
 use crate::opening::open_runs;
 use crate::stops::RoundStop;
 use bundle_frames::write_header;
 use certified_epochs::{Certifier, FedRun, Telling};
+use epoch_gather::Verdict;
 use fv_outside::Sink;
-use host_log::LogBuffer;
 use lamport_clocks::Header;
 use load_summary::Summary;
 use record_hash::Digests;
@@ -83,54 +82,16 @@ impl Rounds {
         })
     }
 
-    /// Takes the logs of a round, one of each verifier: writes them to the vault in frames, and feeds them to the runs.
-    /// Of 2^63 bytes or more in all it answers want of memory.
-    pub fn take<D: Digests, V: Sink>(
-        &mut self,
-        d: &D,
-        logs: &[LogBuffer],
-        vault: &mut V,
-    ) -> Result<(), RoundStop>
-        requires each { length logs.now ≡ length self.old.runs }
-        requires runs { HaveRunSome self.old }
-
-        // Whatever logs were taken so far: these are taken behind them. Of epochs no more are counted yet, and their lines
-        // stay what they were.
-        ensures keeps { (header : Header) (before : List (List ℕ)) (held : Option (List ℕ))
-            → Keeps (D.functions d.now) header before self.old held (V.held vault.old)
-            → OnOk result (Keeps (D.functions d.now) header (logs_with before logs.now) self.new held (V.held vault.new)) }
-        ensures counted { OnOk result (self.new.judged ≡ self.old.judged) }
-        ensures lines { (tell : EpochText) (functions : DigestFunctions) (header : Header) (before : List (List ℕ)) → HaveRun functions header before self.old
-            → OnOk result (lines_counted tell functions header (logs_with before logs.now) self.new ≡ lines_counted tell functions header before self.old) }
-        ensures runs { OnOk result (length self.new.runs ≡ length self.old.runs) }
-
-        // Where it stops, the vault has a front of their bundle; at want of memory that may be the whole. What it had before
-        // stays, in any case.
-        ensures grown { GrowsByFront (V.held vault.old) (V.held vault.new) (pieces_text (pieces_of 0 logs.now)) }
-        ensures front { (header : Header) (before : List (List ℕ)) (held : Option (List ℕ))
-            → Keeps (D.functions d.now) header before self.old held (V.held vault.old)
-            → OnErr result (HasFront header (logs_with before logs.now) held (V.held vault.new)) }
-        ensures stop { result ≢ Err RoundStop.WriteFault }
-        ensures vault_fault { result ≡ Err RoundStop.VaultFault → Rose (V.faults vault.old) (V.faults vault.new) }
-        ensures never_falls { V.faults vault.old ≤ V.faults vault.new }
-        ensures name { V.name vault.new ≡ V.name vault.old }
-    {
-        rounds_make_a_bundle();
-        if write_round(logs, vault).is_err() {
-            return Err(RoundStop::VaultFault);
-        }
-        feed_all(d, logs, &mut self.runs, &mut self.bytes)?;
-        Ok(())
-    }
-
     /// Writes the lines of all epochs that the runs now certify and that are not written yet, and counts of each worker what it
-    /// did in them.
+    /// did in them. The verdicts on the first of these may have been settled when the logs were taken.
     pub fn certify<D: Digests, O: Sink>(
         &mut self,
+        settled: &[Verdict],
         telling: &Telling<D>,
         out: &mut O,
     ) -> Result<(), RoundStop>
         requires runs { HaveRunSome self.old }
+        requires settled { AreVerdictsOn self.old.judged (map (λ fed. fed.run) self.old.runs) settled.now }
         ensures runs { (functions : DigestFunctions) (header : Header) (logs : List (List ℕ)) → HaveRun functions header logs self.old
             → OnOk result (HaveRun functions header logs self.new) }
         ensures all { (functions : DigestFunctions) (header : Header) (logs : List (List ℕ)) → HaveRun functions header logs self.old
@@ -154,7 +115,8 @@ impl Rounds {
     {
         let runs = self.runs.as_mut_slice();
         let summary = &mut self.summary;
-        self.certifier.certify(runs, telling, summary, out)?;
+        self.certifier
+            .certify(settled, runs, telling, summary, out)?;
         Ok(())
     }
 

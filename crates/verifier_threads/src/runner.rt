@@ -1,10 +1,11 @@
 //! A run of a script: its world, phase by phase, and what becomes of the logs.
-ghost use Rattle.std.specs.Prelude.{◌≡◌, ◌≢◌, ◌↔◌, ◌⊎◌, ◌≤◌, ◌<◌, Bool, ℕ, suc, true, false, List, Option, None, length, OnOk, OnErr, IfOk, Err};
+ghost use Rattle.std.specs.Prelude.{◌≡◌, ◌≢◌, ◌↔◌, ◌⊎◌, ◌≤◌, ◌<◌, Bool, ℕ, suc, true, false, List, Option, None, length, map, OnOk, OnErr, IfOk, Err};
 ghost use Rattle.std.specs.List.{AllByRecursion};
 ghost use Rattle.fv_outside.specs.Faults.{Rose};
 ghost use Rattle.bundle_report.specs.Report.{told_by};
 ghost use Rattle.certified_epochs.specs.declared.fed_run.FedRun.{FedRun};
 ghost use Rattle.certified_epochs.specs.Telling.{text_by};
+ghost use Rattle.certified_epochs.specs.Turn.{AreVerdictsOn};
 ghost use Rattle.host_core.specs.World.{set_up};
 ghost use Rattle.host_core.specs.WorldEvent.{IsLast};
 ghost use Rattle.host_world.specs.Settings.{IsSettings};
@@ -21,6 +22,7 @@ use crate::handing::hand_out_all;
 use crate::laws::what_is_due_stays_due;
 use crate::loads::Load;
 use certified_epochs::Telling;
+use epoch_gather::Verdict;
 use fv_outside::{Gate, Sink};
 use host_log::LogBuffer;
 use host_rounds::{RoundStop, Rounds, write_end};
@@ -82,48 +84,6 @@ impl<'a, D: Digests> Runner<'a, D> {
             buffers,
             end: None,
         })
-    }
-
-    /// A close, the last one or another: the workers move on to the next epoch, what they logged goes to the vault, and the
-    /// lines of all epochs that are now certified are written, with receipts or without. A clock may end in it, and then no more can be done.
-    pub(crate) fn close_epoch<V: Sink, O: Sink>(
-        &mut self,
-        last: bool,
-        receipts: bool,
-        vault: &mut V,
-        out: &mut O,
-    ) -> Result<(), RoundStop>
-        requires runs { IsUnderWay D.functions self.old (V.held vault.old) }
-        requires served { IsAtClose (host_of (D.functions (digests_of self.old.world)) self.old.world)
-            (shown_world self.old.world) self.old.end }
-        requires last { (last ≡ true) ↔ IsLast (host_of (D.functions (digests_of self.old.world)) self.old.world)
-            (shown_world self.old.world) }
-        ensures runs { (outputs : Outputs) → Runs receipts D.functions self.old outputs → outputs.vault_after ≡ V.held vault.old
-            → outputs.out_after ≡ O.held out.old
-            → OnOk result (RunsWhole receipts D.functions self.new (record outputs { vault_after = V.held vault.new; out_after = O.held out.new })) }
-        ensures ended { (last ≡ true) ⊎ (self.new.end ≢ None)
-            → OnOk result (IsAtEnd (host_of (D.functions (digests_of self.new.world)) self.new.world) (shown_world self.new.world) self.new.end) }
-        ensures kept { self.new.end ≡ None → self.old.end ≡ None }
-        ensures opened { last ≡ false → self.new.end ≡ None
-            → OnOk result (IsAtPhase (host_of (D.functions (digests_of self.new.world)) self.new.world) (shown_world self.new.world) self.new.end
-            × ((shown_world self.new.world).phase ≡ suc (shown_world self.old.world).phase)) }
-        ensures cut { (outputs : Outputs) → Runs receipts D.functions self.old outputs → outputs.vault_after ≡ V.held vault.old
-            → outputs.out_after ≡ O.held out.old
-            → OnErr result (IsCutOff receipts (D.functions (digests_of self.old.world))
-            (record outputs { vault_after = V.held vault.new; out_after = O.held out.new })) }
-        ensures host { AreOfOneHost self.old.world self.new.world }
-        ensures vault_fault { result ≡ Err RoundStop.VaultFault → Rose (V.faults vault.old) (V.faults vault.new) }
-        ensures write_fault { result ≡ Err RoundStop.WriteFault → Rose (O.faults out.old) (O.faults out.new) }
-        ensures vault_never_falls { V.faults vault.old ≤ V.faults vault.new }
-        ensures never_falls { O.faults out.old ≤ O.faults out.new }
-        ensures name { V.name vault.new ≡ V.name vault.old }
-    {
-        what_is_due_stays_due();
-        let end = close_phase(&mut self.world, last)?;
-        self.end = earlier_end(self.end, end);
-        self.pass_on(vault)?;
-        let telling = self.telling(receipts);
-        self.rounds.certify(&telling, out)
     }
 
     /// Behind the last close: writes the last line of the report.
@@ -194,27 +154,6 @@ impl<'a, D: Digests> Runner<'a, D> {
         )
     }
 
-    // Hands out what all workers logged: it goes to the vault, and the verifiers' runs take it.
-    fn pass_on<V: Sink>(&mut self, vault: &mut V) -> Result<(), RoundStop>
-        requires runs { IsUnderWay D.functions self.old (V.held vault.old) }
-        ensures runs { (receipts : Bool) (outputs : Outputs) → Runs receipts D.functions self.old outputs → outputs.vault_after ≡ V.held vault.old
-            → OnOk result (Runs receipts D.functions self.new (record outputs { vault_after = V.held vault.new })) }
-        ensures handed { OnOk result (shown_world self.new.world ≡ all_handed_out (shown_world self.old.world)) }
-        ensures end { self.new.end ≡ self.old.end }
-        ensures cut { (receipts : Bool) (outputs : Outputs) → Runs receipts D.functions self.old outputs → outputs.vault_after ≡ V.held vault.old
-            → OnErr result (IsCutOff receipts (D.functions (digests_of self.old.world)) (record outputs { vault_after = V.held vault.new })) }
-        ensures host { AreOfOneHost self.old.world self.new.world }
-        ensures stop { result ≢ Err RoundStop.WriteFault }
-        ensures vault_fault { result ≡ Err RoundStop.VaultFault → Rose (V.faults vault.old) (V.faults vault.new) }
-        ensures never_falls { V.faults vault.old ≤ V.faults vault.new }
-        ensures name { V.name vault.new ≡ V.name vault.old }
-    {
-        what_is_due_stays_due();
-        hand_out_all(&mut self.world, self.buffers.as_mut_slice())?;
-        self.rounds
-            .take(self.world.digests(), self.buffers.as_slice(), vault)
-    }
-
     // Hands out what all workers logged, where the verifiers' runs have already taken it: it goes to the vault.
     fn set_down<V: Sink>(&mut self, vault: &mut V) -> Result<(), RoundStop>
         requires runs { IsFedUnderWay D.functions self.old (V.held vault.old) }
@@ -239,6 +178,78 @@ impl<'a, D: Digests> Runner<'a, D> {
 }
 
 impl<'a, D: Digests + Sync> Runner<'a, D> {
+    /// A close, the last one or another: the workers move on to the next epoch, what they logged goes to the vault, and the
+    /// lines of all epochs that are now certified are written, with receipts or without. A clock may end in it, and then no more can be done.
+    pub(crate) fn close_epoch<R: Threads + Sync, V: Sink, O: Sink>(
+        &mut self,
+        rt: &R,
+        last: bool,
+        receipts: bool,
+        vault: &mut V,
+        out: &mut O,
+    ) -> Result<(), RoundStop>
+        requires runs { IsUnderWay D.functions self.old (V.held vault.old) }
+        requires served { IsAtClose (host_of (D.functions (digests_of self.old.world)) self.old.world)
+            (shown_world self.old.world) self.old.end }
+        requires last { (last ≡ true) ↔ IsLast (host_of (D.functions (digests_of self.old.world)) self.old.world)
+            (shown_world self.old.world) }
+        ensures runs { (outputs : Outputs) → Runs receipts D.functions self.old outputs → outputs.vault_after ≡ V.held vault.old
+            → outputs.out_after ≡ O.held out.old
+            → OnOk result (RunsWhole receipts D.functions self.new (record outputs { vault_after = V.held vault.new; out_after = O.held out.new })) }
+        ensures ended { (last ≡ true) ⊎ (self.new.end ≢ None)
+            → OnOk result (IsAtEnd (host_of (D.functions (digests_of self.new.world)) self.new.world) (shown_world self.new.world) self.new.end) }
+        ensures kept { self.new.end ≡ None → self.old.end ≡ None }
+        ensures opened { last ≡ false → self.new.end ≡ None
+            → OnOk result (IsAtPhase (host_of (D.functions (digests_of self.new.world)) self.new.world) (shown_world self.new.world) self.new.end
+            × ((shown_world self.new.world).phase ≡ suc (shown_world self.old.world).phase)) }
+        ensures cut { (outputs : Outputs) → Runs receipts D.functions self.old outputs → outputs.vault_after ≡ V.held vault.old
+            → outputs.out_after ≡ O.held out.old
+            → OnErr result (IsCutOff receipts (D.functions (digests_of self.old.world))
+            (record outputs { vault_after = V.held vault.new; out_after = O.held out.new })) }
+        ensures host { AreOfOneHost self.old.world self.new.world }
+        ensures vault_fault { result ≡ Err RoundStop.VaultFault → Rose (V.faults vault.old) (V.faults vault.new) }
+        ensures write_fault { result ≡ Err RoundStop.WriteFault → Rose (O.faults out.old) (O.faults out.new) }
+        ensures vault_never_falls { V.faults vault.old ≤ V.faults vault.new }
+        ensures never_falls { O.faults out.old ≤ O.faults out.new }
+        ensures name { V.name vault.new ≡ V.name vault.old }
+    {
+        what_is_due_stays_due();
+        let end = close_phase(&mut self.world, last)?;
+        self.end = earlier_end(self.end, end);
+        let settled = self.pass_to_seal(rt, last, vault)?;
+        let telling = self.telling(receipts);
+        self.rounds.certify(&settled, &telling, out)
+    }
+
+    // Hands out what all workers logged in a close: it goes to the vault, and the verifiers' runs take it, each in a thread of its
+    // own. The answer is the verdicts on what they sealed.
+    fn pass_to_seal<R: Threads + Sync, V: Sink>(
+        &mut self,
+        rt: &R,
+        last: bool,
+        vault: &mut V,
+    ) -> Result<Vec<Verdict>, RoundStop>
+        requires runs { IsUnderWay D.functions self.old (V.held vault.old) }
+        ensures runs { (receipts : Bool) (outputs : Outputs) → Runs receipts D.functions self.old outputs → outputs.vault_after ≡ V.held vault.old
+            → OnOk result (Runs receipts D.functions self.new (record outputs { vault_after = V.held vault.new })) }
+        ensures handed { OnOk result (shown_world self.new.world ≡ all_handed_out (shown_world self.old.world)) }
+        ensures settled { IfOk result (λ settled. AreVerdictsOn self.new.rounds.judged (map (λ fed. fed.run) self.new.rounds.runs) settled.items) }
+        ensures end { self.new.end ≡ self.old.end }
+        ensures cut { (receipts : Bool) (outputs : Outputs) → Runs receipts D.functions self.old outputs → outputs.vault_after ≡ V.held vault.old
+            → OnErr result (IsCutOff receipts (D.functions (digests_of self.old.world)) (record outputs { vault_after = V.held vault.new })) }
+        ensures host { AreOfOneHost self.old.world self.new.world }
+        ensures stop { result ≢ Err RoundStop.WriteFault }
+        ensures vault_fault { result ≡ Err RoundStop.VaultFault → Rose (V.faults vault.old) (V.faults vault.new) }
+        ensures never_falls { V.faults vault.old ≤ V.faults vault.new }
+        ensures name { V.name vault.new ≡ V.name vault.old }
+    {
+        what_is_due_stays_due();
+        hand_out_all(&mut self.world, self.buffers.as_mut_slice())?;
+        let d = self.world.digests();
+        self.rounds
+            .seal(rt, self.alloc, d, self.buffers.as_slice(), last, vault)
+    }
+
     /// A phase: its requests are served, and the verifiers read what is logged meanwhile. Then that goes to the vault. A clock may
     /// end in it.
     pub(crate) fn phase<R: Threads + Wait + Sync, V: Sink, G: Gate + Sync>(
@@ -311,7 +322,7 @@ impl<'a, D: Digests + Sync> Runner<'a, D> {
     {
         self.phase(rt, gate, vault)?;
         let last = closes_last(at_end, self.end);
-        self.close_epoch(last, receipts, vault, out)
+        self.close_epoch(rt, last, receipts, vault, out)
     }
 }
 

@@ -1,14 +1,18 @@
-use Rattle.std.proofs.Common.{ℕ, ◌+◌, ◌-◌, ◌++◌, List, [], sym, ◌∙◌, ap, subst, append-nil, append_assoc, arith}
+use Rattle.std.proofs.Common.{◌≡◌, ℕ, ◌+◌, ◌-◌, ◌++◌, List, [], Option, None, Some, IfSome, Bor, slice_get, sym, ◌∙◌, ap, subst, append-nil, append_assoc, arith}
+use Rattle.std.specs.Slice.{IsItemAt}
+use Rattle.std.proofs.lemmas.Option.{slice_get-get_or}
 use Rattle.fv_outside.specs.Written.{Grows}
 use Rattle.record_text.specs.declared.operation.Operation.{Operation}
 use Rattle.load_summary.specs.Counting.{counted_of}
 use Rattle.report_text.proofs.PassLaws.{Passes-then, Passes-flush, Passes-front, Passes-stop, on_err}
+use Rattle.epoch_gather.specs.declared.outcome.Verdict.{Verdict}
+use Rattle.bundle_report.specs.declared.judged.Judged.{Judged}
 use Rattle.bundle_report.specs.Report.{operations_told}
 use Rattle.bundle_report.specs.RunReport.{courses_of}
 use Rattle.bundle_report.specs.SoFar.{lines_from}
 use Rattle.certified_epochs.specs.Telling.{text_by}
-use Rattle.certified_epochs.specs.Turn.{turn}
-use Rattle.certified_epochs.proofs.TurnLemmas.{runs_of, certified-turn, done-turn, same-judged, lines-step, turn-front, turn-alike}
+use Rattle.certified_epochs.specs.Turn.{turn, next_epoch, IsVerdictAt}
+use Rattle.certified_epochs.proofs.TurnLemmas.{runs_of, settled-next, certified-turn, done-turn, same-judged, lines-step, turn-front, turn-alike}
 use Rattle.certified_epochs.proofs.certifier.Certifier.certify.Goals as goal
 
 pub returns-in-Some-clause-judged : goal.returns-in-Some-clause-judged
@@ -114,3 +118,24 @@ returns-in-Ok-clause-counted g c = λ scheme header logs workers before taken su
     ∙ ap (λ (ops : List Operation). before ++ ops)
     (ap (λ (ops : List Operation). inv.operations ++ ops) done.text ∙ append-nil inv.operations ∙ inv.operations_are scheme header logs taken
     ∙ ap (λ (n : ℕ). lines_from operations_told (courses_of scheme header logs) (header.first + c.args.self.now.count) (n - c.args.self.now.count)) (sym done.count)))
+
+-- what is known of each verdict that is there is known of one that was looked up
+found_told : (P : Verdict → Type 0) (verdicts : List Verdict) (index : ℕ) (found : Option (Bor Verdict)) → IsItemAt verdicts index found
+    → ((verdict : Verdict) → slice_get verdicts index ≡ Some verdict → P verdict) → IfSome found (λ v. P v.now)
+found_told P verdicts index None at told = tt
+found_told P verdicts index (Some v) at told = told v.now (slice_get-get_or verdicts index v.now at.3.0 ∙ ap Some (sym at.1))
+
+pub certify_next-requires-clause-handed : goal.certify_next-requires-clause-handed
+certify_next-requires-clause-handed g c =
+    let inv = c.epochs.invariant in
+    let have = c.requires.logs inv.fed_before in
+    let now = c.epochs.self in
+    let runs = runs_of c.epochs.runs in
+    let settled = c.args.settled.now in
+    let index = c.self-in-epochs.inside.judged.count - c.self.inside.judged.count in
+    let place : now.count - c.args.self.now.count ≡ index =
+    omega (arith, ap (λ (j : Judged). j.count) c.self-in-epochs.view_is, ap (λ (j : Judged). j.count) c.self.view_is) in
+    found_told (λ verdict. (epoch : ℕ) → next_epoch runs ≡ Some epoch → IsVerdictAt runs 0 epoch verdict) settled index c.get-handed.result c.get-handed.ensures.lookup
+    (λ verdict there epoch next.
+    settled-next have.0 have.1 have.2 c.args.self.now now (runs_of c.args.runs.now) runs settled verdict epoch have.3
+    (inv.taken have.0 have.1 have.2 have.3) inv.even inv.counted (c.requires.settled inv.fed_before) (ap (slice_get settled) place ∙ there) next)

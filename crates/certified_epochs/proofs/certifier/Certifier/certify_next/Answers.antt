@@ -1,72 +1,66 @@
-use Rattle.std.proofs.Common.{ℕ, ◌++◌, List, add-one, sym, ◌∙◌, ap, subst, append-nil, arith}
-use Rattle.std.specs.Prelude.{length}
+use Rattle.std.proofs.Common.{ℕ, ◌++◌, List, Bor, add-one, sym, ◌∙◌, ap, subst, append-nil, arith}
 use Rattle.fv_outside.specs.Written.{GrowsByFront}
+use Rattle.fv_outside.proofs.WrittenLaws.{GrowsByFront-none}
 use Rattle.record_text.specs.declared.operation.Operation.{Operation}
 use Rattle.load_summary.specs.Counting.{counted_of}
 use Rattle.report_text.specs.Page.{Passes}
-use Rattle.report_text.proofs.PassLaws.{Passes-start}
+use Rattle.report_text.proofs.PassLaws.{Passes-start, on_err}
+use Rattle.epoch_gather.specs.declared.outcome.Verdict.{Verdict}
 use Rattle.bundle_report.specs.declared.judged.Judged.{Judged}
-use Rattle.bundle_report.specs.Judged.{CanBeJudged}
 use Rattle.bundle_report.specs.Report.{operations_told}
 use Rattle.certified_epochs.specs.Telling.{text_by}
-use Rattle.certified_epochs.specs.Turn.{Turned}
-use Rattle.certified_epochs.proofs.TurnLemmas.{runs_of, fed-judged, with_text, turn-other, turn-balanced, less-left, count-small, err_holds, ok_holds}
+use Rattle.certified_epochs.specs.Turn.{Turned, IsVerdictAt, next_epoch}
+use Rattle.certified_epochs.proofs.TurnLemmas.{runs_of, fed-judged, handed-at, with_text, turn-other, turn-balanced, less-left, count-small, err_holds, ok_holds}
 use Rattle.certified_epochs.proofs.certifier.Certifier.certify_next.Goals as goal
 
 -- the text of a turn
 abbrev text_of : {A : Type 0} → Turned A → List A
 text_of turned = turned.text
 
-pub verdict-requires-clause-numbers : goal.verdict-requires-clause-numbers
-verdict-requires-clause-numbers g c =
-    (subst (CanBeJudged (length c.args.runs.now)) (sym (c.deref.ensures.value ∙ c.in_ok-gather.ensures.parts))
-    (fed-judged c.args.self.now c.args.runs.now c.requires.logs)).numbers
-
-pub verdict-requires-clause-once : goal.verdict-requires-clause-once
-verdict-requires-clause-once g c =
-    (subst (CanBeJudged (length c.args.runs.now)) (sym (c.deref.ensures.value ∙ c.in_ok-gather.ensures.parts))
-    (fed-judged c.args.self.now c.args.runs.now c.requires.logs)).once
-
-pub verdict-requires-clause-counts : goal.verdict-requires-clause-counts
-verdict-requires-clause-counts g c =
-    (subst (CanBeJudged (length c.args.runs.now)) (sym (c.deref.ensures.value ∙ c.in_ok-gather.ensures.parts))
-    (fed-judged c.args.self.now c.args.runs.now c.requires.logs)).counts
+pub verdict_on-requires : goal.verdict_on-requires
+verdict_on-requires g c = record {
+  few = c.requires.few;
+  parts = fed-judged c.args.self.now c.args.runs.now c.requires.logs;
+  handed =
+      handed-at (λ epoch (verdict : Bor Verdict). IsVerdictAt (runs_of c.args.runs.now) 0 epoch verdict.now) c.in-Some.epoch (next_epoch (runs_of c.args.runs.now)) c.args.handed
+      (sym c.next_epoch.ensures.value ∙ c.in-Some.is) c.requires.handed;
+}
 
 pub returns-in-Unbalanced-clause-turned : goal.returns-in-Unbalanced-clause-turned
 returns-in-Unbalanced-clause-turned g c =
     with_text _ _ _ _ _
-    (turn-other (text_by g.D.Digests.functions c.args.telling.now) c.args.self.now c.args.runs.now c.next_epoch.result c.in-Some.epoch c.deref.result.now c.verdict.result c.in-Some.is c.next_epoch.ensures.value
-    (c.deref.ensures.value ∙ c.in_ok-gather.ensures.parts) c.verdict.ensures.verdict c.self.inside.judged _ (sym c.self.view_is) c.in-Unbalanced.is)
+    (turn-other (text_by g.D.Digests.functions c.args.telling.now) c.args.self.now c.args.runs.now c.next_epoch.result c.in-Some.epoch c.in_ok-verdict_on.field-0 c.in-Some.is c.next_epoch.ensures.value
+    c.in_ok-verdict_on.ensures.verdict c.self.inside.judged _ (sym c.self.view_is) c.in-Unbalanced.is)
 
 pub returns-in-Unbalanced-clause-text : goal.returns-in-Unbalanced-clause-text
 returns-in-Unbalanced-clause-text g c =
     subst (λ (text : List ℕ). Passes (g.O.Sink.held c.args.out.now) c.args.page.now text (g.O.Sink.held c.args.out.now) c.args.page.now)
     (sym (ap text_of
-    (turn-other (text_by g.D.Digests.functions c.args.telling.now) c.args.self.now c.args.runs.now c.next_epoch.result c.in-Some.epoch c.deref.result.now c.verdict.result c.in-Some.is c.next_epoch.ensures.value
-    (c.deref.ensures.value ∙ c.in_ok-gather.ensures.parts) c.verdict.ensures.verdict c.self.inside.judged _ (sym c.self.view_is) c.in-Unbalanced.is)))
+    (turn-other (text_by g.D.Digests.functions c.args.telling.now) c.args.self.now c.args.runs.now c.next_epoch.result c.in-Some.epoch c.in_ok-verdict_on.field-0 c.in-Some.is c.next_epoch.ensures.value
+    c.in_ok-verdict_on.ensures.verdict c.self.inside.judged _ (sym c.self.view_is) c.in-Unbalanced.is)))
     (Passes-start (g.O.Sink.held c.args.out.now) c.args.page.now)
 
 pub returns-in-Missing-clause-turned : goal.returns-in-Missing-clause-turned
 returns-in-Missing-clause-turned g c =
     with_text _ _ _ _ _
-    (turn-other (text_by g.D.Digests.functions c.args.telling.now) c.args.self.now c.args.runs.now c.next_epoch.result c.in-Some.epoch c.deref.result.now c.verdict.result c.in-Some.is c.next_epoch.ensures.value
-    (c.deref.ensures.value ∙ c.in_ok-gather.ensures.parts) c.verdict.ensures.verdict c.self.inside.judged _ (sym c.self.view_is) c.in-Missing.is)
+    (turn-other (text_by g.D.Digests.functions c.args.telling.now) c.args.self.now c.args.runs.now c.next_epoch.result c.in-Some.epoch c.in_ok-verdict_on.field-0 c.in-Some.is c.next_epoch.ensures.value
+    c.in_ok-verdict_on.ensures.verdict c.self.inside.judged _ (sym c.self.view_is) c.in-Missing.is)
 
 pub returns-in-Missing-clause-text : goal.returns-in-Missing-clause-text
 returns-in-Missing-clause-text g c =
     subst (λ (text : List ℕ). Passes (g.O.Sink.held c.args.out.now) c.args.page.now text (g.O.Sink.held c.args.out.now) c.args.page.now)
     (sym (ap text_of
-    (turn-other (text_by g.D.Digests.functions c.args.telling.now) c.args.self.now c.args.runs.now c.next_epoch.result c.in-Some.epoch c.deref.result.now c.verdict.result c.in-Some.is c.next_epoch.ensures.value
-    (c.deref.ensures.value ∙ c.in_ok-gather.ensures.parts) c.verdict.ensures.verdict c.self.inside.judged _ (sym c.self.view_is) c.in-Missing.is)))
+    (turn-other (text_by g.D.Digests.functions c.args.telling.now) c.args.self.now c.args.runs.now c.next_epoch.result c.in-Some.epoch c.in_ok-verdict_on.field-0 c.in-Some.is c.next_epoch.ensures.value
+    c.in_ok-verdict_on.ensures.verdict c.self.inside.judged _ (sym c.self.view_is) c.in-Missing.is)))
     (Passes-start (g.O.Sink.held c.args.out.now) c.args.page.now)
 
 pub returns-then-is_err-clause-front : goal.returns-then-is_err-clause-front
 returns-then-is_err-clause-front g c =
     subst (λ (text : List ℕ). GrowsByFront (g.O.Sink.held c.args.out.now) (g.O.Sink.held c.write_epoch_lines.new.out) (c.args.page.now ++ text))
     (sym (ap text_of
-    (turn-balanced (text_by g.D.Digests.functions c.args.telling.now) c.args.self.now c.args.runs.now c.next_epoch.result c.in-Some.epoch c.deref.result.now c.verdict.result c.in-Some.is c.next_epoch.ensures.value
-    (c.deref.ensures.value ∙ c.in_ok-gather.ensures.parts) c.verdict.ensures.verdict c.self.inside.judged _
-    (runs_of c.take.new.runs) c.deref-3.result.now (sym c.self.view_is) (add-one c.self.inside.judged.count) c.in-Balanced.is c.in_ok-take.ensures.left (c.deref-3.ensures.value ∙ c.in_ok-take.ensures.operations))))
+    (turn-balanced (text_by g.D.Digests.functions c.args.telling.now) c.args.self.now c.args.runs.now c.next_epoch.result c.in-Some.epoch c.in_ok-verdict_on.field-0 c.in-Some.is c.next_epoch.ensures.value
+    c.in_ok-verdict_on.ensures.verdict c.self.inside.judged _
+    (runs_of c.take.new.runs) c.deref-2.result.now (sym c.self.view_is) (add-one c.self.inside.judged.count) c.in-Balanced.is c.in_ok-take.ensures.left (c.deref-2.ensures.value ∙ c.in_ok-take.ensures.operations))))
     (err_holds _ c.write_epoch_lines.result (sym c.is_err.ensures.value ∙ c.if-is_err.true) c.write_epoch_lines.ensures.front)
 
 pub one_more-self-inside-requires : goal.one_more-self-inside-requires
@@ -80,17 +74,17 @@ one_more-self-inside-requires g c = record {
 pub returns-clause-turned : goal.returns-clause-turned
 returns-clause-turned g c =
     with_text _ _ _ _ _
-    (turn-balanced (text_by g.D.Digests.functions c.args.telling.now) c.args.self.now c.args.runs.now c.next_epoch.result c.in-Some.epoch c.deref.result.now c.verdict.result c.in-Some.is c.next_epoch.ensures.value
-    (c.deref.ensures.value ∙ c.in_ok-gather.ensures.parts) c.verdict.ensures.verdict c.self.inside.judged _
-    (runs_of c.take.new.runs) c.deref-2.result.now (sym c.self.view_is) (c.one_more-self-inside.ensures.value ∙ add-one c.self.inside.judged.count) c.in-Balanced.is c.in_ok-take.ensures.left (c.deref-2.ensures.value ∙ c.in_ok-take.ensures.operations))
+    (turn-balanced (text_by g.D.Digests.functions c.args.telling.now) c.args.self.now c.args.runs.now c.next_epoch.result c.in-Some.epoch c.in_ok-verdict_on.field-0 c.in-Some.is c.next_epoch.ensures.value
+    c.in_ok-verdict_on.ensures.verdict c.self.inside.judged _
+    (runs_of c.take.new.runs) c.deref.result.now (sym c.self.view_is) (c.one_more-self-inside.ensures.value ∙ add-one c.self.inside.judged.count) c.in-Balanced.is c.in_ok-take.ensures.left (c.deref.ensures.value ∙ c.in_ok-take.ensures.operations))
 
 pub returns-clause-text : goal.returns-clause-text
 returns-clause-text g c =
     subst (λ (text : List ℕ). Passes (g.O.Sink.held c.args.out.now) c.args.page.now text (g.O.Sink.held c.write_epoch_lines.new.out) c.write_epoch_lines.new.page)
     (sym (ap text_of
-    (turn-balanced (text_by g.D.Digests.functions c.args.telling.now) c.args.self.now c.args.runs.now c.next_epoch.result c.in-Some.epoch c.deref.result.now c.verdict.result c.in-Some.is c.next_epoch.ensures.value
-    (c.deref.ensures.value ∙ c.in_ok-gather.ensures.parts) c.verdict.ensures.verdict c.self.inside.judged _
-    (runs_of c.take.new.runs) c.deref-3.result.now (sym c.self.view_is) (add-one c.self.inside.judged.count) c.in-Balanced.is c.in_ok-take.ensures.left (c.deref-3.ensures.value ∙ c.in_ok-take.ensures.operations))))
+    (turn-balanced (text_by g.D.Digests.functions c.args.telling.now) c.args.self.now c.args.runs.now c.next_epoch.result c.in-Some.epoch c.in_ok-verdict_on.field-0 c.in-Some.is c.next_epoch.ensures.value
+    c.in_ok-verdict_on.ensures.verdict c.self.inside.judged _
+    (runs_of c.take.new.runs) c.deref-2.result.now (sym c.self.view_is) (add-one c.self.inside.judged.count) c.in-Balanced.is c.in_ok-take.ensures.left (c.deref-2.ensures.value ∙ c.in_ok-take.ensures.operations))))
     (ok_holds _ c.write_epoch_lines.result (sym c.is_err.ensures.value ∙ c.if-is_err.false) c.write_epoch_lines.ensures.whole)
 
 pub returns-clause-less : goal.returns-clause-less
@@ -103,8 +97,8 @@ returns-in-Unbalanced-clause-counted g c = λ workers before summary_is.
     ∙ ap (counted_of workers) (sym (append-nil before))
     ∙ ap (λ (ops : List Operation). counted_of workers (before ++ ops))
     (sym (ap text_of
-    (turn-other operations_told c.args.self.now c.args.runs.now c.next_epoch.result c.in-Some.epoch c.deref.result.now c.verdict.result c.in-Some.is c.next_epoch.ensures.value
-    (c.deref.ensures.value ∙ c.in_ok-gather.ensures.parts) c.verdict.ensures.verdict c.self.inside.judged _ (sym c.self.view_is) c.in-Unbalanced.is)))
+    (turn-other operations_told c.args.self.now c.args.runs.now c.next_epoch.result c.in-Some.epoch c.in_ok-verdict_on.field-0 c.in-Some.is c.next_epoch.ensures.value
+    c.in_ok-verdict_on.ensures.verdict c.self.inside.judged _ (sym c.self.view_is) c.in-Unbalanced.is)))
 
 pub returns-in-Missing-clause-counted : goal.returns-in-Missing-clause-counted
 returns-in-Missing-clause-counted g c = λ workers before summary_is.
@@ -112,14 +106,20 @@ returns-in-Missing-clause-counted g c = λ workers before summary_is.
     ∙ ap (counted_of workers) (sym (append-nil before))
     ∙ ap (λ (ops : List Operation). counted_of workers (before ++ ops))
     (sym (ap text_of
-    (turn-other operations_told c.args.self.now c.args.runs.now c.next_epoch.result c.in-Some.epoch c.deref.result.now c.verdict.result c.in-Some.is c.next_epoch.ensures.value
-    (c.deref.ensures.value ∙ c.in_ok-gather.ensures.parts) c.verdict.ensures.verdict c.self.inside.judged _ (sym c.self.view_is) c.in-Missing.is)))
+    (turn-other operations_told c.args.self.now c.args.runs.now c.next_epoch.result c.in-Some.epoch c.in_ok-verdict_on.field-0 c.in-Some.is c.next_epoch.ensures.value
+    c.in_ok-verdict_on.ensures.verdict c.self.inside.judged _ (sym c.self.view_is) c.in-Missing.is)))
 
 pub returns-clause-counted : goal.returns-clause-counted
 returns-clause-counted g c = λ workers before summary_is.
     c.in_ok-count.ensures.counted workers before summary_is
     ∙ ap (λ (ops : List Operation). counted_of workers (before ++ ops))
     (sym (ap text_of
-    (turn-balanced operations_told c.args.self.now c.args.runs.now c.next_epoch.result c.in-Some.epoch c.deref.result.now c.verdict.result c.in-Some.is c.next_epoch.ensures.value
-    (c.deref.ensures.value ∙ c.in_ok-gather.ensures.parts) c.verdict.ensures.verdict c.self.inside.judged _
-    (runs_of c.take.new.runs) c.deref-2.result.now (sym c.self.view_is) (add-one c.self.inside.judged.count) c.in-Balanced.is c.in_ok-take.ensures.left (c.deref-2.ensures.value ∙ c.in_ok-take.ensures.operations))))
+    (turn-balanced operations_told c.args.self.now c.args.runs.now c.next_epoch.result c.in-Some.epoch c.in_ok-verdict_on.field-0 c.in-Some.is c.next_epoch.ensures.value
+    c.in_ok-verdict_on.ensures.verdict c.self.inside.judged _
+    (runs_of c.take.new.runs) c.deref.result.now (sym c.self.view_is) (add-one c.self.inside.judged.count) c.in-Balanced.is c.in_ok-take.ensures.left (c.deref.ensures.value ∙ c.in_ok-take.ensures.operations))))
+
+pub returns-in_err-take-clause-front : goal.returns-in_err-take-clause-front
+returns-in_err-take-clause-front g c = on_err _ (GrowsByFront-none (g.O.Sink.held c.args.out.now) _)
+
+pub returns-in_err-count-clause-front : goal.returns-in_err-count-clause-front
+returns-in_err-count-clause-front g c = on_err _ (GrowsByFront-none (g.O.Sink.held c.args.out.now) _)

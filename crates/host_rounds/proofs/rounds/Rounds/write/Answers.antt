@@ -34,7 +34,7 @@ returns-clause-keeps g c = λ functions header before held runs keeps takes.
     let took = subst (λ (s : RunsSoFar). AllTake functions round runs s.runs) (sym c.self.view_is) takes in
     let few : length round ≤ header.verifiers =
     let count = round-length functions round runs news took in omega (arith, count, runs-length functions header before now have) in
-    let weights = takes-few c.pieces_do_not_matter.ensures.weight functions inside.bytes bytes round runs news took have.few c.in_ok-self-inside.ensures.each in
+    let weights = takes-few c.pieces_do_not_matter.ensures.weight functions inside.bytes bytes round runs news took have.few c.in_ok-self-inside.ensures.all in
     record {
       vault = record {
         bytes = keeps.vault.bytes ++ text;

@@ -1,8 +1,9 @@
-use Rattle.std.proofs.Common.{◌≡◌, ◌⊎◌, ℕ, List, Option, Some, None, Ok, OnOk, OnErr, refl, sym, ◌∙◌, ap, subst}
+use Rattle.std.proofs.Common.{◌≡◌, ◌⊎◌, ℕ, List, map, Option, Some, None, Ok, OnOk, OnErr, refl, sym, ◌∙◌, ap, subst}
 use Rattle.std.proofs.lemmas.Result.{err_from_is_err_and}
 use Rattle.fv_outside.specs.Written.{Grows, GrowsByFront}
 use Rattle.record_hash.specs.Functions.{DigestFunctions}
 use Rattle.bundle_report.specs.Report.{EpochText, told_by}
+use Rattle.certified_epochs.specs.Turn.{AreVerdictsOn}
 use Rattle.host_core.specs.World.{World}
 use Rattle.host_shard.specs.Content.{Content}
 use Rattle.host_world.specs.declared.fault.ClockEnd.{ClockEnd}
@@ -24,39 +25,40 @@ close_phase-requires g c = record {
   last = c.requires.last;
 }
 
-pub pass_on-requires : goal.pass_on-requires
-pass_on-requires g c = record {
-  runs = (
-    c.requires.runs.0,
-    c.requires.runs.1,
-    runs-led c.requires.runs.0 g.D.Digests.functions c.args.self.now c.requires.runs.1 c.requires.runs.2 c.close_phase.new.world c.in_ok-end.end c.earlier_end-self.result
-        c.close_phase.ensures.host c.in_ok-end.ensures.leads c.earlier_end-self.ensures.value,
-    c.requires.runs.3,
-  );
-}
+pub pass_to_seal-requires-clause-runs : goal.pass_to_seal-requires-clause-runs
+pass_to_seal-requires-clause-runs g c κs within = (
+  c.requires.runs.0,
+  c.requires.runs.1,
+  runs-led c.requires.runs.0 g.D.Digests.functions c.args.self.now c.requires.runs.1 c.requires.runs.2 c.close_phase.new.world c.in_ok-end.end c.earlier_end-self.result
+      c.close_phase.ensures.host c.in_ok-end.ensures.leads c.earlier_end-self.ensures.value,
+  c.requires.runs.3,
+)
 
 pub certify-requires : goal.certify-requires
 certify-requires g c =
     let next =
-    c.in_ok-pass_on.ensures.runs c.requires.runs.0 c.requires.runs.1
+    c.in_ok-settled.ensures.runs c.requires.runs.0 c.requires.runs.1
     (runs-led c.requires.runs.0 g.D.Digests.functions c.args.self.now c.requires.runs.1 c.requires.runs.2 c.close_phase.new.world c.in_ok-end.end c.earlier_end-self.result
     c.close_phase.ensures.host c.in_ok-end.ensures.leads c.earlier_end-self.ensures.value)
     c.requires.runs.3 in
-    record { runs = (_, _, _, next.running.keeps.runs) }
+    record {
+      runs = (_, _, _, next.running.keeps.runs);
+      settled = subst (AreVerdictsOn c.pass_to_seal.new.self.rounds.judged (map (λ fed. fed.run) c.pass_to_seal.new.self.rounds.runs)) (sym c.deref.ensures.value) c.in_ok-settled.ensures.settled;
+    }
 
 pub returns-in_err-end-clause-cut : goal.returns-in_err-end-clause-cut
 returns-in_err-end-clause-cut g c = λ outputs runs held written.
     err_any c.from_residual.result
     (runs-cut c.args.receipts g.D.Digests.functions c.args.self.now outputs runs c.what_is_due_stays_due.ensures.stays (g.V.Sink.held c.args.vault.now) (g.O.Sink.held c.args.out.now) held written)
 
-pub returns-in_err-pass_on-clause-cut : goal.returns-in_err-pass_on-clause-cut
-returns-in_err-pass_on-clause-cut g c = λ outputs runs held written.
+pub returns-in_err-settled-clause-cut : goal.returns-in_err-settled-clause-cut
+returns-in_err-settled-clause-cut g c = λ outputs runs held written.
     let functions = g.D.Digests.functions in
-    let vault' = g.V.Sink.held c.pass_on.new.vault in
+    let vault' = g.V.Sink.held c.pass_to_seal.new.vault in
     err_any _
     (subst (λ (o : Option (List ℕ)). IsCutOff c.args.receipts (functions (digests_of c.args.self.now.world)) (record outputs { vault_after = vault'; out_after = o })) written
     (subst (λ d. IsCutOff c.args.receipts (functions d) (record outputs { vault_after = vault' })) c.close_phase.ensures.host.digests
-    (c.in_err-pass_on.ensures.cut c.args.receipts outputs
+    (c.in_err-settled.ensures.cut c.args.receipts outputs
     (runs-led c.args.receipts functions c.args.self.now outputs runs c.close_phase.new.world c.in_ok-end.end c.earlier_end-self.result
     c.close_phase.ensures.host c.in_ok-end.ensures.leads c.earlier_end-self.ensures.value)
     held)))
@@ -64,22 +66,22 @@ returns-in_err-pass_on-clause-cut g c = λ outputs runs held written.
 pub returns-clause-runs : goal.returns-clause-runs
 returns-clause-runs g c = λ outputs runs held written.
     let functions = g.D.Digests.functions in
-    let vault' = g.V.Sink.held c.pass_on.new.vault in
+    let vault' = g.V.Sink.held c.pass_to_seal.new.vault in
     let next =
-    c.in_ok-pass_on.ensures.runs c.args.receipts outputs
+    c.in_ok-settled.ensures.runs c.args.receipts outputs
     (runs-led c.args.receipts functions c.args.self.now outputs runs c.close_phase.new.world c.in_ok-end.end c.earlier_end-self.result
     c.close_phase.ensures.host c.in_ok-end.ensures.leads c.earlier_end-self.ensures.value)
     held in
-    let f = functions (digests_of c.pass_on.new.self.world) in
-    let header = c.pass_on.new.self.world.settings.header in
+    let f = functions (digests_of c.pass_to_seal.new.self.world) in
+    let header = c.pass_to_seal.new.self.world.settings.header in
     let texts = texts_of next.running.logs in
     let have = next.running.keeps.runs in
     let told = told_by c.args.receipts f header in
-    let so_far = subst (λ (tell : EpochText). Grows outputs.out (g.O.Sink.held c.args.out.now) (lines_counted tell f header texts c.pass_on.new.self.rounds)) (sym c.telling-telling.ensures.text)
-    (subst (λ (o : Option (List ℕ)). Grows outputs.out o (lines_counted told f header texts c.pass_on.new.self.rounds)) written next.running.written) in
+    let so_far = subst (λ (tell : EpochText). Grows outputs.out (g.O.Sink.held c.args.out.now) (lines_counted tell f header texts c.pass_to_seal.new.self.rounds)) (sym c.telling-telling.ensures.text)
+    (subst (λ (o : Option (List ℕ)). Grows outputs.out o (lines_counted told f header texts c.pass_to_seal.new.self.rounds)) written next.running.written) in
     let says = c.certify.ensures in
     ok_four c.certify.result (says.runs f header texts have) (says.all f header texts have) (says.counted told f header texts have) (says.due f header texts outputs.out have so_far)
-    (λ have' all counted due. runs-certified c.args.receipts functions c.pass_on.new.self (record outputs { vault_after = vault' }) next c.certify.new.self (g.O.Sink.held c.certify.new.out) have' all counted
+    (λ have' all counted due. runs-certified c.args.receipts functions c.pass_to_seal.new.self (record outputs { vault_after = vault' }) next c.certify.new.self (g.O.Sink.held c.certify.new.out) have' all counted
     (subst (λ (tell : EpochText). Grows outputs.out (g.O.Sink.held c.certify.new.out) (lines_due tell f header texts)) c.telling-telling.ensures.text due))
 
 pub returns-clause-ended : goal.returns-clause-ended
@@ -87,15 +89,15 @@ returns-clause-ended g c = λ over.
     let functions = g.D.Digests.functions in
     let old = c.args.self.now.world in
     let middle = c.close_phase.new.world in
-    let new = c.pass_on.new.self in
+    let new = c.pass_to_seal.new.self in
     let host = host_of (functions (digests_of old)) old in
     let start = c.args.self.now.end in
     let next = c.in_ok-end.end in
     let says = c.in_ok-end.ensures in
-    let end_is : new.end ≡ first_of start next = c.pass_on.ensures.end ∙ c.earlier_end-self.ensures.value in
+    let end_is : new.end ≡ first_of start next = c.pass_to_seal.ensures.end ∙ c.earlier_end-self.ensures.value in
     ok_any c.certify.result
     (moved IsAtEnd host _ (all_handed_out (shown_world middle)) (shown_world new.world) (first_of start next) new.end
-    (host_same functions old new.world (one_host old middle new.world c.close_phase.ensures.host c.pass_on.ensures.host)) c.in_ok-pass_on.ensures.handed end_is
+    (host_same functions old new.world (one_host old middle new.world c.close_phase.ensures.host c.pass_to_seal.ensures.host)) c.in_ok-settled.ensures.handed end_is
     (at-end host (shown_world old) (shown_world middle) c.args.last start next c.requires.served c.requires.last
     (λ is last. says.closed (ap (λ (e : Option ClockEnd). Ok e) is) last) (λ is last. says.rests (ap (λ (e : Option ClockEnd). Ok e) is) last) says.ended
     (over_at c.args.last new.end (first_of start next) end_is over)))
@@ -105,50 +107,50 @@ returns-clause-opened g c = λ going none'.
     let functions = g.D.Digests.functions in
     let old = c.args.self.now.world in
     let middle = c.close_phase.new.world in
-    let new = c.pass_on.new.self in
+    let new = c.pass_to_seal.new.self in
     let host = host_of (functions (digests_of old)) old in
     let start = c.args.self.now.end in
     let next = c.in_ok-end.end in
     let says = c.in_ok-end.ensures in
-    let end_is : new.end ≡ first_of start next = c.pass_on.ensures.end ∙ c.earlier_end-self.ensures.value in
+    let end_is : new.end ≡ first_of start next = c.pass_to_seal.ensures.end ∙ c.earlier_end-self.ensures.value in
     let at = at-phase host (shown_world old) (shown_world middle) c.args.last start next c.requires.served c.requires.last
     (λ is going'. says.opened (ap (λ (e : Option ClockEnd). Ok e) is) going') going (sym end_is ∙ none') in
     ok_any c.certify.result (
       moved IsAtPhase host _ (all_handed_out (shown_world middle)) (shown_world new.world) (first_of start next) new.end
-          (host_same functions old new.world (one_host old middle new.world c.close_phase.ensures.host c.pass_on.ensures.host)) c.in_ok-pass_on.ensures.handed end_is at.0,
-      ap (λ (w : World Content). w.phase) c.in_ok-pass_on.ensures.handed ∙ at.1,
+          (host_same functions old new.world (one_host old middle new.world c.close_phase.ensures.host c.pass_to_seal.ensures.host)) c.in_ok-settled.ensures.handed end_is at.0,
+      ap (λ (w : World Content). w.phase) c.in_ok-settled.ensures.handed ∙ at.1,
     )
 
 pub returns-clause-cut : goal.returns-clause-cut
 returns-clause-cut g c = λ outputs runs held written.
     let functions = g.D.Digests.functions in
-    let vault' = g.V.Sink.held c.pass_on.new.vault in
+    let vault' = g.V.Sink.held c.pass_to_seal.new.vault in
     let next =
-    c.in_ok-pass_on.ensures.runs c.args.receipts outputs
+    c.in_ok-settled.ensures.runs c.args.receipts outputs
     (runs-led c.args.receipts functions c.args.self.now outputs runs c.close_phase.new.world c.in_ok-end.end c.earlier_end-self.result
     c.close_phase.ensures.host c.in_ok-end.ensures.leads c.earlier_end-self.ensures.value)
     held in
-    let f = functions (digests_of c.pass_on.new.self.world) in
-    let header = c.pass_on.new.self.world.settings.header in
+    let f = functions (digests_of c.pass_to_seal.new.self.world) in
+    let header = c.pass_to_seal.new.self.world.settings.header in
     let texts = texts_of next.running.logs in
     let have = next.running.keeps.runs in
     let told = told_by c.args.receipts f header in
-    let so_far = subst (λ (tell : EpochText). Grows outputs.out (g.O.Sink.held c.args.out.now) (lines_counted tell f header texts c.pass_on.new.self.rounds)) (sym c.telling-telling.ensures.text)
-    (subst (λ (o : Option (List ℕ)). Grows outputs.out o (lines_counted told f header texts c.pass_on.new.self.rounds)) written next.running.written) in
+    let so_far = subst (λ (tell : EpochText). Grows outputs.out (g.O.Sink.held c.args.out.now) (lines_counted tell f header texts c.pass_to_seal.new.self.rounds)) (sym c.telling-telling.ensures.text)
+    (subst (λ (o : Option (List ℕ)). Grows outputs.out o (lines_counted told f header texts c.pass_to_seal.new.self.rounds)) written next.running.written) in
     err_then c.certify.result (c.certify.ensures.front f header texts outputs.out have so_far)
     (λ front.
     subst (λ d. IsCutOff c.args.receipts (functions d) (record outputs { vault_after = vault'; out_after = g.O.Sink.held c.certify.new.out }))
-    (c.pass_on.ensures.host.digests ∙ c.close_phase.ensures.host.digests)
-    (runs-cut_lines c.args.receipts functions c.pass_on.new.self (record outputs { vault_after = vault' }) next c.what_is_due_stays_due.ensures.stays (g.O.Sink.held c.certify.new.out)
+    (c.pass_to_seal.ensures.host.digests ∙ c.close_phase.ensures.host.digests)
+    (runs-cut_lines c.args.receipts functions c.pass_to_seal.new.self (record outputs { vault_after = vault' }) next c.what_is_due_stays_due.ensures.stays (g.O.Sink.held c.certify.new.out)
     (subst (λ (tell : EpochText). GrowsByFront outputs.out (g.O.Sink.held c.certify.new.out) (lines_due tell f header texts)) c.telling-telling.ensures.text front)))
 
 pub returns-clause-host : goal.returns-clause-host
-returns-clause-host g c = one_host c.args.self.now.world c.close_phase.new.world c.pass_on.new.self.world c.close_phase.ensures.host c.pass_on.ensures.host
+returns-clause-host g c = one_host c.args.self.now.world c.close_phase.new.world c.pass_to_seal.new.self.world c.close_phase.ensures.host c.pass_to_seal.ensures.host
 
-pub returns-in_err-pass_on-clause-kept : goal.returns-in_err-pass_on-clause-kept
-returns-in_err-pass_on-clause-kept g c = λ none'.
-    (none-first c.args.self.now.end c.in_ok-end.end (sym (c.pass_on.ensures.end ∙ c.earlier_end-self.ensures.value) ∙ none')).0
+pub returns-in_err-settled-clause-kept : goal.returns-in_err-settled-clause-kept
+returns-in_err-settled-clause-kept g c = λ none'.
+    (none-first c.args.self.now.end c.in_ok-end.end (sym (c.pass_to_seal.ensures.end ∙ c.earlier_end-self.ensures.value) ∙ none')).0
 
 pub returns-clause-kept : goal.returns-clause-kept
 returns-clause-kept g c = λ none'.
-    (none-first c.args.self.now.end c.in_ok-end.end (sym (c.pass_on.ensures.end ∙ c.earlier_end-self.ensures.value) ∙ none')).0
+    (none-first c.args.self.now.end c.in_ok-end.end (sym (c.pass_to_seal.ensures.end ∙ c.earlier_end-self.ensures.value) ∙ none')).0

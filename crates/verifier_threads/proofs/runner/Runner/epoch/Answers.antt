@@ -13,21 +13,22 @@ use Rattle.verifier_threads.proofs.runner.Runner.epoch.Goals as goal
 pub phase-requires-clause-runs : goal.phase-requires-clause-runs
 phase-requires-clause-runs g c κs within = (c.args.receipts, c.requires.runs.0, c.requires.runs.1, c.requires.runs.2)
 
-pub close_epoch-requires : goal.close_epoch-requires
-close_epoch-requires g c =
+pub close_epoch-requires-clause-runs : goal.close_epoch-requires-clause-runs
+close_epoch-requires-clause-runs g c κs within = (_, _, c.in_ok-phase.ensures.runs c.args.receipts c.requires.runs.0 c.requires.runs.1 c.requires.runs.2, refl)
+
+pub close_epoch-requires-clause-served : goal.close_epoch-requires-clause-served
+close_epoch-requires-clause-served g c κs within = c.in_ok-phase.ensures.served
+
+pub close_epoch-requires-clause-last : goal.close_epoch-requires-clause-last
+close_epoch-requires-clause-last g c κs within =
     let old = c.args.self.now.world in
     let new = c.phase.new.self.world in
     let size : length (map (map turn_of) (requests_of new)) ≡ length (requests_of old) =
     length-map (requests_of new) (map turn_of) ∙ ap (λ (script : List (List Task)). length script) c.phase.ensures.host.requests in
     let same = c.in_ok-phase.ensures.same_phase in
-    record {
-      runs = (_, _, c.in_ok-phase.ensures.runs c.args.receipts c.requires.runs.0 c.requires.runs.1 c.requires.runs.2, refl);
-      served = c.in_ok-phase.ensures.served;
-      last =
-          closes-last (host_of (g.D.Digests.functions (digests_of new)) new) (shown_world new) c.phase.new.self.end c.args.at_end c.closes_last-last.result c.in_ok-phase.ensures.served
-          (λ is. omega (arith, c.requires.at_end.0 is, size, same), λ over. c.requires.at_end.1 (omega (arith, over, size, same)))
-          c.closes_last-last.ensures.at_end c.closes_last-last.ensures.ended c.closes_last-last.ensures.going;
-    }
+    closes-last (host_of (g.D.Digests.functions (digests_of new)) new) (shown_world new) c.phase.new.self.end c.args.at_end c.closes_last-last.result c.in_ok-phase.ensures.served
+    (λ is. omega (arith, c.requires.at_end.0 is, size, same), λ over. c.requires.at_end.1 (omega (arith, over, size, same)))
+    c.closes_last-last.ensures.at_end c.closes_last-last.ensures.ended c.closes_last-last.ensures.going
 
 pub returns-in_err-phase-clause-cut : goal.returns-in_err-phase-clause-cut
 returns-in_err-phase-clause-cut g c = λ outputs runs held written.

@@ -11,14 +11,14 @@ use Rattle.host_world.specs.declared.settings.Settings.{Settings}
 use Rattle.host_world.specs.Shown.{shown_world, digests_of, requests_of}
 use Rattle.host_log.specs.Frames.{pieces_text}
 use Rattle.host_rounds.specs.Round.{logs_with, pieces_of}
-use Rattle.host_rounds.specs.SoFar.{RunsSoFar, Keeps}
+use Rattle.host_rounds.specs.SoFar.{RunsSoFar, Keeps, HaveRun}
 use Rattle.bundle_report.specs.Report.{told_by}
 use Rattle.verifier_threads.specs.Serving.{Outputs, texts_of}
 use Rattle.verifier_threads.specs.Running.{IsRunning, with_no_log}
 use Rattle.verifier_threads.proofs.HandingLemmas.{texts-length}
 use Rattle.verifier_threads.proofs.RunningLemmas.{of_one_host, running-workers}
 use Rattle.verifier_threads.proofs.PassingLemmas.{ok_both, ok_any, err_any, run-count, running-taken, running-cut}
-use Rattle.verifier_threads.proofs.runner.Runner.pass_on.Goals as goal
+use Rattle.verifier_threads.proofs.runner.Runner.pass_to_seal.Goals as goal
 
 pub hand_out_all-requires : goal.hand_out_all-requires
 hand_out_all-requires g c =
@@ -31,18 +31,24 @@ hand_out_all-requires g c =
       few = omega (arith, size, runs.buffers, workers, runs.running.settings_fit.header.verifiers);
     }
 
-pub take-requires : goal.take-requires
-take-requires g c =
+pub seal-requires-clause-each : goal.seal-requires-clause-each
+seal-requires-clause-each g c κs within =
     let old = c.args.self.now in
     let runs = c.requires.runs.2 in
-    let texts = texts_of (logs_of (shown_world old.world)) in
     let size : length c.hand_out_all.new.buffers ≡ length old.world.workers.items = ap length c.in_ok-hand_out_all.ensures.handed ∙ texts-length old.world.workers.items in
     let items = with_items_is old.buffers c.hand_out_all.new.buffers (size ∙ sym runs.buffers ∙ sym old.buffers.ok.0) in
-    record {
-      each = ap length (c.as_slice.ensures.value ∙ items) ∙ size ∙ running-workers _ _ _ _ _ _ _ _ runs.running
-          ∙ sym (run-count _ _ _ _ runs.running.keeps.runs);
-      runs = (_, _, _, runs.running.keeps.runs);
-    }
+    ap length (c.as_slice.ensures.value ∙ items) ∙ size ∙ running-workers _ _ _ _ _ _ _ _ runs.running ∙ sym (run-count _ _ _ _ runs.running.keeps.runs)
+
+pub seal-requires-clause-runs : goal.seal-requires-clause-runs
+seal-requires-clause-runs g c κs within =
+    let old = c.args.self.now in
+    let running = c.requires.runs.2.running in
+    let header = old.world.settings.header in
+    let texts = texts_of running.logs in (
+      header,
+      texts,
+      subst (λ d. HaveRun (g.D.Digests.functions d) header texts old.rounds) (sym (c.digests-d.ensures.value ∙ c.hand_out_all.ensures.host.digests)) running.keeps.runs,
+    )
 
 pub returns-in_err-hand_out_all-clause-cut : goal.returns-in_err-hand_out_all-clause-cut
 returns-in_err-hand_out_all-clause-cut g c = λ receipts outputs runs held.
@@ -60,30 +66,30 @@ returns-clause-runs g c = λ receipts outputs runs held.
     let host = c.hand_out_all.ensures.host in
     let new = c.hand_out_all.new.world in
     let vault = g.V.Sink.held c.args.vault.now in
-    let vault' = g.V.Sink.held c.take.new.vault in
-    let d_is : c.digests.result.now ≡ digests_of old.world = c.digests.ensures.value ∙ host.digests in
+    let vault' = g.V.Sink.held c.seal.new.vault in
+    let d_is : c.digests-d.result.now ≡ digests_of old.world = c.digests-d.ensures.value ∙ host.digests in
     let round = c.as_slice.result.now in
     let size : length c.hand_out_all.new.buffers ≡ length old.world.workers.items = ap length c.in_ok-hand_out_all.ensures.handed ∙ texts-length old.world.workers.items in
     let items = with_items_is old.buffers c.hand_out_all.new.buffers (size ∙ sym runs.buffers ∙ sym old.buffers.ok.0) in
     let round_is : round ≡ texts_of (logs_of (shown_world old.world)) = c.as_slice.ensures.value ∙ items ∙ c.in_ok-hand_out_all.ensures.handed in
     let keeps = subst (λ d. Keeps (functions d) header before old.rounds outputs.vault vault) (sym d_is)
     (subst (λ (h : Option (List ℕ)). Keeps (functions (digests_of old.world)) header before old.rounds outputs.vault h) held r.keeps) in
-    ok_both c.take.result (c.take.ensures.keeps header before outputs.vault keeps) (c.take.ensures.lines (told_by receipts (functions (digests_of old.world)) header) (functions (digests_of old.world)) header before r.keeps.runs)
+    ok_both c.seal.result (c.seal.ensures.keeps header before outputs.vault keeps) (c.seal.ensures.lines (told_by receipts (functions (digests_of old.world)) header) (functions (digests_of old.world)) header before r.keeps.runs)
     (λ keeps' lines. record {
       running =
           of_one_host functions old.world new host
-          (λ (f : DigestFunctions) (settings : Settings) (script : List (List Task)). IsRunning receipts f settings script (shown_world new) c.take.new.self old.end (record outputs { vault_after = vault' }))
-          (running-taken _ _ _ _ (shown_world old.world) old.rounds old.end outputs r (shown_world new) round c.take.new.self vault'
+          (λ (f : DigestFunctions) (settings : Settings) (script : List (List Task)). IsRunning receipts f settings script (shown_world new) c.seal.new.self old.end (record outputs { vault_after = vault' }))
+          (running-taken _ _ _ _ (shown_world old.world) old.rounds old.end outputs r (shown_world new) round c.seal.new.self vault'
           c.in_ok-hand_out_all.ensures.forgotten round_is
-          (subst (λ d. Keeps (functions d) header (logs_with before round) c.take.new.self outputs.vault vault') d_is keeps') lines);
+          (subst (λ d. Keeps (functions d) header (logs_with before round) c.seal.new.self outputs.vault vault') d_is keeps') lines);
       buffers = ap length items ∙ size ∙ sym (length-map old.world.workers.items with_no_log) ∙ sym (ap (λ (w : World Content). length w.workers) c.in_ok-hand_out_all.ensures.forgotten);
     })
 
 pub returns-clause-handed : goal.returns-clause-handed
-returns-clause-handed g c = ok_any c.take.result c.in_ok-hand_out_all.ensures.forgotten
+returns-clause-handed g c = ok_any c.seal.result c.in_ok-hand_out_all.ensures.forgotten
 
 pub returns-clause-cut : goal.returns-clause-cut
 returns-clause-cut g c = λ receipts outputs runs held.
-    err_any c.take.result
-    (running-cut _ _ _ _ _ _ _ outputs runs.running c.what_is_due_stays_due.ensures.stays (g.V.Sink.held c.take.new.vault) (pieces_text (pieces_of 0 c.as_slice.result.now))
-    (subst (λ (h : Option (List ℕ)). GrowsByFront h (g.V.Sink.held c.take.new.vault) (pieces_text (pieces_of 0 c.as_slice.result.now))) (sym held) c.take.ensures.grown))
+    err_any c.seal.result
+    (running-cut _ _ _ _ _ _ _ outputs runs.running c.what_is_due_stays_due.ensures.stays (g.V.Sink.held c.seal.new.vault) (pieces_text (pieces_of 0 c.as_slice.result.now))
+    (subst (λ (h : Option (List ℕ)). GrowsByFront h (g.V.Sink.held c.seal.new.vault) (pieces_text (pieces_of 0 c.as_slice.result.now))) (sym held) c.seal.ensures.grown))

@@ -1,4 +1,4 @@
-use Rattle.std.proofs.Common.{◌≤◌, List, ◌++◌, length, refl, sym, ◌∙◌, ap, subst, arith}
+use Rattle.std.proofs.Common.{◌≤◌, List, ◌++◌, Vec, Global, length, get_or, refl, sym, ◌∙◌, ap, subst, arith}
 use Rattle.std.specs.List.{AllByRecursion}
 use Rattle.std.proofs.lemmas.Result.{err_from_is_err_and}
 use Rattle.fv_outside.proofs.WrittenLaws.{Grows-then, GrowsByFront-whole, GrowsByFront-then}
@@ -8,11 +8,13 @@ use Rattle.host_log.specs.Frames.{pieces_text}
 use Rattle.host_rounds.specs.Round.{logs_with, pieces_of}
 use Rattle.host_rounds.specs.Feeding.{AllTake}
 use Rattle.host_rounds.specs.SoFar.{RunsSoFar, HaveRun}
-use Rattle.host_rounds.proofs.RunLemmas.{err_holds, ok_holds, lent_back, runs-few, runs-length, length-take, round-run, lines-stay}
-use Rattle.host_rounds.proofs.rounds.Rounds.take.Goals as goal
+use Rattle.host_rounds.specs.Sealing.{SealsOwn}
+use Rattle.host_rounds.proofs.SealingLemmas.{seals-own}
+use Rattle.host_rounds.proofs.RunLemmas.{err_holds, ok_holds, runs-few, runs-length, length-take, round-run, lines-stay}
+use Rattle.host_rounds.proofs.rounds.Rounds.seal.Goals as goal
 
 pub write_round-requires : goal.write_round-requires
-write_round-requires g c = record { numbers = omega (arith, c.requires.each, runs-few c.args.self.now c.requires.runs) }
+write_round-requires g c = record { numbers = omega (arith, c.requires.each, runs-few c.args.self.now (g.D.Digests.functions c.args.d.now, c.requires.runs.0, c.requires.runs.1, c.requires.runs.2)) }
 
 pub returns-then-is_err-clause-front : goal.returns-then-is_err-clause-front
 returns-then-is_err-clause-front g c = λ header before held keeps.
@@ -32,14 +34,40 @@ pub returns-then-is_err-clause-grown : goal.returns-then-is_err-clause-grown
 returns-then-is_err-clause-grown g c =
     err_holds _ c.write_round.result (sym c.is_err.ensures.value ∙ c.if-is_err.true) c.write_round.ensures.front
 
-pub feed_all-requires-clause-few : goal.feed_all-requires-clause-few
-feed_all-requires-clause-few g c =
-    let inside = c.self.inside in
-    let have = subst (HaveRun c.requires.runs.0 c.requires.runs.1 c.requires.runs.2) (sym c.self.view_is) c.requires.runs.3 in
-    subst (AllByRecursion (λ fed. weight fed.run ≤ inside.bytes)) (sym c.deref_mut.ensures.value) have.few
+-- the runs that were there
+abbrev items_in : Vec FedRun Global → List FedRun
+items_in runs = runs.items
 
-pub returns-in_err-feed_all-clause-front : goal.returns-in_err-feed_all-clause-front
-returns-in_err-feed_all-clause-front g c = λ header before held keeps.
+pub seal_round-requires-clause-each : goal.seal_round-requires-clause-each
+seal_round-requires-clause-each g c κs within =
+    omega (arith, c.requires.each, ap (λ (s : RunsSoFar). length s.runs) c.self.view_is, ap (λ (v : Vec FedRun Global). length v.items) c.replace-runs.ensures.value)
+
+pub seal_round-requires-clause-some : goal.seal_round-requires-clause-some
+seal_round-requires-clause-some g c κs within =
+    let functions = g.D.Digests.functions c.args.d.now in
+    let count = ap (λ (v : Vec FedRun Global). length v.items) c.replace-runs.ensures.value in
+    let view = ap (λ (s : RunsSoFar). length s.runs) c.self.view_is in
+    let all = runs-length functions c.requires.runs.0 c.requires.runs.1 c.args.self.now c.requires.runs.2 in
+    let few = runs-few c.args.self.now (functions, c.requires.runs.0, c.requires.runs.1, c.requires.runs.2) in
+    let some = c.requires.runs.2.taken.header_good.some_verifiers in
+    (omega (arith, count, view, all, some), omega (arith, count, view, few))
+
+pub seal_round-requires-clause-few : goal.seal_round-requires-clause-few
+seal_round-requires-clause-few g c κs within =
+    let inside = c.self.inside in
+    let have = subst (HaveRun (g.D.Digests.functions c.args.d.now) c.requires.runs.0 c.requires.runs.1) (sym c.self.view_is) c.requires.runs.2 in
+    subst (AllByRecursion (λ (fed : FedRun). weight fed.run ≤ inside.bytes)) (sym (ap items_in c.replace-runs.ensures.value)) have.few
+
+pub seal_round-requires-clause-parts : goal.seal_round-requires-clause-parts
+seal_round-requires-clause-parts g c κs within = λ number d there.
+    let functions = g.D.Digests.functions c.args.d.now in
+    let items = ap items_in c.replace-runs.ensures.value ∙ ap (λ (s : RunsSoFar). s.runs) c.self.view_is in
+    subst (λ (runs : List FedRun). SealsOwn functions number c.args.logs.now (get_or runs number d)) (sym items)
+    (seals-own functions c.requires.runs.0 c.requires.runs.1 c.args.self.now c.requires.runs.2 c.args.logs.now c.requires.each number d
+    (omega (arith, there, ap (λ (runs : List FedRun). length runs) items)))
+
+pub returns-in_err-runs-clause-front : goal.returns-in_err-runs-clause-front
+returns-in_err-runs-clause-front g c = λ header before held keeps.
     let functions = g.D.Digests.functions c.args.d.now in
     let round = c.args.logs.now in
     let text = pieces_text (pieces_of 0 round) in
@@ -55,8 +83,8 @@ returns-in_err-feed_all-clause-front g c = λ header before held keeps.
           (ok_holds _ c.write_round.result (sym c.is_err.ensures.value ∙ c.if-is_err.false) c.write_round.ensures.whole));
     })
 
-pub returns-in_err-feed_all-clause-grown : goal.returns-in_err-feed_all-clause-grown
-returns-in_err-feed_all-clause-grown g c =
+pub returns-in_err-runs-clause-grown : goal.returns-in_err-runs-clause-grown
+returns-in_err-runs-clause-grown g c =
     GrowsByFront-whole _ _ _ (ok_holds _ c.write_round.result (sym c.is_err.ensures.value ∙ c.if-is_err.false) c.write_round.ensures.whole)
 
 pub returns-clause-grown : goal.returns-clause-grown
@@ -68,13 +96,12 @@ returns-clause-keeps g c = λ header before held keeps.
     let functions = g.D.Digests.functions c.args.d.now in
     let inside = c.self.inside in
     let round = c.args.logs.now in
-    let news = c.feed_all.new.runs in
+    let news = c.in_ok-runs.runs.items in
     let text = pieces_text (pieces_of 0 round) in
     let few : length round ≤ header.verifiers = omega (arith, c.requires.each, runs-length functions header before c.args.self.now keeps.runs) in
     let now : RunsSoFar = record { judged = inside.certifier; runs = inside.runs.items; bytes = inside.bytes; summary = inside.summary } in
     let have : HaveRun functions header before now = subst (HaveRun functions header before) (sym c.self.view_is) keeps.runs in
-    let takes = subst (λ (olds : List FedRun). AllTake functions round olds news) c.deref_mut.ensures.value c.in_ok-feed_all.ensures.taken in
-    let back = lent_back inside.runs.len news inside.runs.items inside.runs.ok.0 (length-take functions round inside.runs.items news takes) in
+    let takes = subst (λ (olds : List FedRun). AllTake functions round olds news) (ap items_in c.replace-runs.ensures.value) c.in_ok-runs.ensures.taken in
     record {
       vault = record {
         bytes = keeps.vault.bytes ++ text;
@@ -83,12 +110,15 @@ returns-clause-keeps g c = λ header before held keeps.
             Grows-then held _ _ keeps.vault.bytes text keeps.vault.grown
             (ok_holds _ c.write_round.result (sym c.is_err.ensures.value ∙ c.if-is_err.false) c.write_round.ensures.whole);
       };
-      runs =
-          subst (λ (runs : List FedRun). HaveRun functions header (logs_with before round) (record { judged = inside.certifier; runs = runs; bytes = c.feed_all.new.bytes; summary = inside.summary }))
-          (sym back) (round-run functions header before now have round news c.feed_all.new.bytes inside.summary refl takes c.in_ok-feed_all.ensures.few);
+      runs = round-run functions header before now have round news c.seal_round.new.bytes inside.summary refl takes c.in_ok-runs.ensures.few;
     }
 
 pub returns-clause-lines : goal.returns-clause-lines
 returns-clause-lines g c = λ tell functions header before have.
-    let now : RunsSoFar = record { judged = c.self.inside.certifier; runs = c.feed_all.new.runs; bytes = c.feed_all.new.bytes; summary = c.self.inside.summary } in
+    let now : RunsSoFar = record { judged = c.self.inside.certifier; runs = c.in_ok-runs.runs.items; bytes = c.seal_round.new.bytes; summary = c.self.inside.summary } in
     lines-stay functions header before c.args.self.now have tell c.args.logs.now now (ap (λ (s : RunsSoFar). s.judged) c.self.view_is)
+
+pub returns-clause-runs : goal.returns-clause-runs
+returns-clause-runs g c =
+    length-take (g.D.Digests.functions c.args.d.now) c.args.logs.now c.replace-runs.result.items c.in_ok-runs.runs.items c.in_ok-runs.ensures.taken
+    ∙ ap (λ (v : Vec FedRun Global). length v.items) c.replace-runs.ensures.value ∙ ap (λ (s : RunsSoFar). length s.runs) c.self.view_is
