@@ -35,7 +35,7 @@ pub fn only_memory_may_be_wanting()
         → NoneFailed reading writing keeping → Had most bytes reading
         → script_of run.numbers.verifiers bytes ≡ Ok script → NoClockEnds (sha_under run.key) (settings_for run.numbers) script
         → IsOrWantsMemory result (Status.Done (length script)) }
-    ensures gen { (load : GenWords) (most : ℕ) (result : Status) (reading : Reading) (writing : Writing) (keeping : Keeping)
+    ensures load { (load : GenWords) (most : ℕ) (result : Status) (reading : Reading) (writing : Writing) (keeping : Keeping)
         → IsStatusOf (Asked.Gen load) result → AnswersFor (Asked.Gen load) most result reading writing keeping
         → NoneFailed reading writing keeping → NoClockEnds (sha_under load.key) (settings_for load.numbers) (script_for load)
         → IsOrWantsMemory result (Status.Done (length (script_for load))) }

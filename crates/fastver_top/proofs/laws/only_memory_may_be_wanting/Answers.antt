@@ -13,7 +13,7 @@ returns c = record {
       audit-answered most bytes reading writing keeping fine had (sha_audit_answer key) result can answers;
   run = λ run most result reading writing keeping bytes script can answers fine had good going.
       run-answered (sha_under run.key) run most bytes script reading writing keeping fine had good going result can answers;
-  gen = λ load most result reading writing keeping can answers fine going.
+  load = λ load most result reading writing keeping can answers fine going.
       gen-answered (sha_under load.key) load reading writing keeping fine going result can answers;
   accept = λ key most result reading writing keeping bytes can answers fine had.
       accept-answered most bytes reading writing keeping fine had (sha_accept_answer key) result can answers;
