@@ -1,5 +1,5 @@
 -- Which status comes where no object failed and the input is within the limit, by the cases of a status.
-use Rattle.std.proofs.Common.{◌≡◌, ◌⊎◌, ℕ, ◌+◌, ◌≤◌, List, length, Option, Some, None, IfSome, Result, Ok, Err, inl, inr, refl, sym, ◌∙◌, ap, subst, arith}
+use Rattle.std.proofs.Common.{◌≡◌, ℕ, ◌+◌, ◌≤◌, List, length, Option, Some, None, IfSome, Result, Ok, Err, inl, inr, refl, sym, ◌∙◌, ap, subst, arith}
 use Rattle.fv_outside.specs.Consumed.{TookJust}
 use Rattle.record_hash.specs.Functions.{DigestFunctions}
 use Rattle.program_words.specs.declared.host_words.RunWords.{RunWords}
