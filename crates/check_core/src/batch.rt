@@ -85,7 +85,7 @@ impl Batch {
     }
 
     /// Reads the next frames, in place of those that are there: as many as a batch has, or up to the end or to where
-    /// reading stops.
+    /// reading stops. After want of memory batch and reader are of no more use.
     pub fn fill<S: Source>(
         &mut self,
         alloc: Global,

@@ -7,3 +7,4 @@ mod SettingLemmas
 mod LoadLemmas
 mod AcceptLemmas
 mod AnswerLemmas
+mod CompleteLemmas

@@ -4,4 +4,5 @@ pub mod Running
 pub mod Generating
 pub mod Accepting
 pub mod Answers
+pub mod Complete
 pub use Rattle.check_core.specs

@@ -1,5 +1,5 @@
 //! The bytes of a log that grows command by command.
-ghost use Rattle.std.specs.Prelude.{◌≡◌, [], ◌++◌, OnOk, OnErr};
+ghost use Rattle.std.specs.Prelude.{◌≡◌, [], ◌++◌, take, OnOk, OnErr};
 ghost use Rattle.record_text.specs.Format.{short_keys};
 ghost use Rattle.log_codec.specs.Command.{command_text};
 
@@ -65,6 +65,13 @@ impl LogBuffer {
     {
         spare.clear();
         mem::replace(self, spare)
+    }
+
+    /// Lets all go but the first so many bytes.
+    pub fn truncate(&mut self, len: usize)
+        ensures front { self.new ≡ take len self.old }
+    {
+        self.bytes.truncate(len);
     }
 
     /// Lets what was pushed go, and keeps the memory.

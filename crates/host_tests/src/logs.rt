@@ -95,6 +95,9 @@ fn a_buffer_goes_on_when_it_was_emptied(rt: HostRuntime) -> Result<(), Fail> {
     same_bytes(&rt, "take", log.bytes(), b"");
     push_rows(&mut log, FIRST_ROUND)?;
     same(&rt, "again", &Some(log.bytes()), &bundle.get(24..120));
+    push_rows(&mut log, LAST_CLOSE)?;
+    log.truncate(96);
+    same(&rt, "truncate", &Some(log.bytes()), &bundle.get(24..120));
     Ok(())
 }
 

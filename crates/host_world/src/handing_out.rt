@@ -17,7 +17,7 @@ use want_of_memory::Memory;
 
 impl<'a, D: Digests> World<'a, D> {
     /// The texts of the commands that a worker logged since they were last handed out go behind what a buffer has, and the
-    /// world forgets them. For want of memory it forgets nothing, and the buffer has a front of them more.
+    /// world forgets them. For want of memory world and buffer are as before.
     pub fn hand_out(&mut self, worker: u16, buffer: &mut LogBuffer) -> Result<(), Memory>
         requires there { worker < length (shown_world self.old).workers }
         ensures handed { OnOk result (buffer.new ≡ buffer.old ++ log_text short_keys (log_at self.old worker)) }
@@ -26,6 +26,7 @@ impl<'a, D: Digests> World<'a, D> {
             (record (worker_at (host_of (D.functions (digests_of self.old)) self.old) (shown_world self.old) worker) { log = [] })) }
         ensures host { AreOfOneHost self.old self.new }
         ensures as_before { OnErr result (shown_world self.new ≡ shown_world self.old) }
+        ensures buffer_as_before { OnErr result (buffer.new ≡ buffer.old) }
 
         // What was handed out before goes on with it.
         ensures goes_on { (logs : List (List Command)) → StandsWith (D.functions (digests_of self.old)) self.old logs

@@ -1,5 +1,5 @@
 //! One worker of a world.
-ghost use Rattle.std.specs.Prelude.{◌≡◌, ◌≢◌, ◌↔◌, ◌-◌, ◌<◌, ◌≤◌, List, [], ◌∷◌, ◌++◌, map, replicate, false, true, Some, None, Ok, IfOk, IfSome, OnOk, OnErr, is_some};
+ghost use Rattle.std.specs.Prelude.{◌≡◌, ◌≢◌, ◌↔◌, ℕ, ◌-◌, ◌<◌, ◌≤◌, List, [], ◌∷◌, ◌++◌, length, map, replicate, take, false, true, Some, None, Ok, IfOk, IfSome, OnOk, OnErr, is_some};
 ghost use Rattle.std.specs.List.{flat_map, AllByRecursion};
 ghost use Rattle.record_text.specs.Format.{short_keys};
 ghost use Rattle.lamport_clocks.specs.Clock.{last_epoch};
@@ -118,16 +118,20 @@ impl Worker {
         self.log.as_slice()
     }
 
-    // The texts of what it logged go behind what a buffer has, and it forgets them. For want of memory it forgets nothing, and
-    // the buffer has a front of them more.
+    // The texts of what it logged go behind what a buffer has, and it forgets them. For want of memory both are as before.
     pub(crate) fn hand_out(&mut self, buffer: &mut LogBuffer) -> Result<(), Memory>
         ensures handed { OnOk result (buffer.new ≡ buffer.old ++ log_text short_keys self.old.log) }
         ensures forgot { OnOk result (self.new ≡ record self.old { log = [] }) }
         ensures typed { AllByRecursion (IsCommand short_keys) self.old.log }
         ensures as_before { OnErr result (self.new ≡ self.old) }
+        ensures buffer_as_before { OnErr result (buffer.new ≡ buffer.old) }
     {
+        let before = buffer.bytes().len();
         for commands in &self.log {
-            push_all(buffer, commands.as_slice())?;
+            if push_all(buffer, commands.as_slice()).is_err() {
+                buffer.truncate(before);
+                return Err(Memory);
+            }
         }
         self.log.clear();
         Ok(())
@@ -317,6 +321,8 @@ impl Worker {
 // The texts of commands, behind what a buffer has.
 fn push_all(buffer: &mut LogBuffer, commands: &[Command]) -> Result<(), Memory>
     ensures pushed { OnOk result (buffer.new ≡ buffer.old ++ log_text short_keys commands.now) }
+    // What it had stays, also for want of memory.
+    ensures kept { (count : ℕ) → count ≤ length buffer.old → take count buffer.new ≡ take count buffer.old }
 {
     for command in commands {
         buffer.push(command)?;

@@ -6,10 +6,10 @@ use Rattle.host_core.specs.World.{Worker}
 use Rattle.host_world.proofs.ServeLemmas.{all_joined}
 use Rattle.host_world.proofs.worker.Worker.hand_out.Goals as goal
 
-pub returns-in_err-push_all-clause-typed : goal.returns-in_err-push_all-clause-typed
-returns-in_err-push_all-clause-typed c =
-    subst (λ (w : Worker). AllByRecursion (IsCommand short_keys) w.log) c.self.view_is (all_joined (IsCommand short_keys) c.self.inside.log.items c.self.invariant)
-
 pub returns-clause-typed : goal.returns-clause-typed
 returns-clause-typed c =
+    subst (λ (w : Worker). AllByRecursion (IsCommand short_keys) w.log) c.self.view_is (all_joined (IsCommand short_keys) c.self.inside.log.items c.self.invariant)
+
+pub returns-then-is_err-clause-typed : goal.returns-then-is_err-clause-typed
+returns-then-is_err-clause-typed c =
     subst (λ (w : Worker). AllByRecursion (IsCommand short_keys) w.log) c.self.view_is (all_joined (IsCommand short_keys) c.self.inside.log.items c.self.invariant)

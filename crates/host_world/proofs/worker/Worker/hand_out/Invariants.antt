@@ -1,4 +1,4 @@
-use Rattle.std.proofs.Common.{◌≡◌, ◌++◌, take}
+use Rattle.std.proofs.Common.{◌≡◌, ◌++◌, length, take}
 use Rattle.std.specs.List.{flat_map}
 use Rattle.record_text.specs.Format.{short_keys}
 use Rattle.log_codec.specs.Log.{log_text}
