@@ -7,7 +7,7 @@ use Rattle.host_core.specs.World.{Worker, Seats, World, unmoved, worker_at, shar
 use Rattle.host_core.specs.WorldEvent.{WorldEvent, takes, loses, serves, gives, advances, moves, opens, step, IsEnabled, IsLast, AllMoved, HasAdvanced, MayOpen}
 use Rattle.host_world.specs.declared.fault.ClockEnd.{ClockEnd}
 use Rattle.host_serving.specs.Leading.{CanDoNoMore}
-use Rattle.host_serving.specs.Standing.{turns_of, asked_by, IsServedUpTo, IsServedOut, IsClosed, NoneStopped}
+use Rattle.host_serving.specs.Standing.{turns_of, asked_by, IsServedUpTo, IsServedOut, IsClosed, NoneStopped, NoneStuckBelow}
 use Rattle.host_serving.specs.Closing.{IsKept, IsThroughMoves, IsStuckInMoves, CanAllAdvance, HaveTurned, CanMoveAll, HaveAdvanced, EndsAdvance, HaveAllMoved, HaveSomeStuck, EndsMoves, ShardsAreClosed, EndsShards}
 use Rattle.host_serving.proofs.AdvanceLemmas.{over_still, advance_keeps}
 use Rattle.host_serving.proofs.MoveLemmas.{kept-then, turned_still}
@@ -64,7 +64,12 @@ module _ {C R : Type 0} (host : Host C R) where
   -- so it is where an advance came to an end
   pub advance_rests : (world later : World C) (end : Option ClockEnd) → EndsAdvance host world later end → IfSome end (λ _. CanDoNoMore host later)
   advance_rests world later None ends = tt
-  advance_rests world later (Some end) over = over_rests later over
+  advance_rests world later (Some end) over = over_rests later over.0
+
+  -- and then it is worker 0 that is named
+  pub advance_lowest : (world later : World C) (end : Option ClockEnd) → EndsAdvance host world later end → IfSome end (λ found. NoneStuckBelow host later found.worker)
+  advance_lowest world later None ends = tt
+  advance_lowest world later (Some end) over = λ i less. absurd (omega (arith, less, over.1))
 
   -- where a worker's clock ended in the close, and the others have moved their shards
   pub stuck_rests : (world later : World C) → HaveTurned host later → length later.workers ≡ length world.workers → HaveSomeStuck host world later → CanDoNoMore host later
@@ -183,7 +188,7 @@ module _ {C R : Type 0} (host : Host C R) where
         -- either way
         pub ends_shards : (end : Option ClockEnd) → EndsMoves host middle later end → EndsShards host world later end
         ends_shards None moved = shards_closed moved
-        ends_shards (Some end) stuck = shards_stuck stuck
+        ends_shards (Some end) stuck = (shards_stuck stuck.0, stuck.1)
 
   -- ---- the second half
 

@@ -1,5 +1,5 @@
 -- Worlds of the code in a close: they are of one host, stand behind its setup, and have its numbers of workers and shards.
-use Rattle.std.proofs.Common.{◌≡◌, ℕ, zero, suc, ◌-◌, ◌^◌, ◌<◌, ◌≤◌, Bool, true, false, List, [], ◌∷◌, length, nat_le, Option, Some, None, Result, Ok, Err, OnOk, IfOk, if◌then◌else◌, refl, sym, ◌∙◌, ap, subst, inl, inr, ◌⊎◌, length-append, pow-suc, arith}
+use Rattle.std.proofs.Common.{◌≡◌, ℕ, zero, suc, ◌-◌, ◌^◌, ◌<◌, ◌≤◌, Bool, true, false, List, [], ◌∷◌, length, nat_le, Option, Some, None, Result, Ok, Err, OnOk, OnErr, IfOk, if◌then◌else◌, refl, sym, ◌∙◌, ap, subst, inl, inr, ◌⊎◌, length-append, pow-suc, arith}
 use Rattle.std.proofs.lemmas.Bool.{cases_eq, le-leb, leb-true}
 use Rattle.std.proofs.lemmas.Nat.{pow_below}
 use Rattle.std.proofs.lemmas.List.{length-map, length-replicate}
@@ -25,7 +25,7 @@ use Rattle.host_world.specs.Orderly.{IsOrderly}
 use Rattle.host_world.specs.Behind.{host_of, with_logs, StandsWith, AreOfOneHost}
 use Rattle.host_world.proofs.FrontLaws.{length-before_each, clock_with, length-step}
 use Rattle.host_world.proofs.FrontierLaws.{frontier_in, frontiers_behind}
-use Rattle.host_serving.specs.Leading.{first_of, Leads}
+use Rattle.host_serving.specs.Leading.{first_of, Leads, LeadsTo}
 use Rattle.host_serving.proofs.LeadingLaws.{leads-one, leads-then}
 
 -- ---- worlds of one host
@@ -62,6 +62,17 @@ module _ {D : Type 0} (functions : D → DigestFunctions) (first now : code.Worl
         leads-then (host_of (functions (digests_of first)) first) (shown_world first) (shown_world now) (shown_world new) one two way
         (subst (λ (h : Host Content Request). Leads h (shown_world now) (shown_world new) two) (host_same functions first now same) more)
 
+    -- what is on the way from there is on the way
+    pub way_on : (one : Option ClockEnd) → Leads (host_of (functions (digests_of first)) first) (shown_world first) (shown_world now) one
+        → LeadsTo (host_of (functions (digests_of now)) now) (shown_world now) (shown_world new)
+        → LeadsTo (host_of (functions (digests_of first)) first) (shown_world first) (shown_world new)
+    way_on one way more = (first_of one more.0, leads_on one more.0 way more.1)
+
+    -- and so is what is as it was there
+    pub way_kept : (one : Option ClockEnd) → Leads (host_of (functions (digests_of first)) first) (shown_world first) (shown_world now) one
+        → shown_world new ≡ shown_world now → LeadsTo (host_of (functions (digests_of first)) first) (shown_world first) (shown_world new)
+    way_kept one way kept = (one, subst (λ (w : World Content). Leads (host_of (functions (digests_of first)) first) (shown_world first) w one) (sym kept) way)
+
     pub ended_first : (event : WorldEvent Request) (end : Option ClockEnd) → end ≡ end_of (host_of (functions (digests_of now)) now) (shown_world now) event
         → end ≡ end_of (host_of (functions (digests_of first)) first) (shown_world now) event
     ended_first event end is = is ∙ ap (λ (h : Host Content Request). end_of h (shown_world now) event) (host_same functions first now same)
@@ -89,6 +100,16 @@ module _ {D : Type 0} (functions : D → DigestFunctions) (first now : code.Worl
 pub first_of-or : (one two : Option ClockEnd) → first_of one two ≡ option_or one two
 first_of-or None two = refl
 first_of-or (Some end) two = refl
+
+-- what is so whatever the answer is
+pub on_err : {T E P : Type 0} (r : Result T E) → P → OnErr r P
+on_err (Ok x) p = tt
+on_err (Err e) p = p
+
+-- what follows of a fault
+pub on_err_then : {T E : Type 0} (P Q : Type 0) (r : Result T E) → (P → Q) → OnErr r P → OnErr r Q
+on_err_then P Q (Ok x) f p = tt
+on_err_then P Q (Err e) f p = f p
 
 -- what follows of an answer
 pub if_ok_then : {T E : Type 0} (P Q : T → Type 0) (r : Result T E) → ((x : T) → P x → Q x) → IfOk r P → IfOk r Q

@@ -1,7 +1,7 @@
 -- A worker moves its shards, one after another, until its clock ends; and so does each.
 use Rattle.std.proofs.Common.{◌≡◌, ◌≢◌, ◌⊎◌, ℕ, zero, suc, ◌+◌, ◌/◌, ◌%◌, ◌<◌, ◌≤◌, true, false, List, [], ◌∷◌, length, get_or, set, Option, Some, None, is_none, refl, sym, ◌∙◌, ap, subst, inl, inr, if◌then◌else◌, mul-le-mul_right, div-add-mod', arith}
 use Rattle.std.proofs.Math.Nat.{add-mod_right}
-use Rattle.std.proofs.lemmas.Bool.{cases_eq, cases_lt, false≢true}
+use Rattle.std.proofs.lemmas.Bool.{cases_eq, cases_lt}
 use Rattle.std.proofs.lemmas.List.{length-set, get_or-set_same, get_or-set_other}
 use Rattle.host_core.specs.Host.{Host, Done}
 use Rattle.host_core.specs.World.{Worker, Seats, World, unmoved, fresh, worker_at, shard_at}
@@ -198,6 +198,7 @@ module _ {C R : Type 0} (host : Host C R) where
                 below.behind s (omega arith) shard below.own,
               );
             },
+            refl,
           )
       made (Some done) is =
           let only = after_only keep_epoch later i s own_later (Some done) is in
@@ -247,7 +248,9 @@ module _ {C R : Type 0} (host : Host C R) where
     -- what is told of an end
     abbrev pub TellsEnd : World C → Option ClockEnd → ℕ → Type 0
     TellsEnd later None i = (j : ℕ) → j < i → j < length world.workers → IsThroughMoves host later j
-    TellsEnd later (Some end) i = (j : ℕ) × (j < length world.workers) × IsStuckInMoves host later j
+    TellsEnd later (Some end) i =
+        (end.worker < i) × (end.worker < length world.workers) × IsStuckInMoves host later end.worker
+        × ((j : ℕ) → j < end.worker → IsThroughMoves host later j)
 
     -- The workers below one have moved their shards, or their clocks ended, and the first end is told.
     pub record AllBelow (later : World C) (end : Option ClockEnd) (i : ℕ) : Type 0 where
@@ -266,11 +269,14 @@ module _ {C R : Type 0} (host : Host C R) where
 
     pub all_through : (later : World C) (end : Option ClockEnd) (i : ℕ) → length world.workers ≤ i → AllBelow later end i → EndsMoves host world later end
     all_through later None i past below = record { keeps = below.keeps; each = λ j within. below.tells j (omega (arith, within, past)) within }
-    all_through later (Some end) i past below = record {
-      keeps = below.keeps;
-      each = λ j within. below.before j (omega (arith, within, past)) within;
-      some = below.tells;
-    }
+    all_through later (Some end) i past below = (
+      record {
+        keeps = below.keeps;
+        each = λ j within. below.before j (omega (arith, within, past)) within;
+        some = (end.worker, below.tells.1, below.tells.2);
+      },
+      λ j less. (below.tells.3 j less).running,
+    )
 
     -- the next worker may begin
     pub may_begin : CanMoveAll host world → (later : World C) (end : Option ClockEnd) (i : ℕ) → AllBelow later end i → i < length world.workers → CanMoveOwn host later i
@@ -316,6 +322,15 @@ module _ {C R : Type 0} (host : Host C R) where
       either_on j apart (inl through) = inl (through_on j apart through)
       either_on j apart (inr stuck) = inr (stuck_on j apart stuck)
 
+    -- an end that was told of a worker below this one is told still
+    told-still : (later new : World C) (i : ℕ) → OnlyMoves host later i new → (end : ClockEnd) → TellsEnd later (Some end) i → TellsEnd new (Some end) (suc i)
+    told-still later new i only end told = (
+      omega (arith, told.0),
+      told.1,
+      stuck_on later new i only end.worker (λ same. omega (arith, told.0, same)) told.2,
+      λ j less. through_on later new i only j (λ same. omega (arith, less, told.0, same)) (told.3 j less),
+    )
+
     -- Behind the next worker it is so still.
     pub all_next : (later new : World C) (i : ℕ) (first end : Option ClockEnd) → i < length world.workers → AllBelow later first i → EndsOwn host later i new end
         → AllBelow new (first_of first end) (suc i)
@@ -336,11 +351,7 @@ module _ {C R : Type 0} (host : Host C R) where
 
         tells : (first : Option ClockEnd) → TellsEnd later first i → TellsEnd new (first_of first None) (suc i)
         tells None all = λ j less there. through all j (cases_eq j i) less there
-        tells (Some end) some = (some.0, some.1, still (cases_eq some.0 i))
-          where
-            still : (some.0 ≡ i) ⊎ (some.0 ≡ i → ⊥) → IsStuckInMoves host new some.0
-            still (inl same) = absurd (false≢true (sym (subst (IsBeforeMoves host later) (sym same) (below.behind i (omega arith) within)).running ∙ some.2.stuck))
-            still (inr apart) = stuck_on later new i moved.0 some.0 apart some.2
+        tells (Some end) some = told-still later new i moved.0 end some
     all_next later new i first (Some end) within below moved = record {
       keeps = keeps_turned-then world later new below.keeps moved.0.keeps;
       before = λ j less there. before j (cases_eq j i) less there;
@@ -353,9 +364,11 @@ module _ {C R : Type 0} (host : Host C R) where
         before j (inr apart) less there = either_on later new i moved.0 j apart (below.before j (omega (arith, less, apart)) there)
 
         tells : (first : Option ClockEnd) → TellsEnd later first i → TellsEnd new (first_of first (Some end)) (suc i)
-        tells None all = (i, within, moved.1)
-        tells (Some earlier) some = (some.0, some.1, still (cases_eq some.0 i))
-          where
-            still : (some.0 ≡ i) ⊎ (some.0 ≡ i → ⊥) → IsStuckInMoves host new some.0
-            still (inl same) = subst (IsStuckInMoves host new) (sym same) moved.1
-            still (inr apart) = stuck_on later new i moved.0 some.0 apart some.2
+        tells None all = (
+          omega (arith, moved.2),
+          omega (arith, moved.2, within),
+          subst (IsStuckInMoves host new) (sym moved.2) moved.1,
+          λ j less. through_on later new i moved.0 j (λ same. omega (arith, less, same, moved.2))
+              (all j (omega (arith, less, moved.2)) (omega (arith, less, moved.2, within))),
+        )
+        tells (Some earlier) some = told-still later new i moved.0 earlier some

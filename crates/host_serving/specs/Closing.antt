@@ -6,6 +6,7 @@ use Rattle.host_core.specs.World.{Worker, World, worker_at, shard_at}
 use Rattle.host_core.specs.WorldEvent.{IsPhaseOver, IsLast, AllMoved, HasAdvanced, logging, next_clock}
 use Rattle.host_world.specs.declared.fault.ClockEnd.{ClockEnd}
 use Rattle.host_serving.specs.Leading.{CanDoNoMore}
+use Rattle.host_serving.specs.Standing.{NoneStuckBelow}
 
 -- a worker that went to the next epoch
 abbrev pub advanced : Worker → Worker
@@ -73,10 +74,10 @@ module _ {C R : Type 0} (host : Host C R) (world : World C) where
     pub workers : length later.workers ≡ length world.workers
     pub closing : 0 < count → later.closing ≡ true
 
-  -- all have advanced, or there is no epoch to come
+  -- all have advanced, or there is no epoch to come, for which worker 0 is named
   abbrev pub EndsAdvance : World C → Option ClockEnd → Type 0
   EndsAdvance later None = HaveAdvanced later (length world.workers)
-  EndsAdvance later (Some end) = later.over ≡ true
+  EndsAdvance later (Some end) = (later.over ≡ true) × (end.worker ≡ 0)
 
   -- What moves leave of the world and its workers.
   pub record KeepsTurned (later : World C) : Type 0 where
@@ -94,10 +95,10 @@ module _ {C R : Type 0} (host : Host C R) (world : World C) where
     pub others : (j : ℕ) → j ≢ i → (worker_at host later j).stuck ≡ (worker_at host world j).stuck
     pub foreign : (s : ℕ) → s % length world.workers ≢ i → (shard_at later s).moved ≡ (shard_at world s).moved
 
--- The worker moved its shards, or its clock ended.
+-- The worker moved its shards, or its clock ended, and it is named.
 abbrev pub EndsOwn : {C R : Type 0} → Host C R → World C → ℕ → World C → Option ClockEnd → Type 0
 EndsOwn host world i later None = OnlyMoves host world i later × IsThroughMoves host later i
-EndsOwn host world i later (Some end) = OnlyMoves host world i later × IsStuckInMoves host later i
+EndsOwn host world i later (Some end) = OnlyMoves host world i later × IsStuckInMoves host later i × (end.worker ≡ i)
 
 -- Each worker moved its shards.
 pub record HaveAllMoved {C R : Type 0} (host : Host C R) (world later : World C) : Type 0 where
@@ -110,10 +111,10 @@ pub record HaveSomeStuck {C R : Type 0} (host : Host C R) (world later : World C
   pub each : (i : ℕ) → i < length world.workers → IsThroughMoves host later i ⊎ IsStuckInMoves host later i
   pub some : (i : ℕ) × (i < length world.workers) × IsStuckInMoves host later i
 
--- It is so, the first where no end is told and the second where one is.
+-- It is so, the first where no end is told and the second where one is, which is the lowest such worker's.
 abbrev pub EndsMoves : {C R : Type 0} → Host C R → World C → World C → Option ClockEnd → Type 0
 EndsMoves host world later None = HaveAllMoved host world later
-EndsMoves host world later (Some end) = HaveSomeStuck host world later
+EndsMoves host world later (Some end) = HaveSomeStuck host world later × NoneStuckBelow host later end.worker
 
 -- All workers advanced once, all shards are moved, and no clock ended.
 pub record ShardsAreClosed {C R : Type 0} (host : Host C R) (world later : World C) : Type 0 where
@@ -125,7 +126,7 @@ pub record ShardsAreClosed {C R : Type 0} (host : Host C R) (world later : World
   pub running : (i : ℕ) → i < length world.workers → (worker_at host later i).stuck ≡ false
   pub moved : AllMoved later
 
--- It is so, or a clock ended and nothing can follow.
+-- It is so, or a clock ended and nothing can follow; no lower worker's did.
 abbrev pub EndsShards : {C R : Type 0} → Host C R → World C → World C → Option ClockEnd → Type 0
 EndsShards host world later None = ShardsAreClosed host world later
-EndsShards host world later (Some end) = CanDoNoMore host later
+EndsShards host world later (Some end) = CanDoNoMore host later × NoneStuckBelow host later end.worker

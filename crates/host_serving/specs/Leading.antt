@@ -23,6 +23,10 @@ pub record Leads {C R : Type 0} (host : Host C R) (world later : World C) (end :
   pub is : later ≡ run_events host world events
   pub first : first_end host world events ≡ end
 
+-- Enabled events lead from the first world to the other, whatever they come to.
+abbrev pub LeadsTo : {C R : Type 0} → Host C R → World C → World C → Type 0
+LeadsTo host world later = (end : Option ClockEnd) × Leads host world later end
+
 -- no event is enabled any more
 abbrev pub CanDoNoMore : {C R : Type 0} → Host C R → World C → Type 0
 CanDoNoMore {C} {R} host world = (event : WorldEvent R) → IsEnabled host world event → ⊥

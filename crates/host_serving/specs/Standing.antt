@@ -40,6 +40,10 @@ module _ {C R : Type 0} (host : Host C R) (world : World C) where
   abbrev pub SomeStopped : Type 0
   SomeStopped = (i : ℕ) × (i < length world.workers) × ((worker_at host world i).stopped ≡ true)
 
+  -- no clock of a worker below this one ended in this close
+  abbrev pub NoneStuckBelow : ℕ → Type 0
+  NoneStuckBelow worker = (i : ℕ) → i < worker → (worker_at host world i).stuck ≡ false
+
   -- The last close is whole: all workers have advanced twice, and what they served before stands.
   pub record IsClosed : Type 0 where
     pub over : IsPhaseOver host world

@@ -1,12 +1,12 @@
 //! A close of a phase: all workers advance, each moves its shards in order, and then the next phase opens, or all advance
 //! once more.
-ghost use Rattle.std.specs.Prelude.{◌≡◌, ◌↔◌, ℕ, suc, ◌<◌, true, false, List, length, Some, None, Ok, IfOk, IfSome};
+ghost use Rattle.std.specs.Prelude.{◌≡◌, ◌↔◌, ℕ, suc, ◌<◌, true, false, List, length, Some, None, Ok, IfOk, IfSome, OnErr};
 ghost use Rattle.log_codec.specs.declared.command.Command.{Command};
 ghost use Rattle.host_core.specs.WorldEvent.{IsLast};
 ghost use Rattle.host_world.specs.Shown.{shown_world, digests_of};
 ghost use Rattle.host_world.specs.Behind.{host_of, StandsBehind, StandsWith, AreOfOneHost};
-ghost use Rattle.host_serving.specs.Leading.{Leads, CanDoNoMore};
-ghost use Rattle.host_serving.specs.Standing.{IsServedUpTo, IsServedOut, IsClosed, NoneStopped};
+ghost use Rattle.host_serving.specs.Leading.{Leads, LeadsTo, CanDoNoMore};
+ghost use Rattle.host_serving.specs.Standing.{IsServedUpTo, IsServedOut, IsClosed, NoneStopped, NoneStuckBelow};
 ghost use Rattle.host_serving.specs.Closing.{CanAllAdvance, EndsAdvance, CanMoveOwn, EndsOwn, CanMoveAll, EndsMoves, EndsShards};
 
 use host_fits::the_shipped_host_is_steady;
@@ -16,7 +16,7 @@ use want_of_memory::Memory;
 
 /// Closes the world's phase, which is served out: all workers advance, and each moves its shards in order. In a last close all
 /// then advance once more; else the next phase opens. Where a clock ends, the others finish their shards and nothing follows. It
-/// answers the first such end: that of the lowest worker.
+/// answers the first such end: that of the lowest worker. For want of memory the world is one on the way.
 pub fn close_phase<D: Digests>(
     world: &mut World<'_, D>,
     last: bool,
@@ -45,6 +45,10 @@ pub fn close_phase<D: Digests>(
         → CanDoNoMore (host_of (D.functions (digests_of world.old)) world.old) (shown_world world.new) }
     ensures ended { IfOk result (λ end. IfSome end (λ _.
         CanDoNoMore (host_of (D.functions (digests_of world.old)) world.old) (shown_world world.new))) }
+    ensures lowest { IfOk result (λ end. IfSome end (λ found.
+        NoneStuckBelow (host_of (D.functions (digests_of world.old)) world.old) (shown_world world.new) found.worker)) }
+    ensures on_the_way { OnErr result (LeadsTo (host_of (D.functions (digests_of world.old)) world.old)
+        (shown_world world.old) (shown_world world.new)) }
     ensures host { AreOfOneHost world.old world.new }
     ensures behind { StandsBehind (D.functions (digests_of world.new)) world.new }
 
@@ -70,6 +74,8 @@ fn close_shards<D: Digests>(world: &mut World<'_, D>) -> Result<Option<ClockEnd>
         (shown_world world.old) (shown_world world.new) end) }
     ensures ended { IfOk result (λ end. EndsShards (host_of (D.functions (digests_of world.old)) world.old)
         (shown_world world.old) (shown_world world.new) end) }
+    ensures on_the_way { OnErr result (LeadsTo (host_of (D.functions (digests_of world.old)) world.old)
+        (shown_world world.old) (shown_world world.new)) }
     ensures host { AreOfOneHost world.old world.new }
     ensures goes_on { (logs : List (List Command)) → StandsWith (D.functions (digests_of world.old)) world.old logs
         → StandsWith (D.functions (digests_of world.new)) world.new logs }
@@ -89,6 +95,8 @@ fn advance_all<D: Digests>(world: &mut World<'_, D>) -> Result<Option<ClockEnd>,
         (shown_world world.old) (shown_world world.new) end) }
     ensures ended { IfOk result (λ end. EndsAdvance (host_of (D.functions (digests_of world.old)) world.old)
         (shown_world world.old) (shown_world world.new) end) }
+    ensures on_the_way { OnErr result (LeadsTo (host_of (D.functions (digests_of world.old)) world.old)
+        (shown_world world.old) (shown_world world.new)) }
     ensures host { AreOfOneHost world.old world.new }
     ensures goes_on { (logs : List (List Command)) → StandsWith (D.functions (digests_of world.old)) world.old logs
         → StandsWith (D.functions (digests_of world.new)) world.new logs }
@@ -109,6 +117,8 @@ fn move_all<D: Digests>(world: &mut World<'_, D>) -> Result<Option<ClockEnd>, Me
         (shown_world world.old) (shown_world world.new) end) }
     ensures ended { IfOk result (λ end. EndsMoves (host_of (D.functions (digests_of world.old)) world.old)
         (shown_world world.old) (shown_world world.new) end) }
+    ensures on_the_way { OnErr result (LeadsTo (host_of (D.functions (digests_of world.old)) world.old)
+        (shown_world world.old) (shown_world world.new)) }
     ensures host { AreOfOneHost world.old world.new }
     ensures goes_on { (logs : List (List Command)) → StandsWith (D.functions (digests_of world.old)) world.old logs
         → StandsWith (D.functions (digests_of world.new)) world.new logs }
@@ -129,6 +139,8 @@ fn move_own<D: Digests>(world: &mut World<'_, D>, worker: u16) -> Result<Option<
         (shown_world world.old) (shown_world world.new) end) }
     ensures ended { IfOk result (λ end. EndsOwn (host_of (D.functions (digests_of world.old)) world.old)
         (shown_world world.old) worker (shown_world world.new) end) }
+    ensures on_the_way { OnErr result (LeadsTo (host_of (D.functions (digests_of world.old)) world.old)
+        (shown_world world.old) (shown_world world.new)) }
     ensures host { AreOfOneHost world.old world.new }
     ensures goes_on { (logs : List (List Command)) → StandsWith (D.functions (digests_of world.old)) world.old logs
         → StandsWith (D.functions (digests_of world.new)) world.new logs }

@@ -1,5 +1,5 @@
 //! How a world goes on: one event, and events in order.
-ghost use Rattle.std.specs.Prelude.{◌≡◌, List, IfOk, OnOk, OnErr, IfErr, length, map, take, ◌≤◌};
+ghost use Rattle.std.specs.Prelude.{◌≡◌, List, IfOk, OnOk, OnErr, IfErr, length, map, take, ◌≤◌, ◌<◌};
 ghost use Rattle.log_codec.specs.declared.command.Command.{Command};
 ghost use Rattle.host_core.specs.WorldEvent.{step, run_events, IsEnabled, AreEnabled};
 ghost use Rattle.host_world.specs.Shown.{shown_world, shown_event, digests_of};
@@ -62,6 +62,7 @@ impl<'a, D: Digests> World<'a, D> {
         ensures stopped { IfErr result (λ stop. shown_world self.new
             ≡ run_events (host_of (D.functions (digests_of self.old)) self.old)
             (shown_world self.old) (take stop.done (map shown_event events.now))) }
+        ensures some_left { IfErr result (λ stop. stop.done < length events.now) }
         ensures host { AreOfOneHost self.old self.new }
         ensures behind { StandsBehind (D.functions (digests_of self.new)) self.new }
     {

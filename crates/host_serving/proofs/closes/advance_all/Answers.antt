@@ -7,7 +7,7 @@ use Rattle.host_world.specs.Shown.{shown_world, digests_of}
 use Rattle.host_serving.specs.Leading.{Leads}
 use Rattle.host_serving.specs.Closing.{HaveAdvanced}
 use Rattle.host_serving.proofs.AdvanceLemmas.{may_advance, goes_next, Goes}
-use Rattle.host_serving.proofs.CloseWorldLemmas.{one_host, enabled_now, stepped_first, ended_first, leads_next, workers_are}
+use Rattle.host_serving.proofs.CloseWorldLemmas.{one_host, enabled_now, stepped_first, ended_first, leads_next, on_err, way_kept, workers_are}
 use Rattle.host_serving.proofs.closes.advance_all.Goals as goal
 
 pub step-requires-clause-behind : goal.step-requires-clause-behind
@@ -75,3 +75,8 @@ returns-clause-ended g c =
     let whole : c.loop-worker.worker ≡ length old.workers.items =
     omega (arith, c.loop-worker-test.false, c.loop-worker.auto.worker-end, count, workers_are (functions (digests_of old)) old c.requires.behind.0 c.requires.behind.1) in
     subst (HaveAdvanced (host_of (functions (digests_of old)) old) (shown_world old) (shown_world c.loop-worker.world)) whole c.loop-worker.invariant.advanced
+
+pub returns-in_err-end-clause-on_the_way : goal.returns-in_err-end-clause-on_the_way
+returns-in_err-end-clause-on_the_way g c =
+    on_err c.from_residual.result
+    (way_kept g.D.Digests.functions c.args.world.now c.loop-worker.world c.loop-worker.invariant.host c.step.new.self None c.loop-worker.invariant.leads c.in_err-end.ensures.as_before)

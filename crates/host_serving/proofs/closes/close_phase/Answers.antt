@@ -9,11 +9,11 @@ use Rattle.host_shard.specs.Content.{Content}
 use Rattle.host_world.specs.declared.fault.ClockEnd.{ClockEnd}
 use Rattle.host_world.specs.Behind.{host_of}
 use Rattle.host_world.specs.Shown.{shown_world, digests_of}
-use Rattle.host_serving.specs.Leading.{Leads, CanDoNoMore}
-use Rattle.host_serving.specs.Standing.{IsServedUpTo, NoneStopped}
+use Rattle.host_serving.specs.Leading.{Leads, LeadsTo, CanDoNoMore}
+use Rattle.host_serving.specs.Standing.{IsServedUpTo, NoneStopped, NoneStuckBelow}
 use Rattle.host_serving.specs.Closing.{CanAllAdvance, HaveAdvanced, EndsAdvance, EndsShards, ShardsAreClosed}
-use Rattle.host_serving.proofs.CloseLemmas.{advance_rests, again, may_open, is_closed, closed_phase, closed_running, closed_rests, opened_served, opened_phase, opened_running}
-use Rattle.host_serving.proofs.CloseWorldLemmas.{host_same, enabled_now, stepped_first, leads_on, leads_answered, if_ok_then, workers_are}
+use Rattle.host_serving.proofs.CloseLemmas.{advance_rests, advance_lowest, again, may_open, is_closed, closed_phase, closed_running, closed_rests, opened_served, opened_phase, opened_running}
+use Rattle.host_serving.proofs.CloseWorldLemmas.{host_same, enabled_now, stepped_first, leads_on, leads_answered, way_on, way_kept, on_err_then, if_ok_then, workers_are}
 use Rattle.host_serving.proofs.closes.close_phase.Goals as goal
 
 pub advance_all-requires-clause-may : goal.advance_all-requires-clause-may
@@ -38,7 +38,13 @@ pub returns-in-Some-clause-ended : goal.returns-in-Some-clause-ended
 returns-in-Some-clause-ended g c =
     let old = c.args.world.now in
     let host = host_of (g.D.Digests.functions (digests_of old)) old in
-    subst (EndsShards host (shown_world old) (shown_world c.close_shards.new.world)) c.in-Some.is c.in_ok-end.ensures.ended
+    (subst (EndsShards host (shown_world old) (shown_world c.close_shards.new.world)) c.in-Some.is c.in_ok-end.ensures.ended).0
+
+pub returns-in-Some-clause-lowest : goal.returns-in-Some-clause-lowest
+returns-in-Some-clause-lowest g c =
+    let old = c.args.world.now in
+    let host = host_of (g.D.Digests.functions (digests_of old)) old in
+    (subst (EndsShards host (shown_world old) (shown_world c.close_shards.new.world)) c.in-Some.is c.in_ok-end.ensures.ended).1
 
 pub returns-then-last-clause-closed : goal.returns-then-last-clause-closed
 returns-then-last-clause-closed g c = λ answered last.
@@ -85,6 +91,18 @@ returns-then-last-clause-ended g c =
     (subst (λ (h : Host Content Request). EndsAdvance h (shown_world now) (shown_world new) end) (host_same functions old now c.close_shards.ensures.host) ends))
     c.advance_all.ensures.ended
 
+pub returns-then-last-clause-lowest : goal.returns-then-last-clause-lowest
+returns-then-last-clause-lowest g c =
+    let old = c.args.world.now in
+    let now = c.close_shards.new.world in
+    let new = c.advance_all.new.world in
+    let functions = g.D.Digests.functions in
+    let host = host_of (functions (digests_of old)) old in
+    if_ok_then (EndsAdvance (host_of (functions (digests_of now)) now) (shown_world now) (shown_world new)) (λ end. IfSome end (λ found. NoneStuckBelow host (shown_world new) found.worker)) c.advance_all.result
+    (λ end ends. advance_lowest host (shown_world now) (shown_world new) end
+    (subst (λ (h : Host Content Request). EndsAdvance h (shown_world now) (shown_world new) end) (host_same functions old now c.close_shards.ensures.host) ends))
+    c.advance_all.ensures.ended
+
 pub returns-then-last-clause-leads : goal.returns-then-last-clause-leads
 returns-then-last-clause-leads g c =
     let old = c.args.world.now in
@@ -122,3 +140,23 @@ returns-else-last-clause-opened g c = λ answered not_last.
       opened_phase host (shown_world old) (shown_world now) closed c.requires.served more,
       opened_running host (shown_world old) (shown_world now) closed c.requires.served more,
     )
+
+pub returns-then-last-clause-on_the_way : goal.returns-then-last-clause-on_the_way
+returns-then-last-clause-on_the_way g c =
+    let old = c.args.world.now in
+    let now = c.close_shards.new.world in
+    let new = c.advance_all.new.world in
+    let host = host_of (g.D.Digests.functions (digests_of old)) old in
+    let way : Leads host (shown_world old) (shown_world now) None = subst (Leads host (shown_world old) (shown_world now)) c.in_default.is c.in_ok-end.ensures.leads in
+    on_err_then (LeadsTo (host_of (g.D.Digests.functions (digests_of now)) now) (shown_world now) (shown_world new)) (LeadsTo host (shown_world old) (shown_world new)) c.advance_all.result
+    (way_on g.D.Digests.functions old now c.close_shards.ensures.host new None way) c.advance_all.ensures.on_the_way
+
+pub returns-else-last-clause-on_the_way : goal.returns-else-last-clause-on_the_way
+returns-else-last-clause-on_the_way g c =
+    let old = c.args.world.now in
+    let now = c.close_shards.new.world in
+    let new = c.step.new.self in
+    let host = host_of (g.D.Digests.functions (digests_of old)) old in
+    let way : Leads host (shown_world old) (shown_world now) None = subst (Leads host (shown_world old) (shown_world now)) c.in_default.is c.in_ok-end.ensures.leads in
+    on_err_then (shown_world new ≡ shown_world now) (LeadsTo host (shown_world old) (shown_world new)) c.step.result
+    (way_kept g.D.Digests.functions old now c.close_shards.ensures.host new None way) c.step.ensures.as_before

@@ -1,14 +1,14 @@
-use Rattle.std.proofs.Common.{◌≡◌, ◌<◌, false, length, None, sym, subst, arith}
+use Rattle.std.proofs.Common.{◌≡◌, ◌<◌, false, length, Some, None, sym, subst, arith}
 use Rattle.record_text.specs.declared.request.Request.{Request}
 use Rattle.merkle_records.specs.Merkle.{GivesDigests}
 use Rattle.host_core.specs.Host.{Host}
 use Rattle.host_shard.specs.Content.{Content}
 use Rattle.host_world.specs.Behind.{host_of, with_logs}
 use Rattle.host_world.specs.Shown.{shown_world, digests_of, requests_of}
-use Rattle.host_serving.specs.Leading.{Leads}
+use Rattle.host_serving.specs.Leading.{Leads, LeadsTo}
 use Rattle.host_serving.specs.Closing.{CanMoveAll, HaveAdvanced, EndsAdvance, EndsMoves, EndsShards}
-use Rattle.host_serving.proofs.CloseLemmas.{over_rests, begins, moves_begin, ends_shards}
-use Rattle.host_serving.proofs.CloseWorldLemmas.{host_same, leads_on, if_ok_then, workers_are, clocks_stand, none_is_moved}
+use Rattle.host_serving.proofs.CloseLemmas.{over_rests, advance_lowest, begins, moves_begin, ends_shards}
+use Rattle.host_serving.proofs.CloseWorldLemmas.{host_same, leads_on, way_on, on_err_then, if_ok_then, workers_are, clocks_stand, none_is_moved}
 use Rattle.host_serving.proofs.closes.close_shards.Goals as goal
 
 pub advance_all-requires-clause-may : goal.advance_all-requires-clause-may
@@ -46,7 +46,8 @@ returns-in-Some-clause-ended g c =
     let old = c.args.world.now in
     let middle = c.advance_all.new.world in
     let host = host_of (g.D.Digests.functions (digests_of old)) old in
-    over_rests host (shown_world middle) (subst (EndsAdvance host (shown_world old) (shown_world middle)) c.in-Some.is c.in_ok-end.ensures.ended)
+    let over = subst (EndsAdvance host (shown_world old) (shown_world middle)) c.in-Some.is c.in_ok-end.ensures.ended in
+    (over_rests host (shown_world middle) over.0, advance_lowest host (shown_world old) (shown_world middle) (Some c.in-Some.end) over)
 
 pub returns-clause-leads : goal.returns-clause-leads
 returns-clause-leads g c =
@@ -80,3 +81,13 @@ returns-clause-ended g c =
     (shown_world middle) some have (shown_world later) end
     (subst (λ (h : Host Content Request). EndsMoves h (shown_world middle) (shown_world later) end) (host_same g.D.Digests.functions old middle c.advance_all.ensures.host) moved))
     c.move_all.ensures.ended
+
+pub returns-clause-on_the_way : goal.returns-clause-on_the_way
+returns-clause-on_the_way g c =
+    let old = c.args.world.now in
+    let middle = c.advance_all.new.world in
+    let later = c.move_all.new.world in
+    let host = host_of (g.D.Digests.functions (digests_of old)) old in
+    let way : Leads host (shown_world old) (shown_world middle) None = subst (Leads host (shown_world old) (shown_world middle)) c.in_default.is c.in_ok-end.ensures.leads in
+    on_err_then (LeadsTo (host_of (g.D.Digests.functions (digests_of middle)) middle) (shown_world middle) (shown_world later)) (LeadsTo host (shown_world old) (shown_world later)) c.move_all.result
+    (way_on g.D.Digests.functions old middle c.advance_all.ensures.host later None way) c.move_all.ensures.on_the_way

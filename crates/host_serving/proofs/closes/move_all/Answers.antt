@@ -10,7 +10,7 @@ use Rattle.host_serving.specs.Leading.{first_of, Leads}
 use Rattle.host_serving.specs.Closing.{CanMoveOwn, EndsOwn}
 use Rattle.host_serving.proofs.LeadingLaws.{leads-none}
 use Rattle.host_serving.proofs.MoveLemmas.{AllBelow, all_first, all_through, may_begin, all_next}
-use Rattle.host_serving.proofs.CloseWorldLemmas.{one_host, host_same, leads_on, first_of-or, workers_are}
+use Rattle.host_serving.proofs.CloseWorldLemmas.{one_host, host_same, leads_on, on_err, way_on, first_of-or, workers_are}
 use Rattle.host_serving.proofs.closes.move_all.Goals as goal
 
 pub loop-mover-init : goal.loop-mover-init
@@ -74,3 +74,8 @@ returns-clause-ended g c =
     let past : length old.workers.items ≤ c.loop-mover.mover =
     omega (arith, c.loop-mover-test.false, count, workers_are (functions (digests_of old)) old c.requires.behind.0 c.requires.behind.1) in
     all_through host (shown_world old) (shown_world now) c.loop-mover.first c.loop-mover.mover past c.loop-mover.invariant.below
+
+pub returns-in_err-end-clause-on_the_way : goal.returns-in_err-end-clause-on_the_way
+returns-in_err-end-clause-on_the_way g c =
+    on_err c.from_residual.result
+    (way_on g.D.Digests.functions c.args.world.now c.loop-mover.world c.loop-mover.invariant.host c.move_own.new.world c.loop-mover.first c.loop-mover.invariant.leads c.in_err-end.ensures.on_the_way)

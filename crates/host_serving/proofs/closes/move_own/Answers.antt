@@ -7,7 +7,7 @@ use Rattle.host_world.specs.Behind.{host_of}
 use Rattle.host_world.specs.Shown.{shown_world, digests_of, requests_of}
 use Rattle.host_serving.specs.Leading.{Leads}
 use Rattle.host_serving.proofs.MoveLemmas.{OwnBelow, own_through, may_move, goes_next, Goes}
-use Rattle.host_serving.proofs.CloseWorldLemmas.{one_host, enabled_now, stepped_first, ended_first, leads_next, workers_are, shard_count}
+use Rattle.host_serving.proofs.CloseWorldLemmas.{one_host, enabled_now, stepped_first, ended_first, leads_next, on_err, way_kept, workers_are, shard_count}
 use Rattle.host_serving.proofs.closes.move_own.Goals as goal
 
 pub step-requires-clause-behind : goal.step-requires-clause-behind
@@ -108,3 +108,8 @@ returns-clause-ended g c =
     omega (arith, c.loop-shard-test.false, count, shard_count (functions (digests_of old)) old c.requires.behind.0 c.requires.behind.1 digests) in
     let keep = c.the_shipped_host_is_steady.ensures.close (functions (digests_of old)) old.settings (requests_of old) in
     own_through host keep (shown_world old) c.args.worker c.requires.may (shown_world now) c.loop-shard.shard c.loop-shard.invariant.below past
+
+pub returns-in_err-end-clause-on_the_way : goal.returns-in_err-end-clause-on_the_way
+returns-in_err-end-clause-on_the_way g c =
+    on_err c.from_residual.result
+    (way_kept g.D.Digests.functions c.args.world.now c.loop-shard.world c.loop-shard.invariant.host c.step.new.self None c.loop-shard.invariant.leads c.in_err-end.ensures.as_before)
