@@ -12,101 +12,19 @@ Each minute a line says how far it is; at the end a summary has, of each kind, h
 how many differed. It fails where any did.
 """
 import argparse
-import contextlib
 import os
 import random
-import subprocess
 import sys
 import tempfile
 import time
 from collections import Counter
 from concurrent.futures import FIRST_COMPLETED, ProcessPoolExecutor, wait
-from typing import NamedTuple
 
 import random_cases
-import slow_fastver
-import slow_judge
-from fuzz_inputs import KINDS, VAULT, random_input
+from compared import VAULT, differing, got_from, meeting, misjudged, wanted_for
+from fuzz_inputs import KINDS, random_input
 
-BATCH = 50  # inputs that a job is given at once
-SECONDS = 120  # how long a program may take for one input
-SHOWN = 2000  # bytes of an output that are shown
-
-
-class Got(NamedTuple):
-    """What a program answered, and the files that it made, by name."""
-
-    output: bytes
-    status: int
-    said: bytes
-    files: dict
-
-
-def files_in(folder):
-    found = {}
-    for name in os.listdir(folder):
-        with open(os.path.join(folder, name), "rb") as file:
-            found[name] = file.read()
-    return found
-
-
-def got_from(program, words, given):
-    """What a program answers in a folder of its own."""
-    with tempfile.TemporaryDirectory() as folder:
-        command = [program, *words]
-        try:
-            ran = subprocess.run(command, input=given, capture_output=True, cwd=folder, timeout=SECONDS, check=False)
-        except subprocess.TimeoutExpired as late:
-            return Got(late.stdout or b"", -1, b"it takes too long", files_in(folder))
-        return Got(ran.stdout, ran.returncode, ran.stderr, files_in(folder))
-
-
-def wanted_for(words, given):
-    """What the slow program answers, in a folder of its own where it has a vault."""
-    answer, path = slow_fastver.fastver(words if random_cases.is_there(words) else [], given)
-    files = {}
-    if path is not None:
-        with tempfile.TemporaryDirectory() as folder, contextlib.chdir(folder):
-            answer = slow_fastver.stored(answer, path)
-            files = files_in(folder)
-    return Got(answer.written.encode(), answer.status, answer.said.encode(), files)
-
-
-def meeting(words, given):
-    """The options of a run in which two workers come to one shard in a phase, if that is asked for."""
-    try:
-        options = slow_fastver.options_of(words)
-        if "--shards" not in options or not random_cases.is_there(words):
-            return None
-        phases = slow_fastver.phases_of(words[0], options, given)
-    except (slow_fastver.Usage, slow_fastver.BadScript):
-        return None
-    bits = options["--shards"].bit_length() - 1
-    came = [{(path[:bits], worker) for worker, _, path, _ in phase} for phase in phases]
-    return options if any(len(pairs) > len({shard for shard, _ in pairs}) for pairs in came) else None
-
-
-def misjudged(words, given, got):
-    """What is wrong where workers met: their vault, what was printed, and what was said beside."""
-    wrong = slow_judge.faults(words, given, got.files.get(VAULT, b""), got.output, got.status)
-    last = b"fastver: " + got.output.splitlines(keepends=True)[-1] if got.status and got.output else b""
-    return wrong + (["what was said beside is not the last line"] if got.said != last else [])
-
-
-def shown(data):
-    return repr(data if len(data) <= SHOWN else data[:SHOWN] + b"..")
-
-
-def differing(wanted, got):
-    """The parts of an answer that differ, as texts."""
-    parts = zip(Got._fields, wanted, got)
-    return [f"{name} is {shown_part(it)}, not {shown_part(want)}" for name, want, it in parts if want != it]
-
-
-def shown_part(part):
-    if isinstance(part, dict):
-        return str({name: shown(data) for name, data in part.items()})
-    return shown(part) if isinstance(part, bytes) else str(part)
+BATCH = 20  # inputs that a job is given at once
 
 
 def tried(programs, words, given):

@@ -13,11 +13,11 @@ import slow_host
 import slow_receipts
 import slow_verifier as slow
 import word_cases
+from compared import VAULT
 from random_cases import KEYS, NODES
 from slow_script import read_script
 
 HEADER = 18
-VAULT = "vault"  # where the vault goes that is looked at
 EDGES = [0, 1, 2, 3, 4, 5, 8, 31, 32, 33, 63, 64, 65, 127, 128, 129, 255, 256, 1023, 1024, 1025, 65535, 65536, 65537]
 EDGES += [2**24 - 2, 2**24 - 1, 2**24, 2**31, 2**32 - 2, 2**32 - 1, 2**32, 2**40, 2**63 - 1, 2**63, 2**64 - 2, 2**64 - 1]
 BLOBS = [None, b"", b"a", b"ab", bytes(63), bytes(64), bytes(65), bytes(255)]
@@ -124,6 +124,7 @@ LIST_CHANGES = [drop, repeat, move]
 
 # ---- commands
 
+VALUED = ("addM", "addB", "get", "put")
 
 def random_path(chance, path=""):
     bit = chance.randrange(64)
@@ -153,7 +154,7 @@ def other_field(chance, command):
     name, *fields = command
     if not fields:
         return ("nextEpoch",) if chance.random() < 0.5 else ("get", chance.choice(KEYS), chance.choice(BLOBS))
-    place, has_value = chance.randrange(len(fields)), name in ("addM", "addB", "get", "put")
+    place, has_value = chance.randrange(len(fields)), name in VALUED
     if has_value and place == 1:
         fields[1] = random_value(chance, fields[0], fields[1])
     elif isinstance(fields[place], str):
@@ -169,7 +170,24 @@ def other_field(chance, command):
     return (name, *fields)
 
 
-COMMAND_CHANGES = [*LIST_CHANGES, changed_item(other_field), changed_item(other_field), lambda _, items: items + [("nextEpoch",)]]
+def recombined(chance, commands):
+    """With a command put in somewhere whose fields are those of others."""
+    paths = [command[1] for command in commands if len(command) > 1] or KEYS
+    path = chance.choice(paths)
+    above = [other for other in [*paths, ""] if slow.side(other, path) is not None]
+    parent = chance.choice(above if above and chance.random() < 0.8 else [*paths, ""])
+    valued = [command for command in commands if command[0] in VALUED]
+    values = [command[2] for command in valued if command[1] == path] or [slow.initial(path)]
+    stamps = [command[-1] for command in commands if command[0] in ("evictB", "evictBM")] or [(0, 1)]
+    value, (epoch, counter) = chance.choice([*values, slow.initial(path)]), chance.choice(stamps)
+    stamp = epoch, (counter + chance.choice([0, 0, 1, 2, 3])) % 2**32
+    adds, sends = [("addM", path, value, parent), ("addB", path, value, stamp, 0)], [("evictB", path, stamp), ("evictBM", path, parent, stamp)]
+    made = chance.choice([*adds, *adds, *sends, ("evictM", path, parent), ("get", path, value), ("put", path, value)])
+    place = chance.randrange(len(commands) + 1)
+    return commands[:place] + [made] + commands[place:]
+
+
+COMMAND_CHANGES = [recombined, recombined, *LIST_CHANGES, changed_item(other_field), changed_item(other_field), lambda _, items: items + [("nextEpoch",)]]
 
 
 def commands_of(log):
