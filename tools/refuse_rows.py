@@ -123,6 +123,7 @@ def reader_rows():
 
 def host_rows():
     """Runs and loads."""
+    load = ["--seed", "1", "--ops", "40", "--keys", "3", "--every", "15", "--hot", "2"]
     return [
         run_row("run", SCRIPT),
         run_row("run of nothing", b""),
@@ -138,8 +139,8 @@ def host_rows():
         run_row("run of 4 workers, hot", TOGETHER, "--hot", "2", workers=4),
         load_row("gen of 1", "--seed", "0", "--ops", "1"),
         load_row("gen of 0", "--seed", "0", "--ops", "0"),
-        load_row("gen of 40, hot", "--seed", "1", "--ops", "40", "--keys", "3", "--every", "15", "--hot", "2"),
-        load_row("gen of 40, 2 workers, hot", "--seed", "1", "--ops", "40", "--keys", "3", "--every", "15", "--hot", "2", workers=2),
+        load_row("gen of 40, hot", *load),
+        load_row("gen of 40, 2 workers, hot", *load, workers=2),
     ]
 
 
@@ -202,7 +203,8 @@ def tell(program, row, allocations, times):
     for behind in (False, True):
         most, ends, wrong = refused(program, row, allocations, behind, times)
         bad += len(wrong) if most else 1
-        parts.append(f"{most} {'with all behind them' if behind else 'alone'}, {ends['memory']} memory and {ends['its own']} its own")
+        how = "with all behind it" if behind else "alone"
+        parts.append(f"{most} {how}, {ends['memory']} memory and {ends['its own']} its own")
         for text in wrong:
             print(f"  {text}")
     print(f"{row.name}: {'; '.join(parts)}; {bad} otherwise", flush=True)
