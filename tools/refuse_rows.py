@@ -42,6 +42,7 @@ class Row(NamedTuple):
     name: str
     words: list
     given: bytes
+    workers: int = 1
 
 
 class Allocations(NamedTuple):
@@ -66,12 +67,17 @@ class Allocations(NamedTuple):
 # ---- the rows
 
 
+def host_row(name, command, script, *more, workers=1):
+    host = ["--verifiers", str(workers), "--shards", "2"]
+    return Row(name, [command, *KEY, *host, *more, "--logs", VAULT], script, workers)
+
+
 def run_row(name, script, *more, workers=1):
-    return Row(name, ["run", *KEY, "--verifiers", str(workers), "--shards", "2", *more, "--logs", VAULT], script)
+    return host_row(name, "run", script, *more, workers=workers)
 
 
 def load_row(name, *more, workers=1):
-    return Row(name, ["gen", *KEY, "--verifiers", str(workers), "--shards", "2", *more, "--logs", VAULT], b"")
+    return host_row(name, "gen", b"", *more, workers=workers)
 
 
 def unbalanced():
@@ -198,10 +204,9 @@ def refused(program, row, allocations, behind, times):
 
 def tell(program, row, allocations, times):
     """Writes what came of a row, and answers how much was wrong."""
-    times = times if "--verifiers" in row.words and "1" != row.words[row.words.index("--verifiers") + 1] else 1
     parts, bad = [], 0
     for behind in (False, True):
-        most, ends, wrong = refused(program, row, allocations, behind, times)
+        most, ends, wrong = refused(program, row, allocations, behind, times if row.workers > 1 else 1)
         bad += len(wrong) if most else 1
         how = "with all behind it" if behind else "alone"
         parts.append(f"{most} {how}, {ends['memory']} memory and {ends['its own']} its own")
