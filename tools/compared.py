@@ -1,0 +1,91 @@
+"""What a built program answers to words and an input, beside what the slow one does: for fuzz.py and refuse_rows.py.
+
+Where workers meet at a shard the order is not determined, and what they wrote is judged by slow_judge.py.
+"""
+import contextlib
+import os
+import subprocess
+import tempfile
+from typing import NamedTuple
+
+import random_cases
+import slow_fastver
+import slow_judge
+
+VAULT = "vault"  # where the vault goes that is looked at
+SECONDS = 120  # how long a program may take for one input
+SHOWN = 2000  # bytes of an output that are shown
+
+
+class Got(NamedTuple):
+    """What a program answered, and the files that it made, by name."""
+
+    output: bytes
+    status: int
+    said: bytes
+    files: dict
+
+
+def files_in(folder):
+    found = {}
+    for name in os.listdir(folder):
+        with open(os.path.join(folder, name), "rb") as file:
+            found[name] = file.read()
+    return found
+
+
+def got_from(program, words, given, environment=None):
+    """What a program answers in a folder of its own."""
+    with tempfile.TemporaryDirectory() as folder:
+        around = {"cwd": folder, "env": environment, "timeout": SECONDS}
+        try:
+            ran = subprocess.run([program, *words], input=given, capture_output=True, check=False, **around)
+        except subprocess.TimeoutExpired as late:
+            return Got(late.stdout or b"", -1, b"it takes too long", files_in(folder))
+        return Got(ran.stdout, ran.returncode, ran.stderr, files_in(folder))
+
+
+def wanted_for(words, given):
+    """What the slow program answers, in a folder of its own where it has a vault."""
+    answer, path = slow_fastver.fastver(words if random_cases.is_there(words) else [], given)
+    files = {}
+    if path is not None:
+        with tempfile.TemporaryDirectory() as folder, contextlib.chdir(folder):
+            answer = slow_fastver.stored(answer, path)
+            files = files_in(folder)
+    return Got(answer.written.encode(), answer.status, answer.said.encode(), files)
+
+
+def meeting(words, given):
+    """The options of a run in which two workers come to one shard in a phase, if that is asked for."""
+    try:
+        options = slow_fastver.options_of(words)
+        if "--shards" not in options or not random_cases.is_there(words):
+            return None
+        phases = slow_fastver.phases_of(words[0], options, given)
+    except (slow_fastver.Usage, slow_fastver.BadScript):
+        return None
+    bits = options["--shards"].bit_length() - 1
+    came = [{(path[:bits], worker) for worker, _, path, _ in phase} for phase in phases]
+    return options if any(len(pairs) > len({shard for shard, _ in pairs}) for pairs in came) else None
+
+
+def misjudged(words, given, got):
+    """What is wrong where workers met: their vault, what was printed, and what was said beside."""
+    wrong = slow_judge.faults(words, given, got.files.get(VAULT, b""), got.output, got.status)
+    last = b"fastver: " + got.output.splitlines(keepends=True)[-1] if got.status and got.output else b""
+    return wrong + (["what was said beside is not the last line"] if got.said != last else [])
+
+
+def shown(part):
+    if isinstance(part, dict):
+        return str({name: shown(data) for name, data in part.items()})
+    if isinstance(part, bytes):
+        return repr(part if len(part) <= SHOWN else part[:SHOWN] + b"..")
+    return str(part)
+
+
+def differing(wanted, got):
+    """The parts of an answer that differ, as texts."""
+    parts = zip(Got._fields, wanted, got)
+    return [f"{name} is {shown(it)}, not {shown(want)}" for name, want, it in parts if want != it]

@@ -1,0 +1,291 @@
+"""Inputs for fuzz.py: random bundles, scripts, words, receipts and loads, most of them changed somewhere.
+
+An input is made of a chance and of its number, and says with which words the program is called on which bytes. A bundle is one
+that random_cases.py plays or that the slow host writes, or is spliced of two.
+"""
+from typing import NamedTuple
+
+import random_cases
+import random_scripts
+import slow_fastver
+import slow_host
+import slow_receipts
+import slow_verifier as slow
+import word_cases
+from compared import VAULT
+from fuzz_changes import BLOBS, BUNDLE_CHANGES, BYTE_CHANGES, HEADER, LIST_CHANGES, changed_item, cut, edge, flip_bit, often
+from slow_script import read_script
+
+
+class Input(NamedTuple):
+    kind: str
+    words: list
+    given: bytes
+
+
+def random_key(chance):
+    return chance.randbytes(chance.choice([16, 17, 32, 63, 64]))
+
+
+# ---- bundles
+
+
+def host_bundle(chance):
+    """The key and the bundle that the slow host writes for a script, whose workers came to its shards one after another."""
+    words, script = random_run(chance, chance.choice([1, 1, 2, 3, 8]))
+    options = slow_fastver.options_of(words)
+    try:
+        phases = read_script(script, options["--verifiers"])
+    except slow_fastver.BadScript:
+        phases = [[]]
+    digests = slow.ShaDigests(options["--key"])
+    return options["--key"].hex(), slow_host.run(digests, slow_fastver.settings_of(options), phases)[0]
+
+
+def any_bundle(chance):
+    """A key and a bundle as one writes it. Very few are longer than what is read at a time."""
+    if chance.random() < 0.3:
+        return host_bundle(chance)
+    return random_cases.random_case(chance, chance.choice([0, 1]) if chance.random() < 0.002 else chance.randrange(2, 1000))
+
+
+def random_bundle(chance):
+    """A key and a bundle, of which something may be changed."""
+    key, bundle = any_bundle(chance)
+    if chance.random() < 0.1:
+        other = any_bundle(chance)[1]
+        bundle = chance.choice([bundle + other[HEADER:], cut(chance, bundle) + other[chance.randrange(len(other) + 1) :]])
+    return key, bundle if chance.random() < 0.25 else often(chance, bundle, BUNDLE_CHANGES)
+
+
+def checks(chance, _):
+    key, bundle = random_bundle(chance)
+    return ["check", "--key", key] + ["--receipts"] * (chance.random() < 0.3), bundle
+
+
+def audits(chance, _):
+    key, bundle = random_bundle(chance)
+    return ["audit", "--key", key], bundle
+
+
+# ---- scripts
+
+
+def good_line(chance, worker):
+    """A line of this worker that asks for something at an edge."""
+    kind = chance.choice(["get", "put", "put", "del"])
+    value = " " + chance.choice([".", "00", "61" * 63, "61" * 64]) if kind == "put" else ""
+    return f"{worker} {kind} {edge(chance, 8)}{value}".encode()
+
+
+def bad_line(chance, worker):
+    worker = chance.choice([str(worker), str(edge(chance, 8)), "-1", "00", ""])
+    key = chance.choice([str(edge(chance, 8)), str(2**64), "05", "5" * chance.choice([20, 21, 240]), "0x5", ""])
+    value = chance.choice(["..", "6", "6A", "61" * 65, "0" * 127, "zz", "61 62", ""])
+    line = f"{worker} {chance.choice(['get', 'put', 'Put', 'pu'])} {key} {value}".encode()
+    return chance.choice([line, b"", chance.choice(random_scripts.WRONG_LINES), line.ljust(chance.choice([255, 256, 257]))])
+
+
+def other_line(chance, line):
+    words = line.split(b" ")
+    worker = words[0].decode("ascii", "replace")
+    if chance.random() < 0.7:
+        return chance.choice([good_line(chance, worker), b"epoch"])
+    return chance.choice([bad_line(chance, worker), often(chance, line, BYTE_CHANGES), line + b"\r", line + b" "])
+
+
+LINE_CHANGES = [*LIST_CHANGES, *[changed_item(other_line)] * 2]
+
+
+def other_lines(chance, script):
+    """A script with a few lines changed, or with other ends of lines."""
+    if chance.random() < 0.03:
+        return script.replace(b"\n", chance.choice([b"\r\n", b"\r", b"\n\n", b"\0"]))
+    lines = script.split(b"\n")
+    return b"\n".join(often(chance, lines[:-1], LINE_CHANGES) + lines[-1:]) + chance.choice([b"", b"", b"\n", b"\r\n"])
+
+
+def many_keys(chance, workers):
+    """A script over many keys, which lie together and far away."""
+    lines = []
+    for _ in range(chance.choice([20, 60, 200])):
+        key = chance.choice([chance.getrandbits(64), chance.getrandbits(8), 2**63 + chance.getrandbits(4), edge(chance, 8)])
+        kind = chance.choice(["get", "put", "put", "del"])
+        value = " " + (chance.randbytes(chance.choice([1, 8, 64])).hex()) if kind == "put" else ""
+        lines.append(f"{chance.randrange(workers)} {kind} {key}{value}\n" + "epoch\n" * (chance.random() < 0.04))
+    return "".join(lines).encode()
+
+
+def random_run(chance, workers, shared=False):
+    """The words of `run` and a script, over few keys or many."""
+    words, script = random_scripts.random_case(chance, workers, chance.random() < 0.5, shared)
+    return words, many_keys(chance, workers) if chance.random() < 0.2 else script
+
+
+def runs(chance, _):
+    """Runs of one worker, or of several that mostly keep to shards of their own."""
+    words, script = random_run(chance, chance.choice([1, 1, 1, 2, 3, 5, 64]))
+    script = script if chance.random() < 0.5 else other_lines(chance, script)
+    return words + ["--receipts"] * (chance.random() < 0.2) + ["--logs", VAULT], script
+
+
+def meetings(chance, _):
+    """Runs of several workers that meet at shards and keys."""
+    words, script = random_run(chance, chance.choice([2, 2, 3, 4, 8, 16]), shared=True)
+    return words + ["--receipts"] * (chance.random() < 0.2) + ["--logs", VAULT], script
+
+
+def loads(chance, _):
+    options = {
+        "--key": random_key(chance).hex(),
+        "--seed": chance.choice([chance.getrandbits(64), edge(chance, 8)]),
+        "--ops": chance.choice([0, 1, 2, 10, 60, 200]),
+        "--verifiers": chance.choice([1, 1, 1, 2, 4, 64]),
+        "--shards": chance.choice([2, 2, 4, 4, 16]) if chance.random() < 0.9 else 256,
+    }
+    shards = options["--shards"]
+    more = {"--keys": [1, 2, 7, 65536], "--every": [shards // 3 + 1, 13 + shards, 1000000], "--hot": [1, 2, 1000000]}
+    more |= {"--first": [0, 5, 2**32 - 3, 2**32 - 1], "--counter": [1, shards, shards + 30, 500, 16777215]}
+    options |= {name: chance.choice(values) for name, values in more.items() if chance.random() < 0.5}
+    words = [word for name, value in options.items() for word in (name, str(value))]
+    return ["gen"] + words + ["--logs", VAULT], b""
+
+
+# ---- words
+
+NAMES = sorted({name for options in slow_fastver.OPTIONS.values() for name in options})
+NUMBERS = ["0", "1", "2", "3", "4", "7", "64", "65", "1024", "1025"]
+NO_NUMBERS = ["01", "+1", "-1", "", " 1", "1 ", "0x1", "1e3", "1_0", "1.0", "\u0661"]
+PATHS = [VAULT, ".", "", f"none/{VAULT}", "/", f"{VAULT}/"]
+STRAY = ["", "-", "--", "---", "=", "--=", "-k", "-h", "-V", "--key", "--help", "--version", "help", "run", "more", "\u00e9"]
+
+
+def random_word(chance, name):
+    """What may follow an option."""
+    if name == "--key":
+        return chance.choice([random_key(chance).hex(), random_key(chance).hex().upper(), "0" * edge(chance, 1), "0g" * 16, ""])
+    if name == "--logs":
+        return chance.choice(PATHS)
+    return chance.choice([*NUMBERS, *NO_NUMBERS, str(edge(chance, 8)), *map(str, slow_fastver.RANGES.get(name, (1, 2)))])
+
+
+def needed_words(chance, command):
+    """The options of a command that it must have, and some of the others, with values that it takes."""
+    good = {"--key": random_key(chance).hex(), "--verifiers": "1", "--shards": "2", "--seed": "7", "--ops": "3", "--logs": VAULT}
+    words = []
+    for name, default in slow_fastver.OPTIONS[command].items():
+        if default is slow_fastver.NEEDED or chance.random() < 0.4:
+            words.append([name] + ([] if default is False else [good.get(name, "5")]))
+    return words
+
+
+def other_option(chance, option):
+    name = chance.choice([option[0], option[0], chance.choice(NAMES)])
+    value = random_word(chance, name)
+    return chance.choice([[name, value], [f"{name}={value}"], [name], [chance.choice(STRAY)]])
+
+
+def joined(_, option):
+    return ["=".join(option)]
+
+
+def one_more(chance, options):
+    return options + [other_option(chance, ["--key"])]
+
+
+OPTION_CHANGES = [*LIST_CHANGES, changed_item(other_option), changed_item(joined), one_more]
+
+
+def lines_of_words(chance, _):
+    """Words of a command with a few changes, most of them refused."""
+    if chance.random() < 0.05:
+        return chance.choice(word_cases.CASES)
+    command = chance.choice(list(slow_fastver.OPTIONS))
+    options = often(chance, needed_words(chance, command), OPTION_CHANGES, most=2)
+    command = command if chance.random() < 0.97 else chance.choice(STRAY)
+    given = {"run": word_cases.SCRIPT, "gen": b"", "accept": word_cases.RECEIPT}.get(command, word_cases.BUNDLE)
+    return [command] + [word for option in options for word in option], given
+
+
+# ---- receipts
+
+
+def random_operation(chance):
+    moment = edge(chance, 4), edge(chance, 4), edge(chance, 2), edge(chance, 8)
+    return moment, chance.choice(["get", "put"]), f"{edge(chance, 8):064b}", chance.choice(BLOBS[:-2])
+
+
+def tagged_line(word, digests, text):
+    return word + b" " + slow_receipts.tagged(digests, text).encode()
+
+
+def evidence(chance, key):
+    """The lines of a receipt and of a certificate that is mostly of its epoch, or of texts that are changed and then tagged."""
+    digests, operation = slow.ShaDigests(key), random_operation(chance)
+    epoch = operation[0][0]
+    first, last = chance.choice([(epoch, epoch), (0, 2**32 - 1), (edge(chance, 4), epoch), (epoch, edge(chance, 4))])
+    texts = [slow_receipts.receipt_text(operation), slow_receipts.certificate_text(first, last)]
+    if chance.random() < 0.3:
+        texts = changed_item(lambda chance, text: often(chance, text, BYTE_CHANGES))(chance, texts)
+    return [tagged_line(word, digests, text) for word, text in zip((b"receipt", b"certificate"), texts)]
+
+
+def other_evidence_line(chance, line):
+    word, _, digits = line.partition(b" ")
+    data = bytes.fromhex(digits.decode())
+    of_other_bytes = [word + b" " + change(chance, data).hex().encode() for change in BYTE_CHANGES]
+    others = [line.upper(), word + b" " + digits.upper(), line + b"\r", line + b" ", line + b"0", word, digits, b"", line[1:]]
+    return chance.choice(of_other_bytes + others)
+
+
+def swapped(_, lines):
+    return lines[::-1]
+
+
+EVIDENCE_CHANGES = [*LIST_CHANGES, changed_item(other_evidence_line), swapped]
+
+
+def acceptances(chance, _):
+    key = random_key(chance)
+    lines = evidence(chance, key)
+    if chance.random() < 0.4:
+        lines = chance.choice(EVIDENCE_CHANGES)(chance, lines)
+    if chance.random() < 0.2:
+        lines = evidence(chance, random_key(chance))[:1] + lines[1:]
+    text = b"\n".join(lines) + chance.choice([b"", b"", b"\n", b"\n", b"\n", b"\n", b"\r\n", b"\n\n"])
+    return ["accept", "--key", key.hex()], text if chance.random() < 0.9 else often(chance, text, BYTE_CHANGES)
+
+
+BIT_KEY = bytes(16)
+BIT_OPERATION = (7, 9, 1, 30), "put", f"{5:064b}", b"ab"
+
+
+def flipped_bits(_, number):
+    """Of one receipt and certificate a bit changed of the texts and tags; another one for each number."""
+    digests = slow.ShaDigests(BIT_KEY)
+    texts = [slow_receipts.receipt_text(BIT_OPERATION), slow_receipts.certificate_text(0, 7)]
+    whole = [text + digests.tag(text) for text in texts]
+    size, data = len(whole[0]), b"".join(whole)
+    data = flip_bit(data, number % (8 * len(data)))
+    return ["accept", "--key", BIT_KEY.hex()], f"receipt {data[:size].hex()}\ncertificate {data[size:].hex()}\n".encode()
+
+
+# ---- all kinds, and how often each comes in a row
+
+KINDS = {
+    "check": (checks, 6),
+    "audit": (audits, 3),
+    "run": (runs, 4),
+    "meet": (meetings, 2),
+    "gen": (loads, 1),
+    "words": (lines_of_words, 2),
+    "accept": (acceptances, 2),
+    "bits": (flipped_bits, 1),
+}
+
+
+def random_input(chance, number, names):
+    """The input of a number, of one of these kinds."""
+    rotation = [name for name in names for _ in range(KINDS[name][1])]
+    kind = rotation[number % len(rotation)]
+    return Input(kind, *KINDS[kind][0](chance, number // len(rotation)))

@@ -1,0 +1,238 @@
+#!/usr/bin/env python3
+"""Refuses each allocation of a built program in turn, in some calls of it, and looks how each run then ends.
+
+usage: refuse_rows.py PROGRAM.. [--rows WORD] [--times T]
+
+A row is the words of a call and its input; WORD picks those whose names have it. For each number an allocation is refused alone,
+and then it and all behind it, by refuse_nth.c, which gcc compiles into a temporary folder. A run may end as it does with
+ample memory, which the slow program says; or with the status of want of memory, and then nothing but a front of what it would
+write stands there, as docs/FORMATS.md has it, and the vault has a front of its bundle. Where a row has several workers the order
+differs from run to run: each number is tried T times, and where they meet at a shard what they wrote is judged.
+
+For each row it writes how many allocations there are at most, and how many runs ended in either way. It fails where one ended in
+another, or none is refused.
+"""
+import argparse
+import os
+import struct
+import subprocess
+import sys
+import tempfile
+from collections import Counter
+from typing import NamedTuple
+
+import slow_fastver
+import slow_receipts
+from compared import VAULT, differing, got_from, meeting, misjudged, wanted_for
+from slow_verifier import ShaDigests, command_text, findings, header_text
+
+HERE = os.path.dirname(os.path.abspath(__file__))
+BUNDLE = os.path.join(HERE, "..", "crates", "fastver_cli", "stdin")
+KEY = ["--key", "00" * 16]
+MEMORY = 2  # the status of want of memory
+SCRIPT = b"0 put 5 6162\n0 get 5\n"
+HOT = SCRIPT + b"epoch\n0 get 5\n"  # with a threshold of 2 key 5 becomes hot at the first close
+COLD_AGAIN = SCRIPT + b"epoch\nepoch\n0 get 5\n"
+FAR = str(2**63).encode()
+APART = b"0 put 5 61\n1 put %b 62\n1 get %b\n0 get 5\nepoch\n1 get %b\n0 del 5\n" % (FAR, FAR, FAR)
+TOGETHER = b"0 put 5 61\n1 put 5 62\n0 get 5\n1 get 6\nepoch\n0 get 5\n1 get 5\nepoch\nepoch\n1 get 5\n"
+
+
+class Row(NamedTuple):
+    name: str
+    words: list
+    given: bytes
+    workers: int = 1
+
+
+class Allocations(NamedTuple):
+    """The shim, and the file that it counts in."""
+
+    shim: str
+    counted: str
+
+    def refusing(self, number, behind):
+        """The environment in which an allocation is refused, and all those behind it where that is asked for."""
+        if os.path.exists(self.counted):
+            os.remove(self.counted)
+        more = {"REFUSE_ALL": "1"} if behind else {}
+        return os.environ | more | {"LD_PRELOAD": self.shim, "REFUSE": str(number), "REFUSE_COUNT": self.counted}
+
+    def count(self):
+        """How many the last run asked for."""
+        with open(self.counted, "rb") as file:
+            return struct.unpack("=Q", file.read())[0]
+
+
+# ---- the rows
+
+
+def host_row(name, command, script, *more, workers=1):
+    host = ["--verifiers", str(workers), "--shards", "2"]
+    return Row(name, [command, *KEY, *host, *more, "--logs", VAULT], script, workers)
+
+
+def run_row(name, script, *more, workers=1):
+    return host_row(name, "run", script, *more, workers=workers)
+
+
+def load_row(name, *more, workers=1):
+    return host_row(name, "gen", b"", *more, workers=workers)
+
+
+def unbalanced():
+    """A bundle of two verifiers, of which each adds what was evicted once."""
+    key, added = f"{5:064b}", ("addB", f"{5:064b}", b"ab", (0, 1), 0)
+    logs = [
+        [("addM", key, None, ""), ("put", key, b"ab"), ("evictBM", key, "", (0, 1)), added, ("get", key, b"ab")],
+        [added, ("put", key, b"ac")],
+    ]
+    bundle = header_text((2, 4, 0, 16777215))
+    for verifier, commands in enumerate(logs):
+        log = b"".join(map(command_text, commands + [("nextEpoch",)] * 2))
+        bundle += verifier.to_bytes(2, "big") + len(log).to_bytes(4, "big") + log
+    return bundle
+
+
+def evidence(epoch=0, flipped=0):
+    """A receipt of this epoch and a certificate of epoch 0, with these bits of the receipt's last byte flipped."""
+    digests = ShaDigests(bytes(16))
+    operation = (epoch, 3, 0, 7), "put", f"{5:064b}", b"ab"
+    receipt = bytes.fromhex(slow_receipts.tagged(digests, slow_receipts.receipt_text(operation)))
+    receipt = receipt[:-1] + bytes([receipt[-1] ^ flipped])
+    certificate = slow_receipts.tagged(digests, slow_receipts.certificate_text(0, 0))
+    return f"receipt {receipt.hex()}\ncertificate {certificate}\n".encode()
+
+
+def reader_rows():
+    """Checks, audits and acceptances."""
+    with open(BUNDLE, "rb") as file:
+        bundle = file.read()
+    hot = run_row("", TOGETHER, "--hot", "2", workers=2)
+    vault = slow_fastver.fastver(hot.words, hot.given)[0].vault
+    return [
+        Row("check", ["check", *KEY], bundle),
+        Row("check of a wrong get", ["check", *KEY], bundle.replace(b"\1\2ab\x08\x08", b"\1\2ac\x08\x08")),
+        Row("check of a cut bundle", ["check", *KEY], bundle[:-1]),
+        Row("check of what is unbalanced", ["check", *KEY], unbalanced()),
+        Row("check of two workers", ["check", *KEY], vault),
+        Row("check of two workers, receipts", ["check", *KEY, "--receipts"], vault),
+        Row("audit", ["audit", *KEY], bundle),
+        Row("audit of two workers", ["audit", *KEY], vault),
+        Row("accept", ["accept", *KEY], evidence()),
+        Row("accept, not tagged", ["accept", *KEY], evidence(flipped=1)),
+        Row("accept, not certified", ["accept", *KEY], evidence(epoch=1)),
+        Row("accept, no receipt", ["accept", *KEY], evidence()[1:]),
+        Row("words that are refused", ["check", *KEY, "more"], bundle),
+    ]
+
+
+def host_rows():
+    """Runs and loads."""
+    load = ["--seed", "1", "--ops", "40", "--keys", "3", "--every", "15", "--hot", "2"]
+    return [
+        run_row("run", SCRIPT),
+        run_row("run of nothing", b""),
+        run_row("run, receipts", SCRIPT, "--receipts"),
+        run_row("run of a clock that ends", SCRIPT, "--counter", "4"),
+        run_row("run of a bad line", SCRIPT + b"0 put 05 61\n"),
+        run_row("run of 64 gets", b"0 get 5\n" * 64),
+        run_row("run, hot", HOT, "--hot", "2"),
+        run_row("run, hot and cold again", COLD_AGAIN, "--hot", "2"),
+        run_row("run of 2 workers apart, hot", APART, "--hot", "2", workers=2),
+        run_row("run of 2 workers together", TOGETHER, workers=2),
+        run_row("run of 2 workers together, hot", TOGETHER, "--hot", "2", workers=2),
+        run_row("run of 4 workers, hot", TOGETHER, "--hot", "2", workers=4),
+        load_row("gen of 1", "--seed", "0", "--ops", "1"),
+        load_row("gen of 0", "--seed", "0", "--ops", "0"),
+        load_row("gen of 40, hot", *load),
+        load_row("gen of 40, 2 workers, hot", *load, workers=2),
+    ]
+
+
+# ---- how a run may end
+
+
+def front_of(row, wanted, vault):
+    """Of what there may be a front where memory was wanting, with this in the vault, if it is there."""
+    if row.words[0] == "check" and wanted.status != 1:
+        return wanted.output[: wanted.output[:-1].rfind(b"\n") + 1]
+    if row.words[0] == "run" and vault is not None:
+        digests = ShaDigests(bytes(16))
+        return slow_fastver.report(findings(digests, vault), digests if "--receipts" in row.words else None).encode()
+    if row.words[0] == "gen" and vault is not None:
+        return slow_fastver.told("gen", slow_fastver.options_of(row.words), vault, None).written.encode()
+    return b""
+
+
+def starved(row, wanted, met, got):
+    """What is wrong where a run ended for want of memory."""
+    wrong, vault, whole = [], got.files.get(VAULT), wanted.files.get(VAULT)
+    if got.said != b"fastver: memory\n":
+        wrong.append(f"{got.said} was said")
+    if not front_of(row, wanted, vault).startswith(got.output):
+        wrong.append(f"{got.output} was written with {vault} in the vault")
+    if vault is not None and (whole is None or not met and not whole.startswith(vault)):
+        wrong.append(f"{vault} is in the vault")
+    return wrong
+
+
+def ending(row, wanted, met, got):
+    """How a run ended, and what is wrong with it."""
+    if got.status == MEMORY:
+        return "memory", starved(row, wanted, met, got)
+    return "its own", misjudged(row.words, row.given, got) if met else differing(wanted, got)
+
+
+def refused(program, row, allocations, behind, times):
+    """Refuses each allocation of a row in turn. It answers how many there are, how the runs ended, and what is wrong."""
+    wanted, met = wanted_for(row.words, row.given), meeting(row.words, row.given) is not None
+    number, ends, wrong, going = 0, Counter(), [], True
+    while going:
+        number, going = number + 1, False
+        for _ in range(times):
+            got = got_from(program, row.words, row.given, allocations.refusing(number, behind))
+            end, faults = ending(row, wanted, met, got)
+            wrong += [f"{row.name}, allocation {number}{' and all behind it' if behind else ''}: {fault}" for fault in faults]
+            if allocations.count() >= number:
+                going = True
+                ends[end] += 1
+            elif end == "memory":
+                wrong.append(f"{row.name}: memory is wanting where none is refused")
+    return number - 1, ends, wrong
+
+
+def tell(program, row, allocations, times):
+    """Writes what came of a row, and answers how much was wrong."""
+    parts, bad = [], 0
+    for behind in (False, True):
+        most, ends, wrong = refused(program, row, allocations, behind, times if row.workers > 1 else 1)
+        bad += len(wrong) if most else 1
+        how = "with all behind it" if behind else "alone"
+        parts.append(f"{most} {how}, {ends['memory']} memory and {ends['its own']} its own")
+        for text in wrong:
+            print(f"  {text}")
+    print(f"{row.name}: {'; '.join(parts)}; {bad} otherwise", flush=True)
+    return bad
+
+
+def main():
+    parser = argparse.ArgumentParser(description=__doc__, formatter_class=argparse.RawDescriptionHelpFormatter)
+    parser.add_argument("programs", nargs="+", metavar="PROGRAM")
+    parser.add_argument("--rows", default="", metavar="WORD")
+    parser.add_argument("--times", type=int, default=3)
+    options, bad = parser.parse_args(), 0
+    rows = [row for row in reader_rows() + host_rows() if options.rows in row.name]
+    with tempfile.TemporaryDirectory() as folder:
+        allocations = Allocations(os.path.join(folder, "shim.so"), os.path.join(folder, "count"))
+        source = os.path.join(HERE, "refuse_nth.c")
+        subprocess.run(["gcc", "-O2", "-shared", "-fPIC", "-o", allocations.shim, source], check=True)
+        for program in options.programs:
+            print(program)
+            bad += sum(tell(os.path.abspath(program), row, allocations, options.times) for row in rows)
+    print(f"{len(rows)} rows, {bad} runs ended otherwise")
+    return 1 if bad or not rows else 0
+
+
+if __name__ == "__main__":
+    sys.exit(main())
