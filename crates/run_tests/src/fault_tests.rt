@@ -1,7 +1,9 @@
-//! Objects that fail, one call after the other, and objects that never do.
+//! Objects that fail, one call after the other, such that are too small, and objects that never fail.
 use crate::serving::{Objects, REPORT, SCRIPT, assert_front, checked, line_of, program, served};
 use fastver_top::{Status, fastver};
-use fv_outside::{FreeGate, SureSink, SureSource, SureVault};
+use fv_outside::{
+    FreeGate, MemorySink, MemorySource, MemoryVault, SureSink, SureSource, SureVault,
+};
 use std::alloc::Global;
 use std::sync::Wait;
 use std::test::Fail;
@@ -95,6 +97,57 @@ fn a_vault_that_can_not_be_named_takes_nothing(rt: HostRuntime) -> Result<(), Fa
     assert_eq!(rt; status, Status::VaultFault);
     assert!(rt; objects.vault.bytes().is_empty());
     assert_eq!(rt; objects.vault.name_taken(), Some("x"));
+    Ok(())
+}
+
+// Words and a script, with a sink and a vault that have room for so many bytes and take seven of them a write.
+fn cramped<R: Threads + Wait + Sync>(
+    rt: &R,
+    alloc: Global,
+    line: &str,
+    rooms: (usize, usize),
+) -> Result<(MemorySink, MemoryVault, Status), Fail> {
+    let mut words = Vec::new(alloc);
+    for word in line.split_whitespace() {
+        words.push(word)?;
+    }
+    let mut source = MemorySource::new(alloc, SCRIPT.as_bytes(), 7, &[])?;
+    let mut out = MemorySink::new(alloc, rooms.0, 7, &[])?;
+    let mut vault = MemoryVault::new(alloc, rooms.1, 7, &[])?;
+    let status = fastver(
+        rt, alloc, &words, &mut source, &mut out, &mut vault, &FreeGate,
+    );
+    Ok((out, vault, status))
+}
+
+#[test]
+fn objects_that_are_too_small_are_filled(rt: HostRuntime) -> Result<(), Fail> {
+    let line = line_of(rt.alloc(), "2")?;
+    let (whole, status) = served(&rt, rt.alloc(), &line, SCRIPT, 1)?;
+    assert_eq!(rt; status, Status::Done { epochs: 1 });
+    assert_eq!(rt; whole.vault.bytes().len(), 479);
+    for room in 0..REPORT.len() {
+        let (out, vault, status) = cramped(&rt, rt.alloc(), &line, (room, 479))?;
+        assert_eq!(rt; status, Status::WriteFault, "{room}");
+        assert_eq!(rt; out.bytes(), &REPORT.as_bytes()[..room], "{room}");
+        assert_eq!(rt; vault.bytes(), whole.vault.bytes(), "{room}");
+    }
+    for room in 0..479 {
+        let (out, vault, status) = cramped(&rt, rt.alloc(), &line, (REPORT.len(), room))?;
+        assert_eq!(rt; status, Status::VaultFault, "{room}");
+        assert!(rt; out.bytes().is_empty(), "{room}");
+        assert_eq!(rt; vault.bytes(), &whole.vault.bytes()[..room], "{room}");
+    }
+    let (out, _vault, status) = cramped(&rt, rt.alloc(), &line, (REPORT.len(), 479))?;
+    assert_eq!(rt; status, Status::Done { epochs: 1 });
+    assert_eq!(rt; out.bytes(), REPORT.as_bytes());
+    // A name that is too long is none.
+    let line = line_of(rt.alloc(), "2 --logs xy")?;
+    let (out, vault, status) = cramped(&rt, rt.alloc(), &line, (REPORT.len(), 1))?;
+    assert_eq!(rt; status, Status::VaultFault);
+    assert!(rt; out.bytes().is_empty());
+    assert!(rt; vault.bytes().is_empty());
+    assert!(rt; vault.name_taken().is_none());
     Ok(())
 }
 
