@@ -1,7 +1,9 @@
 //! Objects that fail, one call after the other, sinks that are too small, and objects that never fail.
 use crate::asking::{ACCEPT, REPORT, RUN, SCRIPT, ask, text_of};
 use fastver_top::{Status, fastver};
-use fv_outside::{FreeGate, MemorySink, MemorySource, MemoryVault, SureSink, SureSource, SureVault};
+use fv_outside::{
+    FreeGate, MemorySink, MemorySource, MemoryVault, SureSink, SureSource, SureVault,
+};
 use std::test::Fail;
 
 // What is written where the receipt of the put is accepted.

@@ -115,7 +115,13 @@ fn cramped<R: Threads + Wait + Sync>(
     let mut out = MemorySink::new(alloc, rooms.0, 7, &[])?;
     let mut vault = MemoryVault::new(alloc, rooms.1, 7, &[])?;
     let status = fastver(
-        rt, alloc, &words, &mut source, &mut out, &mut vault, &FreeGate,
+        rt,
+        alloc,
+        &words,
+        &mut source,
+        &mut out,
+        &mut vault,
+        &FreeGate,
     );
     Ok((out, vault, status))
 }

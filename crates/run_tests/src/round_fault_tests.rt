@@ -84,9 +84,21 @@ struct Marks {
 
 // Those of these runs, as the slow program has them.
 const MARKS: [Marks; 3] = [
-    Marks { second: 749, lines: 56, whole: 1057 },
-    Marks { second: 749, lines: 425, whole: 1057 },
-    Marks { second: 1038, lines: 104, whole: 1503 },
+    Marks {
+        second: 749,
+        lines: 56,
+        whole: 1057,
+    },
+    Marks {
+        second: 749,
+        lines: 425,
+        whole: 1057,
+    },
+    Marks {
+        second: 1038,
+        lines: 104,
+        whole: 1503,
+    },
 ];
 
 // The first bytes of a text are held, so many of them, and nothing else.
@@ -111,9 +123,7 @@ fn unfailing<R: Threads + Wait + Sync + Abort>(
 }
 
 #[test]
-fn where_the_vault_fails_the_lines_of_the_rounds_before_stand(
-    rt: HostRuntime,
-) -> Result<(), Fail> {
+fn where_the_vault_fails_the_lines_of_the_rounds_before_stand(rt: HostRuntime) -> Result<(), Fail> {
     let cases = cases_of(rt.alloc(), RUNS)?;
     assert_eq!(rt; cases.len(), 3);
     for (case, marks) in cases.iter().zip(MARKS) {
@@ -143,7 +153,11 @@ fn where_a_write_fails_the_vault_has_the_rounds_up_to_it(rt: HostRuntime) -> Res
             let (objects, status) = program(&rt, rt.alloc(), &line, script, 1, fails)?;
             assert_eq!(rt; status, Status::WriteFault, "{line} {k}");
             assert_first(&rt, &line, objects.out.bytes(), all.out.bytes(), k);
-            let kept = if k < marks.lines { marks.second } else { marks.whole };
+            let kept = if k < marks.lines {
+                marks.second
+            } else {
+                marks.whole
+            };
             assert_first(&rt, &line, objects.vault.bytes(), all.vault.bytes(), kept);
         }
     }
@@ -169,6 +183,7 @@ fn where_a_read_fails_no_round_is_begun(rt: HostRuntime) -> Result<(), Fail> {
 // A load of two epochs, with its summary, which is written at the end alone. Its vault has 659 bytes.
 const LOAD: &str = "\
 fastver gen --key 00000000000000000000000000000000 --seed 0 --ops 2 --verifiers 2 --shards 2 --every 1";
+
 const SUMMARY: &str = "\
 gen seed 0 ops 2
 epochs 2

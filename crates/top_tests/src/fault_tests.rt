@@ -1,9 +1,8 @@
 //! Objects that fail, one call after the other, and sinks that are too small: what was written is a front of the text.
 use crate::running::{bytes_of, run_between};
 use bundle_rows::{Case, cases_of};
-use fastver_top::{Status, audit_text};
+use fastver_top::Status;
 use fv_outside::{MemorySink, MemorySource};
-use record_hash::ToyDigests;
 use std::alloc::Global;
 use std::process::Abort;
 use std::sync::Wait;
@@ -95,7 +94,12 @@ fn assert_writes<R: Threads + Wait + Sync + Abort>(
         let status = run_between(rt, alloc, case.label, &mut source, &mut out)?;
         assert_eq!(rt; status, Status::WriteFault, "{} {k}", case.label);
         assert_eq!(rt; out.faults(), 1, "{} {k}", case.label);
-        assert_eq!(rt; out.bytes(), &case.report.as_bytes()[..k], "{} {k}", case.label);
+        assert_eq!(rt;
+            out.bytes(),
+            &case.report.as_bytes()[..k],
+            "{} {k}",
+            case.label
+        );
     }
     Ok(())
 }
@@ -112,7 +116,12 @@ fn assert_small_sinks<R: Threads + Wait + Sync + Abort>(
         let mut out = MemorySink::new(alloc, room, 7, &[])?;
         let status = run_between(rt, alloc, case.label, &mut source, &mut out)?;
         assert_eq!(rt; status, Status::WriteFault, "{} {room}", case.label);
-        assert_eq!(rt; out.bytes(), &case.report.as_bytes()[..room], "{} {room}", case.label);
+        assert_eq!(rt;
+            out.bytes(),
+            &case.report.as_bytes()[..room],
+            "{} {room}",
+            case.label
+        );
     }
     let mut source = MemorySource::new(alloc, bytes, 1000, &[])?;
     let mut out = MemorySink::new(alloc, case.report.len(), 7, &[])?;
@@ -131,49 +140,6 @@ fn a_front_of_each_answer_stands(rt: HostRuntime) -> Result<(), Fail> {
         assert_reads(&rt, rt.alloc(), case, &bytes)?;
         assert_writes(&rt, rt.alloc(), case, &bytes)?;
         assert_small_sinks(&rt, rt.alloc(), case, &bytes)?;
-    }
-    Ok(())
-}
-
-// Audits under digests that collide at will, with what they show.
-const SHOWN: &str = "\
-== two strings
-addM 5 none root
-put 5 6162
-evictM 5 root
-addM 5 6261 root
-get 5 6261
-next
-next
--> 13
-strings 01026162 01026261
-done 1
-== two multisets
-addM 5 none root
-put 5 6162
-evictBM 5 root 0.1
-addB 5 6261 0.1 v0
-get 5 6261
-next
-next
--> 13
-multisets 0
-added 4000000000000000050102626100000000000000010000
-evicted 4000000000000000050102616200000000000000010000
-done 1
-";
-
-#[test]
-fn a_front_of_what_an_audit_shows_stands(rt: HostRuntime) -> Result<(), Fail> {
-    for case in &cases_of(rt.alloc(), SHOWN)? {
-        let bytes = bytes_of(&rt, rt.alloc(), case);
-        for k in 0..case.report.len() {
-            let mut source = MemorySource::new(rt.alloc(), &bytes, 1000, &[])?;
-            let mut out = MemorySink::new(rt.alloc(), 1000, 1, &[k as u64])?;
-            let status = audit_text(rt.alloc(), &ToyDigests, 1 << 20, &mut source, &mut out);
-            assert_eq!(rt; status, Status::WriteFault, "{} {k}", case.label);
-            assert_eq!(rt; out.bytes(), &case.report.as_bytes()[..k], "{} {k}", case.label);
-        }
     }
     Ok(())
 }

@@ -4,6 +4,7 @@ use std::test::Fail;
 
 // How many bytes a bundle's header has, and the head of a frame.
 const HEADER_BYTES: usize = 18;
+
 const HEAD_BYTES: usize = 6;
 
 // A frame: whose it is, and its bytes of that verifier's log.

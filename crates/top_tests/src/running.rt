@@ -53,9 +53,7 @@ pub(crate) fn run_between<R: Threads + Wait + Sync>(
     }
     words.extend_from_slice(&["--key", KEY])?;
     let mut vault = MemoryVault::new(alloc, 100, 1, &[])?;
-    Ok(fastver(
-        rt, alloc, &words, source, out, &mut vault, &FreeGate,
-    ))
+    Ok(fastver(rt, alloc, &words, source, out, &mut vault, &FreeGate))
 }
 
 /// What a command of the program writes of these bytes, and its status, where reads and writes go by so many bytes.
