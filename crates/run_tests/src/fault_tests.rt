@@ -1,5 +1,6 @@
 //! Objects that fail, one call after the other, such that are too small, and objects that never fail.
 use crate::serving::{Objects, REPORT, SCRIPT, assert_front, checked, line_of, program, served};
+use crate::sure_objects::run_surely;
 use fastver_top::{Status, fastver};
 use fv_outside::{
     FreeGate, MemorySink, MemorySource, MemoryVault, SureSink, SureSource, SureVault,
@@ -174,15 +175,7 @@ fn objects_that_never_fail(rt: HostRuntime) -> Result<(), Fail> {
     let mut source = SureSource::new(rt.alloc(), SCRIPT.as_bytes(), 3)?;
     let mut out = SureSink::new(rt.alloc(), 1000, 3)?;
     let mut vault = SureVault::new(rt.alloc(), 10_000, 3)?;
-    let status = fastver(
-        &rt,
-        rt.alloc(),
-        &words,
-        &mut source,
-        &mut out,
-        &mut vault,
-        &FreeGate,
-    );
+    let status = run_surely(&rt, rt.alloc(), &words, &mut source, &mut out, &mut vault);
     assert_eq!(rt; status, Status::Done { epochs: 1 });
     assert_eq!(rt; out.bytes(), Some(REPORT.as_bytes()));
     assert!(rt; vault.is_named());
