@@ -1,7 +1,9 @@
-//! Objects that fail, one call after the other, and objects that never do.
+//! Objects that fail, one call after the other, sinks that are too small, and objects that never fail.
 use crate::asking::{ACCEPT, REPORT, RUN, SCRIPT, ask, text_of};
 use fastver_top::{Status, fastver};
-use fv_outside::{FreeGate, SureSink, SureSource, SureVault};
+use fv_outside::{
+    FreeGate, MemorySink, MemorySource, MemoryVault, SureSink, SureSource, SureVault,
+};
 use std::test::Fail;
 
 // What is written where the receipt of the put is accepted.
@@ -46,14 +48,39 @@ fn where_a_write_fails_a_front_of_the_report_stands(rt: HostRuntime) -> Result<(
     Ok(())
 }
 
+const WORDS: [&str; 4] = [
+    "fastver",
+    "accept",
+    "--key",
+    "00000000000000000000000000000000",
+];
+
+#[test]
+fn a_sink_that_is_too_small_is_filled(rt: HostRuntime) -> Result<(), Fail> {
+    let text = text_of(rt.alloc(), "P/C/")?;
+    for room in 0..ACCEPTED.len() {
+        let mut source = MemorySource::new(rt.alloc(), &text, 1000, &[])?;
+        let mut out = MemorySink::new(rt.alloc(), room, 7, &[])?;
+        // Each call of the vault would fail, but there is none.
+        let mut vault = MemoryVault::new(rt.alloc(), 0, 7, &[])?;
+        let status = fastver(
+            &rt,
+            rt.alloc(),
+            &WORDS,
+            &mut source,
+            &mut out,
+            &mut vault,
+            &FreeGate,
+        );
+        assert_eq!(rt; status, Status::WriteFault, "{room}");
+        assert_eq!(rt; out.bytes(), &ACCEPTED.as_bytes()[..room], "{room}");
+        assert_eq!(rt; vault.faults(), 0, "{room}");
+    }
+    Ok(())
+}
+
 #[test]
 fn objects_that_never_fail(rt: HostRuntime) -> Result<(), Fail> {
-    let words = [
-        "fastver",
-        "accept",
-        "--key",
-        "00000000000000000000000000000000",
-    ];
     let text = text_of(rt.alloc(), "P/C/")?;
     let mut source = SureSource::new(rt.alloc(), &text, 7)?;
     let mut out = SureSink::new(rt.alloc(), 1000, 7)?;
@@ -61,7 +88,7 @@ fn objects_that_never_fail(rt: HostRuntime) -> Result<(), Fail> {
     let status = fastver(
         &rt,
         rt.alloc(),
-        &words,
+        &WORDS,
         &mut source,
         &mut out,
         &mut vault,

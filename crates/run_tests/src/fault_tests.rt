@@ -1,7 +1,10 @@
-//! Objects that fail, one call after the other, and objects that never do.
+//! Objects that fail, one call after the other, such that are too small, and objects that never fail.
 use crate::serving::{Objects, REPORT, SCRIPT, assert_front, checked, line_of, program, served};
+use crate::sure_objects::run_surely;
 use fastver_top::{Status, fastver};
-use fv_outside::{FreeGate, SureSink, SureSource, SureVault};
+use fv_outside::{
+    FreeGate, MemorySink, MemorySource, MemoryVault, SureSink, SureSource, SureVault,
+};
 use std::alloc::Global;
 use std::sync::Wait;
 use std::test::Fail;
@@ -98,6 +101,63 @@ fn a_vault_that_can_not_be_named_takes_nothing(rt: HostRuntime) -> Result<(), Fa
     Ok(())
 }
 
+// Words and a script, with a sink and a vault that have room for so many bytes and take seven of them a write.
+fn cramped<R: Threads + Wait + Sync>(
+    rt: &R,
+    alloc: Global,
+    line: &str,
+    rooms: (usize, usize),
+) -> Result<(MemorySink, MemoryVault, Status), Fail> {
+    let mut words = Vec::new(alloc);
+    for word in line.split_whitespace() {
+        words.push(word)?;
+    }
+    let mut source = MemorySource::new(alloc, SCRIPT.as_bytes(), 7, &[])?;
+    let mut out = MemorySink::new(alloc, rooms.0, 7, &[])?;
+    let mut vault = MemoryVault::new(alloc, rooms.1, 7, &[])?;
+    let status = fastver(
+        rt,
+        alloc,
+        &words,
+        &mut source,
+        &mut out,
+        &mut vault,
+        &FreeGate,
+    );
+    Ok((out, vault, status))
+}
+
+#[test]
+fn objects_that_are_too_small_are_filled(rt: HostRuntime) -> Result<(), Fail> {
+    let line = line_of(rt.alloc(), "2")?;
+    let (whole, status) = served(&rt, rt.alloc(), &line, SCRIPT, 1)?;
+    assert_eq!(rt; status, Status::Done { epochs: 1 });
+    assert_eq!(rt; whole.vault.bytes().len(), 479);
+    for room in 0..REPORT.len() {
+        let (out, vault, status) = cramped(&rt, rt.alloc(), &line, (room, 479))?;
+        assert_eq!(rt; status, Status::WriteFault, "{room}");
+        assert_eq!(rt; out.bytes(), &REPORT.as_bytes()[..room], "{room}");
+        assert_eq!(rt; vault.bytes(), whole.vault.bytes(), "{room}");
+    }
+    for room in 0..479 {
+        let (out, vault, status) = cramped(&rt, rt.alloc(), &line, (REPORT.len(), room))?;
+        assert_eq!(rt; status, Status::VaultFault, "{room}");
+        assert!(rt; out.bytes().is_empty(), "{room}");
+        assert_eq!(rt; vault.bytes(), &whole.vault.bytes()[..room], "{room}");
+    }
+    let (out, _vault, status) = cramped(&rt, rt.alloc(), &line, (REPORT.len(), 479))?;
+    assert_eq!(rt; status, Status::Done { epochs: 1 });
+    assert_eq!(rt; out.bytes(), REPORT.as_bytes());
+    // A name that is too long is none.
+    let line = line_of(rt.alloc(), "2 --logs xy")?;
+    let (out, vault, status) = cramped(&rt, rt.alloc(), &line, (REPORT.len(), 1))?;
+    assert_eq!(rt; status, Status::VaultFault);
+    assert!(rt; out.bytes().is_empty());
+    assert!(rt; vault.bytes().is_empty());
+    assert!(rt; vault.name_taken().is_none());
+    Ok(())
+}
+
 #[test]
 fn objects_that_never_fail(rt: HostRuntime) -> Result<(), Fail> {
     let words = [
@@ -115,15 +175,7 @@ fn objects_that_never_fail(rt: HostRuntime) -> Result<(), Fail> {
     let mut source = SureSource::new(rt.alloc(), SCRIPT.as_bytes(), 3)?;
     let mut out = SureSink::new(rt.alloc(), 1000, 3)?;
     let mut vault = SureVault::new(rt.alloc(), 10_000, 3)?;
-    let status = fastver(
-        &rt,
-        rt.alloc(),
-        &words,
-        &mut source,
-        &mut out,
-        &mut vault,
-        &FreeGate,
-    );
+    let status = run_surely(&rt, rt.alloc(), &words, &mut source, &mut out, &mut vault);
     assert_eq!(rt; status, Status::Done { epochs: 1 });
     assert_eq!(rt; out.bytes(), Some(REPORT.as_bytes()));
     assert!(rt; vault.is_named());

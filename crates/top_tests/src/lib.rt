@@ -3,11 +3,12 @@
 //!
 //! Bundles are rows, which `bundle_rows` reads, in tables of cases with their reports. What each must come to was
 //! worked out by hand, or found by the slow program. `lying_log_tests.rt` has one log for each way in which a host
-//! may lie to a verifier, `bundle_tests.rt` and `tree_tests.rt` have other bundles; these are checked, and what isn't
+//! may lie to a verifier, in frames that are cut at each byte, and pairs of logs whose frames come in any order, by
+//! `framed.rt`; `bundle_tests.rt` and `tree_tests.rt` have other bundles; these are checked, and what isn't
 //! done is audited too. Under digests that collide at will `audit_tests.rt` has audits, `exhibit_tests.rt` what is
 //! exhibited of a log, and `collision_tests.rt` checks that certify what is not serial. In `object_tests.rt` bundles
-//! are cut, reads and writes fail one by one, and no more is read than the limit; `word_tests.rt` has the program's
-//! words. Begin with `running.rt`, which runs a bundle.
+//! are cut, and no more is read than the limit; in `fault_tests.rt` reads and writes fail one by one. `word_tests.rt`
+//! has the program's words. Begin with `running.rt`, which runs a bundle.
 #![tactic(auto)]
 
 #[cfg(test)]
@@ -18,6 +19,10 @@ mod bundle_tests;
 mod collision_tests;
 #[cfg(test)]
 mod exhibit_tests;
+#[cfg(test)]
+mod fault_tests;
+#[cfg(test)]
+mod framed;
 #[cfg(test)]
 mod lying_log_tests;
 #[cfg(test)]

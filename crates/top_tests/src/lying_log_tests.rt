@@ -1,5 +1,6 @@
-//! Logs by which a host lies to a verifier: the report of a check, and the status.
-use crate::running::assert_case;
+//! Logs by which a host lies to a verifier: the report of a check, and the status, however the logs come in frames.
+use crate::framed::Framed;
+use crate::running::{assert_bundle, assert_case, bytes_of};
 use bundle_rows::cases_of;
 use std::test::Fail;
 
@@ -137,6 +138,129 @@ fn lying_logs_are_told(rt: HostRuntime) -> Result<(), Fail> {
     assert_eq!(rt; cases.len(), 22);
     for case in &cases {
         assert_case(&rt, rt.alloc(), case)?;
+    }
+    Ok(())
+}
+
+#[test]
+fn lying_logs_are_told_however_they_are_cut(rt: HostRuntime) -> Result<(), Fail> {
+    for case in &cases_of(rt.alloc(), LYING_LOGS)? {
+        let bytes = bytes_of(&rt, rt.alloc(), case);
+        let framed = Framed::of(rt.alloc(), &bytes)?;
+        for at in 1..framed.longest() {
+            let cut = framed.cut_at(rt.alloc(), at)?;
+            assert_bundle(&rt, rt.alloc(), case, &cut)?;
+        }
+        let cut = framed.cut_in(rt.alloc(), framed.longest())?;
+        assert_bundle(&rt, rt.alloc(), case, &cut)?;
+    }
+    Ok(())
+}
+
+// Logs of two verifiers, of which one lies or both do. Each can be cut in four pieces. The slow program has the same reports.
+const TWO_LOGS: &str = "\
+== the root is in the cache of verifier 0 alone
+verifiers 2
+addM 5 none root
+put 5 61
+next
+next
+log 1
+addM 5 initial root
+-> 8
+refused v1 command 0 ParentNotCached
+== both get what is not there
+verifiers 2
+get 5 none
+log 1
+get 5 none
+-> 8
+refused v0 command 0 NotCached
+== the lower one is named though it is refused later
+verifiers 2
+addM 5 none root
+put 5 61
+get 5 62
+log 1
+get 5 none
+-> 8
+refused v0 command 2 WrongValue
+== the lower one is named though it is refused at its end alone
+verifiers 2
+addM 5 none root
+bytes 07
+log 1
+get 5 none
+-> 8
+refused v0 command 1 Truncated
+== one element is added by both
+verifiers 2
+addM 5 none root
+put 5 6162
+evictBM 5 root 0.1
+addB 5 6162 0.1 v0
+get 5 6162
+next
+next
+log 1
+addB 5 6162 0.1 v0
+put 5 6163
+next
+next
+-> 9
+epoch 0 unbalanced added 2 evicted 1
+== verifier 1 adds another value than verifier 0 evicted
+verifiers 2
+addM 5 none root
+put 5 6162
+evictBM 5 root 0.1
+next
+next
+log 1
+addB 5 6261 0.1 v0
+get 5 6261
+next
+next
+-> 9
+epoch 0 unbalanced added 1 evicted 1
+== an unbalanced epoch goes before a refusal behind it
+verifiers 2
+addM 5 none root
+evictBM 5 root 0.1
+next
+next
+log 1
+next
+next
+get 5 none
+-> 9
+epoch 0 unbalanced added 0 evicted 1
+== where the refused verifier has not sealed the epoch, its refusal is told
+verifiers 2
+addM 5 none root
+evictBM 5 root 0.1
+next
+next
+log 1
+next
+get 5 none
+-> 8
+refused v1 command 1 NotCached
+";
+
+#[test]
+fn two_logs_are_told_in_whatever_order_their_frames_come(rt: HostRuntime) -> Result<(), Fail> {
+    let cases = cases_of(rt.alloc(), TWO_LOGS)?;
+    assert_eq!(rt; cases.len(), 8);
+    for case in &cases {
+        let bytes = bytes_of(&rt, rt.alloc(), case);
+        let pieces = Framed::of(rt.alloc(), &bytes)?.cut_in(rt.alloc(), 4)?;
+        let bundles = Framed::of(rt.alloc(), &pieces)?.in_any_order(rt.alloc())?;
+        // Four pieces out of eight are those of verifier 0.
+        assert_eq!(rt; bundles.len(), 70, "{}", case.label);
+        for bundle in &bundles {
+            assert_bundle(&rt, rt.alloc(), case, bundle)?;
+        }
     }
     Ok(())
 }

@@ -1,4 +1,4 @@
-//! Bundles that are cut, objects that fail, and a limit on what is read.
+//! Bundles that are cut, what stands where reading stops before its end, and a limit on what is read.
 use crate::running::{PUT_AND_GET, REPORT, run, run_between};
 use bundle_rows::bundle_of;
 use check_core::{Status, check};
@@ -68,26 +68,6 @@ fn bundles_are_cut_at_each_length(rt: HostRuntime) -> Result<(), Fail> {
     Ok(())
 }
 
-#[test]
-fn objects_that_fail_leave_a_front(rt: HostRuntime) -> Result<(), Fail> {
-    let bytes = bundle_of(rt.alloc(), PUT_AND_GET)?;
-    for k in 0..bytes.len() as u64 {
-        let mut source = MemorySource::new(rt.alloc(), &bytes, 1, &[k])?;
-        let mut out = MemorySink::new(rt.alloc(), 1000, 1, &[])?;
-        let status = run_between(&rt, rt.alloc(), "check", &mut source, &mut out)?;
-        assert_eq!(rt; status.number(), 3, "{k}");
-        assert!(rt; out.bytes().is_empty(), "{k}");
-    }
-    for k in 0..REPORT.len() {
-        let mut source = MemorySource::new(rt.alloc(), &bytes, 1, &[])?;
-        let mut out = MemorySink::new(rt.alloc(), 1000, 1, &[k as u64])?;
-        let status = run_between(&rt, rt.alloc(), "check", &mut source, &mut out)?;
-        assert_eq!(rt; status.number(), 4, "{k}");
-        assert_eq!(rt; out.bytes(), &REPORT.as_bytes()[..k], "{k}");
-    }
-    Ok(())
-}
-
 // The lines of the certified epoch of a put and a get.
 const LINES: &str = "epoch 0 certified 2\n0.0 v0 put 5 6162\n0.0 v0 get 5 6162\n";
 
@@ -102,16 +82,26 @@ fn with_more_frames(alloc: Global, count: usize) -> Result<Vec<u8>, Fail> {
 
 #[test]
 fn what_was_read_is_certified_before_a_fault(rt: HostRuntime) -> Result<(), Fail> {
-    // The read behind the last byte fails.
-    let bytes = bundle_of(rt.alloc(), PUT_AND_GET)?;
-    assert_eq!(rt; bytes.len(), 116);
-    let mut source = MemorySource::new(rt.alloc(), &bytes, 1, &[116])?;
-    let mut out = MemorySink::new(rt.alloc(), 1000, 1, &[])?;
-    let status = run_between(&rt, rt.alloc(), "check", &mut source, &mut out)?;
-    assert_eq!(rt; out.bytes(), LINES.as_bytes());
-    assert_eq!(rt; status, Status::ReadFault);
+    // Each of the three frames more has 7 bytes. The last of the reads that fail is the one behind the last byte.
+    let bytes = with_more_frames(rt.alloc(), 3)?;
+    assert_eq!(rt; bytes.len(), 137);
+    let mut certified = String::new(rt.alloc());
+    for k in 0..138 {
+        match k {
+            116 => certified.push_str(LINES)?,
+            123 => certified.push_str("epoch 1 certified 0\n")?,
+            130 => certified.push_str("epoch 2 certified 0\n")?,
+            137 => certified.push_str("epoch 3 certified 0\n")?,
+            _ => {}
+        }
+        let mut source = MemorySource::new(rt.alloc(), &bytes, 1, &[k])?;
+        let mut out = MemorySink::new(rt.alloc(), 1000, 1, &[])?;
+        let status = run_between(&rt, rt.alloc(), "check", &mut source, &mut out)?;
+        assert_eq!(rt; out.bytes(), certified.as_bytes(), "{k}");
+        assert_eq!(rt; status, Status::ReadFault, "{k}");
+    }
     // An audit writes nothing before all is read.
-    let mut source = MemorySource::new(rt.alloc(), &bytes, 1, &[116])?;
+    let mut source = MemorySource::new(rt.alloc(), &bytes, 1, &[137])?;
     let mut out = MemorySink::new(rt.alloc(), 1000, 1, &[])?;
     let status = run_between(&rt, rt.alloc(), "audit", &mut source, &mut out)?;
     assert!(rt; out.bytes().is_empty());

@@ -38,7 +38,7 @@ pub(crate) fn bytes_of<R: Abort>(rt: &R, alloc: Global, case: &Case<'_>) -> Vec<
     }
 }
 
-/// Runs a command of the program between a source and a sink, and answers its status.
+/// Runs a command of the program, its words, between a source and a sink, and answers its status.
 pub(crate) fn run_between<R: Threads + Wait + Sync>(
     rt: &R,
     alloc: Global,
@@ -46,7 +46,12 @@ pub(crate) fn run_between<R: Threads + Wait + Sync>(
     source: &mut MemorySource,
     out: &mut MemorySink,
 ) -> Result<Status, Fail> {
-    let words = ["fastver", command, "--key", KEY];
+    let mut words = Vec::new(alloc);
+    words.push("fastver")?;
+    for word in command.split_whitespace() {
+        words.push(word)?;
+    }
+    words.extend_from_slice(&["--key", KEY])?;
     let mut vault = MemoryVault::new(alloc, 100, 1, &[])?;
     Ok(fastver(rt, alloc, &words, source, out, &mut vault, &FreeGate))
 }
@@ -72,16 +77,26 @@ pub(crate) fn assert_case<R: Threads + Wait + Sync + Abort>(
     alloc: Global,
     case: &Case<'_>,
 ) -> Result<(), Fail> {
-    let label = case.label;
     let bytes = bytes_of(rt, alloc, case);
+    assert_bundle(rt, alloc, case, &bytes)
+}
+
+/// The same of other bytes than those of the case.
+pub(crate) fn assert_bundle<R: Threads + Wait + Sync + Abort>(
+    rt: &R,
+    alloc: Global,
+    case: &Case<'_>,
+    bytes: &[u8],
+) -> Result<(), Fail> {
+    let label = case.label;
     for piece in [1, 100_000] {
-        let (out, status) = run(rt, alloc, "check", &bytes, piece)?;
+        let (out, status) = run(rt, alloc, "check", bytes, piece)?;
         assert_eq!(rt; out.bytes(), case.report.as_bytes(), "{label}");
         assert_eq!(rt; status.number(), case.status, "{label}");
     }
     if case.status != 0 {
         let shown = format!(in alloc; "clean 0\n{}", case.report)?;
-        let (out, status) = run(rt, alloc, "audit", &bytes, 1000)?;
+        let (out, status) = run(rt, alloc, "audit", bytes, 1000)?;
         assert_eq!(rt; out.bytes(), shown.as_bytes(), "{label}");
         assert_eq!(rt; status.number(), case.status, "{label}");
     }

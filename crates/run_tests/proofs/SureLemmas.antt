@@ -1,0 +1,73 @@
+-- Where no count of faults can rise, the program comes to no fault, whatever it is asked.
+use Rattle.std.proofs.Common.{◌≡◌, ℕ, ◌<◌, ◌⊎◌, List, Option, None, Some, refl, sym, subst, ⊎_elim, arith}
+use Rattle.std.specs.Prelude.{◌≢◌, ◌^◌, ◌-◌}
+use Rattle.fv_outside.specs.Faults.{Rose}
+use Rattle.program_words.specs.declared.words.Asked.{Asked}
+use Rattle.program_words.specs.declared.words.Asked.TheVariants.{Check, Audit, Run, Gen, Accept}
+use Rattle.report_text.specs.declared.status.Status.{Status}
+use Rattle.report_text.specs.declared.status.Status.TheVariants as statuses
+use Rattle.report_text.specs.Answer.{Reading, Writing}
+use Rattle.fastver_top.specs.Running.{Keeping}
+use Rattle.fastver_top.specs.Answers.{AnswersFor, IsStatusOf}
+
+-- a count that stays 0 didn't rise
+still : (before now : ℕ) → before ≡ 0 → now ≡ 0 → Rose before now → ⊥
+still before now was is = ⊎_elim (λ (more : before < now). omega (arith, more, was, is)) (λ (last : now ≡ 2 ^ 64 - 1). omega (arith, last, is))
+
+-- a read fault comes only where the source's count rose
+read : (asked : Asked) (most : ℕ) (reading : Reading) (writing : Writing) (keeping : Keeping)
+    → IsStatusOf asked statuses.ReadFault → AnswersFor asked most statuses.ReadFault reading writing keeping → Rose reading.faults reading.faults_after
+read (Check check) most reading writing keeping of answers = answers.read_fault refl
+read (Audit key) most reading writing keeping of answers = answers.read_fault refl
+read (Run run) most reading writing keeping of answers = answers.read_fault refl
+read (Gen load) most reading writing keeping of answers = absurd of
+read (Accept key) most reading writing keeping of answers = answers.read_fault refl
+
+-- a write fault only where the sink's did
+write : (asked : Asked) (most : ℕ) (reading : Reading) (writing : Writing) (keeping : Keeping)
+    → AnswersFor asked most statuses.WriteFault reading writing keeping → Rose writing.faults writing.faults_after
+write (Check check) most reading writing keeping answers = answers.write_fault refl
+write (Audit key) most reading writing keeping answers = answers.write_fault refl
+write (Run run) most reading writing keeping answers = answers.write_fault refl
+write (Gen load) most reading writing keeping answers = answers.write_fault refl
+write (Accept key) most reading writing keeping answers = answers.write_fault refl
+
+-- a vault fault only where the vault's did
+vault : (asked : Asked) (most : ℕ) (reading : Reading) (writing : Writing) (keeping : Keeping)
+    → IsStatusOf asked statuses.VaultFault → AnswersFor asked most statuses.VaultFault reading writing keeping → Rose keeping.faults keeping.faults_after
+vault (Check check) most reading writing keeping of answers = absurd of
+vault (Audit key) most reading writing keeping of answers = ⊎_elim (λ is. absurd is) (λ is. absurd (cc)) of
+vault (Run run) most reading writing keeping of answers = answers.vault_fault refl
+vault (Gen load) most reading writing keeping of answers = answers.vault_fault refl
+vault (Accept key) most reading writing keeping of answers = ⊎_elim (λ is. absurd is) (λ rest. ⊎_elim (λ is. absurd is) (λ is. absurd (cc)) rest) of
+
+module _ (o : Option Asked) (status : Status) (reading : Reading) (writing : Writing) (keeping : Keeping)
+    (nothing : o ≡ None → (status ≡ statuses.Usage) ⊎ (status ≡ statuses.Memory))
+    (of : (asked : Asked) → o ≡ Some asked → IsStatusOf asked status)
+    (answers : (asked : Asked) → o ≡ Some asked → AnswersFor asked (2 ^ 40) status reading writing keeping) where
+  of_fault : (asked : Asked) (fault : Status) → o ≡ Some asked → status ≡ fault → IsStatusOf asked fault
+  of_fault asked fault known is = subst (IsStatusOf asked) is (of asked known)
+
+  answers_fault : (asked : Asked) (fault : Status) → o ≡ Some asked → status ≡ fault → AnswersFor asked (2 ^ 40) fault reading writing keeping
+  answers_fault asked fault known is = subst (λ (s : Status). AnswersFor asked (2 ^ 40) s reading writing keeping) is (answers asked known)
+
+  -- by what the words ask for, a source whose count stays 0 is not blamed
+  pub no_read_fault : (found : Option Asked) → o ≡ found → reading.faults ≡ 0 → reading.faults_after ≡ 0 → status ≡ statuses.ReadFault → ⊥
+  no_read_fault None known was now is = ⊎_elim (λ (usage : status ≡ statuses.Usage). absurd (cc)) (λ (memory : status ≡ statuses.Memory). absurd (cc)) (nothing known)
+  no_read_fault (Some asked) known was now is =
+      still reading.faults reading.faults_after was now
+      (read asked (2 ^ 40) reading writing keeping (of_fault asked statuses.ReadFault known is) (answers_fault asked statuses.ReadFault known is))
+
+  -- nor is a sink
+  pub no_write_fault : (found : Option Asked) → o ≡ found → writing.faults ≡ 0 → writing.faults_after ≡ 0 → status ≡ statuses.WriteFault → ⊥
+  no_write_fault None known was now is = ⊎_elim (λ (usage : status ≡ statuses.Usage). absurd (cc)) (λ (memory : status ≡ statuses.Memory). absurd (cc)) (nothing known)
+  no_write_fault (Some asked) known was now is =
+      still writing.faults writing.faults_after was now
+      (write asked (2 ^ 40) reading writing keeping (answers_fault asked statuses.WriteFault known is))
+
+  -- nor a vault
+  pub no_vault_fault : (found : Option Asked) → o ≡ found → keeping.faults ≡ 0 → keeping.faults_after ≡ 0 → status ≡ statuses.VaultFault → ⊥
+  no_vault_fault None known was now is = ⊎_elim (λ (usage : status ≡ statuses.Usage). absurd (cc)) (λ (memory : status ≡ statuses.Memory). absurd (cc)) (nothing known)
+  no_vault_fault (Some asked) known was now is =
+      still keeping.faults keeping.faults_after was now
+      (vault asked (2 ^ 40) reading writing keeping (of_fault asked statuses.VaultFault known is) (answers_fault asked statuses.VaultFault known is))

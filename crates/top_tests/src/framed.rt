@@ -1,0 +1,122 @@
+//! Bundles taken apart into frames, which are then cut, or come in another order.
+use std::alloc::Global;
+use std::test::Fail;
+
+// How many bytes a bundle's header has, and the head of a frame.
+const HEADER_BYTES: usize = 18;
+
+const HEAD_BYTES: usize = 6;
+
+// A frame: whose it is, and its bytes of that verifier's log.
+#[derive(Clone, Copy)]
+struct Frame<'a> {
+    verifier: u8,
+    body: &'a [u8],
+}
+
+/// A bundle of which each frame has fewer than 256 bytes: its header, and its frames.
+#[derive(Drop)]
+pub(crate) struct Framed<'a> {
+    header: &'a [u8],
+    frames: Vec<Frame<'a>>,
+}
+
+impl<'a> Framed<'a> {
+    /// The parts of a bundle.
+    pub(crate) fn of(alloc: Global, bundle: &'a [u8]) -> Result<Framed<'a>, Fail> {
+        let (header, behind) = bundle.split_at(HEADER_BYTES.min(bundle.len()));
+        let mut frames = Vec::new(alloc);
+        let mut rest = behind;
+        while rest.len() > HEAD_BYTES {
+            let (head, behind) = rest.split_at(HEAD_BYTES);
+            let length = usize::from(head[5]).min(behind.len());
+            let (body, more) = behind.split_at(length);
+            frames.push(Frame {
+                verifier: head[1],
+                body,
+            })?;
+            rest = more;
+        }
+        Ok(Framed { header, frames })
+    }
+
+    /// How many bytes of a log the longest frame has.
+    pub(crate) fn longest(&self) -> usize {
+        self.frames
+            .iter()
+            .map(|frame| frame.body.len())
+            .max()
+            .unwrap_or(0)
+    }
+
+    /// The bundle where each frame is cut in two behind so many bytes, if it has more.
+    pub(crate) fn cut_at(&self, alloc: Global, at: usize) -> Result<Vec<u8>, Fail> {
+        let mut bundle = Vec::from_slice(alloc, self.header)?;
+        for frame in &self.frames {
+            let (front, rest) = frame.body.split_at(at.min(frame.body.len()));
+            push_frame(&mut bundle, frame.verifier, front)?;
+            push_frame(&mut bundle, frame.verifier, rest)?;
+        }
+        Ok(bundle)
+    }
+
+    /// The bundle where each frame is cut in pieces, all of so many parts of its length but the last.
+    pub(crate) fn cut_in(&self, alloc: Global, parts: usize) -> Result<Vec<u8>, Fail> {
+        let mut bundle = Vec::from_slice(alloc, self.header)?;
+        for frame in &self.frames {
+            push_pieces(&mut bundle, frame, parts)?;
+        }
+        Ok(bundle)
+    }
+
+    /// The bundles of these frames where those of the verifiers 0 and 1 come in any order, but those of each as they do here.
+    /// There are at most eight frames.
+    pub(crate) fn in_any_order(&self, alloc: Global) -> Result<Vec<Vec<u8>>, Fail> {
+        let mut bundles = Vec::new(alloc);
+        for choice in 0..1 << 8 {
+            if let Some(bundle) = self.in_order(alloc, choice)? {
+                bundles.push(bundle)?;
+            }
+        }
+        Ok(bundles)
+    }
+
+    // The bundle where a number's bits say, the lowest first, whose frame comes next, if no bit and no frame is left then.
+    fn in_order(&self, alloc: Global, choice: u32) -> Result<Option<Vec<u8>>, Fail> {
+        let mut bundle = Vec::from_slice(alloc, self.header)?;
+        let mut first = self.frames.iter().filter(|frame| frame.verifier == 0);
+        let mut second = self.frames.iter().filter(|frame| frame.verifier == 1);
+        let mut choice = choice;
+        for _ in 0..self.frames.len() {
+            let next = if choice % 2 == 0 {
+                first.next()
+            } else {
+                second.next()
+            };
+            let Some(frame) = next else {
+                return Ok(None);
+            };
+            push_frame(&mut bundle, frame.verifier, frame.body)?;
+            choice /= 2;
+        }
+        Ok(if choice == 0 { Some(bundle) } else { None })
+    }
+}
+
+// Appends the pieces of a frame.
+fn push_pieces(bundle: &mut Vec<u8>, frame: &Frame<'_>, parts: usize) -> Result<(), Fail> {
+    let size = frame.body.len().div_ceil(parts.max(1)).max(1);
+    for piece in frame.body.chunks(size) {
+        push_frame(bundle, frame.verifier, piece)?;
+    }
+    Ok(())
+}
+
+// Appends a frame of these bytes, if there are any.
+fn push_frame(bundle: &mut Vec<u8>, verifier: u8, body: &[u8]) -> Result<(), Fail> {
+    if !body.is_empty() {
+        bundle.extend_from_slice(&[0, verifier, 0, 0, 0, u8::try_from(body.len())?])?;
+        bundle.extend_from_slice(body)?;
+    }
+    Ok(())
+}
