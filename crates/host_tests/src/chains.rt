@@ -4,58 +4,54 @@ use host_shard::{Content, HotRecord, last_value};
 use lamport_clocks::Stamp;
 use record_hash::ToyDigests;
 use record_text::{Blob, Element, Value};
-use std::test::Fail;
 use tree_keys::Path;
 
 #[test]
-fn a_new_shard_leads_to_the_key_at_once(rt: HostRuntime) -> Result<(), Fail> {
+fn a_new_shard_leads_to_the_key_at_once(rt: HostRuntime) {
     let host = Host::new(rt.alloc(), 0, 2);
-    let links = host.links_to(rt.alloc(), 5)?;
+    let links = host.links_to(&rt, rt.alloc(), 5);
     assert_eq!(rt; links.len(), 1);
     assert_eq!(rt; links[0].path, Path::of_key(5));
-    let start = Value::Blob(Blob::of_bytes(&[1]).ok_or("no value")?);
+    let start = Value::Blob(Blob::of_bytes(&[1]).expect(&rt, "no value"));
     let none = Value::Blob(Blob::none());
     assert_eq!(rt; last_value(&start, links.as_slice()), &none);
     assert_eq!(rt; last_value(&start, &[]), &start);
-    Ok(())
 }
 
 #[test]
-fn a_key_beside_another_takes_a_fork(rt: HostRuntime) -> Result<(), Fail> {
+fn a_key_beside_another_takes_a_fork(rt: HostRuntime) {
     let mut host = Host::new(rt.alloc(), 0, 2);
-    let request = request_of(rt.alloc(), "put 5 6162")?;
-    host.serve(rt.alloc(), &ToyDigests, &request)?;
-    let links = host.links_to(rt.alloc(), 7)?;
+    let request = request_of(&rt, rt.alloc(), "put 5 6162");
+    host.serve(&rt, rt.alloc(), &ToyDigests, &request);
+    let links = host.links_to(&rt, rt.alloc(), 7);
     assert_eq!(rt; links.len(), 2);
     assert_eq!(rt; links[0].path, Path::of_key(5).front(62));
     assert!(rt; links[0].value != links[0].taken);
     assert_eq!(rt; links[1].path, Path::of_key(7));
-    Ok(())
 }
 
 // Keys that part from 0 at each bit behind the first make a node of each length from 2 to 63.
 #[test]
-fn the_longest_chain_has_a_link_for_each_bit(rt: HostRuntime) -> Result<(), Fail> {
+fn the_longest_chain_has_a_link_for_each_bit(rt: HostRuntime) {
     let mut host = Host::new(rt.alloc(), 0, 2);
-    let mut request = request_of(rt.alloc(), "put 0 61")?;
+    let mut request = request_of(&rt, rt.alloc(), "put 0 61");
     for bit in 0..63_u32 {
         request.key = 1 << bit;
-        host.serve(rt.alloc(), &ToyDigests, &request)?;
+        host.serve(&rt, rt.alloc(), &ToyDigests, &request);
     }
-    let links = host.links_to(rt.alloc(), 0)?;
+    let links = host.links_to(&rt, rt.alloc(), 0);
     assert_eq!(rt; links.len(), 63);
     for (index, link) in links.iter().enumerate() {
         assert_eq!(rt; link.path.len() as usize, index + 2);
         assert!(rt; Path::of_key(0).starts_with(&link.path));
     }
-    Ok(())
 }
 
 #[test]
-fn a_waiting_content_shows_its_element(rt: HostRuntime) -> Result<(), Fail> {
+fn a_waiting_content_shows_its_element(rt: HostRuntime) {
     let hot = Content::Hot(HotRecord {
         key: 5,
-        value: Blob::of_bytes(&[7]).ok_or("no value")?,
+        value: Blob::of_bytes(&[7]).expect(&rt, "no value"),
         stamp: Stamp {
             epoch: 1,
             counter: 2,
@@ -65,7 +61,7 @@ fn a_waiting_content_shows_its_element(rt: HostRuntime) -> Result<(), Fail> {
     });
     let wanted = Element {
         path: Path::of_key(5),
-        value: Value::Blob(Blob::of_bytes(&[7]).ok_or("no value")?),
+        value: Value::Blob(Blob::of_bytes(&[7]).expect(&rt, "no value")),
         stamp: Stamp {
             epoch: 1,
             counter: 2,
@@ -74,5 +70,4 @@ fn a_waiting_content_shows_its_element(rt: HostRuntime) -> Result<(), Fail> {
     };
     assert_eq!(rt; hot.pending(), Some(wanted));
     assert_eq!(rt; Content::Vacant.pending(), None);
-    Ok(())
 }

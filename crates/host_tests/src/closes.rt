@@ -1,5 +1,5 @@
 //! Closes with hot records, beside the rows that `tools/slow_plans.py` prints for the same script.
-ghost use Rattle.std.specs.Prelude.{◌≤◌, IsTrue, OnOk, length, map};
+ghost use Rattle.std.specs.Prelude.{◌≤◌, IsTrue, length, map};
 ghost use Rattle.std.specs.List.{AllByRecursion};
 ghost use Rattle.lamport_clocks.specs.Clock.{is_open};
 ghost use Rattle.record_text.specs.Format.{short_keys};
@@ -21,7 +21,7 @@ use protection_moves::{MoveFault, migrate};
 use record_hash::{Digests, ShaDigests, ToyDigests};
 use record_text::Request;
 use std::alloc::Global;
-use std::test::Fail;
+use std::process::Abort;
 use tree_keys::Path;
 use verifier_run::Run;
 
@@ -572,6 +572,7 @@ pub(crate) fn owns_all(shard: &Shard, places: &[Content]) -> bool
 // Moves a shard at a close for worker 0, and logs the commands. It answers whether the counters reached. For want of memory
 // it tries once more: all is as before.
 fn close<D: Digests>(
+    rt: &impl Abort,
     alloc: Global,
     d: &D,
     shard: &mut Shard,
@@ -580,28 +581,28 @@ fn close<D: Digests>(
     clock: &mut Clock,
     log: &mut Vec<u8>,
     tries: u8,
-) -> Result<bool, Fail>
+) -> bool
     requires fits { IsShard short_keys (shown shard.old) }
     requires places { length hot.old ≤ 4 }
     ensures fits { IsShard short_keys (shown shard.new) }
 {
     if threshold == 0 || !takes(clock, shard.stamp) {
-        return Err("not to be moved")?;
+        panic!(rt; "not to be moved");
     }
     if !takes_all(clock, hot) || !owns_all(shard, hot) {
-        return Err("hot records of others")?;
+        panic!(rt; "hot records of others");
     }
     match migrate(alloc, d, shard, hot, Some(threshold), 0, clock) {
         Ok(commands) => {
-            push_all(log, commands.as_slice())?;
-            Ok(true)
+            push_all(rt, log, commands.as_slice());
+            true
         }
-        Err(MoveFault::ClockEnd) => Ok(false),
+        Err(MoveFault::ClockEnd) => false,
         Err(MoveFault::Memory) => {
             if tries == 0 {
-                return Err("no memory")?;
+                panic!(rt; "no memory");
             }
-            close(alloc, d, shard, hot, threshold, clock, log, tries - 1)
+            close(rt, alloc, d, shard, hot, threshold, clock, log, tries - 1)
         }
     }
 }
@@ -610,185 +611,200 @@ impl Seats {
     // Moves the shard at a close.
     fn close<D: Digests>(
         &mut self,
+        rt: &impl Abort,
         alloc: Global,
         d: &D,
         threshold: u32,
         clock: &mut Clock,
         log: &mut Vec<u8>,
-    ) -> Result<bool, Fail>
+    ) -> bool
         requires fit { IsFit (shown_content self.old.cold) }
         ensures fit { IsFit (shown_content self.new.cold) }
     {
         match &mut self.cold {
-            Content::Cold(shard) => close(alloc, d, shard, &mut self.hot, threshold, clock, log, 1),
-            _ => Err("no shard")?,
+            Content::Cold(shard) => close(
+                rt,
+                alloc,
+                d,
+                shard,
+                &mut self.hot,
+                threshold,
+                clock,
+                log,
+                1,
+            ),
+            _ => panic!(rt; "no shard"),
         }
     }
 
     // Serves a request in the place of its key.
     fn serve<D: Digests>(
         &mut self,
+        rt: &impl Abort,
         alloc: Global,
         d: &D,
         request: &Request,
         clock: &mut Clock,
         log: &mut Vec<u8>,
-    ) -> Result<(), Fail>
+    )
         requires fit { IsFit (shown_content self.old.cold) }
-        ensures fit { OnOk result (IsFit (shown_content self.new.cold)) }
+        ensures fit { IsFit (shown_content self.new.cold) }
     {
         for index in 0..4 {
             if is_hot_at(&self.hot[index], request.key) {
-                serve(alloc, d, &mut self.hot[index], request, 0, clock, log)?;
-                return Ok(());
+                serve(rt, alloc, d, &mut self.hot[index], request, 0, clock, log);
+                return;
             }
         }
         if !owns(&self.cold, request.key) {
-            return Err("no place of this key")?;
+            panic!(rt; "no place of this key");
         }
-        serve(alloc, d, &mut self.cold, request, 0, clock, log)?;
-        Ok(())
+        serve(rt, alloc, d, &mut self.cold, request, 0, clock, log);
     }
 }
 
 // Serves the requests of these rows on two new shards and closes at each `epoch`, behind what is logged already.
 fn play<D: Digests>(
+    rt: &impl Abort,
     alloc: Global,
     d: &D,
     threshold: u32,
     script: &str,
     log: &mut Vec<u8>,
-) -> Result<(), Fail> {
+) {
     let mut low = fresh(alloc, false, 1);
     let mut high = fresh(alloc, true, 2);
     let mut clock = clock_at(2);
     for row in script.trim().lines() {
         if row == "epoch" {
             if clock.next_epoch().is_err() {
-                return Err("no next epoch")?;
+                panic!(rt; "no next epoch");
             }
-            push_all(log, &[Command::NextEpoch])?;
-            low.close(alloc, d, threshold, &mut clock, log)?;
-            high.close(alloc, d, threshold, &mut clock, log)?;
+            push_all(rt, log, &[Command::NextEpoch]);
+            low.close(rt, alloc, d, threshold, &mut clock, log);
+            high.close(rt, alloc, d, threshold, &mut clock, log);
         } else {
-            let request = request_of(alloc, row)?;
+            let request = request_of(rt, alloc, row);
             if request.key >> 63 == 0 {
-                low.serve(alloc, d, &request, &mut clock, log)?;
+                low.serve(rt, alloc, d, &request, &mut clock, log);
             } else {
-                high.serve(alloc, d, &request, &mut clock, log)?;
+                high.serve(rt, alloc, d, &request, &mut clock, log);
             }
         }
     }
-    Ok(())
 }
 
 #[test]
-fn closes_are_those_of_the_slow_program(rt: HostRuntime) -> Result<(), Fail> {
+fn closes_are_those_of_the_slow_program(rt: HostRuntime) {
     for (label, threshold, script, rows) in CASES {
         let mut log = Vec::new(rt.alloc());
-        play(rt.alloc(), &ToyDigests, threshold, script, &mut log)?;
+        play(&rt, rt.alloc(), &ToyDigests, threshold, script, &mut log);
         let wanted = match log_of(rt.alloc(), rows.trim()) {
             Ok(bytes) => bytes,
-            Err(_) => return Err("a row that is no command")?,
+            Err(_) => panic!(rt; "a row that is no command"),
         };
         assert_eq!(rt; log.as_slice(), wanted.as_slice(), "{label}");
     }
-    Ok(())
 }
 
 #[test]
-fn a_verifier_accepts_closes_with_hot_records(rt: HostRuntime) -> Result<(), Fail> {
+fn a_verifier_accepts_closes_with_hot_records(rt: HostRuntime) {
     let d = ShaDigests::new(&[7; 32]);
     let header = header();
     for (label, threshold, script, _) in CASES {
         let Ok((commands, _)) = setup(rt.alloc(), 2, &header) else {
-            return Err("no setup")?;
+            panic!(rt; "no setup");
         };
         let mut log = Vec::new(rt.alloc());
-        push_all(&mut log, commands.as_slice())?;
-        play(rt.alloc(), &d, threshold, script, &mut log)?;
+        push_all(&rt, &mut log, commands.as_slice());
+        play(&rt, rt.alloc(), &d, threshold, script, &mut log);
         let Ok(mut run) = Run::new(rt.alloc(), 0, &header) else {
-            return Err("no memory")?;
+            panic!(rt; "no memory");
         };
         if run.feed(&d, log.as_slice()).is_err() {
-            return Err("no memory")?;
+            panic!(rt; "no memory");
         }
         run.end();
         assert_eq!(rt; run.refused(), None, "{label}");
         let asked = script.trim().lines().filter(|row| *row != "epoch").count();
         assert_eq!(rt; run.ops().len(), asked, "{label}");
     }
-    Ok(())
 }
 
 // Counts so many touches more of a key that has a record.
-fn touch(shard: &mut Shard, key: u64, touches: u32) -> Result<(), Fail>
+fn touch(rt: &impl Abort, shard: &mut Shard, key: u64, touches: u32)
     requires fits { IsShard short_keys (shown shard.old) }
     ensures fits { IsShard short_keys (shown shard.new) }
 {
     if shard.records.get(&Path::of_key(key)).is_none() {
-        return Err("no record")?;
+        panic!(rt; "no record");
     }
     for _ in 0..touches {
         shard.touch(key);
     }
-    Ok(())
 }
 
 #[test]
-fn a_million_touches_make_a_key_hot(rt: HostRuntime) -> Result<(), Fail> {
+fn a_million_touches_make_a_key_hot(rt: HostRuntime) {
     let mut low = fresh(rt.alloc(), false, 1);
     let mut clock = clock_at(2);
     let mut log = Vec::new(rt.alloc());
-    let request = request_of(rt.alloc(), "get 5")?;
-    low.serve(rt.alloc(), &ToyDigests, &request, &mut clock, &mut log)?;
+    let request = request_of(&rt, rt.alloc(), "get 5");
+    low.serve(&rt, rt.alloc(), &ToyDigests, &request, &mut clock, &mut log);
     for (touches, becomes_hot) in [(999_998, false), (1_000_000, true)] {
         match &mut low.cold {
-            Content::Cold(shard) => touch(shard, 5, touches)?,
-            _ => return Err("no shard")?,
+            Content::Cold(shard) => touch(&rt, shard, 5, touches),
+            _ => panic!(rt; "no shard"),
         }
         if clock.next_epoch().is_err() {
-            return Err("no next epoch")?;
+            panic!(rt; "no next epoch");
         }
-        assert!(rt; low.close(rt.alloc(), &ToyDigests, 1_000_000, &mut clock, &mut log)?);
+        assert!(rt;
+            low.close(
+                &rt,
+                rt.alloc(),
+                &ToyDigests,
+                1_000_000,
+                &mut clock,
+                &mut log
+            )
+        );
         assert_eq!(rt; matches!(&low.hot[0], Content::Hot(_)), becomes_hot);
     }
-    Ok(())
 }
 
 // Two keys that were touched, in a shard that is to be moved with a clock whose counters end here.
-fn moved_by(alloc: Global, end: u32) -> Result<(bool, u32, Seats), Fail> {
+fn moved_by(rt: &impl Abort, alloc: Global, end: u32) -> (bool, u32, Seats) {
     let mut low = fresh(alloc, false, 1);
     let mut clock = clock_at(2);
     let mut log = Vec::new(alloc);
     for row in ["get 1", "get 2"] {
-        let request = request_of(alloc, row)?;
-        low.serve(alloc, &ToyDigests, &request, &mut clock, &mut log)?;
+        let request = request_of(rt, alloc, row);
+        low.serve(rt, alloc, &ToyDigests, &request, &mut clock, &mut log);
     }
     let logged = log.len();
     let mut later = Clock::new(0, end);
     if later.next_epoch().is_err() {
-        return Err("no next epoch")?;
+        panic!(rt; "no next epoch");
     }
-    let reached = low.close(alloc, &ToyDigests, 1, &mut later, &mut log)?;
+    let reached = low.close(rt, alloc, &ToyDigests, 1, &mut later, &mut log);
     if !reached && log.len() != logged {
-        return Err("a log of a move that was not made")?;
+        panic!(rt; "a log of a move that was not made");
     }
-    Ok((reached, later.at().counter, low))
+    (reached, later.at().counter, low)
 }
 
 #[test]
-fn the_counters_end_between_two_errands(rt: HostRuntime) -> Result<(), Fail> {
+fn the_counters_end_between_two_errands(rt: HostRuntime) {
     // the frontier is taken in, the keys are handed out, and the frontier is
     for (end, counter) in [(1, 0), (2, 0), (3, 0), (4, 4)] {
-        let (reached, at, low) = moved_by(rt.alloc(), end)?;
+        let (reached, at, low) = moved_by(&rt, rt.alloc(), end);
         assert_eq!(rt; (reached, at), (end == 4, counter));
         assert_eq!(rt; matches!(&low.hot[0], Content::Hot(_)), reached);
         let Some(element) = low.cold.pending() else {
-            return Err("no shard")?;
+            panic!(rt; "no shard");
         };
         let stamp = if reached { (1, 4) } else { (0, 6) };
         assert_eq!(rt; (element.stamp.epoch, element.stamp.counter), stamp);
     }
-    Ok(())
 }

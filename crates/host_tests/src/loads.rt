@@ -1,7 +1,6 @@
 //! Loads of a seed, as `tools/slow_load.py` prints them.
 use crate::rows::{field, phases_in_short, same};
 use script_text::{Shape, generate};
-use std::test::Fail;
 
 // The seed, then how many requests, workers, keys, and requests of an epoch; and the load, whose closes are slashes.
 const LOADS: &str = "
@@ -15,20 +14,24 @@ const LOADS: &str = "
 ";
 
 #[test]
-fn loads_are_made_as_the_slow_program_makes_them(rt: HostRuntime) -> Result<(), Fail> {
+fn loads_are_made_as_the_slow_program_makes_them(rt: HostRuntime) {
     for row in LOADS.trim().lines() {
         let shape = Shape {
-            ops: field(row, 1)?.parse()?,
-            verifiers: field(row, 2)?.parse()?,
-            keys: field(row, 3)?.parse()?,
-            every: field(row, 4)?.parse()?,
+            ops: field(&rt, row, 1).parse().expect(&rt, "a number"),
+            verifiers: field(&rt, row, 2).parse().expect(&rt, "a number"),
+            keys: field(&rt, row, 3).parse().expect(&rt, "a number"),
+            every: field(&rt, row, 4).parse().expect(&rt, "a number"),
         };
         if shape.verifiers == 0 || shape.keys == 0 || shape.every == 0 {
-            return Err("a shape of none")?;
+            panic!(rt; "a shape of none");
         }
-        let load = generate(rt.alloc(), field(row, 0)?.parse()?, &shape)?;
-        let found = phases_in_short(rt.alloc(), &load)?;
-        same(&rt, row, &found.as_str(), &field(row, 5)?);
+        let load = generate(
+            rt.alloc(),
+            field(&rt, row, 0).parse().expect(&rt, "a number"),
+            &shape,
+        )
+        .expect(&rt, "memory");
+        let found = phases_in_short(&rt, rt.alloc(), &load);
+        same(&rt, row, &found.as_str(), &field(&rt, row, 5));
     }
-    Ok(())
 }

@@ -6,7 +6,7 @@ use fv_outside::{Failed, MemorySink};
 use host_log::{LogBuffer, frames};
 use lamport_clocks::Header;
 use std::alloc::Global;
-use std::test::Fail;
+use std::process::Abort;
 
 // What a host of one verifier and two shards writes for an empty script: a header, and two frames.
 const SETUP: &str = "
@@ -50,18 +50,17 @@ next
 ";
 
 // Adds the commands of rows.
-fn push_rows(log: &mut LogBuffer, rows: &str) -> Result<(), Fail> {
+fn push_rows(rt: &impl Abort, log: &mut LogBuffer, rows: &str) {
     for row in rows.trim().lines() {
-        let command = command_of(row).ok_or("a row of no command")?;
-        log.push(&command)?;
+        let command = command_of(row).expect(rt, "a row of no command");
+        log.push(&command).expect(rt, "memory");
     }
-    Ok(())
 }
 
 #[test]
-fn the_rounds_of_an_empty_script_are_its_bundle(rt: HostRuntime) -> Result<(), Fail> {
-    let bundle = bytes_of(rt.alloc(), SETUP)?;
-    let mut sink = MemorySink::new(rt.alloc(), 1000, 50, &[])?;
+fn the_rounds_of_an_empty_script_are_its_bundle(rt: HostRuntime) {
+    let bundle = bytes_of(&rt, rt.alloc(), SETUP);
+    let mut sink = MemorySink::new(rt.alloc(), 1000, 50, &[]).expect(&rt, "memory");
     same(
         &rt,
         "header",
@@ -71,34 +70,32 @@ fn the_rounds_of_an_empty_script_are_its_bundle(rt: HostRuntime) -> Result<(), F
     let mut log = LogBuffer::new(rt.alloc());
     let mut spare = LogBuffer::new(rt.alloc());
     for rows in [FIRST_ROUND, "", LAST_CLOSE] {
-        push_rows(&mut log, rows)?;
+        push_rows(&rt, &mut log, rows);
         let taken = log.exchange(spare);
         same(&rt, rows, &log.bytes().len(), &0);
         same(&rt, rows, &frames(0, taken.bytes(), &mut sink), &Ok(()));
         spare = taken;
     }
     same_bytes(&rt, "bundle", sink.bytes(), &bundle);
-    Ok(())
 }
 
 #[test]
-fn a_buffer_goes_on_when_it_was_emptied(rt: HostRuntime) -> Result<(), Fail> {
-    let bundle = bytes_of(rt.alloc(), SETUP)?;
+fn a_buffer_goes_on_when_it_was_emptied(rt: HostRuntime) {
+    let bundle = bytes_of(&rt, rt.alloc(), SETUP);
     let mut log = LogBuffer::new(rt.alloc());
-    push_rows(&mut log, FIRST_ROUND)?;
+    push_rows(&rt, &mut log, FIRST_ROUND);
     same(&rt, "first", &Some(log.bytes()), &bundle.get(24..120));
     log.clear();
     same_bytes(&rt, "clear", log.bytes(), b"");
-    push_rows(&mut log, LAST_CLOSE)?;
+    push_rows(&rt, &mut log, LAST_CLOSE);
     let taken = log.take();
     same(&rt, "last", &Some(taken.bytes()), &bundle.get(126..208));
     same_bytes(&rt, "take", log.bytes(), b"");
-    push_rows(&mut log, FIRST_ROUND)?;
+    push_rows(&rt, &mut log, FIRST_ROUND);
     same(&rt, "again", &Some(log.bytes()), &bundle.get(24..120));
-    push_rows(&mut log, LAST_CLOSE)?;
+    push_rows(&rt, &mut log, LAST_CLOSE);
     log.truncate(96);
     same(&rt, "truncate", &Some(log.bytes()), &bundle.get(24..120));
-    Ok(())
 }
 
 // So many bytes, and the heads of the frames in which they are written for verifier 258.
@@ -113,46 +110,50 @@ const FRAMES: &str = "
 ";
 
 // So many bytes: 0 to 250, over and over.
-fn some_bytes(alloc: Global, count: usize) -> Result<Vec<u8>, Fail> {
+fn some_bytes(rt: &impl Abort, alloc: Global, count: usize) -> Vec<u8> {
     let mut bytes = Vec::new(alloc);
     for place in 0..count {
-        bytes.push((place % 251) as u8)?;
+        bytes.push((place % 251) as u8).expect(rt, "memory");
     }
-    Ok(bytes)
+    bytes
 }
 
 // The frames of these bytes with these heads.
-fn frames_with(alloc: Global, heads: &str, bytes: &[u8]) -> Result<Vec<u8>, Fail> {
+fn frames_with(rt: &impl Abort, alloc: Global, heads: &str, bytes: &[u8]) -> Vec<u8> {
     let mut frames = Vec::new(alloc);
     let mut rest = bytes;
     for head in heads.split(',') {
-        frames.extend_from_slice(&bytes_of(alloc, head)?)?;
+        frames
+            .extend_from_slice(&bytes_of(rt, alloc, head))
+            .expect(rt, "memory");
         let (body, behind) = rest.split_at(rest.len().min(65_536));
-        frames.extend_from_slice(body)?;
+        frames.extend_from_slice(body).expect(rt, "memory");
         rest = behind;
     }
-    Ok(frames)
+    frames
 }
 
 #[test]
-fn frames_have_at_most_65536_bytes(rt: HostRuntime) -> Result<(), Fail> {
+fn frames_have_at_most_65536_bytes(rt: HostRuntime) {
     for row in FRAMES.trim().lines() {
-        let bytes = some_bytes(rt.alloc(), field(row, 0)?.parse()?)?;
-        let wanted = frames_with(rt.alloc(), field(row, 1)?, &bytes)?;
-        let mut sink = MemorySink::new(rt.alloc(), 200_000, 30_000, &[])?;
+        let bytes = some_bytes(
+            &rt,
+            rt.alloc(),
+            field(&rt, row, 0).parse().expect(&rt, "a number"),
+        );
+        let wanted = frames_with(&rt, rt.alloc(), field(&rt, row, 1), &bytes);
+        let mut sink = MemorySink::new(rt.alloc(), 200_000, 30_000, &[]).expect(&rt, "memory");
         same(&rt, row, &frames(258, &bytes, &mut sink), &Ok(()));
         same(&rt, row, &(sink.bytes() == wanted.as_slice()), &true);
     }
-    Ok(())
 }
 
 #[test]
-fn where_a_write_fails_a_front_was_written(rt: HostRuntime) -> Result<(), Fail> {
-    let bytes = some_bytes(rt.alloc(), 65_537)?;
-    let wanted = frames_with(rt.alloc(), "0102 00010000", &bytes)?;
+fn where_a_write_fails_a_front_was_written(rt: HostRuntime) {
+    let bytes = some_bytes(&rt, rt.alloc(), 65_537);
+    let wanted = frames_with(&rt, rt.alloc(), "0102 00010000", &bytes);
     // The head and the body of the first frame are written, and then the head of the second fails.
-    let mut sink = MemorySink::new(rt.alloc(), 200_000, 100_000, &[2])?;
+    let mut sink = MemorySink::new(rt.alloc(), 200_000, 100_000, &[2]).expect(&rt, "memory");
     same(&rt, "answer", &frames(258, &bytes, &mut sink), &Err(Failed));
     same(&rt, "front", &(sink.bytes() == wanted.as_slice()), &true);
-    Ok(())
 }

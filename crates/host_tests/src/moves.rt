@@ -1,5 +1,5 @@
 //! The close of a host of two shards: what it logs, and where the counters end in it.
-ghost use Rattle.std.specs.Prelude.{◌≡◌, ◌<◌, ◌∷◌, [], ℕ, true, false, IsTrue, IfOk, length};
+ghost use Rattle.std.specs.Prelude.{◌≡◌, ◌<◌, ◌∷◌, [], ℕ, true, false, IsTrue, length};
 ghost use Rattle.record_text.specs.Format.{short_keys};
 ghost use Rattle.lamport_clocks.specs.Clock.{is_open};
 ghost use Rattle.host_shard.specs.declared.content.Content.TheVariants.{Hot};
@@ -14,7 +14,7 @@ use protection_moves::{MoveFault, migrate};
 use record_hash::ShaDigests;
 use record_text::Blob;
 use std::alloc::Global;
-use std::test::Fail;
+use std::process::Abort;
 use tree_keys::Path;
 
 // The bytes that a host of two shards logs at its first close where nothing was asked, written out by hand from the table
@@ -39,20 +39,22 @@ const TOUCHED: &str = "
 ";
 
 // The bytes that these digits spell, between which blanks stand.
-fn bytes_of(alloc: Global, digits: &str) -> Result<Vec<u8>, Fail> {
+fn bytes_of(rt: &impl Abort, alloc: Global, digits: &str) -> Vec<u8> {
     let mut bytes = Vec::new(alloc);
     for part in digits.split_whitespace() {
-        bytes.extend_from_slice(&hex::decode(alloc, part)?)?;
+        bytes
+            .extend_from_slice(&hex::decode(alloc, part).expect(rt, "memory"))
+            .expect(rt, "memory");
     }
-    Ok(bytes)
+    bytes
 }
 
 // Adds the bytes of these commands to a log.
-fn push_all(log: &mut Vec<u8>, commands: &[Command]) -> Result<(), Fail> {
+fn push_all(rt: &impl Abort, log: &mut Vec<u8>, commands: &[Command]) {
     for command in commands {
-        log.extend_from_slice(write(command).as_slice())?;
+        log.extend_from_slice(write(command).as_slice())
+            .expect(rt, "memory");
     }
-    Ok(())
 }
 
 // A shard as a setup leaves it, evicted last with this counter of epoch 0.
@@ -69,23 +71,24 @@ fn fresh(alloc: Global, side: bool, counter: u32) -> Shard
 }
 
 // A clock whose counters end here, at the start of its second epoch.
-fn second_epoch(end: u32) -> Result<Clock, Fail>
-    ensures open { IfOk result (λ clock. IsTrue (is_open clock 0)) }
+fn second_epoch(rt: &impl Abort, end: u32) -> Clock
+    ensures open { IsTrue (is_open result 0) }
 {
     let mut clock = Clock::new(0, end);
     match clock.next_epoch() {
-        Ok(_) => Ok(clock),
-        Err(_) => Err("no next epoch")?,
+        Ok(_) => clock,
+        Err(_) => panic!(rt; "no next epoch"),
     }
 }
 
 // Moves a shard whose four hot places are vacant, for worker 0, and logs the commands.
 fn log_move(
+    rt: &impl Abort,
     alloc: Global,
     shard: &mut Shard,
     clock: &mut Clock,
     log: &mut Vec<u8>,
-) -> Result<bool, Fail>
+) -> bool
     requires fits { IsShard short_keys (shown shard.old) }
     requires open { IsTrue (is_open clock.old shard.old.stamp.epoch) }
     ensures open { (epoch : ℕ) → is_open clock.new epoch ≡ is_open clock.old epoch }
@@ -99,25 +102,25 @@ fn log_move(
     ];
     match migrate(alloc, &d, shard, &mut hot, None, 0, clock) {
         Ok(commands) => {
-            push_all(log, commands.as_slice())?;
-            Ok(true)
+            push_all(rt, log, commands.as_slice());
+            true
         }
-        Err(MoveFault::ClockEnd) => Ok(false),
-        Err(MoveFault::Memory) => Err("no memory")?,
+        Err(MoveFault::ClockEnd) => false,
+        Err(MoveFault::Memory) => panic!(rt; "no memory"),
     }
 }
 
 #[test]
-fn a_close_takes_each_shard_in_and_hands_it_out(rt: HostRuntime) -> Result<(), Fail> {
+fn a_close_takes_each_shard_in_and_hands_it_out(rt: HostRuntime) {
     let mut low = fresh(rt.alloc(), false, 1);
     let mut high = fresh(rt.alloc(), true, 2);
-    let mut clock = second_epoch(16_777_215)?;
+    let mut clock = second_epoch(&rt, 16_777_215);
     let mut log = Vec::new(rt.alloc());
-    push_all(&mut log, &[Command::NextEpoch])?;
-    assert!(rt; log_move(rt.alloc(), &mut low, &mut clock, &mut log)?);
-    assert!(rt; log_move(rt.alloc(), &mut high, &mut clock, &mut log)?);
-    push_all(&mut log, &[Command::NextEpoch])?;
-    assert_eq!(rt; log, bytes_of(rt.alloc(), CLOSE)?);
+    push_all(&rt, &mut log, &[Command::NextEpoch]);
+    assert!(rt; log_move(&rt, rt.alloc(), &mut low, &mut clock, &mut log));
+    assert!(rt; log_move(&rt, rt.alloc(), &mut high, &mut clock, &mut log));
+    push_all(&rt, &mut log, &[Command::NextEpoch]);
+    assert_eq!(rt; log, bytes_of(&rt, rt.alloc(), CLOSE));
     assert_eq!(rt;
         low.stamp,
         Stamp {
@@ -132,18 +135,17 @@ fn a_close_takes_each_shard_in_and_hands_it_out(rt: HostRuntime) -> Result<(), F
             counter: 4
         }
     );
-    Ok(())
 }
 
 #[test]
-fn the_clock_ends_at_the_second_shard(rt: HostRuntime) -> Result<(), Fail> {
+fn the_clock_ends_at_the_second_shard(rt: HostRuntime) {
     let mut low = fresh(rt.alloc(), false, 1);
     let mut high = fresh(rt.alloc(), true, 2);
-    let mut clock = second_epoch(3)?;
+    let mut clock = second_epoch(&rt, 3);
     let mut log = Vec::new(rt.alloc());
-    assert!(rt; log_move(rt.alloc(), &mut low, &mut clock, &mut log)?);
+    assert!(rt; log_move(&rt, rt.alloc(), &mut low, &mut clock, &mut log));
     let logged = log.len();
-    assert!(rt; !log_move(rt.alloc(), &mut high, &mut clock, &mut log)?);
+    assert!(rt; !log_move(&rt, rt.alloc(), &mut high, &mut clock, &mut log));
     assert_eq!(rt; log.len(), logged);
     assert_eq!(rt;
         clock.at(),
@@ -159,7 +161,6 @@ fn the_clock_ends_at_the_second_shard(rt: HostRuntime) -> Result<(), Fail> {
             counter: 2
         }
     );
-    Ok(())
 }
 
 // A hot record that was touched once, evicted last by this verifier with this counter of epoch 0.
@@ -182,11 +183,11 @@ fn touched(key: u64, value: Blob, counter: u32, evictor: u16) -> Content
 }
 
 #[test]
-fn touched_hot_records_come_first_by_key(rt: HostRuntime) -> Result<(), Fail> {
+fn touched_hot_records_come_first_by_key(rt: HostRuntime) {
     let d = ShaDigests::new(b"a key");
     let mut low = fresh(rt.alloc(), false, 1);
-    let mut clock = second_epoch(16_777_215)?;
-    let value = Blob::of_bytes(b"a").ok_or("no value")?;
+    let mut clock = second_epoch(&rt, 16_777_215);
+    let value = Blob::of_bytes(b"a").expect(&rt, "no value");
     let mut hot = [
         Content::Vacant,
         touched(7, Blob::none(), 5, 1),
@@ -194,14 +195,14 @@ fn touched_hot_records_come_first_by_key(rt: HostRuntime) -> Result<(), Fail> {
         Content::Vacant,
     ];
     if !owns_all(&low, &hot) {
-        Err("a record of another shard")?;
+        panic!(rt; "a record of another shard");
     }
     let Ok(commands) = migrate(rt.alloc(), &d, &mut low, &mut hot, None, 2, &mut clock) else {
-        return Err("no move")?;
+        panic!(rt; "no move");
     };
     let mut log = Vec::new(rt.alloc());
-    push_all(&mut log, commands.as_slice())?;
-    assert_eq!(rt; log, bytes_of(rt.alloc(), TOUCHED)?);
+    push_all(&rt, &mut log, commands.as_slice());
+    assert_eq!(rt; log, bytes_of(&rt, rt.alloc(), TOUCHED));
     match (&hot[1], &hot[2]) {
         (Content::Hot(seven), Content::Hot(three)) => {
             assert_eq!(rt; (seven.key, seven.evictor, seven.touches), (7, 2, 0));
@@ -221,7 +222,6 @@ fn touched_hot_records_come_first_by_key(rt: HostRuntime) -> Result<(), Fail> {
                 }
             );
         }
-        _ => Err("a place without its record")?,
+        _ => panic!(rt; "a place without its record"),
     }
-    Ok(())
 }

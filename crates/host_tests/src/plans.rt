@@ -13,7 +13,7 @@ use record_hash::{Digests, ShaDigests, ToyDigests};
 use record_text::{Blob, Request};
 use stamp_order::PlainMap;
 use std::alloc::Global;
-use std::test::Fail;
+use std::process::Abort;
 use verifier_run::Run;
 
 // What is tried, the worker, its clock's counter, requests on two shards, and the rows of the log.
@@ -205,26 +205,25 @@ evictB /1 0.21
 ];
 
 // The bytes that a worker logs for these requests on two new shards.
-fn logged(alloc: Global, worker: u16, counter: u32, requests: &str) -> Result<Vec<u8>, Fail> {
+fn logged(rt: &impl Abort, alloc: Global, worker: u16, counter: u32, requests: &str) -> Vec<u8> {
     let mut host = Host::new(alloc, worker, counter);
     for row in requests.trim().lines() {
-        let request = request_of(alloc, row)?;
-        host.serve(alloc, &ToyDigests, &request)?;
+        let request = request_of(rt, alloc, row);
+        host.serve(rt, alloc, &ToyDigests, &request);
     }
-    Ok(host.log)
+    host.log
 }
 
 #[test]
-fn plans_are_those_of_the_slow_program(rt: HostRuntime) -> Result<(), Fail> {
+fn plans_are_those_of_the_slow_program(rt: HostRuntime) {
     for (label, worker, counter, requests, rows) in CASES {
-        let log = logged(rt.alloc(), worker, counter, requests)?;
+        let log = logged(&rt, rt.alloc(), worker, counter, requests);
         let wanted = match log_of(rt.alloc(), rows.trim()) {
             Ok(bytes) => bytes,
-            Err(_) => return Err("a row that is no command")?,
+            Err(_) => panic!(rt; "a row that is no command"),
         };
         assert_eq!(rt; log.as_slice(), wanted.as_slice(), "{label}");
     }
-    Ok(())
 }
 
 // The next number of a linear congruential generator.
@@ -252,7 +251,7 @@ fn request_by(number: u64) -> Option<Request> {
 }
 
 // Serves so many requests, and compares each answer with what a plain map has at the key.
-fn serve_many<D: Digests>(alloc: Global, d: &D, host: &mut Host, count: u32) -> Result<(), Fail>
+fn serve_many<D: Digests>(rt: &impl Abort, alloc: Global, d: &D, host: &mut Host, count: u32)
     requires low { OwnsBelow (false ∷ []) (shown_content host.old.low) }
     requires high { OwnsBelow (true ∷ []) (shown_content host.old.high) }
 {
@@ -260,38 +259,36 @@ fn serve_many<D: Digests>(alloc: Global, d: &D, host: &mut Host, count: u32) -> 
     let mut x = 5;
     for _ in 0..count {
         x = next(x);
-        let request = request_by(x).ok_or("no request")?;
-        let answer = host.serve(alloc, d, &request)?;
+        let request = request_by(x).expect(rt, "no request");
+        let answer = host.serve(rt, alloc, d, &request);
         if request.put && map.put(request.key, request.value.copy()).is_err() {
-            return Err("no memory")?;
+            panic!(rt; "no memory");
         }
         if answer != map.get(request.key) {
-            return Err("another answer")?;
+            panic!(rt; "another answer");
         }
     }
-    Ok(())
 }
 
 #[test]
-fn a_verifier_accepts_what_the_host_logs(rt: HostRuntime) -> Result<(), Fail> {
+fn a_verifier_accepts_what_the_host_logs(rt: HostRuntime) {
     let d = ShaDigests::new(&[7; 32]);
     let header = header();
     let mut host = Host::new(rt.alloc(), 0, 2);
     let Ok((commands, _)) = setup(rt.alloc(), 2, &header) else {
-        return Err("no setup")?;
+        panic!(rt; "no setup");
     };
-    push_all(&mut host.log, commands.as_slice())?;
-    serve_many(rt.alloc(), &d, &mut host, 200)?;
+    push_all(&rt, &mut host.log, commands.as_slice());
+    serve_many(&rt, rt.alloc(), &d, &mut host, 200);
     let Ok(mut run) = Run::new(rt.alloc(), 0, &header) else {
-        return Err("no memory")?;
+        panic!(rt; "no memory");
     };
     if run.feed(&d, host.log.as_slice()).is_err() {
-        return Err("no memory")?;
+        panic!(rt; "no memory");
     }
     run.end();
     assert_eq!(rt; run.refused(), None);
     assert_eq!(rt; run.ops().len(), 200);
-    Ok(())
 }
 
 // One verifier, from epoch 0 on.
@@ -308,10 +305,10 @@ pub(crate) fn header() -> Header
 }
 
 #[test]
-fn a_hot_key_is_taken_alone(rt: HostRuntime) -> Result<(), Fail> {
+fn a_hot_key_is_taken_alone(rt: HostRuntime) {
     let mut content = Content::Hot(HotRecord {
         key: 5,
-        value: Blob::of_bytes(b"ab").ok_or("no value")?,
+        value: Blob::of_bytes(b"ab").expect(&rt, "no value"),
         stamp: Stamp {
             epoch: 0,
             counter: 7,
@@ -319,13 +316,14 @@ fn a_hot_key_is_taken_alone(rt: HostRuntime) -> Result<(), Fail> {
         evictor: 3,
         touches: 1,
     });
-    let request = request_of(rt.alloc(), "get 5")?;
+    let request = request_of(&rt, rt.alloc(), "get 5");
     if request.key != 5 {
-        return Err("another key")?;
+        panic!(rt; "another key");
     }
     let mut clock = clock_at(2);
     let mut log = Vec::new(rt.alloc());
     let answer = serve(
+        &rt,
         rt.alloc(),
         &ToyDigests,
         &mut content,
@@ -333,15 +331,14 @@ fn a_hot_key_is_taken_alone(rt: HostRuntime) -> Result<(), Fail> {
         1,
         &mut clock,
         &mut log,
-    )?;
-    assert_eq!(rt; answer, Blob::of_bytes(b"ab").ok_or("no value")?);
+    );
+    assert_eq!(rt; answer, Blob::of_bytes(b"ab").expect(&rt, "no value"));
     let Ok(wanted) = log_of(rt.alloc(), "addB 5 6162 0.7 v3\nget 5 6162\nevictB 5 0.9") else {
-        return Err("a row that is no command")?;
+        panic!(rt; "a row that is no command");
     };
     assert_eq!(rt; log, wanted);
     let Content::Hot(kept) = &content else {
-        return Err("no hot record")?;
+        panic!(rt; "no hot record");
     };
     assert_eq!(rt; (kept.stamp.counter, kept.evictor, kept.touches), (9, 1, 2));
-    Ok(())
 }

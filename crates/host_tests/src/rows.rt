@@ -3,52 +3,50 @@ use script_text::{Requests, Task};
 use std::alloc::Global;
 use std::fmt::Debug;
 use std::process::Abort;
-use std::test::Fail;
 
 /// The field of a row at this place, counted from 0.
-pub fn field(row: &str, place: usize) -> Result<&str, Fail> {
-    match row.split('|').nth(place) {
-        Some(text) => Ok(text.trim()),
-        None => Err("a row with too few fields")?,
-    }
+pub fn field<'a>(rt: &impl Abort, row: &'a str, place: usize) -> &'a str {
+    let text = row.split('|').nth(place);
+    text.expect(rt, "a row with too few fields").trim()
 }
 
 /// The bytes that these digits spell, between which blanks may stand.
-pub fn bytes_of(alloc: Global, digits: &str) -> Result<Vec<u8>, Fail> {
+pub fn bytes_of(rt: &impl Abort, alloc: Global, digits: &str) -> Vec<u8> {
     let mut bytes = Vec::new(alloc);
     for part in digits.split_whitespace() {
-        bytes.extend_from_slice(&hex::decode(alloc, part)?)?;
+        bytes
+            .extend_from_slice(&hex::decode(alloc, part).expect(rt, "memory"))
+            .expect(rt, "memory");
     }
-    Ok(bytes)
+    bytes
 }
 
 /// Phases in short: a task is as in a script, with a comma behind it, and a phase ends with a slash.
-pub fn phases_in_short(alloc: Global, requests: &Requests) -> Result<String, Fail> {
+pub fn phases_in_short(rt: &impl Abort, alloc: Global, requests: &Requests) -> String {
     let mut text = String::new(alloc);
     for number in 0..requests.len() {
         for task in requests.phase(number) {
-            push_task(alloc, &mut text, task)?;
+            push_task(rt, alloc, &mut text, task);
         }
-        text.push_str("/")?;
+        text.push_str("/").expect(rt, "memory");
     }
-    Ok(text)
+    text
 }
 
 // Adds a task.
-fn push_task(alloc: Global, text: &mut String, task: &Task) -> Result<(), Fail> {
+fn push_task(rt: &impl Abort, alloc: Global, text: &mut String, task: &Task) {
     let worker = task.worker;
     let key = task.request.key;
     let line = match (task.request.put, task.request.value.bytes()) {
-        (false, None) => format!(in alloc; "{worker} get {key},")?,
-        (true, None) => format!(in alloc; "{worker} del {key},")?,
+        (false, None) => format!(in alloc; "{worker} get {key},").expect(rt, "memory"),
+        (true, None) => format!(in alloc; "{worker} del {key},").expect(rt, "memory"),
         (true, Some(bytes)) => {
-            let digits = hex::encode(alloc, bytes)?;
-            format!(in alloc; "{worker} put {key} [{digits}],")?
+            let digits = hex::encode(alloc, bytes).expect(rt, "memory");
+            format!(in alloc; "{worker} put {key} [{digits}],").expect(rt, "memory")
         }
-        (false, Some(_)) => return Err("a get with a value")?,
+        (false, Some(_)) => panic!(rt; "a get with a value"),
     };
-    text.push_str(line.as_str())?;
-    Ok(())
+    text.push_str(line.as_str()).expect(rt, "memory");
 }
 
 /// Two values are the same. Where they aren't, the test ends, and tells the row.

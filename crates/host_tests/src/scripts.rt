@@ -2,32 +2,34 @@
 use crate::rows::{field, phases_in_short, same, same_bytes};
 use script_text::{Requests, ScriptFault, write_script};
 use std::alloc::Global;
-use std::test::Fail;
+use std::process::Abort;
 
 // The bytes of a script in a row: there `_` is a blank, `;` a line feed, `~` a carriage return and `^` a tab.
-fn script_of(alloc: Global, text: &str) -> Result<Vec<u8>, Fail> {
+fn script_of(rt: &impl Abort, alloc: Global, text: &str) -> Vec<u8> {
     let mut script = Vec::new(alloc);
     for byte in text.bytes() {
-        script.push(match byte {
-            b'_' => b' ',
-            b';' => b'\n',
-            b'~' => b'\r',
-            b'^' => b'\t',
-            _ => byte,
-        })?;
+        script
+            .push(match byte {
+                b'_' => b' ',
+                b';' => b'\n',
+                b'~' => b'\r',
+                b'^' => b'\t',
+                _ => byte,
+            })
+            .expect(rt, "memory");
     }
-    Ok(script)
+    script
 }
 
 // What is read of a script in short: its phases, or the line that is refused and why.
-fn read_in_short(alloc: Global, script: &[u8], workers: u16) -> Result<String, Fail> {
+fn read_in_short(rt: &impl Abort, alloc: Global, script: &[u8], workers: u16) -> String {
     match Requests::read(alloc, script, workers) {
-        Ok(requests) => phases_in_short(alloc, &requests),
+        Ok(requests) => phases_in_short(rt, alloc, &requests),
         Err(ScriptFault::BadScript { line, cause }) => {
             let cause = cause.name();
-            Ok(format!(in alloc; "line {line} {cause}")?)
+            format!(in alloc; "line {line} {cause}").expect(rt, "memory")
         }
-        Err(ScriptFault::Memory) => Err("no memory")?,
+        Err(ScriptFault::Memory) => panic!(rt; "no memory"),
     }
 }
 
@@ -120,23 +122,26 @@ x_put_x_x | 1 | line 1 Worker
 ";
 
 #[test]
-fn scripts_are_read_as_judged(rt: HostRuntime) -> Result<(), Fail> {
+fn scripts_are_read_as_judged(rt: HostRuntime) {
     for table in [SCRIPTS, REFUSED] {
         for row in table.trim_matches('\n').lines() {
-            let script = script_of(rt.alloc(), field(row, 0)?)?;
-            let found = read_in_short(rt.alloc(), &script, field(row, 1)?.parse()?)?;
-            same(&rt, row, &found.as_str(), &field(row, 2)?);
+            let script = script_of(&rt, rt.alloc(), field(&rt, row, 0));
+            let found = read_in_short(
+                &rt,
+                rt.alloc(),
+                &script,
+                field(&rt, row, 1).parse().expect(&rt, "a number"),
+            );
+            same(&rt, row, &found.as_str(), &field(&rt, row, 2));
         }
     }
-    Ok(())
 }
 
 // Adds a byte so many times.
-fn push_times(text: &mut Vec<u8>, byte: u8, times: usize) -> Result<(), Fail> {
+fn push_times(rt: &impl Abort, text: &mut Vec<u8>, byte: u8, times: usize) {
     for _ in 0..times {
-        text.push(byte)?;
+        text.push(byte).expect(rt, "memory");
     }
-    Ok(())
 }
 
 // So many digits of a value, and what is read of a put of them to the key 5.
@@ -149,21 +154,20 @@ const VALUES: &str = "
 ";
 
 #[test]
-fn values_have_at_most_64_bytes(rt: HostRuntime) -> Result<(), Fail> {
+fn values_have_at_most_64_bytes(rt: HostRuntime) {
     for row in VALUES.trim().lines() {
-        let digits = field(row, 0)?.parse()?;
-        let mut script = Vec::from_slice(rt.alloc(), b"0 put 5 ")?;
-        push_times(&mut script, b'7', digits)?;
-        let found = read_in_short(rt.alloc(), &script, 1)?;
-        let mut wanted = Vec::from_slice(rt.alloc(), b"0 put 5 [")?;
-        push_times(&mut wanted, b'7', digits)?;
-        wanted.extend_from_slice(b"],/")?;
-        match field(row, 1)? {
+        let digits = field(&rt, row, 0).parse().expect(&rt, "a number");
+        let mut script = Vec::from_slice(rt.alloc(), b"0 put 5 ").expect(&rt, "memory");
+        push_times(&rt, &mut script, b'7', digits);
+        let found = read_in_short(&rt, rt.alloc(), &script, 1);
+        let mut wanted = Vec::from_slice(rt.alloc(), b"0 put 5 [").expect(&rt, "memory");
+        push_times(&rt, &mut wanted, b'7', digits);
+        wanted.extend_from_slice(b"],/").expect(&rt, "memory");
+        match field(&rt, row, 1) {
             "taken" => same_bytes(&rt, row, found.as_bytes(), &wanted),
             refused => same(&rt, row, &found.as_str(), &refused),
         }
     }
-    Ok(())
 }
 
 // So many digits of a worker's number, which makes a line of six bytes more, and what is read of it.
@@ -174,33 +178,40 @@ const LINES: &str = "
 ";
 
 #[test]
-fn lines_have_at_most_256_bytes(rt: HostRuntime) -> Result<(), Fail> {
+fn lines_have_at_most_256_bytes(rt: HostRuntime) {
     for row in LINES.trim().lines() {
         let mut script = Vec::new(rt.alloc());
-        push_times(&mut script, b'7', field(row, 0)?.parse()?)?;
-        script.extend_from_slice(b" get 5")?;
-        let found = read_in_short(rt.alloc(), &script, 1)?;
-        same(&rt, row, &found.as_str(), &field(row, 1)?);
-        script.push(b'\n')?;
-        let found = read_in_short(rt.alloc(), &script, 1)?;
-        same(&rt, row, &found.as_str(), &field(row, 1)?);
+        push_times(
+            &rt,
+            &mut script,
+            b'7',
+            field(&rt, row, 0).parse().expect(&rt, "a number"),
+        );
+        script.extend_from_slice(b" get 5").expect(&rt, "memory");
+        let found = read_in_short(&rt, rt.alloc(), &script, 1);
+        same(&rt, row, &found.as_str(), &field(&rt, row, 1));
+        script.push(b'\n').expect(&rt, "memory");
+        let found = read_in_short(&rt, rt.alloc(), &script, 1);
+        same(&rt, row, &found.as_str(), &field(&rt, row, 1));
     }
-    Ok(())
 }
 
 #[test]
-fn what_was_read_is_written_in_its_one_spelling(rt: HostRuntime) -> Result<(), Fail> {
+fn what_was_read_is_written_in_its_one_spelling(rt: HostRuntime) {
     for row in SCRIPTS.trim_matches('\n').lines() {
-        let mut script = script_of(rt.alloc(), field(row, 0)?)?;
-        let requests = match Requests::read(rt.alloc(), &script, field(row, 1)?.parse()?) {
+        let mut script = script_of(&rt, rt.alloc(), field(&rt, row, 0));
+        let requests = match Requests::read(
+            rt.alloc(),
+            &script,
+            field(&rt, row, 1).parse().expect(&rt, "a number"),
+        ) {
             Ok(requests) => requests,
-            Err(_) => return Err("a script is refused")?,
+            Err(_) => panic!(rt; "a script is refused"),
         };
         if script.last().is_some_and(|byte| *byte != b'\n') {
-            script.push(b'\n')?;
+            script.push(b'\n').expect(&rt, "memory");
         }
-        let written = write_script(rt.alloc(), &requests)?;
+        let written = write_script(rt.alloc(), &requests).expect(&rt, "memory");
         same_bytes(&rt, row, &written, &script);
     }
-    Ok(())
 }

@@ -5,7 +5,6 @@ use bundle_rows::log_of;
 use host_plan::{SetupFault, setup};
 use host_shard::Content;
 use lamport_clocks::{Header, Stamp};
-use std::test::Fail;
 use tree_keys::Path;
 
 // A header of one verifier whose counters end here.
@@ -55,39 +54,37 @@ fn is_fresh(content: &Content, frontier: &Path, counter: u32) -> bool {
 }
 
 #[test]
-fn two_shards_are_set_up(rt: HostRuntime) -> Result<(), Fail> {
+fn two_shards_are_set_up(rt: HostRuntime) {
     let Ok((commands, contents)) = setup(rt.alloc(), 2, &header(2)) else {
-        return Err("no setup")?;
+        panic!(rt; "no setup");
     };
     let mut log = Vec::new(rt.alloc());
-    push_all(&mut log, commands.as_slice())?;
-    assert_eq!(rt; log, bytes_of(rt.alloc(), TWO_SHARDS)?);
+    push_all(&rt, &mut log, commands.as_slice());
+    assert_eq!(rt; log, bytes_of(&rt, rt.alloc(), TWO_SHARDS));
     assert_eq!(rt; contents.len(), 2);
     let root = Path::root();
     assert!(rt; is_fresh(&contents[0], &root.child(false), 1));
     assert!(rt; is_fresh(&contents[1], &root.child(true), 2));
-    Ok(())
 }
 
 #[test]
-fn four_shards_are_set_up_side_0_first(rt: HostRuntime) -> Result<(), Fail> {
+fn four_shards_are_set_up_side_0_first(rt: HostRuntime) {
     let Ok((commands, contents)) = setup(rt.alloc(), 4, &header(16_777_215)) else {
-        return Err("no setup")?;
+        panic!(rt; "no setup");
     };
     let mut log = Vec::new(rt.alloc());
-    push_all(&mut log, commands.as_slice())?;
+    push_all(&rt, &mut log, commands.as_slice());
     let Ok(wanted) = log_of(rt.alloc(), FOUR_SHARDS.trim()) else {
-        return Err("a row that is no command")?;
+        panic!(rt; "a row that is no command");
     };
     assert_eq!(rt; log, wanted);
     assert_eq!(rt; contents.len(), 4);
     let sides = [(false, false), (false, true), (true, false), (true, true)];
     for (index, (first, second)) in sides.into_iter().enumerate() {
         let frontier = Path::root().child(first).child(second);
-        let content = contents.get(index).ok_or("a shard is missing")?;
+        let content = contents.get(index).expect(&rt, "a shard is missing");
         assert!(rt; is_fresh(content, &frontier, index as u32 + 1));
     }
-    Ok(())
 }
 
 #[test]

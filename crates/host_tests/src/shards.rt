@@ -12,7 +12,7 @@ use log_codec::{Command, write};
 use record_hash::Digests;
 use record_text::{Blob, Request};
 use std::alloc::Global;
-use std::test::Fail;
+use std::process::Abort;
 use tree_keys::Path;
 
 /// Two shards, a worker's clock, and what it logged.
@@ -44,10 +44,11 @@ impl Host {
     /// Serves a request on the shard of its key, and logs its plan.
     pub fn serve<D: Digests>(
         &mut self,
+        rt: &impl Abort,
         alloc: Global,
         d: &D,
         request: &Request,
-    ) -> Result<Blob, Fail>
+    ) -> Blob
         requires low { OwnsBelow (false ∷ []) (shown_content self.old.low) }
         requires high { OwnsBelow (true ∷ []) (shown_content self.old.high) }
         ensures low { OwnsBelow (false ∷ []) (shown_content self.new.low) }
@@ -57,6 +58,7 @@ impl Host {
         let worker = self.worker;
         if path.is_below(&Path::root().child(false)) {
             return serve(
+                rt,
                 alloc,
                 d,
                 &mut self.low,
@@ -68,6 +70,7 @@ impl Host {
         }
         if path.is_below(&Path::root().child(true)) {
             return serve(
+                rt,
                 alloc,
                 d,
                 &mut self.high,
@@ -77,22 +80,22 @@ impl Host {
                 &mut self.log,
             );
         }
-        Err("no shard")?
+        panic!(rt; "no shard")
     }
 
     /// The links to a key of the lower shard.
-    pub fn links_to(&self, alloc: Global, key: u64) -> Result<Vec<Link>, Fail>
+    pub fn links_to(&self, rt: &impl Abort, alloc: Global, key: u64) -> Vec<Link>
         requires low { OwnsBelow (false ∷ []) (shown_content self.now.low) }
     {
         if !Path::of_key(key).is_below(&Path::root().child(false)) {
-            return Err("a key of the other shard")?;
+            panic!(rt; "a key of the other shard");
         }
         match &self.low {
             Content::Cold(shard) => match chain(alloc, shard, key) {
-                Ok(links) => Ok(links),
-                Err(_) => Err("no memory")?,
+                Ok(links) => links,
+                Err(_) => panic!(rt; "no memory"),
             },
-            _ => Err("no shard")?,
+            _ => panic!(rt; "no shard"),
         }
     }
 }
@@ -116,6 +119,7 @@ pub fn clock_at(counter: u32) -> Clock {
 
 /// Serves a request on the content that owns its key, and logs its plan.
 pub fn serve<D: Digests>(
+    rt: &impl Abort,
     alloc: Global,
     d: &D,
     content: &mut Content,
@@ -123,51 +127,55 @@ pub fn serve<D: Digests>(
     worker: u16,
     clock: &mut Clock,
     log: &mut Vec<u8>,
-) -> Result<Blob, Fail>
+) -> Blob
     requires own { Owns short_keys (shown_content content.old) request.now.key }
     ensures owns { (key : ℕ) → Owns short_keys (shown_content content.old) key
         → Owns short_keys (shown_content content.new) key }
 {
     let epoch = match content.pending() {
         Some(element) => element.stamp.epoch,
-        None => return Err("a vacant place")?,
+        None => panic!(rt; "a vacant place"),
     };
     if epoch != clock.at().epoch {
-        return Err("another epoch")?;
+        panic!(rt; "another epoch");
     }
     match plan(alloc, d, content, request, worker, clock) {
         Ok(plan) => {
-            push_all(log, plan.commands.as_slice())?;
-            Ok(plan.answer)
+            push_all(rt, log, plan.commands.as_slice());
+            plan.answer
         }
-        Err(_) => Err("no plan")?,
+        Err(_) => panic!(rt; "no plan"),
     }
 }
 
 /// Adds the bytes of these commands to a log.
-pub fn push_all(log: &mut Vec<u8>, commands: &[Command]) -> Result<(), Fail> {
+pub fn push_all(rt: &impl Abort, log: &mut Vec<u8>, commands: &[Command]) {
     for command in commands {
-        log.extend_from_slice(write(command).as_slice())?;
+        log.extend_from_slice(write(command).as_slice())
+            .expect(rt, "memory");
     }
-    Ok(())
 }
 
 /// The request of a row, as `get 5`, `del 5` and `put 5 6162`; a dot is no bytes.
-pub fn request_of(alloc: Global, row: &str) -> Result<Request, Fail> {
+pub fn request_of(rt: &impl Abort, alloc: Global, row: &str) -> Request {
     let mut words = row.split_whitespace();
-    let verb = words.next().ok_or("no request")?;
-    let key = words.next().ok_or("no key")?.parse()?;
+    let verb = words.next().expect(rt, "no request");
+    let key = words
+        .next()
+        .expect(rt, "no key")
+        .parse()
+        .expect(rt, "a number");
     let value = match words.next() {
         None => Blob::none(),
-        Some(".") => Blob::of_bytes(&[]).ok_or("no value")?,
+        Some(".") => Blob::of_bytes(&[]).expect(rt, "no value"),
         Some(digits) => {
-            let bytes = hex::decode(alloc, digits)?;
-            Blob::of_bytes(bytes.as_slice()).ok_or("a value too long")?
+            let bytes = hex::decode(alloc, digits).expect(rt, "memory");
+            Blob::of_bytes(bytes.as_slice()).expect(rt, "a value too long")
         }
     };
-    Ok(Request {
+    Request {
         put: verb != "get",
         key,
         value,
-    })
+    }
 }

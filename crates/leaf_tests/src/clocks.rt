@@ -1,7 +1,7 @@
 //! The clock of a verifier, a header's ranges and the order of stamps: rows that were worked out by hand.
 use crate::rows::{field, same};
 use lamport_clocks::{Clock, ClockFault, Header, Stamp};
-use std::test::Fail;
+use std::process::Abort;
 
 const LAST: u32 = u32::MAX;
 
@@ -10,29 +10,32 @@ fn stamp(epoch: u32, counter: u32) -> Stamp {
 }
 
 // A stamp from its text: the epoch, a point and the counter.
-fn stamp_of(text: &str) -> Result<Stamp, Fail> {
-    let (epoch, counter) = text.split_once('.').ok_or("a stamp without a point")?;
-    Ok(stamp(epoch.parse()?, counter.parse()?))
+fn stamp_of(rt: &impl Abort, text: &str) -> Stamp {
+    let (epoch, counter) = text.split_once('.').expect(rt, "a stamp without a point");
+    stamp(
+        epoch.parse().expect(rt, "a number"),
+        counter.parse().expect(rt, "a number"),
+    )
 }
 
 // An answer from its name.
-fn answer_of(text: &str) -> Result<Result<(), ClockFault>, Fail> {
-    Ok(match text {
+fn answer_of(rt: &impl Abort, text: &str) -> Result<(), ClockFault> {
+    match text {
         "ok" => Ok(()),
         "BadEpoch" => Err(ClockFault::BadEpoch),
         "StampNotLater" => Err(ClockFault::StampNotLater),
         "ClockEnd" => Err(ClockFault::ClockEnd),
-        _ => Err("an answer of another name")?,
-    })
+        _ => panic!(rt; "an answer of another name"),
+    }
 }
 
 // What a turn answers: an epoch that it seals, none, or the one fault that it has.
-fn turn_of(text: &str) -> Result<Result<Option<u32>, ClockFault>, Fail> {
-    Ok(match text {
+fn turn_of(rt: &impl Abort, text: &str) -> Result<Option<u32>, ClockFault> {
+    match text {
         "none" => Ok(None),
         "ClockEnd" => Err(ClockFault::ClockEnd),
-        _ => Ok(Some(text.parse()?)),
-    })
+        _ => Ok(Some(text.parse().expect(rt, "a number"))),
+    }
 }
 
 /// A clock whose first epoch is `first` and whose counters end at 10, taken to `at` by turns and one evict.
@@ -67,19 +70,23 @@ const ADDS: &str = "
 ";
 
 #[test]
-fn adds_go_above_the_stamp(rt: HostRuntime) -> Result<(), Fail> {
+fn adds_go_above_the_stamp(rt: HostRuntime) {
     for row in ADDS.trim().lines() {
-        let first = field(row, 0)?;
-        let before = field(row, 1)?;
-        let taken = field(row, 2)?;
-        let want = field(row, 3)?;
-        let after = field(row, 4)?;
-        let mut clock = clock_at(first.parse()?, stamp_of(before)?);
-        same(&rt, row, &clock.at(), &stamp_of(before)?);
-        same(&rt, row, &clock.on_add(stamp_of(taken)?), &answer_of(want)?);
-        same(&rt, row, &clock.at(), &stamp_of(after)?);
+        let first = field(&rt, row, 0);
+        let before = field(&rt, row, 1);
+        let taken = field(&rt, row, 2);
+        let want = field(&rt, row, 3);
+        let after = field(&rt, row, 4);
+        let mut clock = clock_at(first.parse().expect(&rt, "a number"), stamp_of(&rt, before));
+        same(&rt, row, &clock.at(), &stamp_of(&rt, before));
+        same(
+            &rt,
+            row,
+            &clock.on_add(stamp_of(&rt, taken)),
+            &answer_of(&rt, want),
+        );
+        same(&rt, row, &clock.at(), &stamp_of(&rt, after));
     }
-    Ok(())
 }
 
 // First epoch, clock, stamp, answer, clock after.
@@ -96,23 +103,22 @@ const EVICTS: &str = "
 ";
 
 #[test]
-fn evicts_set_the_stamp(rt: HostRuntime) -> Result<(), Fail> {
+fn evicts_set_the_stamp(rt: HostRuntime) {
     for row in EVICTS.trim().lines() {
-        let first = field(row, 0)?;
-        let before = field(row, 1)?;
-        let given = field(row, 2)?;
-        let want = field(row, 3)?;
-        let after = field(row, 4)?;
-        let mut clock = clock_at(first.parse()?, stamp_of(before)?);
+        let first = field(&rt, row, 0);
+        let before = field(&rt, row, 1);
+        let given = field(&rt, row, 2);
+        let want = field(&rt, row, 3);
+        let after = field(&rt, row, 4);
+        let mut clock = clock_at(first.parse().expect(&rt, "a number"), stamp_of(&rt, before));
         same(
             &rt,
             row,
-            &clock.on_evict(stamp_of(given)?),
-            &answer_of(want)?,
+            &clock.on_evict(stamp_of(&rt, given)),
+            &answer_of(&rt, want),
         );
-        same(&rt, row, &clock.at(), &stamp_of(after)?);
+        same(&rt, row, &clock.at(), &stamp_of(&rt, after));
     }
-    Ok(())
 }
 
 // First epoch, clock, the epoch that is sealed, clock after.
@@ -128,17 +134,16 @@ const TURNS: &str = "
 ";
 
 #[test]
-fn turns_seal_the_epoch_before(rt: HostRuntime) -> Result<(), Fail> {
+fn turns_seal_the_epoch_before(rt: HostRuntime) {
     for row in TURNS.trim().lines() {
-        let first = field(row, 0)?;
-        let before = field(row, 1)?;
-        let want = field(row, 2)?;
-        let after = field(row, 3)?;
-        let mut clock = clock_at(first.parse()?, stamp_of(before)?);
-        same(&rt, row, &clock.next_epoch(), &turn_of(want)?);
-        same(&rt, row, &clock.at(), &stamp_of(after)?);
+        let first = field(&rt, row, 0);
+        let before = field(&rt, row, 1);
+        let want = field(&rt, row, 2);
+        let after = field(&rt, row, 3);
+        let mut clock = clock_at(first.parse().expect(&rt, "a number"), stamp_of(&rt, before));
+        same(&rt, row, &clock.next_epoch(), &turn_of(&rt, want));
+        same(&rt, row, &clock.at(), &stamp_of(&rt, after));
     }
-    Ok(())
 }
 
 #[test]
@@ -178,25 +183,29 @@ const HEADERS: &str = "
 ";
 
 #[test]
-fn headers_have_ranges(rt: HostRuntime) -> Result<(), Fail> {
+fn headers_have_ranges(rt: HostRuntime) {
     for row in HEADERS.trim().lines() {
-        let verifiers = field(row, 0)?;
-        let cache = field(row, 1)?;
-        let end = field(row, 2)?;
-        let want = field(row, 3)?;
+        let verifiers = field(&rt, row, 0);
+        let cache = field(&rt, row, 1);
+        let end = field(&rt, row, 2);
+        let want = field(&rt, row, 3);
         let header = Header {
-            verifiers: verifiers.parse()?,
-            cache: cache.parse()?,
+            verifiers: verifiers.parse().expect(&rt, "a number"),
+            cache: cache.parse().expect(&rt, "a number"),
             first: LAST,
-            end: end.parse()?,
+            end: end.parse().expect(&rt, "a number"),
         };
-        same(&rt, row, &header.is_in_range(), &want.parse::<bool>()?);
+        same(
+            &rt,
+            row,
+            &header.is_in_range(),
+            &want.parse::<bool>().expect(&rt, "a number"),
+        );
     }
-    Ok(())
 }
 
 #[test]
-fn stamps_lie_by_epoch_then_counter(rt: HostRuntime) -> Result<(), Fail> {
+fn stamps_lie_by_epoch_then_counter(rt: HostRuntime) {
     let in_order = [
         stamp(0, 0),
         stamp(0, LAST),
@@ -209,5 +218,4 @@ fn stamps_lie_by_epoch_then_counter(rt: HostRuntime) -> Result<(), Fail> {
             same(&rt, "s.cmp(t)", &s.cmp(t), &i.cmp(&j));
         }
     }
-    Ok(())
 }

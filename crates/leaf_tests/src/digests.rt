@@ -2,25 +2,25 @@
 use crate::rows::{field, same, same_bytes};
 use record_hash::{Digests, ShaDigests, ToyDigests, hmac};
 use std::alloc::{AllocError, Global};
-use std::test::Fail;
+use std::process::Abort;
 use std::thread::{Threads, join};
 
 // The bytes that a field means: behind `0x` those of its digits, and behind these a `*` with how many times they
 // stand there; else those of its characters.
-fn bytes_of(alloc: Global, text: &str) -> Result<Vec<u8>, Fail> {
+fn bytes_of(rt: &impl Abort, alloc: Global, text: &str) -> Vec<u8> {
     let Some(spelled) = text.strip_prefix("0x") else {
-        return Ok(Vec::from_slice(alloc, text.as_bytes())?);
+        return Vec::from_slice(alloc, text.as_bytes()).expect(rt, "memory");
     };
     let (digits, times) = match spelled.split_once('*') {
-        Some((digits, times)) => (digits, times.parse::<u8>()?),
+        Some((digits, times)) => (digits, times.parse::<u8>().expect(rt, "a number")),
         None => (spelled, 1),
     };
-    let once = hex::decode(alloc, digits)?;
+    let once = hex::decode(alloc, digits).expect(rt, "memory");
     let mut bytes = Vec::new(alloc);
     for _ in 0..times {
-        bytes.extend_from_slice(&once)?;
+        bytes.extend_from_slice(&once).expect(rt, "memory");
     }
-    Ok(bytes)
+    bytes
 }
 
 // Lanes as text.
@@ -59,15 +59,16 @@ abc | ba7816bf8f01cfea414140de5dae2223b00361a396177a9cb410ff61f20015ad
 ";
 
 #[test]
-fn text_digests(rt: HostRuntime) -> Result<(), Fail> {
+fn text_digests(rt: HostRuntime) {
     let digests = ShaDigests::new(b"Jefe");
     for row in TEXT_DIGESTS.trim().lines() {
-        let text = field(row, 0)?;
-        let expected = field(row, 1)?;
-        let found = hex::encode(rt.alloc(), digests.text_digest(text.as_bytes()))?;
+        let text = field(&rt, row, 0);
+        let expected = field(&rt, row, 1);
+        let found = hex::encode(rt.alloc(), digests.text_digest(text.as_bytes())).expect(
+            &rt, "memory",
+        );
         same_bytes(&rt, row, found.as_bytes(), expected.as_bytes());
     }
-    Ok(())
 }
 
 // A key, a text, and their HMAC.
@@ -81,16 +82,18 @@ Jefe | what do ya want for nothing? | 5bdcc146bf60754e6a042426089575c75a003f089d
 ";
 
 #[test]
-fn hmacs_of_rfc_4231(rt: HostRuntime) -> Result<(), Fail> {
+fn hmacs_of_rfc_4231(rt: HostRuntime) {
     for row in HMACS.trim().lines() {
-        let key = field(row, 0)?;
-        let text = field(row, 1)?;
-        let expected = field(row, 2)?;
-        let (key, text) = (bytes_of(rt.alloc(), key)?, bytes_of(rt.alloc(), text)?);
-        let found = hex::encode(rt.alloc(), hmac(&key, &text))?;
+        let key = field(&rt, row, 0);
+        let text = field(&rt, row, 1);
+        let expected = field(&rt, row, 2);
+        let (key, text) = (
+            bytes_of(&rt, rt.alloc(), key),
+            bytes_of(&rt, rt.alloc(), text),
+        );
+        let found = hex::encode(rt.alloc(), hmac(&key, &text)).expect(&rt, "memory");
         same_bytes(&rt, row, found.as_bytes(), expected.as_bytes());
     }
-    Ok(())
 }
 
 // So many bytes of the message, their lanes, and their tag, under the key `Jefe`.
@@ -103,20 +106,21 @@ const LANES_AND_TAGS: &str = "
 ";
 
 #[test]
-fn lanes_and_tags(rt: HostRuntime) -> Result<(), Fail> {
+fn lanes_and_tags(rt: HostRuntime) {
     let digests = ShaDigests::new(b"Jefe");
     let message = message();
     for row in LANES_AND_TAGS.trim().lines() {
-        let length = field(row, 0)?;
-        let lanes = field(row, 1)?;
-        let tag = field(row, 2)?;
-        let text = message.get(..length.parse()?).ok_or("past 119 bytes")?;
-        let found = hex_of_lanes(rt.alloc(), digests.element_lanes(text))?;
+        let length = field(&rt, row, 0);
+        let lanes = field(&rt, row, 1);
+        let tag = field(&rt, row, 2);
+        let text = message
+            .get(..length.parse().expect(&rt, "a number"))
+            .expect(&rt, "past 119 bytes");
+        let found = hex_of_lanes(rt.alloc(), digests.element_lanes(text)).expect(&rt, "memory");
         same_bytes(&rt, length, found.as_bytes(), lanes.as_bytes());
-        let found = hex::encode(rt.alloc(), digests.tag(text))?;
+        let found = hex::encode(rt.alloc(), digests.tag(text)).expect(&rt, "memory");
         same_bytes(&rt, length, found.as_bytes(), tag.as_bytes());
     }
-    Ok(())
 }
 
 // A key, and the lanes of the message under it.
@@ -126,16 +130,15 @@ const LONG_KEYS: &str = "
 ";
 
 #[test]
-fn keys_of_a_block_and_longer(rt: HostRuntime) -> Result<(), Fail> {
+fn keys_of_a_block_and_longer(rt: HostRuntime) {
     for row in LONG_KEYS.trim().lines() {
-        let key = field(row, 0)?;
-        let expected = field(row, 1)?;
-        let key = bytes_of(rt.alloc(), key)?;
+        let key = field(&rt, row, 0);
+        let expected = field(&rt, row, 1);
+        let key = bytes_of(&rt, rt.alloc(), key);
         let lanes = ShaDigests::new(&key).element_lanes(&message());
-        let found = hex_of_lanes(rt.alloc(), lanes)?;
+        let found = hex_of_lanes(rt.alloc(), lanes).expect(&rt, "memory");
         same_bytes(&rt, row, found.as_bytes(), expected.as_bytes());
     }
-    Ok(())
 }
 
 #[test]
@@ -179,13 +182,12 @@ fn shared_between_threads(rt: HostRuntime) {
 }
 
 #[test]
-fn debug_hides_the_key(rt: HostRuntime) -> Result<(), Fail> {
-    let text = format!(in rt.alloc(); "{:?}", ShaDigests::new(b"Jefe"))?;
+fn debug_hides_the_key(rt: HostRuntime) {
+    let text = format!(in rt.alloc(); "{:?}", ShaDigests::new(b"Jefe")).expect(&rt, "memory");
     same_bytes(
         &rt,
         "text.as_str()",
         text.as_bytes(),
         "ShaDigests { ... }".as_bytes(),
     );
-    Ok(())
 }

@@ -6,11 +6,10 @@ use fv_outside::{
 };
 use std::fs;
 use std::fs::File;
-use std::test::Fail;
 
 #[test]
-fn memory_source_gives_pieces_and_fails_as_told(rt: HostRuntime) -> Result<(), Fail> {
-    let mut source = MemorySource::new(rt.alloc(), b"abcde", 2, &[1, 7])?;
+fn memory_source_gives_pieces_and_fails_as_told(rt: HostRuntime) {
+    let mut source = MemorySource::new(rt.alloc(), b"abcde", 2, &[1, 7]).expect(&rt, "memory");
     let mut room = [b'.'; 3];
     let runs = [
         (Ok(2), *b"ab."),
@@ -30,12 +29,11 @@ fn memory_source_gives_pieces_and_fails_as_told(rt: HostRuntime) -> Result<(), F
     }
     same(&rt, "source.faults()", &source.faults(), &1);
     same(&rt, "source.left().len()", &source.left().len(), &0);
-    Ok(())
 }
 
 #[test]
-fn sure_source_gives_all_it_has(rt: HostRuntime) -> Result<(), Fail> {
-    let mut source = SureSource::new(rt.alloc(), b"abc", 2)?;
+fn sure_source_gives_all_it_has(rt: HostRuntime) {
+    let mut source = SureSource::new(rt.alloc(), b"abc", 2).expect(&rt, "memory");
     let mut room = [b'.'; 4];
     same(
         &rt,
@@ -57,29 +55,27 @@ fn sure_source_gives_all_it_has(rt: HostRuntime) -> Result<(), Fail> {
         &Ok(0),
     );
     same(&rt, "room", &room, &*b"cb..");
-    Ok(())
 }
 
 #[test]
-fn memory_sink_takes_pieces_until_it_is_full(rt: HostRuntime) -> Result<(), Fail> {
-    let mut sink = MemorySink::new(rt.alloc(), 5, 2, &[1])?;
+fn memory_sink_takes_pieces_until_it_is_full(rt: HostRuntime) {
+    let mut sink = MemorySink::new(rt.alloc(), 5, 2, &[1]).expect(&rt, "memory");
     for answer in [Ok(2), Err(Failed), Ok(2), Ok(1), Err(Failed)] {
         same(&rt, "sink.write(b\"abc\")", &sink.write(b"abc"), &answer);
     }
     same_bytes(&rt, "sink.bytes()", sink.bytes(), b"ababa".as_slice());
     same(&rt, "sink.faults()", &sink.faults(), &2);
-    Ok(())
 }
 
 #[test]
-fn memory_vault_takes_a_name_that_fits(rt: HostRuntime) -> Result<(), Fail> {
+fn memory_vault_takes_a_name_that_fits(rt: HostRuntime) {
     let runs = [
         ("logs", 9, Ok(()), Some("logs")),
         ("logs2", 9, Err(Failed), None),
         ("logs", 0, Err(Failed), None),
     ];
     for (path, fails, answer, name) in runs {
-        let mut vault = MemoryVault::new(rt.alloc(), 4, 3, &[fails])?;
+        let mut vault = MemoryVault::new(rt.alloc(), 4, 3, &[fails]).expect(&rt, "memory");
         same(&rt, "vault.name(path)", &vault.name(path), &answer);
         same(&rt, "vault.name_taken()", &vault.name_taken(), &name);
         same(&rt, "vault.write(b\"abcd\")", &vault.write(b"abcd"), &Ok(3));
@@ -91,17 +87,16 @@ fn memory_vault_takes_a_name_that_fits(rt: HostRuntime) -> Result<(), Fail> {
             &u64::from(name.is_none()),
         );
     }
-    Ok(())
 }
 
 #[test]
-fn sure_sink_tells_no_bytes_past_its_capacity(rt: HostRuntime) -> Result<(), Fail> {
-    let mut sink = SureSink::new(rt.alloc(), 4, 2)?;
+fn sure_sink_tells_no_bytes_past_its_capacity(rt: HostRuntime) {
+    let mut sink = SureSink::new(rt.alloc(), 4, 2).expect(&rt, "memory");
     for held in [Some(b"ab".as_slice()), Some(b"abab".as_slice()), None, None] {
         same(&rt, "sink.write(b\"abc\")", &sink.write(b"abc"), &Ok(2));
         same(&rt, "sink.bytes()", &sink.bytes(), &held);
     }
-    let mut vault = SureVault::new(rt.alloc(), 3, 9)?;
+    let mut vault = SureVault::new(rt.alloc(), 3, 9).expect(&rt, "memory");
     same(&rt, "vault.name(\"logs\")", &vault.name("logs"), &Ok(()));
     same(&rt, "vault.is_named()", &vault.is_named(), &true);
     same(&rt, "vault.write(b\"abc\")", &vault.write(b"abc"), &Ok(3));
@@ -111,18 +106,17 @@ fn sure_sink_tells_no_bytes_past_its_capacity(rt: HostRuntime) -> Result<(), Fai
         &vault.bytes(),
         &Some(b"abc".as_slice()),
     );
-    Ok(())
 }
 
 #[test]
-fn write_all_writes_the_whole_text_or_a_front_of_it(rt: HostRuntime) -> Result<(), Fail> {
+fn write_all_writes_the_whole_text_or_a_front_of_it(rt: HostRuntime) {
     let runs = [
         (9, Ok(()), b"abcde".as_slice()),
         (2, Err(Failed), b"abcd".as_slice()),
         (0, Err(Failed), b"".as_slice()),
     ];
     for (fails, answer, held) in runs {
-        let mut sink = MemorySink::new(rt.alloc(), 8, 2, &[fails])?;
+        let mut sink = MemorySink::new(rt.alloc(), 8, 2, &[fails]).expect(&rt, "memory");
         same(
             &rt,
             "write_all(&mut sink, b\"abcde\")",
@@ -131,13 +125,12 @@ fn write_all_writes_the_whole_text_or_a_front_of_it(rt: HostRuntime) -> Result<(
         );
         same(&rt, "sink.bytes()", &sink.bytes(), &held);
     }
-    Ok(())
 }
 
 #[test]
-fn std_sink_writes_to_a_file(rt: HostRuntime) -> Result<(), Fail> {
+fn std_sink_writes_to_a_file(rt: HostRuntime) {
     let path = "leaf_tests_sink";
-    let mut sink = StdSink::new(File::create(&rt, path)?);
+    let mut sink = StdSink::new(File::create(&rt, path).expect(&rt, "memory"));
     same(
         &rt,
         "write_all(&mut sink, b\"abc\")",
@@ -147,11 +140,13 @@ fn std_sink_writes_to_a_file(rt: HostRuntime) -> Result<(), Fail> {
     same_bytes(
         &rt,
         "fs::read_to_string(&rt, path)?.as_str()",
-        fs::read_to_string(&rt, path)?.as_bytes(),
+        fs::read_to_string(&rt, path)
+            .expect(&rt, "memory")
+            .as_bytes(),
         "abc".as_bytes(),
     );
     // A file that was opened to be read takes nothing.
-    let mut sink = StdSink::new(File::open(&rt, path)?);
+    let mut sink = StdSink::new(File::open(&rt, path).expect(&rt, "memory"));
     same(
         &rt,
         "sink.write(b\"abc\")",
@@ -159,15 +154,14 @@ fn std_sink_writes_to_a_file(rt: HostRuntime) -> Result<(), Fail> {
         &Err(Failed),
     );
     same(&rt, "sink.faults()", &sink.faults(), &1);
-    fs::remove_file(&rt, path)?;
-    Ok(())
+    fs::remove_file(&rt, path).expect(&rt, "memory");
 }
 
 #[test]
-fn std_source_reads_a_file(rt: HostRuntime) -> Result<(), Fail> {
+fn std_source_reads_a_file(rt: HostRuntime) {
     let path = "leaf_tests_source";
-    fs::write(&rt, path, "abc")?;
-    let mut source = StdSource::new(File::open(&rt, path)?);
+    fs::write(&rt, path, "abc").expect(&rt, "memory");
+    let mut source = StdSource::new(File::open(&rt, path).expect(&rt, "memory"));
     let mut room = [b'.'; 4];
     for answer in [Ok(3), Ok(0)] {
         same(
@@ -179,7 +173,7 @@ fn std_source_reads_a_file(rt: HostRuntime) -> Result<(), Fail> {
     }
     same(&rt, "room", &room, &*b"abc.");
     // A file that was created to be written gives nothing.
-    let mut source = StdSource::new(File::create(&rt, path)?);
+    let mut source = StdSource::new(File::create(&rt, path).expect(&rt, "memory"));
     same(
         &rt,
         "source.read(&mut room)",
@@ -187,12 +181,11 @@ fn std_source_reads_a_file(rt: HostRuntime) -> Result<(), Fail> {
         &Err(Failed),
     );
     same(&rt, "source.faults()", &source.faults(), &1);
-    fs::remove_file(&rt, path)?;
-    Ok(())
+    fs::remove_file(&rt, path).expect(&rt, "memory");
 }
 
 #[test]
-fn file_vault_writes_to_the_file_that_it_is_named_by(rt: HostRuntime) -> Result<(), Fail> {
+fn file_vault_writes_to_the_file_that_it_is_named_by(rt: HostRuntime) {
     let path = "leaf_tests_vault";
     let mut vault = FileVault::new(&rt);
     same(&rt, "vault.name(path)", &vault.name(path), &Ok(()));
@@ -206,10 +199,12 @@ fn file_vault_writes_to_the_file_that_it_is_named_by(rt: HostRuntime) -> Result<
     same_bytes(
         &rt,
         "fs::read_to_string(&rt, path)?.as_str()",
-        fs::read_to_string(&rt, path)?.as_bytes(),
+        fs::read_to_string(&rt, path)
+            .expect(&rt, "memory")
+            .as_bytes(),
         "abc".as_bytes(),
     );
-    fs::remove_file(&rt, path)?;
+    fs::remove_file(&rt, path).expect(&rt, "memory");
     let mut unnamed = FileVault::new(&rt);
     same(
         &rt,
@@ -225,7 +220,6 @@ fn file_vault_writes_to_the_file_that_it_is_named_by(rt: HostRuntime) -> Result<
         &Err(Failed),
     );
     same(&rt, "nowhere.faults()", &nowhere.faults(), &1);
-    Ok(())
 }
 
 fn enter_twice<G: Gate + Sync>(gate: &G) {

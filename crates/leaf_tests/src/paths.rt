@@ -1,23 +1,23 @@
 //! Paths that were worked out by hand, as their bits are written. `-` is the path of no bits.
 use crate::rows::{field, same};
-use std::test::Fail;
+use std::process::Abort;
 use tree_keys::Path;
 
 // The path whose bits these are.
-fn path_of(bits: &str) -> Result<Path, Fail> {
+fn path_of(rt: &impl Abort, bits: &str) -> Path {
     let mut path = Path::root();
     for bit in bits.bytes() {
         if path.len() == 64 {
-            return Err("more bits than a path has")?;
+            panic!(rt; "more bits than a path has");
         }
         match bit {
             b'0' => path = path.child(false),
             b'1' => path = path.child(true),
             b'-' => {}
-            _ => return Err("a bit that is neither 0 nor 1")?,
+            _ => panic!(rt; "a bit that is neither 0 nor 1"),
         }
     }
-    Ok(path)
+    path
 }
 
 // Bits, length, word.
@@ -30,13 +30,16 @@ const WORDS: &str = "
 ";
 
 #[test]
-fn words_hold_their_bits_first(rt: HostRuntime) -> Result<(), Fail> {
+fn words_hold_their_bits_first(rt: HostRuntime) {
     for row in WORDS.trim().lines() {
-        let bits = field(row, 0)?;
-        let len = field(row, 1)?;
-        let word = field(row, 2)?;
-        let path = path_of(bits)?;
-        let (len, word) = (len.parse::<u8>()?, word.parse::<u64>()?);
+        let bits = field(&rt, row, 0);
+        let len = field(&rt, row, 1);
+        let word = field(&rt, row, 2);
+        let path = path_of(&rt, bits);
+        let (len, word) = (
+            len.parse::<u8>().expect(&rt, "a number"),
+            word.parse::<u64>().expect(&rt, "a number"),
+        );
         same(&rt, row, &path.len(), &len);
         same(&rt, row, &path.word(), &word);
         same(&rt, row, &Path::of_word(len, word), &Some(path));
@@ -55,7 +58,6 @@ fn words_hold_their_bits_first(rt: HostRuntime) -> Result<(), Fail> {
         &Some(5),
     );
     same(&rt, "Path::of_key(5).word()", &Path::of_key(5).word(), &5);
-    Ok(())
 }
 
 #[test]
@@ -92,25 +94,24 @@ const PAIRS: &str = "
 ";
 
 #[test]
-fn paths_lie_by_their_bits(rt: HostRuntime) -> Result<(), Fail> {
+fn paths_lie_by_their_bits(rt: HostRuntime) {
     for row in PAIRS.trim().lines() {
-        let upper = field(row, 0)?;
-        let lower = field(row, 1)?;
-        let side = field(row, 2)?;
-        let common = field(row, 3)?;
-        let (first, second) = (path_of(upper)?, path_of(lower)?);
+        let upper = field(&rt, row, 0);
+        let lower = field(&rt, row, 1);
+        let side = field(&rt, row, 2);
+        let common = field(&rt, row, 3);
+        let (first, second) = (path_of(&rt, upper), path_of(&rt, lower));
         let side = match side {
             "left" => Some(false),
             "right" => Some(true),
             "none" => None,
-            _ => return Err("a side of another name")?,
+            _ => panic!(rt; "a side of another name"),
         };
         same(&rt, row, &first.side(&second), &side);
         same(&rt, row, &second.is_below(&first), &side.is_some());
-        same(&rt, row, &first.common(&second), &path_of(common)?);
+        same(&rt, row, &first.common(&second), &path_of(&rt, common));
         same(&rt, row, &first.is_same(&second), &(upper == lower));
     }
-    Ok(())
 }
 
 #[test]

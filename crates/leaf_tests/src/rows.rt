@@ -1,14 +1,11 @@
 //! Tables as texts: a row is a line, with a bar between its fields.
 use std::fmt::Debug;
 use std::process::Abort;
-use std::test::Fail;
 
 /// The field of a row at this place, counted from 0.
-pub fn field(row: &str, place: usize) -> Result<&str, Fail> {
-    match row.split('|').nth(place) {
-        Some(text) => Ok(text.trim()),
-        None => Err("a row with too few fields")?,
-    }
+pub fn field<'a>(rt: &impl Abort, row: &'a str, place: usize) -> &'a str {
+    let text = row.split('|').nth(place);
+    text.expect(rt, "a row with too few fields").trim()
 }
 
 /// Two values are the same. Where they aren't, the test ends, and tells the row.

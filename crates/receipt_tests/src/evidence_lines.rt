@@ -2,7 +2,7 @@
 use receipt_lines::{BadLine, Evidence, read_evidence};
 use receipts::{read_certificate, read_receipt};
 use std::alloc::Global;
-use std::test::Fail;
+use std::process::Abort;
 
 // A receipt and a certificate with their tags.
 const RECEIPT: &str =
@@ -80,52 +80,56 @@ fn inner(digits: &str) -> &[u8] {
 }
 
 // The text that a row stands for.
-fn text_of(alloc: Global, row: &str) -> Result<Vec<u8>, Fail> {
+fn text_of(rt: &impl Abort, alloc: Global, row: &str) -> Vec<u8> {
     let mut text = Vec::new(alloc);
     for byte in row.as_bytes() {
         match *byte {
-            b'R' => text.extend_from_slice(RECEIPT.as_bytes())?,
-            b'C' => text.extend_from_slice(CERTIFICATE.as_bytes())?,
-            b'*' => text.extend_from_slice(inner(RECEIPT))?,
-            b'+' => text.extend_from_slice(inner(CERTIFICATE))?,
-            b'/' => text.push(b'\n')?,
-            b'_' => text.push(b' ')?,
-            b'^' => text.push(b'\r')?,
-            other => text.push(other)?,
+            b'R' => text
+                .extend_from_slice(RECEIPT.as_bytes())
+                .expect(rt, "memory"),
+            b'C' => text
+                .extend_from_slice(CERTIFICATE.as_bytes())
+                .expect(rt, "memory"),
+            b'*' => text.extend_from_slice(inner(RECEIPT)).expect(rt, "memory"),
+            b'+' => text
+                .extend_from_slice(inner(CERTIFICATE))
+                .expect(rt, "memory"),
+            b'/' => text.push(b'\n').expect(rt, "memory"),
+            b'_' => text.push(b' ').expect(rt, "memory"),
+            b'^' => text.push(b'\r').expect(rt, "memory"),
+            other => text.push(other).expect(rt, "memory"),
         }
     }
-    Ok(text)
+    text
 }
 
 // What a text was read as, as a row says it.
-fn told(alloc: Global, read: &Result<Evidence, BadLine>) -> Result<String, Fail> {
-    Ok(match read {
-        Ok(_) => format!(in alloc; "read")?,
+fn told(rt: &impl Abort, alloc: Global, read: &Result<Evidence, BadLine>) -> String {
+    match read {
+        Ok(_) => format!(in alloc; "read").expect(rt, "memory"),
         Err(bad) => {
             let (line, cause) = (bad.line, bad.cause.name());
-            format!(in alloc; "{line} {cause}")?
+            format!(in alloc; "{line} {cause}").expect(rt, "memory")
         }
-    })
+    }
 }
 
 #[test]
-fn the_first_line_that_is_none_is_named(rt: HostRuntime) -> Result<(), Fail> {
+fn the_first_line_that_is_none_is_named(rt: HostRuntime) {
     for row in TEXTS.trim().lines() {
-        let (outcome, text) = row.split_once('|').ok_or("a row with too few fields")?;
-        let read = read_evidence(&text_of(rt.alloc(), text.trim())?);
-        let found = told(rt.alloc(), &read)?;
+        let (outcome, text) = row.split_once('|').expect(&rt, "a row with too few fields");
+        let read = read_evidence(&text_of(&rt, rt.alloc(), text.trim()));
+        let found = told(&rt, rt.alloc(), &read);
         assert_eq!(rt; found.as_str(), outcome.trim(), "{row}");
     }
-    Ok(())
 }
 
 #[test]
-fn what_is_read_is_what_the_digits_say(rt: HostRuntime) -> Result<(), Fail> {
-    let text = text_of(rt.alloc(), "receipt_R/certificate_C/")?;
-    let read = read_evidence(&text).ok().ok_or("no evidence")?;
-    let receipt = hex::decode(rt.alloc(), RECEIPT)?;
-    let certificate = hex::decode(rt.alloc(), CERTIFICATE)?;
+fn what_is_read_is_what_the_digits_say(rt: HostRuntime) {
+    let text = text_of(&rt, rt.alloc(), "receipt_R/certificate_C/");
+    let read = read_evidence(&text).ok().expect(&rt, "no evidence");
+    let receipt = hex::decode(rt.alloc(), RECEIPT).expect(&rt, "memory");
+    let certificate = hex::decode(rt.alloc(), CERTIFICATE).expect(&rt, "memory");
     assert!(rt; Some(read.receipt) == read_receipt(&receipt));
     assert!(rt; Some(read.certificate) == read_certificate(&certificate));
-    Ok(())
 }

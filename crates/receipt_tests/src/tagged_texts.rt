@@ -3,19 +3,17 @@ use receipts::{Acceptance, accept, certificate, issue, read_certificate, read_re
 use record_hash::ShaDigests;
 use record_text::Operation;
 use std::alloc::Global;
-use std::test::Fail;
+use std::process::Abort;
 
 // The field of a row at this place, counted from 0.
-fn field(row: &str, place: usize) -> Result<&str, Fail> {
-    match row.split('|').nth(place) {
-        Some(text) => Ok(text.trim()),
-        None => Err("a row with too few fields")?,
-    }
+fn field<'a>(rt: &impl Abort, row: &'a str, place: usize) -> &'a str {
+    let text = row.split('|').nth(place);
+    text.expect(rt, "a row with too few fields").trim()
 }
 
 // The bytes that a field of a row spells.
-fn bytes_of(alloc: Global, row: &str, place: usize) -> Result<Vec<u8>, Fail> {
-    Ok(hex::decode(alloc, field(row, place)?)?)
+fn bytes_of(rt: &impl Abort, alloc: Global, row: &str, place: usize) -> Vec<u8> {
+    hex::decode(alloc, field(rt, row, place)).expect(rt, "memory")
 }
 
 // A key; a receipt and a certificate, each with its tag; and what they come to.
@@ -34,8 +32,8 @@ ee25028afd00aaf652588eae668e9028 | 010000000800000005000000000000000000150680000
 ";
 
 // An operation as a row says it: its stamp, its verifier, its index, its kind and its key.
-fn told(alloc: Global, acceptance: &Acceptance) -> Result<String, Fail> {
-    Ok(match acceptance {
+fn told(rt: &impl Abort, alloc: Global, acceptance: &Acceptance) -> String {
+    match acceptance {
         Acceptance::Accepted(operation) => {
             let Operation {
                 stamp,
@@ -47,52 +45,52 @@ fn told(alloc: Global, acceptance: &Acceptance) -> Result<String, Fail> {
             } = operation;
             let kind = if *put { "put" } else { "get" };
             let (epoch, counter) = (stamp.epoch, stamp.counter);
-            format!(in alloc; "{epoch}.{counter} v{verifier} {index} {kind} {key}")?
+            format!(in alloc; "{epoch}.{counter} v{verifier} {index} {kind} {key}").expect(
+                rt, "memory",
+            )
         }
-        Acceptance::NotTagged => format!(in alloc; "not tagged")?,
-        Acceptance::NotCertified => format!(in alloc; "not certified")?,
-    })
-}
-
-#[test]
-fn receipts_are_accepted_by_tag_and_epoch(rt: HostRuntime) -> Result<(), Fail> {
-    for row in ANSWERS.trim().lines() {
-        let digests = ShaDigests::new(&bytes_of(rt.alloc(), row, 0)?);
-        let receipt = bytes_of(rt.alloc(), row, 1)?;
-        let receipt = read_receipt(&receipt).ok_or("no receipt")?;
-        let certificate = bytes_of(rt.alloc(), row, 2)?;
-        let certificate = read_certificate(&certificate).ok_or("no certificate")?;
-        let found = told(rt.alloc(), &accept(&digests, &receipt, &certificate))?;
-        assert_eq!(rt; found.as_str(), field(row, 3)?, "{row}");
+        Acceptance::NotTagged => format!(in alloc; "not tagged").expect(rt, "memory"),
+        Acceptance::NotCertified => format!(in alloc; "not certified").expect(rt, "memory"),
     }
-    Ok(())
 }
 
 #[test]
-fn what_is_tagged_is_issued_so(rt: HostRuntime) -> Result<(), Fail> {
+fn receipts_are_accepted_by_tag_and_epoch(rt: HostRuntime) {
     for row in ANSWERS.trim().lines() {
-        if field(row, 3)? != "not tagged" {
-            let digests = ShaDigests::new(&bytes_of(rt.alloc(), row, 0)?);
-            let bytes = bytes_of(rt.alloc(), row, 1)?;
-            let read = read_receipt(&bytes).ok_or("no receipt")?;
+        let digests = ShaDigests::new(&bytes_of(&rt, rt.alloc(), row, 0));
+        let receipt = bytes_of(&rt, rt.alloc(), row, 1);
+        let receipt = read_receipt(&receipt).expect(&rt, "no receipt");
+        let certificate = bytes_of(&rt, rt.alloc(), row, 2);
+        let certificate = read_certificate(&certificate).expect(&rt, "no certificate");
+        let found = told(&rt, rt.alloc(), &accept(&digests, &receipt, &certificate));
+        assert_eq!(rt; found.as_str(), field(&rt, row, 3), "{row}");
+    }
+}
+
+#[test]
+fn what_is_tagged_is_issued_so(rt: HostRuntime) {
+    for row in ANSWERS.trim().lines() {
+        if field(&rt, row, 3) != "not tagged" {
+            let digests = ShaDigests::new(&bytes_of(&rt, rt.alloc(), row, 0));
+            let bytes = bytes_of(&rt, rt.alloc(), row, 1);
+            let read = read_receipt(&bytes).expect(&rt, "no receipt");
             let issued = issue(&digests, &read.operation);
             assert_eq!(rt; issued.as_slice(), bytes.as_slice(), "{row}");
-            let bytes = bytes_of(rt.alloc(), row, 2)?;
-            let read = read_certificate(&bytes).ok_or("no certificate")?;
+            let bytes = bytes_of(&rt, rt.alloc(), row, 2);
+            let read = read_certificate(&bytes).expect(&rt, "no certificate");
             let issued = certificate(&digests, read.first, read.last);
             assert_eq!(rt; issued.as_slice(), bytes.as_slice(), "{row}");
         }
     }
-    Ok(())
 }
 
 // The bytes with one bit changed.
-fn changed(alloc: Global, bytes: &[u8], bit: usize) -> Result<Vec<u8>, Fail> {
-    let mut changed = Vec::from_slice(alloc, bytes)?;
+fn changed(rt: &impl Abort, alloc: Global, bytes: &[u8], bit: usize) -> Vec<u8> {
+    let mut changed = Vec::from_slice(alloc, bytes).expect(rt, "memory");
     if let Some(byte) = changed.get_mut(bit / 8) {
         *byte ^= 1 << (bit % 8);
     }
-    Ok(changed)
+    changed
 }
 
 // Whether both are read and the receipt is accepted.
@@ -109,40 +107,38 @@ fn is_accepted(digests: &ShaDigests, receipt: &[u8], certificate: &[u8]) -> bool
 }
 
 #[test]
-fn no_bit_may_change(rt: HostRuntime) -> Result<(), Fail> {
+fn no_bit_may_change(rt: HostRuntime) {
     let alloc = rt.alloc();
-    let row = ANSWERS.trim().lines().next().ok_or("no row")?;
-    let digests = ShaDigests::new(&bytes_of(alloc, row, 0)?);
-    let receipt = bytes_of(alloc, row, 1)?;
-    let certificate = bytes_of(alloc, row, 2)?;
+    let row = ANSWERS.trim().lines().next().expect(&rt, "no row");
+    let digests = ShaDigests::new(&bytes_of(&rt, alloc, row, 0));
+    let receipt = bytes_of(&rt, alloc, row, 1);
+    let certificate = bytes_of(&rt, alloc, row, 2);
     assert!(rt; is_accepted(&digests, &receipt, &certificate));
     for bit in 0..8 * 64 {
         assert!(rt;
-            !is_accepted(&digests, &changed(alloc, &receipt, bit)?, &certificate),
+            !is_accepted(&digests, &changed(&rt, alloc, &receipt, bit), &certificate),
             "{bit}"
         );
     }
     for bit in 0..8 * 41 {
         assert!(rt;
-            !is_accepted(&digests, &receipt, &changed(alloc, &certificate, bit)?),
+            !is_accepted(&digests, &receipt, &changed(&rt, alloc, &certificate, bit)),
             "{bit}"
         );
     }
     let other = ShaDigests::new(b"another key");
     assert!(rt; !is_accepted(&other, &receipt, &certificate));
-    Ok(())
 }
 
 #[test]
-fn only_whole_texts_are_read(rt: HostRuntime) -> Result<(), Fail> {
-    let row = ANSWERS.trim().lines().next().ok_or("no row")?;
-    let mut receipt = bytes_of(rt.alloc(), row, 1)?;
-    let mut certificate = bytes_of(rt.alloc(), row, 2)?;
+fn only_whole_texts_are_read(rt: HostRuntime) {
+    let row = ANSWERS.trim().lines().next().expect(&rt, "no row");
+    let mut receipt = bytes_of(&rt, rt.alloc(), row, 1);
+    let mut certificate = bytes_of(&rt, rt.alloc(), row, 2);
     assert!(rt; read_receipt(&certificate).is_none());
     assert!(rt; read_certificate(&receipt).is_none());
-    receipt.push(0)?;
-    certificate.push(0)?;
+    receipt.push(0).expect(&rt, "memory");
+    certificate.push(0).expect(&rt, "memory");
     assert!(rt; read_receipt(&receipt).is_none());
     assert!(rt; read_certificate(&certificate).is_none());
-    Ok(())
 }

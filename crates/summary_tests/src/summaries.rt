@@ -5,14 +5,12 @@ use load_summary::Summary;
 use record_text::{Blob, Operation};
 use report_text::Status;
 use std::alloc::Global;
-use std::test::Fail;
+use std::process::Abort;
 
 // The field of a row at this place, counted from 0.
-fn field(row: &str, place: usize) -> Result<&str, Fail> {
-    match row.split('|').nth(place) {
-        Some(text) => Ok(text.trim()),
-        None => Err("a row with too few fields")?,
-    }
+fn field<'a>(rt: &impl Abort, row: &'a str, place: usize) -> &'a str {
+    let text = row.split('|').nth(place);
+    text.expect(rt, "a row with too few fields").trim()
 }
 
 // Seed, operations asked for, epochs, workers; the certified operations, each its worker, its kind and its value; the worker
@@ -27,15 +25,19 @@ const SUMMARIES: &str = "
 ";
 
 // An operation from its worker, its kind and its value.
-fn operation_of(text: &str) -> Result<Operation, Fail> {
+fn operation_of(rt: &impl Abort, text: &str) -> Operation {
     let mut words = text.split_whitespace();
-    let verifier = words.next().ok_or("no worker")?.parse()?;
-    let put = words.next().ok_or("no kind")? == "put";
-    let value = match words.next().ok_or("no value")? {
+    let verifier = words
+        .next()
+        .expect(rt, "no worker")
+        .parse()
+        .expect(rt, "a number");
+    let put = words.next().expect(rt, "no kind") == "put";
+    let value = match words.next().expect(rt, "no value") {
         "none" => Blob::none(),
-        value => Blob::of_bytes(value.as_bytes()).ok_or("long")?,
+        value => Blob::of_bytes(value.as_bytes()).expect(rt, "long"),
     };
-    Ok(Operation {
+    Operation {
         stamp: Stamp {
             epoch: 0,
             counter: 0,
@@ -45,100 +47,113 @@ fn operation_of(text: &str) -> Result<Operation, Fail> {
         put,
         key: 0,
         value,
-    })
+    }
 }
 
 // The operations of a row.
-fn operations_of(alloc: Global, text: &str) -> Result<Vec<Operation>, Fail> {
+fn operations_of(rt: &impl Abort, alloc: Global, text: &str) -> Vec<Operation> {
     let mut operations = Vec::new(alloc);
     for operation in text.split(',') {
         if !operation.trim().is_empty() {
-            operations.push(operation_of(operation)?)?;
+            operations
+                .push(operation_of(rt, operation))
+                .expect(rt, "memory");
         }
     }
-    Ok(operations)
+    operations
 }
 
 // How a run ended.
-fn status_of(text: &str) -> Result<Status, Fail> {
+fn status_of(rt: &impl Abort, text: &str) -> Status {
     if text == "done" {
-        return Ok(Status::Done { epochs: 1 });
+        return Status::Done { epochs: 1 };
     }
     let mut words = text.split_whitespace();
-    let worker = words.next().ok_or("no worker")?.parse()?;
-    let epoch = words.next().ok_or("no epoch")?.parse()?;
-    let counter = words.next().ok_or("no counter")?.parse()?;
-    Ok(Status::ClockEnd {
+    let worker = words
+        .next()
+        .expect(rt, "no worker")
+        .parse()
+        .expect(rt, "a number");
+    let epoch = words
+        .next()
+        .expect(rt, "no epoch")
+        .parse()
+        .expect(rt, "a number");
+    let counter = words
+        .next()
+        .expect(rt, "no counter")
+        .parse()
+        .expect(rt, "a number");
+    Status::ClockEnd {
         worker,
         at: Stamp { epoch, counter },
-    })
+    }
 }
 
 // The bytes of lines that are each ended by a semicolon.
-fn lines_of(alloc: Global, text: &str) -> Result<String, Fail> {
+fn lines_of(rt: &impl Abort, alloc: Global, text: &str) -> String {
     let mut lines = String::new(alloc);
     for line in text.trim().split_terminator(';') {
-        lines.push_str(line.trim())?;
-        lines.push('\n')?;
+        lines.push_str(line.trim()).expect(rt, "memory");
+        lines.push('\n').expect(rt, "memory");
     }
-    Ok(lines)
+    lines
 }
 
 // The summary of a row, when its operations are counted.
-fn summary_of(alloc: Global, row: &str) -> Result<Summary, Fail> {
-    let mut summary = Summary::new(alloc, field(row, 3)?.parse()?)?;
-    let operations = operations_of(alloc, field(row, 4)?)?;
-    summary.count(&operations)?;
-    Ok(summary)
+fn summary_of(rt: &impl Abort, alloc: Global, row: &str) -> Summary {
+    let mut summary = Summary::new(alloc, field(rt, row, 3).parse().expect(rt, "a number")).expect(
+        rt, "memory",
+    );
+    let operations = operations_of(rt, alloc, field(rt, row, 4));
+    summary.count(&operations).expect(rt, "memory");
+    summary
 }
 
 // Writes the summary of a row, and says whether the sink took it.
-fn is_written(alloc: Global, row: &str, sink: &mut MemorySink) -> Result<bool, Fail> {
-    let summary = summary_of(alloc, row)?;
-    let seed = field(row, 0)?.parse()?;
-    let ops = field(row, 1)?.parse()?;
-    let epochs = field(row, 2)?.parse()?;
-    let end = status_of(field(row, 5)?)?;
-    Ok(summary.write(seed, ops, epochs, &end, sink).is_ok())
+fn is_written(rt: &impl Abort, alloc: Global, row: &str, sink: &mut MemorySink) -> bool {
+    let summary = summary_of(rt, alloc, row);
+    let seed = field(rt, row, 0).parse().expect(rt, "a number");
+    let ops = field(rt, row, 1).parse().expect(rt, "a number");
+    let epochs = field(rt, row, 2).parse().expect(rt, "a number");
+    let end = status_of(rt, field(rt, row, 5));
+    summary.write(seed, ops, epochs, &end, sink).is_ok()
 }
 
 #[test]
-fn summaries_are_written_whole(rt: HostRuntime) -> Result<(), Fail> {
+fn summaries_are_written_whole(rt: HostRuntime) {
     for row in SUMMARIES.trim().lines() {
-        let mut sink = MemorySink::new(rt.alloc(), 1000, 7, &[])?;
-        assert!(rt; is_written(rt.alloc(), row, &mut sink)?, "{row}");
-        let lines = lines_of(rt.alloc(), field(row, 6)?)?;
+        let mut sink = MemorySink::new(rt.alloc(), 1000, 7, &[]).expect(&rt, "memory");
+        assert!(rt; is_written(&rt, rt.alloc(), row, &mut sink), "{row}");
+        let lines = lines_of(&rt, rt.alloc(), field(&rt, row, 6));
         assert_eq!(rt; sink.bytes(), lines.as_bytes(), "{row}");
     }
-    Ok(())
 }
 
 #[test]
-fn operations_are_counted_piece_by_piece(rt: HostRuntime) -> Result<(), Fail> {
-    let row = SUMMARIES.trim().lines().nth(2).ok_or("no row")?;
-    let operations = operations_of(rt.alloc(), field(row, 4)?)?;
-    let mut summary = Summary::new(rt.alloc(), 2)?;
+fn operations_are_counted_piece_by_piece(rt: HostRuntime) {
+    let row = SUMMARIES.trim().lines().nth(2).expect(&rt, "no row");
+    let operations = operations_of(&rt, rt.alloc(), field(&rt, row, 4));
+    let mut summary = Summary::new(rt.alloc(), 2).expect(&rt, "memory");
     for operation in operations {
-        summary.count(&[operation])?;
+        summary.count(&[operation]).expect(&rt, "memory");
     }
-    let mut sink = MemorySink::new(rt.alloc(), 1000, 1000, &[])?;
+    let mut sink = MemorySink::new(rt.alloc(), 1000, 1000, &[]).expect(&rt, "memory");
     let end = Status::Done { epochs: 1 };
     assert!(rt;
         summary
             .write(17397014451822862089, 7, 1, &end, &mut sink)
             .is_ok()
     );
-    let lines = lines_of(rt.alloc(), field(row, 6)?)?;
+    let lines = lines_of(&rt, rt.alloc(), field(&rt, row, 6));
     assert_eq!(rt; sink.bytes(), lines.as_bytes());
-    Ok(())
 }
 
 #[test]
-fn a_sink_that_fails_holds_a_front(rt: HostRuntime) -> Result<(), Fail> {
-    let row = SUMMARIES.trim().lines().next().ok_or("no row")?;
-    let mut sink = MemorySink::new(rt.alloc(), 1000, 5, &[3])?;
-    assert!(rt; !is_written(rt.alloc(), row, &mut sink)?);
+fn a_sink_that_fails_holds_a_front(rt: HostRuntime) {
+    let row = SUMMARIES.trim().lines().next().expect(&rt, "no row");
+    let mut sink = MemorySink::new(rt.alloc(), 1000, 5, &[3]).expect(&rt, "memory");
+    assert!(rt; !is_written(&rt, rt.alloc(), row, &mut sink));
     assert_eq!(rt; sink.bytes(), b"gen seed 0 ops ".as_slice());
     assert_eq!(rt; sink.faults(), 1);
-    Ok(())
 }

@@ -1,12 +1,12 @@
 //! Bundles that are read from a source, header and frame by frame.
-ghost use Rattle.std.specs.Prelude.{◌≡◌, ◌≢◌, true, Ok};
+ghost use Rattle.std.specs.Prelude.{◌≡◌, ◌≢◌, true};
 
 use crate::rows::{bytes_of, field, same, same_bytes};
 use bundle_frames::{BundleReader, FrameBuffer, Next, SourceStop};
 use fv_outside::MemorySource;
 use std::alloc::Global;
 use std::fmt::Write;
-use std::test::Fail;
+use std::process::Abort;
 
 // A header, a frame of three bytes, and one of two of another verifier.
 const TWO_FRAMES: &str = "
@@ -16,49 +16,49 @@ const TWO_FRAMES: &str = "
 ";
 
 // Writes what came, a frame with this body, and answers whether more may come.
-fn write_next(alloc: Global, words: &mut String, next: Next, body: &[u8]) -> Result<bool, Fail>
-    ensures more { result ≡ Ok true → next ≢ Next.End }
+fn write_next(rt: &impl Abort, alloc: Global, words: &mut String, next: Next, body: &[u8]) -> bool
+    ensures more { result ≡ true → next ≢ Next.End }
 {
     match next {
-        Next::Head(header) => write!(words, "head {}, ", header.verifiers)?,
+        Next::Head(header) => write!(words, "head {}, ", header.verifiers).expect(rt, "memory"),
         Next::Frame(verifier) => {
-            let digits = hex::encode(alloc, body)?;
-            write!(words, "{verifier}:{digits}, ")?;
+            let digits = hex::encode(alloc, body).expect(rt, "memory");
+            write!(words, "{verifier}:{digits}, ").expect(rt, "memory");
         }
-        Next::End => return Ok(false),
+        Next::End => return false,
     }
-    Ok(true)
+    true
 }
 
 // What comes of the source, in words, a frame with its body.
-fn words_of(alloc: Global, limit: u64, source: &mut MemorySource) -> Result<String, Fail> {
+fn words_of(rt: &impl Abort, alloc: Global, limit: u64, source: &mut MemorySource) -> String {
     let mut words = String::new(alloc);
     if limit > 1000 {
-        return Err("a high limit")?;
+        panic!(rt; "a high limit");
     }
-    let mut reader = BundleReader::new(alloc, limit)?;
+    let mut reader = BundleReader::new(alloc, limit).expect(rt, "memory");
     for _ in 0..9 {
         let next = match reader.next(source) {
             Ok(next) => next,
             Err(SourceStop::ReadFault) => {
-                words.push_str("fault")?;
-                return Ok(words);
+                words.push_str("fault").expect(rt, "memory");
+                return words;
             }
             Err(SourceStop::InputLimit) => {
-                words.push_str("limit")?;
-                return Ok(words);
+                words.push_str("limit").expect(rt, "memory");
+                return words;
             }
         };
-        let more = write_next(alloc, &mut words, next, reader.body())?;
+        let more = write_next(rt, alloc, &mut words, next, reader.body());
         if !more {
             match reader.bad() {
-                Some(offset) => write!(words, "bad {offset}")?,
-                None => words.push_str("end")?,
+                Some(offset) => write!(words, "bad {offset}").expect(rt, "memory"),
+                None => words.push_str("end").expect(rt, "memory"),
             }
-            return Ok(words);
+            return words;
         }
     }
-    Err("more came")?
+    panic!(rt; "more came")
 }
 
 // How many bytes of the bundle there are, the most that one read gives, which read fails, and the limit;
@@ -79,28 +79,42 @@ const SOURCES: &str = "
 ";
 
 #[test]
-fn a_source_is_read_up_to_its_end_or_to_a_stop(rt: HostRuntime) -> Result<(), Fail> {
-    let bundle = bytes_of(rt.alloc(), TWO_FRAMES)?;
+fn a_source_is_read_up_to_its_end_or_to_a_stop(rt: HostRuntime) {
+    let bundle = bytes_of(&rt, rt.alloc(), TWO_FRAMES);
     for row in SOURCES.trim().lines() {
-        let kept = field(row, 0)?;
-        let piece = field(row, 1)?;
-        let fails = field(row, 2)?;
-        let limit = field(row, 3)?;
-        let wanted = field(row, 4)?;
-        let left = field(row, 5)?;
-        let faults = field(row, 6)?;
+        let kept = field(&rt, row, 0);
+        let piece = field(&rt, row, 1);
+        let fails = field(&rt, row, 2);
+        let limit = field(&rt, row, 3);
+        let wanted = field(&rt, row, 4);
+        let left = field(&rt, row, 5);
+        let faults = field(&rt, row, 6);
         let bytes = bundle
-            .get(..kept.parse::<usize>()?)
-            .ok_or("a short bundle")?;
-        let piece = piece.parse::<usize>()?.max(1);
-        let fails = [fails.parse::<u64>()?];
-        let mut source = MemorySource::new(rt.alloc(), bytes, piece, &fails)?;
-        let words = words_of(rt.alloc(), limit.parse()?, &mut source)?;
+            .get(..kept.parse::<usize>().expect(&rt, "a number"))
+            .expect(&rt, "a short bundle");
+        let piece = piece.parse::<usize>().expect(&rt, "a number").max(1);
+        let fails = [fails.parse::<u64>().expect(&rt, "a number")];
+        let mut source = MemorySource::new(rt.alloc(), bytes, piece, &fails).expect(&rt, "memory");
+        let words = words_of(
+            &rt,
+            rt.alloc(),
+            limit.parse().expect(&rt, "a number"),
+            &mut source,
+        );
         same(&rt, row, &words.as_str(), &wanted);
-        same(&rt, row, &source.left().len(), &left.parse::<usize>()?);
-        same(&rt, row, &source.faults(), &faults.parse::<u64>()?);
+        same(
+            &rt,
+            row,
+            &source.left().len(),
+            &left.parse::<usize>().expect(&rt, "a number"),
+        );
+        same(
+            &rt,
+            row,
+            &source.faults(),
+            &faults.parse::<u64>().expect(&rt, "a number"),
+        );
     }
-    Ok(())
 }
 
 // What is bad behind the first frame, and where.
@@ -111,59 +125,67 @@ const BAD: &str = "
 ";
 
 #[test]
-fn nothing_comes_behind_what_is_bad(rt: HostRuntime) -> Result<(), Fail> {
-    let bundle = bytes_of(rt.alloc(), TWO_FRAMES)?;
+fn nothing_comes_behind_what_is_bad(rt: HostRuntime) {
+    let bundle = bytes_of(&rt, rt.alloc(), TWO_FRAMES);
     for row in BAD.trim().lines() {
-        let bad = field(row, 0)?;
-        let wanted = field(row, 1)?;
+        let bad = field(&rt, row, 0);
+        let wanted = field(&rt, row, 1);
         let mut bytes = Vec::new(rt.alloc());
-        bytes.extend_from_slice(bundle.get(..27).ok_or("a short bundle")?)?;
-        bytes.extend_from_slice(&bytes_of(rt.alloc(), bad)?)?;
+        bytes
+            .extend_from_slice(bundle.get(..27).expect(&rt, "a short bundle"))
+            .expect(&rt, "memory");
+        bytes
+            .extend_from_slice(&bytes_of(&rt, rt.alloc(), bad))
+            .expect(&rt, "memory");
         for piece in [1, 10, 1000] {
-            let mut source = MemorySource::new(rt.alloc(), &bytes, piece, &[])?;
-            let words = words_of(rt.alloc(), 1000, &mut source)?;
+            let mut source = MemorySource::new(rt.alloc(), &bytes, piece, &[]).expect(
+                &rt, "memory",
+            );
+            let words = words_of(&rt, rt.alloc(), 1000, &mut source);
             same(&rt, row, &words.as_str(), &wanted);
         }
     }
-    Ok(())
 }
 
 // The frames that come of a source, each from a buffer that it was handed over to.
 fn frames_of(
+    rt: &impl Abort,
     alloc: Global,
     source: &mut MemorySource,
     frames: &mut [FrameBuffer],
-) -> Result<usize, Fail> {
-    let mut reader = BundleReader::new(alloc, 1000)?;
+) -> usize {
+    let mut reader = BundleReader::new(alloc, 1000).expect(rt, "memory");
     let mut count = 0;
     for _ in 0..9 {
         match reader.next(source) {
             Ok(Next::Head(_)) => {}
             Ok(Next::Frame(_)) => {
-                let frame = frames.get_mut(count).ok_or("too many frames")?;
+                let frame = frames.get_mut(count).expect(rt, "too many frames");
                 reader.hand_over(frame);
                 if !reader.body().is_empty() {
-                    return Err("a body is left")?;
+                    panic!(rt; "a body is left");
                 }
                 count += 1;
             }
-            Ok(Next::End) => return Ok(count),
-            Err(_) => return Err("a stop")?,
+            Ok(Next::End) => return count,
+            Err(_) => panic!(rt; "a stop"),
         }
     }
-    Err("more came")?
+    panic!(rt; "more came")
 }
 
 #[test]
-fn frames_are_handed_over(rt: HostRuntime) -> Result<(), Fail> {
-    let bytes = bytes_of(rt.alloc(), TWO_FRAMES)?;
-    let mut frames = [FrameBuffer::new(rt.alloc())?, FrameBuffer::new(rt.alloc())?];
+fn frames_are_handed_over(rt: HostRuntime) {
+    let bytes = bytes_of(&rt, rt.alloc(), TWO_FRAMES);
+    let mut frames = [
+        FrameBuffer::new(rt.alloc()).expect(&rt, "memory"),
+        FrameBuffer::new(rt.alloc()).expect(&rt, "memory"),
+    ];
     for piece in [1000, 1] {
-        let mut source = MemorySource::new(rt.alloc(), &bytes, piece, &[])?;
-        let count = frames_of(rt.alloc(), &mut source, &mut frames)?;
+        let mut source = MemorySource::new(rt.alloc(), &bytes, piece, &[]).expect(&rt, "memory");
+        let count = frames_of(&rt, rt.alloc(), &mut source, &mut frames);
         same(&rt, "count", &count, &2);
         same_bytes(&rt, "first", frames[0].body(), b"\x01\x02\x03");
         same_bytes(&rt, "second", frames[1].body(), b"\x08\x08");
     }
-    Ok(())
 }

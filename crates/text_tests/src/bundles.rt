@@ -7,7 +7,7 @@ use bundle_frames::{Fed, Found, Splitter, WholeBundle, read_pieces, write_frame,
 use fv_outside::{Failed, MemorySink};
 use lamport_clocks::Header;
 use std::alloc::Global;
-use std::test::Fail;
+use std::process::Abort;
 use want_of_memory::Memory;
 
 // What a host of one verifier and two shards writes for an empty script: a header, and two frames.
@@ -65,77 +65,80 @@ fn cut(alloc: Global, bytes: &[u8], size: usize) -> Result<Vec<Vec<u8>>, Memory>
 }
 
 // The bundle that is read where its bytes come in pieces of a size.
-fn read(alloc: Global, bytes: &[u8], size: usize) -> Result<WholeBundle, Fail>
+fn read(rt: &impl Abort, alloc: Global, bytes: &[u8], size: usize) -> WholeBundle
     requires some { 0 < size }
 {
     if bytes.len() >= 1 << 20 {
-        return Err("a long bundle")?;
+        panic!(rt; "a long bundle");
     }
-    let pieces = cut(alloc, bytes, size)?;
-    Ok(read_pieces(alloc, &pieces)?)
+    let pieces = cut(alloc, bytes, size).expect(rt, "memory");
+    read_pieces(alloc, &pieces).expect(rt, "memory")
 }
 
 // The part of a text from one place up to another.
-fn part(bytes: &[u8], from: usize, to: usize) -> Result<&[u8], Fail>
-    ensures sized { IfOk result (λ part. from + length part.now ≡ to) }
+fn part<'a>(rt: &impl Abort, bytes: &'a [u8], from: usize, to: usize) -> &'a [u8]
+    ensures sized { from + length result.now ≡ to }
 {
-    Ok(bytes.get(from..to).ok_or("a short text")?)
+    bytes.get(from..to).expect(rt, "a short text")
 }
 
 #[test]
-fn bundles_are_read_however_they_are_cut(rt: HostRuntime) -> Result<(), Fail> {
-    let bytes = bytes_of(rt.alloc(), SETUP)?;
+fn bundles_are_read_however_they_are_cut(rt: HostRuntime) {
+    let bytes = bytes_of(&rt, rt.alloc(), SETUP);
     same(&rt, "bytes.len()", &bytes.len(), &208);
     let setup_header = Header {
         cache: 128,
         ..ONE_KEY_HEADER
     };
     for size in [208, 7, 1] {
-        let setup = read(rt.alloc(), &bytes, size)?;
+        let setup = read(&rt, rt.alloc(), &bytes, size);
         same(&rt, "setup.header", &setup.header, &Some(setup_header));
         same(&rt, "setup.bad", &setup.bad, &None);
         same(&rt, "setup.frames.len()", &setup.frames.len(), &2);
-        let first = setup.frames.first().ok_or("no first frame")?;
+        let first = setup.frames.first().expect(&rt, "no first frame");
         same(&rt, "first.verifier", &first.verifier, &0);
-        same_bytes(&rt, "first.body", &first.body, part(&bytes, 24, 120)?);
-        let second = setup.frames.last().ok_or("no last frame")?;
+        same_bytes(&rt, "first.body", &first.body, part(&rt, &bytes, 24, 120));
+        let second = setup.frames.last().expect(&rt, "no last frame");
         same(&rt, "second.verifier", &second.verifier, &0);
-        same_bytes(&rt, "second.body", &second.body, part(&bytes, 126, 208)?);
+        same_bytes(
+            &rt,
+            "second.body",
+            &second.body,
+            part(&rt, &bytes, 126, 208),
+        );
     }
-    Ok(())
 }
 
 #[test]
-fn a_bundle_of_one_frame_is_read_however_it_is_cut(rt: HostRuntime) -> Result<(), Fail> {
-    let bytes = bytes_of(rt.alloc(), ONE_KEY)?;
+fn a_bundle_of_one_frame_is_read_however_it_is_cut(rt: HostRuntime) {
+    let bytes = bytes_of(&rt, rt.alloc(), ONE_KEY);
     same(&rt, "bytes.len()", &bytes.len(), &116);
     for size in [208, 7, 1] {
-        let bundle = read(rt.alloc(), &bytes, size)?;
+        let bundle = read(&rt, rt.alloc(), &bytes, size);
         same(&rt, "bundle.header", &bundle.header, &Some(ONE_KEY_HEADER));
         same(&rt, "bundle.bad", &bundle.bad, &None);
         same(&rt, "bundle.frames.len()", &bundle.frames.len(), &1);
-        let frame = bundle.frames.first().ok_or("no frame")?;
-        same_bytes(&rt, "frame.body", &frame.body, part(&bytes, 24, 116)?);
+        let frame = bundle.frames.first().expect(&rt, "no frame");
+        same_bytes(&rt, "frame.body", &frame.body, part(&rt, &bytes, 24, 116));
     }
-    Ok(())
 }
 
 // Feeds the bytes up to the first answer, and then the rest.
-fn answers(alloc: Global, bytes: &[u8]) -> Result<(Fed, Fed, Option<u64>), Fail> {
+fn answers(rt: &impl Abort, alloc: Global, bytes: &[u8]) -> (Fed, Fed, Option<u64>) {
     if bytes.len() >= 1 << 20 {
-        return Err("a long bundle")?;
+        panic!(rt; "a long bundle");
     }
-    let mut splitter = Splitter::new(alloc)?;
+    let mut splitter = Splitter::new(alloc).expect(rt, "memory");
     let first = splitter.feed(bytes);
     let second = splitter.feed(&bytes[first.taken..]);
-    Ok((first, second, splitter.end()))
+    (first, second, splitter.end())
 }
 
 #[test]
-fn a_cut_is_where_the_header_or_frame_begins(rt: HostRuntime) -> Result<(), Fail> {
-    let bytes = bytes_of(rt.alloc(), ONE_KEY)?;
+fn a_cut_is_where_the_header_or_frame_begins(rt: HostRuntime) {
+    let bytes = bytes_of(&rt, rt.alloc(), ONE_KEY);
     for size in 0..117 {
-        let (_, _, end) = answers(rt.alloc(), part(&bytes, 0, size)?)?;
+        let (_, _, end) = answers(&rt, rt.alloc(), part(&rt, &bytes, 0, size));
         let wanted = match size {
             0..=17 => Some(0),
             18 | 116 => None,
@@ -143,7 +146,6 @@ fn a_cut_is_where_the_header_or_frame_begins(rt: HostRuntime) -> Result<(), Fail
         };
         same(&rt, "end", &end, &wanted);
     }
-    Ok(())
 }
 
 // The header in place of that of the bundle with one key, and why it is bad.
@@ -158,7 +160,7 @@ const BAD_HEADERS: &str = "
 ";
 
 #[test]
-fn headers_out_of_range_are_bad(rt: HostRuntime) -> Result<(), Fail> {
+fn headers_out_of_range_are_bad(rt: HostRuntime) {
     let at_once = Fed {
         taken: 18,
         found: Found::Bad(0),
@@ -167,20 +169,21 @@ fn headers_out_of_range_are_bad(rt: HostRuntime) -> Result<(), Fail> {
         taken: 0,
         found: Found::Bad(0),
     };
-    let bytes = bytes_of(rt.alloc(), ONE_KEY)?;
+    let bytes = bytes_of(&rt, rt.alloc(), ONE_KEY);
     for row in BAD_HEADERS.trim().lines() {
-        let header = field(row, 0)?;
-        let why = field(row, 1)?;
-        let mut bundle = bytes_of(rt.alloc(), header)?;
-        bundle.extend_from_slice(part(&bytes, 18, 116)?)?;
+        let header = field(&rt, row, 0);
+        let why = field(&rt, row, 1);
+        let mut bundle = bytes_of(&rt, rt.alloc(), header);
+        bundle
+            .extend_from_slice(part(&rt, &bytes, 18, 116))
+            .expect(&rt, "memory");
         same(
             &rt,
             why,
-            &answers(rt.alloc(), &bundle)?,
+            &answers(&rt, rt.alloc(), &bundle),
             &(at_once, for_good, Some(0)),
         );
     }
-    Ok(())
 }
 
 // A header, and its four numbers.
@@ -190,28 +193,27 @@ const GOOD_HEADERS: &str = "
 ";
 
 #[test]
-fn headers_at_the_ends_of_the_ranges_are_good(rt: HostRuntime) -> Result<(), Fail> {
+fn headers_at_the_ends_of_the_ranges_are_good(rt: HostRuntime) {
     for row in GOOD_HEADERS.trim().lines() {
-        let text = field(row, 0)?;
-        let verifiers = field(row, 1)?;
-        let cache = field(row, 2)?;
-        let first = field(row, 3)?;
-        let end = field(row, 4)?;
+        let text = field(&rt, row, 0);
+        let verifiers = field(&rt, row, 1);
+        let cache = field(&rt, row, 2);
+        let first = field(&rt, row, 3);
+        let end = field(&rt, row, 4);
         let header = Header {
-            verifiers: verifiers.parse()?,
-            cache: cache.parse()?,
-            first: first.parse()?,
-            end: end.parse()?,
+            verifiers: verifiers.parse().expect(&rt, "a number"),
+            cache: cache.parse().expect(&rt, "a number"),
+            first: first.parse().expect(&rt, "a number"),
+            end: end.parse().expect(&rt, "a number"),
         };
-        let (fed, _, bad) = answers(rt.alloc(), &bytes_of(rt.alloc(), text)?)?;
+        let (fed, _, bad) = answers(&rt, rt.alloc(), &bytes_of(&rt, rt.alloc(), text));
         same(&rt, row, &fed.found, &Found::Head(header));
         same(&rt, row, &bad, &None);
     }
-    Ok(())
 }
 
 #[test]
-fn frames_out_of_range_are_bad(rt: HostRuntime) -> Result<(), Fail> {
+fn frames_out_of_range_are_bad(rt: HostRuntime) {
     let heads = [
         (b"\x00\x01\x00\x00\x00\x01", "verifier 1 of 1"),
         (b"\x00\x00\x00\x00\x00\x00", "no bytes"),
@@ -225,37 +227,35 @@ fn frames_out_of_range_are_bad(rt: HostRuntime) -> Result<(), Fail> {
         taken: 0,
         found: Found::Bad(25),
     };
-    let bytes = bytes_of(rt.alloc(), ONE_KEY)?;
+    let bytes = bytes_of(&rt, rt.alloc(), ONE_KEY);
     for (head, why) in heads {
-        let mut splitter = Splitter::new(rt.alloc())?;
-        let _ = splitter.feed(part(&bytes, 0, 18)?);
+        let mut splitter = Splitter::new(rt.alloc()).expect(&rt, "memory");
+        let _ = splitter.feed(part(&rt, &bytes, 0, 18));
         let frame = splitter.feed(b"\x00\x00\x00\x00\x00\x01\x08");
         same(&rt, "frame.found", &frame.found, &Found::Frame(0));
         same(&rt, why, &splitter.feed(head), &at_once);
         same(&rt, why, &splitter.feed(head), &for_good);
         same(&rt, "splitter.end()", &splitter.end(), &Some(25));
     }
-    Ok(())
 }
 
 #[test]
-fn the_longest_frame_is_good(rt: HostRuntime) -> Result<(), Fail> {
-    let header = bytes_of(rt.alloc(), ONE_KEY)?;
-    let body = vec![in rt.alloc(); 7u8; 65_536]?;
-    let mut splitter = Splitter::new(rt.alloc())?;
-    let _ = splitter.feed(part(&header, 0, 18)?);
+fn the_longest_frame_is_good(rt: HostRuntime) {
+    let header = bytes_of(&rt, rt.alloc(), ONE_KEY);
+    let body = vec![in rt.alloc(); 7u8; 65_536].expect(&rt, "memory");
+    let mut splitter = Splitter::new(rt.alloc()).expect(&rt, "memory");
+    let _ = splitter.feed(part(&rt, &header, 0, 18));
     let _ = splitter.feed(b"\x00\x00\x00\x01\x00\x00");
     let fed = splitter.feed(&body);
     same(&rt, "fed.found", &fed.found, &Found::Frame(0));
     same_bytes(&rt, "splitter.body()", splitter.body(), body.as_slice());
-    Ok(())
 }
 
 #[test]
-fn bundles_are_written(rt: HostRuntime) -> Result<(), Fail> {
-    let bytes = bytes_of(rt.alloc(), ONE_KEY)?;
-    let body = part(&bytes, 24, 116)?;
-    let mut sink = MemorySink::new(rt.alloc(), 200, 10, &[])?;
+fn bundles_are_written(rt: HostRuntime) {
+    let bytes = bytes_of(&rt, rt.alloc(), ONE_KEY);
+    let body = part(&rt, &bytes, 24, 116);
+    let mut sink = MemorySink::new(rt.alloc(), 200, 10, &[]).expect(&rt, "memory");
     same(
         &rt,
         "write_header(&ONE_KEY_HEADER, &mut sink)",
@@ -270,7 +270,7 @@ fn bundles_are_written(rt: HostRuntime) -> Result<(), Fail> {
     );
     same_bytes(&rt, "sink.bytes()", sink.bytes(), bytes.as_slice());
 
-    let mut small = MemorySink::new(rt.alloc(), 30, 10, &[])?;
+    let mut small = MemorySink::new(rt.alloc(), 30, 10, &[]).expect(&rt, "memory");
     same(
         &rt,
         "write_header(&ONE_KEY_HEADER, &mut small)",
@@ -283,6 +283,10 @@ fn bundles_are_written(rt: HostRuntime) -> Result<(), Fail> {
         &write_frame(0, body, &mut small),
         &Err(Failed),
     );
-    same(&rt, "small.bytes()", &small.bytes(), &part(&bytes, 0, 30)?);
-    Ok(())
+    same(
+        &rt,
+        "small.bytes()",
+        &small.bytes(),
+        &part(&rt, &bytes, 0, 30),
+    );
 }

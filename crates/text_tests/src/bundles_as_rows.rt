@@ -1,6 +1,5 @@
 //! Rows of each form, and the bytes that they must be.
 use bundle_rows::{Case, RowFault, bundle_of, cases_of, log_of};
-use std::test::Fail;
 
 // Rows of each form of a bundle, with their bytes.
 const BUNDLE: &str = "\
@@ -32,15 +31,14 @@ const BUNDLE_BYTES: [&str; 12] = [
 ];
 
 #[test]
-fn bundles_are_written(rt: HostRuntime) -> Result<(), Fail> {
-    let bytes = bundle_of(rt.alloc(), BUNDLE)?;
+fn bundles_are_written(rt: HostRuntime) {
+    let bytes = bundle_of(rt.alloc(), BUNDLE).expect(&rt, "memory");
     let mut wanted = String::new(rt.alloc());
     for line in BUNDLE_BYTES {
-        wanted.push_str(line)?;
+        wanted.push_str(line).expect(&rt, "memory");
     }
-    let digits = hex::encode(rt.alloc(), bytes.as_slice())?;
+    let digits = hex::encode(rt.alloc(), bytes.as_slice()).expect(&rt, "memory");
     assert_eq!(rt; digits, wanted);
-    Ok(())
 }
 
 // Each form of a row of a log, with its bytes.
@@ -59,24 +57,23 @@ bytes 0aff: 0a ff
 ";
 
 #[test]
-fn rows_have_their_bytes(rt: HostRuntime) -> Result<(), Fail> {
+fn rows_have_their_bytes(rt: HostRuntime) {
     assert_eq!(rt; COMMANDS.lines().count(), 11);
     for line in COMMANDS.lines() {
-        let (row, bytes) = line.split_once(": ").ok_or("no bytes")?;
+        let (row, bytes) = line.split_once(": ").expect(&rt, "no bytes");
         let mut wanted = String::new(rt.alloc());
         for digits in bytes.split_whitespace() {
-            wanted.push_str(digits)?;
+            wanted.push_str(digits).expect(&rt, "memory");
         }
-        let log = log_of(rt.alloc(), row)?;
-        let digits = hex::encode(rt.alloc(), log.as_slice())?;
+        let log = log_of(rt.alloc(), row).expect(&rt, "memory");
+        let digits = hex::encode(rt.alloc(), log.as_slice()).expect(&rt, "memory");
         assert_eq!(rt; digits, wanted, "{row}");
     }
-    Ok(())
 }
 
 #[test]
-fn a_node_has_two_sides(rt: HostRuntime) -> Result<(), Fail> {
-    let log = log_of(rt.alloc(), "put root -,9223372036854775808?01c6")?;
+fn a_node_has_two_sides(rt: HostRuntime) {
+    let log = log_of(rt.alloc(), "put root -,9223372036854775808?01c6").expect(&rt, "memory");
     // the tag, the root, an empty side, then the tag of a deferred pointer, its path and its digest
     let mut wanted = [0; 53];
     wanted[0] = 7;
@@ -86,7 +83,6 @@ fn a_node_has_two_sides(rt: HostRuntime) -> Result<(), Fail> {
     wanted[51] = 1;
     wanted[52] = 198;
     assert_eq!(rt; log.as_slice(), wanted.as_slice());
-    Ok(())
 }
 
 // Rows that are none.
@@ -118,20 +114,19 @@ raw 0g
 ";
 
 #[test]
-fn bad_rows_are_named(rt: HostRuntime) -> Result<(), Fail> {
+fn bad_rows_are_named(rt: HostRuntime) {
     for row in BAD_ROWS.lines() {
         match bundle_of(rt.alloc(), row) {
             Err(fault) => assert_eq!(rt; fault, RowFault::BadRow(row)),
             Ok(_) => panic!(rt; "{row}"),
         }
     }
-    Ok(())
 }
 
 #[test]
-fn tables_are_read(rt: HostRuntime) -> Result<(), Fail> {
+fn tables_are_read(rt: HostRuntime) {
     let table = "== one\nnext\n-> 7\nab\ncd\n== two\n-> 0\n";
-    let cases = cases_of(rt.alloc(), table)?;
+    let cases = cases_of(rt.alloc(), table).expect(&rt, "memory");
     let one = Case {
         label: "one",
         rows: "next\n",
@@ -146,5 +141,4 @@ fn tables_are_read(rt: HostRuntime) -> Result<(), Fail> {
     };
     assert_eq!(rt; cases.as_slice(), [one, two].as_slice());
     assert!(rt; cases_of(rt.alloc(), "== one\nnext\n").is_err());
-    Ok(())
 }

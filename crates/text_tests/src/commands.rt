@@ -3,34 +3,27 @@ use crate::rows::{bytes_of, data_value, field, same, same_bytes, stamp};
 use log_codec::{Command, Decoded, LONGEST_COMMAND_TEXT, read, write};
 use record_text::{Blob, Node, Pointer, Value};
 use std::process::Abort;
-use std::test::Fail;
 use tree_keys::Path;
 
 // A command has this text, and is read from it, also where a byte follows, and from no front of it.
-fn assert_command(
-    rt: &impl Abort,
-    command: Command,
-    mut text: Vec<u8>,
-    row: &str,
-) -> Result<(), Fail> {
+fn assert_command(rt: &impl Abort, command: Command, mut text: Vec<u8>, row: &str) {
     let len = text.len();
     same_bytes(rt, row, write(&command).as_slice(), text.as_slice());
     for cut in 0..len {
         same(rt, row, &read(&text[..cut]), &Decoded::Truncated);
     }
     let whole = read(&text);
-    text.push(8)?;
+    text.push(8).expect(rt, "memory");
     same(rt, row, &read(&text), &whole);
     same(rt, row, &whole, &Decoded::Read(command, len));
-    Ok(())
 }
 
 // A command of a node by its name.
-fn command_at_a_node(name: &str) -> Result<Command, Fail> {
+fn command_at_a_node(rt: &impl Abort, name: &str) -> Command {
     let root = Path::root();
     let zero = root.child(false);
     let one = root.child(true);
-    Ok(match name {
+    match name {
         "addM 0 empty root" => Command::AddM {
             path: zero,
             value: Value::Node(Node::empty()),
@@ -52,8 +45,8 @@ fn command_at_a_node(name: &str) -> Result<Command, Fail> {
             stamp: stamp(1, 4),
         },
         "next" => Command::NextEpoch,
-        _ => return Err("a command of another name")?,
-    })
+        _ => panic!(rt; "a command of another name"),
+    }
 }
 
 const NODE_COMMANDS: &str = "
@@ -65,22 +58,21 @@ next | 08
 ";
 
 #[test]
-fn commands_of_nodes_have_a_tag_and_fields(rt: HostRuntime) -> Result<(), Fail> {
+fn commands_of_nodes_have_a_tag_and_fields(rt: HostRuntime) {
     for row in NODE_COMMANDS.trim().lines() {
-        let name = field(row, 0)?;
-        let text = field(row, 1)?;
-        let text = bytes_of(rt.alloc(), text)?;
-        assert_command(&rt, command_at_a_node(name)?, text, row)?;
+        let name = field(&rt, row, 0);
+        let text = field(&rt, row, 1);
+        let text = bytes_of(&rt, rt.alloc(), text);
+        assert_command(&rt, command_at_a_node(&rt, name), text, row);
     }
-    Ok(())
 }
 
 // A command of the key 5 by its name.
-fn command_at_a_key(name: &str) -> Result<Command, Fail> {
+fn command_at_a_key(rt: &impl Abort, name: &str) -> Command {
     let root = Path::root();
     let path = Path::of_key(5);
-    let value = data_value(b"ab")?;
-    Ok(match name {
+    let value = data_value(rt, b"ab");
+    match name {
         "addM 5 none root" => Command::AddM {
             path,
             value: Value::Blob(Blob::none()),
@@ -94,8 +86,8 @@ fn command_at_a_key(name: &str) -> Result<Command, Fail> {
             parent: root.child(false),
         },
         "get 5 6162" => Command::Get { path, value },
-        _ => return Err("a command of another name")?,
-    })
+        _ => panic!(rt; "a command of another name"),
+    }
 }
 
 const KEY_COMMANDS: &str = "
@@ -107,14 +99,13 @@ get 5 6162 | 06 40 0000000000000005 01 02 6162
 ";
 
 #[test]
-fn commands_of_keys_have_a_tag_and_fields(rt: HostRuntime) -> Result<(), Fail> {
+fn commands_of_keys_have_a_tag_and_fields(rt: HostRuntime) {
     for row in KEY_COMMANDS.trim().lines() {
-        let name = field(row, 0)?;
-        let text = field(row, 1)?;
-        let text = bytes_of(rt.alloc(), text)?;
-        assert_command(&rt, command_at_a_key(name)?, text, row)?;
+        let name = field(&rt, row, 0);
+        let text = field(&rt, row, 1);
+        let text = bytes_of(&rt, rt.alloc(), text);
+        assert_command(&rt, command_at_a_key(&rt, name), text, row);
     }
-    Ok(())
 }
 
 // A pointer to the path one bit longer than this one, on a side.
@@ -137,7 +128,7 @@ const LONGEST: &str = "
 ";
 
 #[test]
-fn the_longest_has_104_bytes(rt: HostRuntime) -> Result<(), Fail> {
+fn the_longest_has_104_bytes(rt: HostRuntime) {
     let path = Path::root().child(false);
     let node = Node::empty()
         .with_side(false, pointer_below(&path, false))
@@ -148,7 +139,7 @@ fn the_longest_has_104_bytes(rt: HostRuntime) -> Result<(), Fail> {
         stamp: stamp(0x0102_0304, 0x0506_0708),
         verifier: 0x090a,
     };
-    let text = bytes_of(rt.alloc(), LONGEST)?;
+    let text = bytes_of(&rt, rt.alloc(), LONGEST);
     same(&rt, "LONGEST_COMMAND_TEXT", &LONGEST_COMMAND_TEXT, &104);
     same(&rt, "text.len()", &text.len(), &104);
     assert_command(&rt, command, text, "the longest")
@@ -170,14 +161,15 @@ ff
 ";
 
 #[test]
-fn fields_are_malformed_where_they_stand(rt: HostRuntime) -> Result<(), Fail> {
+fn fields_are_malformed_where_they_stand(rt: HostRuntime) {
     for row in MALFORMED.trim().lines() {
-        let mut text = bytes_of(rt.alloc(), row)?;
+        let mut text = bytes_of(&rt, rt.alloc(), row);
         same(&rt, row, &read(&text), &Decoded::Malformed);
-        let front = text.get(..text.len().saturating_sub(1)).ok_or("short")?;
+        let front = text
+            .get(..text.len().saturating_sub(1))
+            .expect(&rt, "short");
         same(&rt, row, &read(front), &Decoded::Truncated);
-        text.extend_from_slice(&[0; 40])?;
+        text.extend_from_slice(&[0; 40]).expect(&rt, "memory");
         same(&rt, row, &read(&text), &Decoded::Malformed);
     }
-    Ok(())
 }

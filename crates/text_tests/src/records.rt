@@ -6,7 +6,6 @@ use record_text::{
     read_path, read_value, value_text,
 };
 use std::process::Abort;
-use std::test::Fail;
 use tree_keys::Path;
 
 const MALFORMED: TextFault = TextFault::Malformed;
@@ -30,21 +29,20 @@ root | 00 0000000000000000
 ";
 
 #[test]
-fn paths_have_nine_bytes(rt: HostRuntime) -> Result<(), Fail> {
+fn paths_have_nine_bytes(rt: HostRuntime) {
     for row in PATHS.trim().lines() {
-        let path = field(row, 0)?;
-        let text = field(row, 1)?;
-        let path = path_of(path)?;
-        let mut text = bytes_of(rt.alloc(), text)?;
+        let path = field(&rt, row, 0);
+        let text = field(&rt, row, 1);
+        let path = path_of(&rt, path);
+        let mut text = bytes_of(&rt, rt.alloc(), text);
         same_bytes(&rt, row, path_text(&path).as_slice(), text.as_slice());
         same(&rt, row, &read_path(&text), &Ok((path, 9)));
         for len in 0..text.len() {
             same(&rt, row, &read_path(&text[..len]), &Err(TRUNCATED));
         }
-        text.push(7)?;
+        text.push(7).expect(&rt, "memory");
         same(&rt, row, &read_path(&text), &Ok((path, 9)));
     }
-    Ok(())
 }
 
 // Unused bits that aren't 0, and lengths past 64.
@@ -57,33 +55,25 @@ ff 0000000000000000
 ";
 
 #[test]
-fn bytes_outside_are_no_path(rt: HostRuntime) -> Result<(), Fail> {
+fn bytes_outside_are_no_path(rt: HostRuntime) {
     for row in NO_PATHS.trim().lines() {
-        let text = bytes_of(rt.alloc(), row)?;
+        let text = bytes_of(&rt, rt.alloc(), row);
         same(&rt, row, &read_path(&text), &Err(MALFORMED));
-        let front = text.get(..8).ok_or("a short row")?;
+        let front = text.get(..8).expect(&rt, "a short row");
         same(&rt, row, &read_path(front), &Err(TRUNCATED));
     }
-    Ok(())
 }
 
 // A value has this text, and is read from it at its path, also where a byte follows, and from no front of it.
-fn assert_value(
-    rt: &impl Abort,
-    path: &Path,
-    value: &Value,
-    mut text: Vec<u8>,
-    row: &str,
-) -> Result<(), Fail> {
+fn assert_value(rt: &impl Abort, path: &Path, value: &Value, mut text: Vec<u8>, row: &str) {
     let len = text.len();
     same_bytes(rt, row, value_text(value).as_slice(), text.as_slice());
     same(rt, row, &read_value(path, &text), &Ok((value.copy(), len)));
     for cut in 0..len {
         same(rt, row, &read_value(path, &text[..cut]), &Err(TRUNCATED));
     }
-    text.push(7)?;
+    text.push(7).expect(rt, "memory");
     same(rt, row, &read_value(path, &text), &Ok((value.copy(), len)));
-    Ok(())
 }
 
 // The bytes of a data value, and its text.
@@ -94,21 +84,21 @@ const DATA_VALUES: &str = "
 ";
 
 #[test]
-fn data_values_have_a_flag_and_a_count(rt: HostRuntime) -> Result<(), Fail> {
+fn data_values_have_a_flag_and_a_count(rt: HostRuntime) {
     let key = Path::of_key(5);
     for row in DATA_VALUES.trim().lines() {
-        let bytes = field(row, 0)?;
-        let text = field(row, 1)?;
-        let value = data_value(&bytes_of(rt.alloc(), bytes)?)?;
-        assert_value(&rt, &key, &value, bytes_of(rt.alloc(), text)?, row)?;
+        let bytes = field(&rt, row, 0);
+        let text = field(&rt, row, 1);
+        let value = data_value(&rt, &bytes_of(&rt, rt.alloc(), bytes));
+        assert_value(&rt, &key, &value, bytes_of(&rt, rt.alloc(), text), row);
     }
     assert_value(
         &rt,
         &key,
         &initial(&key),
-        bytes_of(rt.alloc(), "00")?,
+        bytes_of(&rt, rt.alloc(), "00"),
         "none",
-    )?;
+    );
     same(
         &rt,
         "Blob::of_bytes(&[7; 65])",
@@ -127,28 +117,27 @@ fn data_values_have_a_flag_and_a_count(rt: HostRuntime) -> Result<(), Fail> {
         &read_value(&key, &[1, 65]),
         &Err(MALFORMED),
     );
-    Ok(())
 }
 
 // A node of the path 0, whose pointers lead to 00 and 011, by the sides on which it has one.
-fn node_of(sides: &str) -> Result<Node, Fail> {
+fn node_of(rt: &impl Abort, sides: &str) -> Node {
     let left = Some(Pointer {
-        path: path_of("00")?,
+        path: path_of(rt, "00"),
         digest: [0x11; 32],
         deferred: false,
     });
     let right = Some(Pointer {
-        path: path_of("011")?,
+        path: path_of(rt, "011"),
         digest: [0x22; 32],
         deferred: true,
     });
     let both = Node::empty().with_side(false, left).with_side(true, right);
-    Ok(match sides {
+    match sides {
         "left" => both.with_side(true, None),
         "right" => both.with_side(false, None),
         "both" => both,
-        _ => return Err("sides of another name")?,
-    })
+        _ => panic!(rt; "sides of another name"),
+    }
 }
 
 // The sides of a node, and its text.
@@ -159,24 +148,29 @@ right | 00 02 03 6000000000000000 2222222222222222222222222222222222222222222222
 ";
 
 #[test]
-fn nodes_have_two_pointers(rt: HostRuntime) -> Result<(), Fail> {
-    let path = path_of("0")?;
+fn nodes_have_two_pointers(rt: HostRuntime) {
+    let path = path_of(&rt, "0");
     for row in NODES.trim().lines() {
-        let sides = field(row, 0)?;
-        let text = field(row, 1)?;
-        let value = Value::Node(node_of(sides)?);
-        assert_value(&rt, &path, &value, bytes_of(rt.alloc(), text)?, row)?;
+        let sides = field(&rt, row, 0);
+        let text = field(&rt, row, 1);
+        let value = Value::Node(node_of(&rt, sides));
+        assert_value(&rt, &path, &value, bytes_of(&rt, rt.alloc(), text), row);
         same(&rt, row, &value.is_same(&initial(&path)), &false);
     }
     let empty = initial(&path);
-    assert_value(&rt, &path, &empty, bytes_of(rt.alloc(), "0000")?, "empty")?;
+    assert_value(
+        &rt,
+        &path,
+        &empty,
+        bytes_of(&rt, rt.alloc(), "0000"),
+        "empty",
+    );
     same(
         &rt,
         "empty.is_same(&initial(&path))",
         &empty.is_same(&initial(&path)),
         &true,
     );
-    Ok(())
 }
 
 // Behind the tag stand the paths 01, 0 and 1, none of which begins with 00, and no digest.
@@ -188,12 +182,12 @@ const ELSEWHERE: &str = "
 ";
 
 #[test]
-fn pointers_lead_below_their_side(rt: HostRuntime) -> Result<(), Fail> {
-    let node = path_of("0")?;
+fn pointers_lead_below_their_side(rt: HostRuntime) {
+    let node = path_of(&rt, "0");
     for row in ELSEWHERE.trim().lines() {
-        let text = bytes_of(rt.alloc(), row)?;
+        let text = bytes_of(&rt, rt.alloc(), row);
         same(&rt, row, &read_value(&node, &text), &Err(MALFORMED));
-        let front = text.get(..9).ok_or("a short row")?;
+        let front = text.get(..9).expect(&rt, "a short row");
         same(&rt, row, &read_value(&node, front), &Err(TRUNCATED));
     }
     same(
@@ -208,7 +202,6 @@ fn pointers_lead_below_their_side(rt: HostRuntime) -> Result<(), Fail> {
         &read_value(&node, &[0, 3]),
         &Err(MALFORMED),
     );
-    Ok(())
 }
 
 // An element of the path 0, by this verifier.
@@ -223,12 +216,13 @@ fn element_by(verifier: u16) -> Element {
 }
 
 #[test]
-fn elements_have_four_parts(rt: HostRuntime) -> Result<(), Fail> {
+fn elements_have_four_parts(rt: HostRuntime) {
     let element = element_by(0x0405);
     let mut text = bytes_of(
+        &rt,
         rt.alloc(),
         "01 0000000000000000 00 00 00000001 00000203 0405",
-    )?;
+    );
     same_bytes(
         &rt,
         "element_text(&element).as_slice()",
@@ -243,7 +237,7 @@ fn elements_have_four_parts(rt: HostRuntime) -> Result<(), Fail> {
             &Err(TRUNCATED),
         );
     }
-    text.push(7)?;
+    text.push(7).expect(&rt, "memory");
     same(
         &rt,
         "read_element(&text)",
@@ -251,5 +245,4 @@ fn elements_have_four_parts(rt: HostRuntime) -> Result<(), Fail> {
         &Ok((element_by(0x0405), 21)),
     );
     same(&rt, "element_by(3)", &(element_by(3) == element), &false);
-    Ok(())
 }

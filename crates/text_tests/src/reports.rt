@@ -10,7 +10,6 @@ use report_text::{
 };
 use std::alloc::Global;
 use std::process::Abort;
-use std::test::Fail;
 
 // A status that tells nothing but its name.
 fn plain_status(name: &str) -> Option<Status> {
@@ -56,10 +55,10 @@ fn status_with_numbers(name: &str) -> Option<Status> {
 }
 
 // The status of this name.
-fn status_of(name: &str) -> Result<Status, Fail> {
+fn status_of(rt: &impl Abort, name: &str) -> Status {
     match plain_status(name) {
-        Some(status) => Ok(status),
-        None => Ok(status_with_numbers(name).ok_or("a status of another name")?),
+        Some(status) => status,
+        None => status_with_numbers(name).expect(rt, "a status of another name"),
     }
 }
 
@@ -83,16 +82,20 @@ InputLimit | 14 | input limit
 ";
 
 #[test]
-fn each_status_has_its_number_and_text(rt: HostRuntime) -> Result<(), Fail> {
+fn each_status_has_its_number_and_text(rt: HostRuntime) {
     for row in STATUSES.trim().lines() {
-        let name = field(row, 0)?;
-        let number = field(row, 1)?;
-        let text = field(row, 2)?;
-        let status = status_of(name)?;
-        same(&rt, row, &status.number(), &number.parse::<u8>()?);
+        let name = field(&rt, row, 0);
+        let number = field(&rt, row, 1);
+        let text = field(&rt, row, 2);
+        let status = status_of(&rt, name);
+        same(
+            &rt,
+            row,
+            &status.number(),
+            &number.parse::<u8>().expect(&rt, "a number"),
+        );
         same_bytes(&rt, row, status.line().as_slice(), text.as_bytes());
     }
-    Ok(())
 }
 
 // Its epoch, counter, verifier, whether it is a put, and its key; its value in characters, or `none`.
@@ -103,47 +106,49 @@ const OPERATIONS: &str = "
 ";
 
 // The operation of a row.
-fn operation_of(row: &str) -> Result<Operation, Fail> {
-    let epoch = field(row, 0)?;
-    let counter = field(row, 1)?;
-    let verifier = field(row, 2)?;
-    let put = field(row, 3)?;
-    let key = field(row, 4)?;
-    let value = field(row, 5)?;
+fn operation_of(rt: &impl Abort, row: &str) -> Operation {
+    let epoch = field(rt, row, 0);
+    let counter = field(rt, row, 1);
+    let verifier = field(rt, row, 2);
+    let put = field(rt, row, 3);
+    let key = field(rt, row, 4);
+    let value = field(rt, row, 5);
     let value = match value {
         "none" => Blob::none(),
-        _ => Blob::of_bytes(value.as_bytes()).ok_or("long")?,
+        _ => Blob::of_bytes(value.as_bytes()).expect(rt, "long"),
     };
-    Ok(Operation {
-        stamp: stamp(epoch.parse()?, counter.parse()?),
-        verifier: verifier.parse()?,
+    Operation {
+        stamp: stamp(
+            epoch.parse().expect(rt, "a number"),
+            counter.parse().expect(rt, "a number"),
+        ),
+        verifier: verifier.parse().expect(rt, "a number"),
         index: 9,
-        put: put.parse()?,
-        key: key.parse()?,
+        put: put.parse().expect(rt, "a number"),
+        key: key.parse().expect(rt, "a number"),
         value,
-    })
+    }
 }
 
 #[test]
-fn lines_are_written_whole(rt: HostRuntime) -> Result<(), Fail> {
-    let mut sink = MemorySink::new(rt.alloc(), 1000, 7, &[])?;
-    write_epoch(0, 2, &mut sink).ok().ok_or("head")?;
+fn lines_are_written_whole(rt: HostRuntime) {
+    let mut sink = MemorySink::new(rt.alloc(), 1000, 7, &[]).expect(&rt, "memory");
+    write_epoch(0, 2, &mut sink).ok().expect(&rt, "head");
     for row in OPERATIONS.trim().lines() {
-        let op = operation_of(row)?;
-        write_operation(&op, &mut sink).ok().ok_or("line")?;
+        let op = operation_of(&rt, row);
+        write_operation(&op, &mut sink).ok().expect(&rt, "line");
     }
     write_last(&Status::Done { epochs: 1 }, &mut sink)
         .ok()
-        .ok_or("last")?;
+        .expect(&rt, "last");
     let text =
         "epoch 0 certified 2\n0.0 v0 put 5 6162\n4294967295.16777215 v63 get 18446744073709551615 none\n1.2 v3 put 0 .\ndone 1\n";
     same_bytes(&rt, "sink.bytes()", sink.bytes(), text.as_bytes());
-    Ok(())
 }
 
 #[test]
-fn a_sink_that_fails_holds_a_front(rt: HostRuntime) -> Result<(), Fail> {
-    let mut sink = MemorySink::new(rt.alloc(), 1000, 1, &[3])?;
+fn a_sink_that_fails_holds_a_front(rt: HostRuntime) {
+    let mut sink = MemorySink::new(rt.alloc(), 1000, 1, &[3]).expect(&rt, "memory");
     same(
         &rt,
         "write_last(&Status::Done { epochs: 1 }, &mut sink).is_err()",
@@ -152,16 +157,15 @@ fn a_sink_that_fails_holds_a_front(rt: HostRuntime) -> Result<(), Fail> {
     );
     same_bytes(&rt, "sink.bytes()", sink.bytes(), b"don".as_slice());
     same(&rt, "sink.faults()", &sink.faults(), &1);
-    Ok(())
 }
 
 #[test]
-fn pages_are_written_when_full(rt: HostRuntime) -> Result<(), Fail> {
-    let mut sink = MemorySink::new(rt.alloc(), 20000, 5000, &[])?;
+fn pages_are_written_when_full(rt: HostRuntime) {
+    let mut sink = MemorySink::new(rt.alloc(), 20000, 5000, &[]).expect(&rt, "memory");
     let mut page = Page::new();
     let line = [b'x'; 100];
     for _ in 0..100 {
-        page.write(&line, &mut sink).ok().ok_or("write")?;
+        page.write(&line, &mut sink).ok().expect(&rt, "write");
     }
     same(
         &rt,
@@ -169,99 +173,95 @@ fn pages_are_written_when_full(rt: HostRuntime) -> Result<(), Fail> {
         &sink.bytes().len(),
         &(PAGE_ROOM / 100 * 100),
     );
-    page.flush(&mut sink).ok().ok_or("flush")?;
+    page.flush(&mut sink).ok().expect(&rt, "flush");
     same(&rt, "sink.bytes().len()", &sink.bytes().len(), &10000);
-    Ok(())
 }
 
 // The element of key 5 with this data value so many times.
-fn elements_of(alloc: Global, bytes: &[u8], count: usize) -> Result<Elements, Fail> {
+fn elements_of(rt: &impl Abort, alloc: Global, bytes: &[u8], count: usize) -> Elements {
     let mut items = Vec::new(alloc);
     for _ in 0..count {
-        items.push(Element {
-            path: path_of("#5")?,
-            value: data_value(bytes)?,
-            stamp: stamp(0, 1),
-            verifier: 0,
-        })?;
+        items
+            .push(Element {
+                path: path_of(rt, "#5"),
+                value: data_value(rt, bytes),
+                stamp: stamp(0, 1),
+                verifier: 0,
+            })
+            .expect(rt, "memory");
     }
-    Ok(Elements::of(items))
+    Elements::of(items)
 }
 
 // The value of the path 0, with pointers to the paths 00 and 011: the second has this byte as its digest.
-fn node_of(byte: u8) -> Result<Value, Fail> {
+fn node_of(rt: &impl Abort, byte: u8) -> Value {
     let left = Pointer {
-        path: path_of("00")?,
+        path: path_of(rt, "00"),
         digest: [0x11; 32],
         deferred: false,
     };
     let right = Pointer {
-        path: path_of("011")?,
+        path: path_of(rt, "011"),
         digest: [byte; 32],
         deferred: true,
     };
-    Ok(Value::Node(Node {
+    Value::Node(Node {
         side0: Some(left),
         side1: Some(right),
-    }))
-}
-
-// The longest element.
-fn node_element(alloc: Global) -> Result<Elements, Fail> {
-    let mut items = Vec::new(alloc);
-    items.push(Element {
-        path: path_of("0")?,
-        value: node_of(0x22)?,
-        stamp: stamp(4294967295, 16777215),
-        verifier: 63,
-    })?;
-    Ok(Elements::of(items))
-}
-
-// What an audit shows that found two strings.
-fn strings_of(name: &str) -> Result<Exhibit, Fail> {
-    let (evicted, added) = match name {
-        "data values" => (data_value(b"ab")?, data_value(b"ba")?),
-        "nodes" => (node_of(0x22)?, node_of(0x33)?),
-        _ => return Err("strings of another name")?,
-    };
-    Ok(Exhibit::Strings(ValueText::of(&evicted), ValueText::of(&added)))
-}
-
-// What an audit shows that found two multisets.
-fn multisets_of(alloc: Global, name: &str) -> Result<Exhibit, Fail> {
-    let none = elements_of(alloc, b"", 0)?;
-    Ok(match name {
-        "one of each" => Exhibit::Multisets(
-            0,
-            elements_of(alloc, b"ba", 1)?,
-            elements_of(alloc, b"ab", 1)?,
-        ),
-        "the longest" => Exhibit::Multisets(4294967295, none, node_element(alloc)?),
-        "many added" => Exhibit::Multisets(3, elements_of(alloc, b"ba", 200)?, none),
-        _ => return Err("multisets of another name")?,
     })
 }
 
+// The longest element.
+fn node_element(rt: &impl Abort, alloc: Global) -> Elements {
+    let mut items = Vec::new(alloc);
+    items
+        .push(Element {
+            path: path_of(rt, "0"),
+            value: node_of(rt, 0x22),
+            stamp: stamp(4294967295, 16777215),
+            verifier: 63,
+        })
+        .expect(rt, "memory");
+    Elements::of(items)
+}
+
+// What an audit shows that found two strings.
+fn strings_of(rt: &impl Abort, name: &str) -> Exhibit {
+    let (evicted, added) = match name {
+        "data values" => (data_value(rt, b"ab"), data_value(rt, b"ba")),
+        "nodes" => (node_of(rt, 0x22), node_of(rt, 0x33)),
+        _ => panic!(rt; "strings of another name"),
+    };
+    Exhibit::Strings(ValueText::of(&evicted), ValueText::of(&added))
+}
+
+// What an audit shows that found two multisets.
+fn multisets_of(rt: &impl Abort, alloc: Global, name: &str) -> Exhibit {
+    let none = elements_of(rt, alloc, b"", 0);
+    match name {
+        "one of each" => Exhibit::Multisets(
+            0,
+            elements_of(rt, alloc, b"ba", 1),
+            elements_of(rt, alloc, b"ab", 1),
+        ),
+        "the longest" => Exhibit::Multisets(4294967295, none, node_element(rt, alloc)),
+        "many added" => Exhibit::Multisets(3, elements_of(rt, alloc, b"ba", 200), none),
+        _ => panic!(rt; "multisets of another name"),
+    }
+}
+
 // What is written of an exhibit over so many epochs.
-fn assert_shown(
-    rt: &impl Abort,
-    alloc: Global,
-    exhibit: &Exhibit,
-    epochs: u64,
-    text: &str,
-) -> Result<(), Fail> {
-    let mut sink = MemorySink::new(alloc, 1000, 7, &[])?;
+fn assert_shown(rt: &impl Abort, alloc: Global, exhibit: &Exhibit, epochs: u64, text: &str) {
+    let mut sink = MemorySink::new(alloc, 1000, 7, &[]).expect(rt, "memory");
     write_exhibit(exhibit, epochs, &mut sink)
         .ok()
-        .ok_or("write")?;
+        .expect(rt, "write");
     same_bytes(rt, text, sink.bytes(), text.as_bytes());
-    Ok(())
 }
 
 #[test]
-fn nothing_to_show_has_its_text(rt: HostRuntime) -> Result<(), Fail> {
-    assert_shown(&rt, rt.alloc(), &Exhibit::Clean, 0, "clean 0\n")?;
+fn nothing_to_show_has_its_text(rt: HostRuntime) {
+    assert_shown(&rt, rt.alloc(), &Exhibit::Clean, 0, "clean 0\n");
     assert_shown(&rt, rt.alloc(), &Exhibit::Clean, 1, "clean 1\n")
 }
 
@@ -271,10 +271,10 @@ const TWO_NODES: &str =
     "strings 010200000000000000001111111111111111111111111111111111111111111111111111111111111111020360000000000000002222222222222222222222222222222222222222222222222222222222222222 010200000000000000001111111111111111111111111111111111111111111111111111111111111111020360000000000000003333333333333333333333333333333333333333333333333333333333333333\n";
 
 #[test]
-fn strings_have_their_text(rt: HostRuntime) -> Result<(), Fail> {
-    let values = strings_of("data values")?;
-    assert_shown(&rt, rt.alloc(), &values, 7, TWO_DATA_VALUES)?;
-    assert_shown(&rt, rt.alloc(), &strings_of("nodes")?, 7, TWO_NODES)
+fn strings_have_their_text(rt: HostRuntime) {
+    let values = strings_of(&rt, "data values");
+    assert_shown(&rt, rt.alloc(), &values, 7, TWO_DATA_VALUES);
+    assert_shown(&rt, rt.alloc(), &strings_of(&rt, "nodes"), 7, TWO_NODES)
 }
 
 const ONE_OF_EACH: &str =
@@ -284,10 +284,10 @@ const THE_LONGEST: &str =
     "multisets 4294967295\nevicted 010000000000000000010200000000000000001111111111111111111111111111111111111111111111111111111111111111020360000000000000002222222222222222222222222222222222222222222222222222222222222222ffffffff00ffffff003f\n";
 
 #[test]
-fn multisets_have_their_text(rt: HostRuntime) -> Result<(), Fail> {
-    let each = multisets_of(rt.alloc(), "one of each")?;
-    assert_shown(&rt, rt.alloc(), &each, 7, ONE_OF_EACH)?;
-    let longest = multisets_of(rt.alloc(), "the longest")?;
+fn multisets_have_their_text(rt: HostRuntime) {
+    let each = multisets_of(&rt, rt.alloc(), "one of each");
+    assert_shown(&rt, rt.alloc(), &each, 7, ONE_OF_EACH);
+    let longest = multisets_of(&rt, rt.alloc(), "the longest");
     assert_shown(&rt, rt.alloc(), &longest, 7, THE_LONGEST)
 }
 
@@ -304,20 +304,24 @@ fn assert_added(rt: &impl Abort, lines: &[u8]) {
 }
 
 #[test]
-fn long_exhibits_are_written_by_pages(rt: HostRuntime) -> Result<(), Fail> {
-    let exhibit = multisets_of(rt.alloc(), "many added")?;
-    let mut sink = MemorySink::new(rt.alloc(), 20000, 20000, &[])?;
-    write_exhibit(&exhibit, 7, &mut sink).ok().ok_or("write")?;
-    let lines = sink.bytes().strip_prefix(b"multisets 3\n").ok_or("head")?;
+fn long_exhibits_are_written_by_pages(rt: HostRuntime) {
+    let exhibit = multisets_of(&rt, rt.alloc(), "many added");
+    let mut sink = MemorySink::new(rt.alloc(), 20000, 20000, &[]).expect(&rt, "memory");
+    write_exhibit(&exhibit, 7, &mut sink)
+        .ok()
+        .expect(&rt, "write");
+    let lines = sink
+        .bytes()
+        .strip_prefix(b"multisets 3\n")
+        .expect(&rt, "head");
     same(&rt, "lines.len()", &lines.len(), &(200 * 53));
     assert_added(&rt, lines);
-    Ok(())
 }
 
 #[test]
-fn a_sink_that_fails_at_its_second_write_holds_a_page(rt: HostRuntime) -> Result<(), Fail> {
-    let exhibit = multisets_of(rt.alloc(), "many added")?;
-    let mut sink = MemorySink::new(rt.alloc(), 20000, 20000, &[1])?;
+fn a_sink_that_fails_at_its_second_write_holds_a_page(rt: HostRuntime) {
+    let exhibit = multisets_of(&rt, rt.alloc(), "many added");
+    let mut sink = MemorySink::new(rt.alloc(), 20000, 20000, &[1]).expect(&rt, "memory");
     same(
         &rt,
         "write_exhibit(&exhibit, 7, &mut sink).is_err()",
@@ -326,8 +330,10 @@ fn a_sink_that_fails_at_its_second_write_holds_a_page(rt: HostRuntime) -> Result
     );
     same(&rt, "sink.faults()", &sink.faults(), &1);
     // the head line and 154 lines of 53 bytes are on the first page
-    let lines = sink.bytes().strip_prefix(b"multisets 3\n").ok_or("head")?;
+    let lines = sink
+        .bytes()
+        .strip_prefix(b"multisets 3\n")
+        .expect(&rt, "head");
     same(&rt, "lines.len()", &lines.len(), &(154 * 53));
     assert_added(&rt, lines);
-    Ok(())
 }

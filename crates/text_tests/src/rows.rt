@@ -4,50 +4,47 @@ use record_text::{Blob, Value};
 use std::alloc::Global;
 use std::fmt::Debug;
 use std::process::Abort;
-use std::test::Fail;
 use tree_keys::Path;
 
 /// The field of a row at this place, counted from 0.
-pub fn field(row: &str, place: usize) -> Result<&str, Fail> {
-    match row.split('|').nth(place) {
-        Some(text) => Ok(text.trim()),
-        None => Err("a row with too few fields")?,
-    }
+pub fn field<'a>(rt: &impl Abort, row: &'a str, place: usize) -> &'a str {
+    let text = row.split('|').nth(place);
+    text.expect(rt, "a row with too few fields").trim()
 }
 
 /// The bytes that these digits spell, between which blanks may stand. `..` are no bytes.
-pub fn bytes_of(alloc: Global, digits: &str) -> Result<Vec<u8>, Fail> {
+pub fn bytes_of(rt: &impl Abort, alloc: Global, digits: &str) -> Vec<u8> {
     let mut bytes = Vec::new(alloc);
     for part in digits.split_whitespace() {
         if part != ".." {
-            let more = hex::decode(alloc, part)?;
-            bytes.extend_from_slice(&more)?;
+            let more = hex::decode(alloc, part).expect(rt, "memory");
+            bytes.extend_from_slice(&more).expect(rt, "memory");
         }
     }
-    Ok(bytes)
+    bytes
 }
 
 /// The path of these bits, or, behind a `#`, of this key. `root` is the path of no bits.
-pub fn path_of(text: &str) -> Result<Path, Fail> {
+pub fn path_of(rt: &impl Abort, text: &str) -> Path {
     if let Some(key) = text.strip_prefix('#') {
-        return Ok(Path::of_key(key.parse()?));
+        return Path::of_key(key.parse().expect(rt, "a number"));
     }
     let mut path = Path::root();
     if text == "root" {
-        return Ok(path);
+        return path;
     }
     for bit in text.bytes() {
         if path.len() == 64 || (bit != b'0' && bit != b'1') {
-            return Err("a path of other bits")?;
+            panic!(rt; "a path of other bits");
         }
         path = path.child(bit == b'1');
     }
-    Ok(path)
+    path
 }
 
 /// A data value of these bytes.
-pub fn data_value(bytes: &[u8]) -> Result<Value, Fail> {
-    Ok(Value::Blob(Blob::of_bytes(bytes).ok_or("more than 64 bytes")?))
+pub fn data_value(rt: &impl Abort, bytes: &[u8]) -> Value {
+    Value::Blob(Blob::of_bytes(bytes).expect(rt, "more than 64 bytes"))
 }
 
 /// A stamp of this epoch and counter.

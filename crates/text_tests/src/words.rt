@@ -2,15 +2,15 @@
 use crate::rows::{bytes_of, field, same, same_bytes};
 use program_words::{Asked, HostNumbers, LoadNumbers, PathWord, WordsFault, read_words};
 use std::alloc::Global;
-use std::test::Fail;
+use std::process::Abort;
 
 // What the words of a line ask for.
-fn asked_by(alloc: Global, line: &str) -> Result<Result<Asked, WordsFault>, Fail> {
+fn asked_by(rt: &impl Abort, alloc: Global, line: &str) -> Result<Asked, WordsFault> {
     let mut words = Vec::new(alloc);
     for word in line.split_whitespace() {
-        words.push(word)?;
+        words.push(word).expect(rt, "memory");
     }
-    Ok(read_words(alloc, &words))
+    read_words(alloc, &words)
 }
 
 // A word in short for what was answered, and the bytes of its key.
@@ -55,21 +55,20 @@ fastver accept --key 303132333435363738393a3b3c3d3e3f404142434445464748494a4b4c4
 const MOST_BYTES: &str = "0123456789:;<=>?@ABCDEFGHIJKLMNOPQRSTUVWXYZ[\\]^_`abcdefghijklmno";
 
 #[test]
-fn words_that_ask(rt: HostRuntime) -> Result<(), Fail> {
+fn words_that_ask(rt: HostRuntime) {
     for row in ASKING.trim().lines() {
-        let line = field(row, 0)?;
-        let command = field(row, 1)?;
-        let key = field(row, 2)?;
-        let answer = asked_by(rt.alloc(), line)?;
+        let line = field(&rt, row, 0);
+        let command = field(&rt, row, 1);
+        let key = field(&rt, row, 2);
+        let answer = asked_by(&rt, rt.alloc(), line);
         let (found, bytes) = told(&answer);
         same(&rt, row, &found, &command);
         if key == "most" {
             same_bytes(&rt, row, bytes, MOST_BYTES.as_bytes());
         } else {
-            same_bytes(&rt, row, bytes, bytes_of(rt.alloc(), key)?.as_slice());
+            same_bytes(&rt, row, bytes, bytes_of(&rt, rt.alloc(), key).as_slice());
         }
     }
-    Ok(())
 }
 
 // A command line, and why it asks for nothing.
@@ -142,14 +141,13 @@ fastver gen --key 00112233445566778899aabbccddeeff | a load with nothing else
 ";
 
 #[test]
-fn words_that_are_refused(rt: HostRuntime) -> Result<(), Fail> {
+fn words_that_are_refused(rt: HostRuntime) {
     for row in REFUSED.trim().lines() {
-        let line = field(row, 0)?;
-        let why = field(row, 1)?;
-        let answer = asked_by(rt.alloc(), line)?;
+        let line = field(&rt, row, 0);
+        let why = field(&rt, row, 1);
+        let answer = asked_by(&rt, rt.alloc(), line);
         same(&rt, why, &told(&answer), &("usage", b"".as_slice()));
     }
-    Ok(())
 }
 
 // What stands behind `fastver run` and its key, the verifiers, shards, first epoch, last counter and threshold that it asks
@@ -164,20 +162,36 @@ const RUNNING: &str = "
 ";
 
 // The numbers of a row.
-fn numbers_in(row: &str) -> Result<HostNumbers, Fail> {
-    let mut words = field(row, 1)?.split_whitespace();
-    let hot = field(row, 2)?;
-    Ok(HostNumbers {
-        verifiers: words.next().ok_or("no verifiers")?.parse()?,
-        shards: words.next().ok_or("no shards")?.parse()?,
-        first: words.next().ok_or("no first epoch")?.parse()?,
-        counter: words.next().ok_or("no last counter")?.parse()?,
+fn numbers_in(rt: &impl Abort, row: &str) -> HostNumbers {
+    let mut words = field(rt, row, 1).split_whitespace();
+    let hot = field(rt, row, 2);
+    HostNumbers {
+        verifiers: words
+            .next()
+            .expect(rt, "no verifiers")
+            .parse()
+            .expect(rt, "a number"),
+        shards: words
+            .next()
+            .expect(rt, "no shards")
+            .parse()
+            .expect(rt, "a number"),
+        first: words
+            .next()
+            .expect(rt, "no first epoch")
+            .parse()
+            .expect(rt, "a number"),
+        counter: words
+            .next()
+            .expect(rt, "no last counter")
+            .parse()
+            .expect(rt, "a number"),
         hot: if hot == "none" {
             None
         } else {
-            Some(hot.parse()?)
+            Some(hot.parse().expect(rt, "a number"))
         },
-    })
+    }
 }
 
 // A row's path, or none.
@@ -189,25 +203,25 @@ fn path_in<'a>(logs: &'a Option<PathWord>) -> &'a str {
 }
 
 // A line that begins with a command and its key.
-fn line_of(alloc: Global, command: &str, words: &str) -> Result<String, Fail> {
-    let mut line = String::from_str(alloc, "fastver ")?;
-    line.push_str(command)?;
-    line.push_str(" --key 00112233445566778899aabbccddeeff ")?;
-    line.push_str(words)?;
-    Ok(line)
+fn line_of(rt: &impl Abort, alloc: Global, command: &str, words: &str) -> String {
+    let mut line = String::from_str(alloc, "fastver ").expect(rt, "memory");
+    line.push_str(command).expect(rt, "memory");
+    line.push_str(" --key 00112233445566778899aabbccddeeff ")
+        .expect(rt, "memory");
+    line.push_str(words).expect(rt, "memory");
+    line
 }
 
 #[test]
-fn what_a_run_asks_for(rt: HostRuntime) -> Result<(), Fail> {
+fn what_a_run_asks_for(rt: HostRuntime) {
     for row in RUNNING.trim().lines() {
-        let line = line_of(rt.alloc(), "run", field(row, 0)?)?;
-        let Ok(Asked::Run(run)) = asked_by(rt.alloc(), &line)? else {
-            return Err("no run is asked for")?;
+        let line = line_of(&rt, rt.alloc(), "run", field(&rt, row, 0));
+        let Ok(Asked::Run(run)) = asked_by(&rt, rt.alloc(), &line) else {
+            panic!(rt; "no run is asked for");
         };
-        same(&rt, row, &run.numbers, &numbers_in(row)?);
-        same(&rt, row, &path_in(&run.logs), &field(row, 3)?);
+        same(&rt, row, &run.numbers, &numbers_in(&rt, row));
+        same(&rt, row, &path_in(&run.logs), &field(&rt, row, 3));
     }
-    Ok(())
 }
 
 // What stands behind `fastver gen` and its key, the verifiers, shards, first epoch, last counter and threshold that it asks
@@ -220,28 +234,43 @@ const LOADING: &str = "
 ";
 
 // The numbers of a row's load.
-fn load_in(row: &str) -> Result<LoadNumbers, Fail> {
-    let mut words = field(row, 4)?.split_whitespace();
-    Ok(LoadNumbers {
-        seed: words.next().ok_or("no seed")?.parse()?,
-        ops: words.next().ok_or("no requests")?.parse()?,
-        keys: words.next().ok_or("no keys")?.parse()?,
-        every: words.next().ok_or("no requests of an epoch")?.parse()?,
-    })
+fn load_in(rt: &impl Abort, row: &str) -> LoadNumbers {
+    let mut words = field(rt, row, 4).split_whitespace();
+    LoadNumbers {
+        seed: words
+            .next()
+            .expect(rt, "no seed")
+            .parse()
+            .expect(rt, "a number"),
+        ops: words
+            .next()
+            .expect(rt, "no requests")
+            .parse()
+            .expect(rt, "a number"),
+        keys: words
+            .next()
+            .expect(rt, "no keys")
+            .parse()
+            .expect(rt, "a number"),
+        every: words
+            .next()
+            .expect(rt, "no requests of an epoch")
+            .parse()
+            .expect(rt, "a number"),
+    }
 }
 
 #[test]
-fn what_a_load_asks_for(rt: HostRuntime) -> Result<(), Fail> {
+fn what_a_load_asks_for(rt: HostRuntime) {
     for row in LOADING.trim().lines() {
-        let line = line_of(rt.alloc(), "gen", field(row, 0)?)?;
-        let Ok(Asked::Gen(load)) = asked_by(rt.alloc(), &line)? else {
-            return Err("no load is asked for")?;
+        let line = line_of(&rt, rt.alloc(), "gen", field(&rt, row, 0));
+        let Ok(Asked::Gen(load)) = asked_by(&rt, rt.alloc(), &line) else {
+            panic!(rt; "no load is asked for");
         };
-        same(&rt, row, &load.load, &load_in(row)?);
-        same(&rt, row, &load.numbers, &numbers_in(row)?);
-        same(&rt, row, &path_in(&load.logs), &field(row, 3)?);
+        same(&rt, row, &load.load, &load_in(&rt, row));
+        same(&rt, row, &load.numbers, &numbers_in(&rt, row));
+        same(&rt, row, &path_in(&load.logs), &field(&rt, row, 3));
     }
-    Ok(())
 }
 
 // What stands behind `fastver gen` and its key where that asks for nothing, and why.
@@ -282,12 +311,11 @@ const REFUSED_LOADS: &str = "
 ";
 
 #[test]
-fn loads_that_are_refused(rt: HostRuntime) -> Result<(), Fail> {
+fn loads_that_are_refused(rt: HostRuntime) {
     for row in REFUSED_LOADS.trim().lines() {
-        let line = line_of(rt.alloc(), "gen", field(row, 0)?)?;
-        let why = field(row, 1)?;
-        let answer = asked_by(rt.alloc(), &line)?;
+        let line = line_of(&rt, rt.alloc(), "gen", field(&rt, row, 0));
+        let why = field(&rt, row, 1);
+        let answer = asked_by(&rt, rt.alloc(), &line);
         same(&rt, why, &told(&answer), &("usage", b"".as_slice()));
     }
-    Ok(())
 }

@@ -5,7 +5,7 @@ ghost use Rattle.verifier_cache.specs.Cache.{entry_of, changed};
 
 use crate::rows::{field, one_byte, path_of, same};
 use record_text::{Value, initial};
-use std::test::Fail;
+use std::process::Abort;
 use tree_keys::Path;
 use verifier_cache::{Cache, Entry, Hold};
 
@@ -68,23 +68,22 @@ const COMINGS: &str = "
 ";
 
 #[test]
-fn entries_come_and_go(rt: HostRuntime) -> Result<(), Fail> {
-    let mut cache = Cache::new(rt.alloc(), 3)?;
+fn entries_come_and_go(rt: HostRuntime) {
+    let mut cache = Cache::new(rt.alloc(), 3).expect(&rt, "memory");
     assert_eq!(rt; cache.len(), 0);
     for row in COMINGS.trim().lines() {
-        let key = field(row, 0)?.parse()?;
-        let done = if field(row, 1)? == "in" {
+        let key = field(&rt, row, 0).parse().expect(&rt, "a number");
+        let done = if field(&rt, row, 1) == "in" {
             take_in(&mut cache, key)
         } else {
             take_out(&mut cache, key).is_some()
         };
-        same(&rt, row, &done, &(field(row, 2)? == "true"));
-        for (key, there) in field(row, 3)?.as_bytes().iter().enumerate() {
+        same(&rt, row, &done, &(field(&rt, row, 2) == "true"));
+        for (key, there) in field(&rt, row, 3).as_bytes().iter().enumerate() {
             same(&rt, row, &has(&cache, key as u64), &(*there == b'1'));
         }
     }
     assert_eq!(rt; cache.len(), 1);
-    Ok(())
 }
 
 // Sets or clears a kid bit of a path, if it is there.
@@ -97,12 +96,12 @@ fn change(cache: &mut Cache, k: &Path, side: bool, on: bool) -> bool {
 }
 
 // Writes a data value of one byte, and says that the record came in by a deferred add.
-fn rewrite(cache: &mut Cache, k: &Path, byte: &str) -> Result<(), Fail> {
+fn rewrite(rt: &impl Abort, cache: &mut Cache, k: &Path, byte: &str) {
     if cache.find(k).is_none() {
-        Err("a path that is not there")?;
+        panic!(rt; "a path that is not there");
     }
-    write(cache, k, one_byte(byte)?);
-    let held = cache.entry(k).ok_or("a path that has gone")?;
+    write(cache, k, one_byte(rt, byte));
+    let held = cache.entry(k).expect(rt, "a path that has gone");
     let entry = Entry {
         path: held.path,
         value: held.value.copy(),
@@ -110,18 +109,17 @@ fn rewrite(cache: &mut Cache, k: &Path, byte: &str) -> Result<(), Fail> {
         kids: held.kids,
     };
     cache.replace(entry);
-    Ok(())
 }
 
 // Two bits from their text.
-fn bits_of(text: &str) -> Result<[bool; 2], Fail> {
-    Ok(match text {
+fn bits_of(rt: &impl Abort, text: &str) -> [bool; 2] {
+    match text {
         "00" => [false, false],
         "01" => [false, true],
         "10" => [true, false],
         "11" => [true, true],
-        _ => Err("a text that isn't two bits")?,
-    })
+        _ => panic!(rt; "a text that isn't two bits"),
+    }
 }
 
 // The path, the side, the kid bit, and both kid bits of the root and of the key 5 then.
@@ -144,33 +142,31 @@ fn cache_of_two(cache: &mut Cache) -> bool {
 }
 
 #[test]
-fn one_kid_bit_changes_at_a_time(rt: HostRuntime) -> Result<(), Fail> {
-    let mut cache = Cache::new(rt.alloc(), 2)?;
+fn one_kid_bit_changes_at_a_time(rt: HostRuntime) {
+    let mut cache = Cache::new(rt.alloc(), 2).expect(&rt, "memory");
     assert!(rt; cache_of_two(&mut cache));
     for row in CHANGES.trim().lines() {
-        let path = path_of(field(row, 0)?)?;
-        let side = field(row, 1)? == "1";
-        assert!(rt; change(&mut cache, &path, side, field(row, 2)? == "1"));
-        let root = Some((bits_of(field(row, 3)?)?, Hold::Root));
+        let path = path_of(&rt, field(&rt, row, 0));
+        let side = field(&rt, row, 1) == "1";
+        assert!(rt; change(&mut cache, &path, side, field(&rt, row, 2) == "1"));
+        let root = Some((bits_of(&rt, field(&rt, row, 3)), Hold::Root));
         same(&rt, row, &state_of(&cache, &Path::root()), &root);
-        let key = Some((bits_of(field(row, 4)?)?, Hold::M));
+        let key = Some((bits_of(&rt, field(&rt, row, 4)), Hold::M));
         same(&rt, row, &state_of(&cache, &Path::of_key(5)), &key);
     }
-    Ok(())
 }
 
 #[test]
-fn one_entry_is_written_at_a_time(rt: HostRuntime) -> Result<(), Fail> {
+fn one_entry_is_written_at_a_time(rt: HostRuntime) {
     let root = Path::root();
     let key = Path::of_key(5);
-    let mut cache = Cache::new(rt.alloc(), 2)?;
+    let mut cache = Cache::new(rt.alloc(), 2).expect(&rt, "memory");
     assert!(rt; cache_of_two(&mut cache));
     assert!(rt; change(&mut cache, &root, false, true));
-    rewrite(&mut cache, &key, "7")?;
+    rewrite(&rt, &mut cache, &key, "7");
     assert_eq!(rt; state_of(&cache, &key), Some(([false, false], Hold::B)));
     assert_eq!(rt; state_of(&cache, &root), Some(([true, false], Hold::Root)));
-    assert_eq!(rt; take_out(&mut cache, 5), Some(one_byte("7")?));
+    assert_eq!(rt; take_out(&mut cache, 5), Some(one_byte(&rt, "7")));
     assert_eq!(rt; take_out(&mut cache, 5), None);
     assert!(rt; cache.find(&root).is_some());
-    Ok(())
 }

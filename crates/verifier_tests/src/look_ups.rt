@@ -3,8 +3,8 @@ ghost use Rattle.std.specs.Prelude.{◌≡◌, ◌+◌, ◌<◌, ◌≤◌, leng
 
 use record_text::{Blob, Value};
 use std::marker::Brand;
+use std::process::Abort;
 use std::sync::ledger::{Blank, Ledger};
-use std::test::Fail;
 use tree_keys::Path;
 use verifier_cache::{Cache, Entry, Hold, Steps};
 
@@ -36,15 +36,15 @@ impl Plain {
     }
 
     // Takes an entry in that isn't there, unless there are too many.
-    fn insert(&mut self, entry: Entry, room: usize) -> Result<bool, Fail> {
+    fn insert(&mut self, rt: &impl Abort, entry: Entry, room: usize) -> bool {
         if self.entries.len() >= room {
-            return Ok(false);
+            return false;
         }
         if position(&self.entries, &entry.path).is_some() {
-            return Ok(false);
+            return false;
         }
-        self.entries.push(entry)?;
-        Ok(true)
+        self.entries.push(entry).expect(rt, "memory");
+        true
     }
 
     // Takes the entry of a path out, if it is there.
@@ -68,7 +68,7 @@ impl Plain {
 }
 
 // The same of a cache.
-fn insert(cache: &mut Cache, entry: Entry) -> bool {
+fn insert(rt: &impl Abort, cache: &mut Cache, entry: Entry) -> bool {
     if cache.is_full() {
         return false;
     }
@@ -108,31 +108,31 @@ fn path_by(number: u64) -> Path {
 }
 
 // An entry of that path, which holds the number.
-fn entry_by(number: u64) -> Result<Entry, Fail> {
-    let blob = Blob::of_bytes(&number.to_be_bytes()).ok_or("a value that is too long")?;
-    Ok(Entry {
+fn entry_by(rt: &impl Abort, number: u64) -> Entry {
+    let blob = Blob::of_bytes(&number.to_be_bytes()).expect(rt, "a value that is too long");
+    Entry {
         path: path_by(number),
         value: Value::Blob(blob),
         hold: Hold::B,
         kids: [number % 3 == 0, number % 5 == 0],
-    })
+    }
 }
 
 // Does the same to a cache and to a list: says whether both answered alike.
-fn both(cache: &mut Cache, plain: &mut Plain, room: usize, number: u64) -> Result<bool, Fail> {
-    let entry = entry_by(number)?;
-    let again = entry_by(number)?;
-    Ok(match (number >> 32) % 8 {
-        0 | 1 | 2 | 3 => insert(cache, entry) == plain.insert(again, room)?,
+fn both(rt: &impl Abort, cache: &mut Cache, plain: &mut Plain, room: usize, number: u64) -> bool {
+    let entry = entry_by(rt, number);
+    let again = entry_by(rt, number);
+    match (number >> 32) % 8 {
+        0 | 1 | 2 | 3 => insert(rt, cache, entry) == plain.insert(rt, again, room),
         4 | 5 => remove(cache, &entry.path) == plain.remove(&entry.path),
         _ => replace(cache, entry) == plain.replace(again),
-    })
+    }
 }
 
 #[test]
-fn a_cache_answers_as_a_plain_list_does(rt: HostRuntime) -> Result<(), Fail> {
+fn a_cache_answers_as_a_plain_list_does(rt: HostRuntime) {
     for room in [1u32, 7, 70, 700] {
-        let mut cache = Cache::new(rt.alloc(), room)?;
+        let mut cache = Cache::new(rt.alloc(), room).expect(&rt, "memory");
         let mut plain = Plain {
             entries: Vec::new(rt.alloc()),
         };
@@ -140,7 +140,7 @@ fn a_cache_answers_as_a_plain_list_does(rt: HostRuntime) -> Result<(), Fail> {
         for _ in 0..3000 {
             number = number_after(number);
             assert!(rt;
-                both(&mut cache, &mut plain, room as usize, number)?,
+                both(&rt, &mut cache, &mut plain, room as usize, number),
                 "{number}"
             );
             assert_eq!(rt; cache.len(), plain.entries.len(), "{number}");
@@ -151,7 +151,6 @@ fn a_cache_answers_as_a_plain_list_does(rt: HostRuntime) -> Result<(), Fail> {
             assert_eq!(rt; cache.entry(&entry.path), Some(entry));
         }
     }
-    Ok(())
 }
 
 // Looks a path up, in at most so many steps with so many entries: none without entries, one with one, three
@@ -175,12 +174,13 @@ fn has_by<L: Ledger>(cache: &Cache, k: &Path, blank: Blank) -> bool
 }
 
 #[test]
-fn few_entries_take_few_steps(rt: HostRuntime) -> Result<(), Fail> {
+fn few_entries_take_few_steps(rt: HostRuntime) {
     for count in [0u64, 1, 4] {
-        let mut cache = Cache::new(rt.alloc(), 4)?;
+        let mut cache = Cache::new(rt.alloc(), 4).expect(&rt, "memory");
         for key in 0..count {
             assert!(rt;
                 insert(
+                    &rt,
                     &mut cache,
                     Entry::new(Path::of_key(key), Value::Blob(Blob::none()), Hold::B)
                 )
@@ -191,5 +191,4 @@ fn few_entries_take_few_steps(rt: HostRuntime) -> Result<(), Fail> {
             assert_eq!(rt; has_by::<Brand>(&cache, &path, Blank::new(1)), key < count);
         }
     }
-    Ok(())
 }

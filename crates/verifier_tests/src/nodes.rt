@@ -3,7 +3,7 @@ use crate::rows::{field, one_byte, path_of, same};
 use merkle_records::{AddCase, add_case, after_add, after_evict, defer, digest_of};
 use record_hash::ToyDigests;
 use record_text::{Node, Pointer, Value};
-use std::test::Fail;
+use std::process::Abort;
 use tree_keys::Path;
 
 // The digest of a text whose bytes add up to this.
@@ -14,32 +14,34 @@ fn digest(sum: u8) -> [u8; 32] {
 }
 
 // A pointer from its text: none, or the path, the sum of its digest, and whether it is deferred.
-fn pointer_of(text: &str) -> Result<Option<Pointer>, Fail> {
+fn pointer_of(rt: &impl Abort, text: &str) -> Option<Pointer> {
     if text == "none" {
-        return Ok(None);
+        return None;
     }
     let (plain, deferred) = match text.strip_suffix(",deferred") {
         Some(plain) => (plain, true),
         None => (text, false),
     };
-    let (path, sum) = plain.split_once(',').ok_or("a pointer without a digest")?;
-    Ok(Some(Pointer {
-        path: path_of(path)?,
-        digest: digest(sum.parse()?),
+    let (path, sum) = plain
+        .split_once(',')
+        .expect(rt, "a pointer without a digest");
+    Some(Pointer {
+        path: path_of(rt, path),
+        digest: digest(sum.parse().expect(rt, "a number")),
         deferred,
-    }))
+    })
 }
 
 // A value from its text: a byte, the empty node, or a side and what its pointer alone is.
-fn value_of(text: &str) -> Result<Value, Fail> {
+fn value_of(rt: &impl Abort, text: &str) -> Value {
     if text == "empty" {
-        return Ok(Value::Node(Node::empty()));
+        return Value::Node(Node::empty());
     }
     match text.split_once(':') {
-        None => one_byte(text),
+        None => one_byte(rt, text),
         Some((side, pointer)) => {
-            let node = Node::empty().with_side(side == "1", pointer_of(pointer)?);
-            Ok(Value::Node(node))
+            let node = Node::empty().with_side(side == "1", pointer_of(rt, pointer));
+            Value::Node(node)
         }
     }
 }
@@ -76,23 +78,23 @@ fn deferred(node: &Node, at: &Path, k: &Path) -> Option<Node> {
 }
 
 // A case from its name.
-fn case_of(text: &str) -> Result<Option<AddCase>, Fail> {
-    Ok(match text {
+fn case_of(rt: &impl Abort, text: &str) -> Option<AddCase> {
+    match text {
         "Empty" => Some(AddCase::Empty),
         "Same" => Some(AddCase::Same),
         "Split" => Some(AddCase::Split),
         "Foreign" => Some(AddCase::Foreign),
         "none" => None,
-        _ => Err("a case of another name")?,
-    })
+        _ => panic!(rt; "a case of another name"),
+    }
 }
 
 // A node with this pointer of side 0, and one of side 1.
-fn with_left(side0: &str) -> Result<Node, Fail> {
-    Ok(Node {
-        side0: pointer_of(side0)?,
-        side1: pointer_of("1,1,deferred")?,
-    })
+fn with_left(rt: &impl Abort, side0: &str) -> Node {
+    Node {
+        side0: pointer_of(rt, side0),
+        side1: pointer_of(rt, "1,1,deferred"),
+    }
 }
 
 // Where the node stands, where its pointer of side 1 leads, the path that is asked for, and the case.
@@ -112,32 +114,34 @@ root 10 root none
 ";
 
 #[test]
-fn pointers_lead_by_their_paths(rt: HostRuntime) -> Result<(), Fail> {
+fn pointers_lead_by_their_paths(rt: HostRuntime) {
     for row in CASES.trim().lines() {
         let node = Node {
             side0: None,
             side1: Some(Pointer {
-                path: path_of(field(row, 1)?)?,
+                path: path_of(&rt, field(&rt, row, 1)),
                 digest: digest(3),
                 deferred: false,
             }),
         };
-        let found = case_at(&node, &path_of(field(row, 0)?)?, &path_of(field(row, 2)?)?);
-        same(&rt, row, &found, &case_of(field(row, 3)?)?);
+        let found = case_at(
+            &node,
+            &path_of(&rt, field(&rt, row, 0)),
+            &path_of(&rt, field(&rt, row, 2)),
+        );
+        same(&rt, row, &found, &case_of(&rt, field(&rt, row, 3)));
     }
-    Ok(())
 }
 
 // The text of the byte 7 is 1, 1 and 7. That of a node with a deferred pointer of side 1 to the path 10 is 0
 // and then 2, 2, 0x80, seven 0, and the digest, whose bytes add up to 9.
 #[test]
-fn digests_are_of_the_texts_of_values(rt: HostRuntime) -> Result<(), Fail> {
-    assert_eq!(rt; digest_of(&ToyDigests, &one_byte("7")?), digest(9));
+fn digests_are_of_the_texts_of_values(rt: HostRuntime) {
+    assert_eq!(rt; digest_of(&ToyDigests, &one_byte(&rt, "7")), digest(9));
     assert_eq!(rt;
-        digest_of(&ToyDigests, &value_of("1:10,9,deferred")?),
+        digest_of(&ToyDigests, &value_of(&rt, "1:10,9,deferred")),
         digest(141)
     );
-    Ok(())
 }
 
 // The root's pointer of side 0, the path, its value, that pointer after the add, and the value then. The key
@@ -150,15 +154,22 @@ k8070450532247928832,4 0 empty 0,0 1:k8070450532247928832,4
 ";
 
 #[test]
-fn adds_change_one_side(rt: HostRuntime) -> Result<(), Fail> {
+fn adds_change_one_side(rt: HostRuntime) {
     for row in ADDS.trim().lines() {
-        let node = with_left(field(row, 0)?)?;
-        let path = path_of(field(row, 1)?)?;
-        let found = added(&node, &Path::root(), &path, &value_of(field(row, 2)?)?);
-        let wanted = (with_left(field(row, 3)?)?, value_of(field(row, 4)?)?);
+        let node = with_left(&rt, field(&rt, row, 0));
+        let path = path_of(&rt, field(&rt, row, 1));
+        let found = added(
+            &node,
+            &Path::root(),
+            &path,
+            &value_of(&rt, field(&rt, row, 2)),
+        );
+        let wanted = (
+            with_left(&rt, field(&rt, row, 3)),
+            value_of(&rt, field(&rt, row, 4)),
+        );
         same(&rt, row, &found, &Some(wanted));
     }
-    Ok(())
 }
 
 // The root's pointer of side 0, the path, the value that it leaves with, and that pointer after it.
@@ -169,23 +180,26 @@ none 0 empty 0,0
 ";
 
 #[test]
-fn evicts_change_one_side(rt: HostRuntime) -> Result<(), Fail> {
+fn evicts_change_one_side(rt: HostRuntime) {
     for row in EVICTS.trim().lines() {
-        let node = with_left(field(row, 0)?)?;
-        let path = path_of(field(row, 1)?)?;
-        let found = evicted(&node, &Path::root(), &path, &value_of(field(row, 2)?)?);
-        same(&rt, row, &found, &Some(with_left(field(row, 3)?)?));
+        let node = with_left(&rt, field(&rt, row, 0));
+        let path = path_of(&rt, field(&rt, row, 1));
+        let found = evicted(
+            &node,
+            &Path::root(),
+            &path,
+            &value_of(&rt, field(&rt, row, 2)),
+        );
+        same(&rt, row, &found, &Some(with_left(&rt, field(&rt, row, 3))));
     }
-    Ok(())
 }
 
 #[test]
-fn deferrals_set_one_flag(rt: HostRuntime) -> Result<(), Fail> {
-    let node = with_left("k5,4")?;
+fn deferrals_set_one_flag(rt: HostRuntime) {
+    let node = with_left(&rt, "k5,4");
     assert_eq!(rt;
         deferred(&node, &Path::root(), &Path::of_key(5)),
-        Some(with_left("k5,4,deferred")?)
+        Some(with_left(&rt, "k5,4,deferred"))
     );
-    assert_eq!(rt; deferred(&node, &path_of("0")?, &Path::root()), None);
-    Ok(())
+    assert_eq!(rt; deferred(&node, &path_of(&rt, "0"), &Path::root()), None);
 }

@@ -2,15 +2,13 @@
 use record_text::{Blob, Value};
 use std::fmt::Debug;
 use std::process::Abort;
-use std::test::Fail;
 use tree_keys::Path;
 
 /// The field of a row at this place, counted from 0.
-pub fn field(row: &str, place: usize) -> Result<&str, Fail> {
-    match row.split(' ').nth(place) {
-        Some(text) => Ok(text),
-        None => Err("a row with too few fields")?,
-    }
+pub fn field<'a>(rt: &impl Abort, row: &'a str, place: usize) -> &'a str {
+    row.split(' ')
+        .nth(place)
+        .expect(rt, "a row with too few fields")
 }
 
 /// Two values are the same. Where they aren't, the test ends, and tells the row.
@@ -19,29 +17,32 @@ pub fn same<T: PartialEq + Debug>(rt: &impl Abort, row: &str, found: &T, wanted:
 }
 
 /// A path from its text: `root`, the key of a data path behind a `k`, or else its bits.
-pub fn path_of(text: &str) -> Result<Path, Fail> {
+pub fn path_of(rt: &impl Abort, text: &str) -> Path {
     if text == "root" {
-        return Ok(Path::root());
+        return Path::root();
     }
     match text.strip_prefix("k") {
-        Some(key) => Ok(Path::of_key(key.parse()?)),
-        None => path_of_bits(text),
+        Some(key) => Path::of_key(key.parse().expect(rt, "a number")),
+        None => path_of_bits(rt, text),
     }
 }
 
-fn path_of_bits(text: &str) -> Result<Path, Fail> {
+fn path_of_bits(rt: &impl Abort, text: &str) -> Path {
     let mut path = Path::root();
     for bit in text.as_bytes() {
         if path.len() == 64 {
-            Err("a path of more than 64 bits")?;
+            panic!(rt; "a path of more than 64 bits");
         }
         path = path.child(*bit == b'1');
     }
-    Ok(path)
+    path
 }
 
 /// A data value of one byte, from its number.
-pub fn one_byte(text: &str) -> Result<Value, Fail> {
-    let blob = Blob::of_bytes(&[text.parse()?]).ok_or("a value that is too long")?;
-    Ok(Value::Blob(blob))
+pub fn one_byte(rt: &impl Abort, text: &str) -> Value {
+    let blob = Blob::of_bytes(&[text.parse().expect(rt, "a number")]).expect(
+        rt,
+        "a value that is too long",
+    );
+    Value::Blob(blob)
 }

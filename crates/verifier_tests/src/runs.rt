@@ -6,7 +6,7 @@ use lamport_clocks::{Header, Stamp};
 use record_hash::{ShaDigests, ToyDigests};
 use record_text::{Blob, Operation, Refusal};
 use std::alloc::Global;
-use std::test::Fail;
+use std::process::Abort;
 use verifier_run::{Run, run_log};
 use want_of_memory::Memory;
 
@@ -59,14 +59,14 @@ const PUT_TWICE: &str = "
 ";
 
 // The bytes of a log from their digits.
-fn log_of(alloc: Global, text: &str) -> Result<Vec<u8>, Fail> {
+fn log_of(rt: &impl Abort, alloc: Global, text: &str) -> Vec<u8> {
     let mut log = Vec::new(alloc);
     for word in text.split_whitespace() {
-        for byte in hex::decode(alloc, word)? {
-            log.push(byte)?;
+        for byte in hex::decode(alloc, word).expect(rt, word) {
+            log.push(byte).expect(rt, "memory");
         }
     }
-    Ok(log)
+    log
 }
 
 // What a log comes to, fed in pieces of so many bytes.
@@ -87,8 +87,8 @@ fn in_pieces(alloc: Global, d: &ShaDigests, log: &[u8], size: usize) -> Result<R
 }
 
 // A get or put of "ab" at key 5, as the command of this number.
-fn ab_at_5(index: u64, put: bool) -> Result<Operation, Fail> {
-    Ok(Operation {
+fn ab_at_5(rt: &impl Abort, index: u64, put: bool) -> Operation {
+    Operation {
         stamp: Stamp {
             epoch: 0,
             counter: 0,
@@ -97,23 +97,22 @@ fn ab_at_5(index: u64, put: bool) -> Result<Operation, Fail> {
         index,
         put,
         key: 5,
-        value: Blob::of_bytes(b"ab").ok_or("a value that is too long")?,
-    })
+        value: Blob::of_bytes(b"ab").expect(rt, "a value that is too long"),
+    }
 }
 
 #[test]
-fn pieces_do_not_matter(rt: HostRuntime) -> Result<(), Fail> {
+fn pieces_do_not_matter(rt: HostRuntime) {
     let d = ShaDigests::new(b"a key");
-    let log = log_of(rt.alloc(), PUT_AND_GOT)?;
-    let expected = [ab_at_5(1, true)?, ab_at_5(4, false)?];
+    let log = log_of(&rt, rt.alloc(), PUT_AND_GOT);
+    let expected = [ab_at_5(&rt, 1, true), ab_at_5(&rt, 4, false)];
     for size in [1, 7, 92] {
-        let run = in_pieces(rt.alloc(), &d, &log, size)?;
+        let run = in_pieces(rt.alloc(), &d, &log, size).expect(&rt, "memory");
         assert_eq!(rt; run.refused(), None, "{size}");
         assert_eq!(rt; run.ops(), &expected[..], "{size}");
         assert_eq!(rt; run.parts().len(), 1, "{size}");
         assert_eq!(rt; run.parts()[0].epoch, 0, "{size}");
     }
-    Ok(())
 }
 
 // That a log is refused at this command, in whatever pieces it is fed.
@@ -129,15 +128,14 @@ fn is_refused(alloc: Global, log: &[u8], index: u64, refusal: Refusal) -> Result
 }
 
 #[test]
-fn logs_are_refused_where_they_go_wrong(rt: HostRuntime) -> Result<(), Fail> {
-    let mut log = log_of(rt.alloc(), PUT_AND_GOT)?;
-    let cut = log.get(..21).ok_or("a log that is too short")?;
-    assert!(rt; is_refused(rt.alloc(), cut, 1, Refusal::Truncated)?);
-    assert!(rt; is_refused(rt.alloc(), &[9], 0, Refusal::Malformed)?);
+fn logs_are_refused_where_they_go_wrong(rt: HostRuntime) {
+    let mut log = log_of(&rt, rt.alloc(), PUT_AND_GOT);
+    let cut = log.get(..21).expect(&rt, "a log that is too short");
+    assert!(rt; is_refused(rt.alloc(), cut, 1, Refusal::Truncated).expect(&rt, "memory"));
+    assert!(rt; is_refused(rt.alloc(), &[9], 0, Refusal::Malformed).expect(&rt, "memory"));
     // The last byte of the value that the get answers.
-    *log.get_mut(89).ok_or("a log that is too short")? = b'c';
-    assert!(rt; is_refused(rt.alloc(), &log, 4, Refusal::WrongValue)?);
-    Ok(())
+    *log.get_mut(89).expect(&rt, "a log that is too short") = b'c';
+    assert!(rt; is_refused(rt.alloc(), &log, 4, Refusal::WrongValue).expect(&rt, "memory"));
 }
 
 // With toy digests lane 0 of an element is the sum of its text's bytes, and the other lanes are 0. Two
@@ -145,9 +143,9 @@ fn logs_are_refused_where_they_go_wrong(rt: HostRuntime) -> Result<(), Fail> {
 // of the path 0 its one bit (1) and the counter of its stamp (1), which is 2; of the path 1 its one bit (1),
 // the byte of that bit (128) and the counter of its stamp (2), which is 131. That is 133 in all.
 #[test]
-fn the_sums_of_an_epoch_are_those_of_its_elements(rt: HostRuntime) -> Result<(), Fail> {
-    let log = log_of(rt.alloc(), TWO_SHARDS)?;
-    let run: Run = run_log(rt.alloc(), &ToyDigests, 0, &header(), &log)?;
+fn the_sums_of_an_epoch_are_those_of_its_elements(rt: HostRuntime) {
+    let log = log_of(&rt, rt.alloc(), TWO_SHARDS);
+    let run: Run = run_log(rt.alloc(), &ToyDigests, 0, &header(), &log).expect(&rt, "memory");
     assert_eq!(rt; run.refused(), None);
     assert_eq!(rt; run.parts().len(), 1);
     let part = run.parts()[0];
@@ -157,29 +155,27 @@ fn the_sums_of_an_epoch_are_those_of_its_elements(rt: HostRuntime) -> Result<(),
         assert_eq!(rt; sum.count(), 2);
         assert_eq!(rt; sum.lanes(), [133, 0, 0, 0, 0, 0, 0, 0]);
     }
-    Ok(())
 }
 
 // A log that goes wrong at its second command takes what follows, and does nothing.
 #[test]
-fn a_refused_run_stays_as_it_is(rt: HostRuntime) -> Result<(), Fail> {
-    let log = log_of(rt.alloc(), PUT_AND_GOT)?;
-    let more = log.get(..92).ok_or("a log that is too short")?;
-    let mut run = Run::new(rt.alloc(), 0, &header())?;
+fn a_refused_run_stays_as_it_is(rt: HostRuntime) {
+    let log = log_of(&rt, rt.alloc(), PUT_AND_GOT);
+    let more = log.get(..92).expect(&rt, "a log that is too short");
+    let mut run = Run::new(rt.alloc(), 0, &header()).expect(&rt, "memory");
     let _ = run.feed(&ToyDigests, &[8, 9]);
     assert_eq!(rt; run.refused(), Some((1, Refusal::Malformed)));
     assert_eq!(rt; run.feed(&ToyDigests, more), Ok(()));
     run.end();
     assert_eq!(rt; run.refused(), Some((1, Refusal::Malformed)));
     assert_eq!(rt; run.ops().len(), 0);
-    Ok(())
 }
 
 #[test]
-fn a_sealed_epoch_has_its_sums(rt: HostRuntime) -> Result<(), Fail> {
+fn a_sealed_epoch_has_its_sums(rt: HostRuntime) {
     let d = ShaDigests::new(b"a key");
-    let log = log_of(rt.alloc(), TWO_SHARDS)?;
-    let run: Run = run_log(rt.alloc(), &d, 0, &header(), &log)?;
+    let log = log_of(&rt, rt.alloc(), TWO_SHARDS);
+    let run: Run = run_log(rt.alloc(), &d, 0, &header(), &log).expect(&rt, "memory");
     assert_eq!(rt; run.refused(), None);
     assert_eq!(rt; run.ops().len(), 0);
     assert_eq!(rt; run.parts().len(), 1);
@@ -187,24 +183,22 @@ fn a_sealed_epoch_has_its_sums(rt: HostRuntime) -> Result<(), Fail> {
     assert_eq!(rt; part.epoch, 0);
     assert_eq!(rt; part.added.count(), 2);
     assert_eq!(rt; part.added, part.evicted);
-    Ok(())
 }
 
 // What is taken is kept no longer, and what is of a later epoch is.
 #[test]
-fn what_is_taken_is_kept_no_longer(rt: HostRuntime) -> Result<(), Fail> {
-    let log = log_of(rt.alloc(), PUT_TWICE)?;
-    let mut run: Run = run_log(rt.alloc(), &ToyDigests, 0, &header(), &log)?;
-    let mut taken = run.take(0)?;
-    assert_eq!(rt; taken.as_slice(), [ab_at_5(1, true)?].as_slice());
+fn what_is_taken_is_kept_no_longer(rt: HostRuntime) {
+    let log = log_of(&rt, rt.alloc(), PUT_TWICE);
+    let mut run: Run = run_log(rt.alloc(), &ToyDigests, 0, &header(), &log).expect(&rt, "memory");
+    let mut taken = run.take(0).expect(&rt, "memory");
+    assert_eq!(rt; taken.as_slice(), [ab_at_5(&rt, 1, true)].as_slice());
     assert_eq!(rt; run.ops().len(), 1);
     assert_eq!(rt; run.ops()[0].index, 3);
     assert_eq!(rt; run.parts().len(), 1);
     assert_eq!(rt; run.parts()[0].epoch, 1);
-    run.take_into(1, &mut taken)?;
+    run.take_into(1, &mut taken).expect(&rt, "memory");
     assert_eq!(rt; taken.len(), 2);
     assert_eq!(rt; taken[1].index, 3);
     assert_eq!(rt; run.ops().len(), 0);
     assert_eq!(rt; run.parts().len(), 0);
-    Ok(())
 }

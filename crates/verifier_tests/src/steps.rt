@@ -1,5 +1,5 @@
 //! Verifiers that only go to their next epochs; logs of every command are tested as bytes, by the crates above.
-ghost use Rattle.std.specs.Prelude.{◌≡◌, ◌<◌, IfOk};
+ghost use Rattle.std.specs.Prelude.{◌≡◌, ◌<◌};
 
 use lamport_clocks::{Header, Stamp};
 use log_codec::Command;
@@ -7,15 +7,15 @@ use multiset_sum::Part;
 use record_hash::ToyDigests;
 use record_text::{Node, Refusal, Value};
 use std::alloc::Global;
-use std::test::Fail;
+use std::process::Abort;
 use tree_keys::Path;
 use verifier_cache::{Entry, Hold};
 use verifier_commands::{Effect, Verifier};
 
 // A verifier of two, whose caches hold four entries, before its first command.
-fn opened(alloc: Global, number: u16, first: u32) -> Result<Verifier, Fail>
+fn opened(rt: &impl Abort, alloc: Global, number: u16, first: u32) -> Verifier
     requires number { number < 2 }
-    ensures unstepped { IfOk result (λ verifier. verifier.accepted ≡ 0) }
+    ensures unstepped { result.accepted ≡ 0 }
 {
     let header = Header {
         verifiers: 2,
@@ -23,10 +23,7 @@ fn opened(alloc: Global, number: u16, first: u32) -> Result<Verifier, Fail>
         first,
         end: 5,
     };
-    match Verifier::new(alloc, number, &header) {
-        Ok(verifier) => Ok(verifier),
-        Err(_) => Err("memory".into()),
-    }
+    Verifier::new(alloc, number, &header).expect(rt, "memory")
 }
 
 fn start_of(epoch: u32) -> Stamp {
@@ -34,9 +31,9 @@ fn start_of(epoch: u32) -> Stamp {
 }
 
 #[test]
-fn the_root_is_cached_by_verifier_0_alone(rt: HostRuntime) -> Result<(), Fail> {
-    let first = opened(rt.alloc(), 0, 7)?;
-    let second = opened(rt.alloc(), 1, 7)?;
+fn the_root_is_cached_by_verifier_0_alone(rt: HostRuntime) {
+    let first = opened(&rt, rt.alloc(), 0, 7);
+    let second = opened(&rt, rt.alloc(), 1, 7);
     assert_eq!(rt; second.entries().len(), 0);
     assert_eq!(rt; first.entries().len(), 1);
     let root = Path::root();
@@ -46,10 +43,9 @@ fn the_root_is_cached_by_verifier_0_alone(rt: HostRuntime) -> Result<(), Fail> {
         hold: Hold::Root,
         kids: [false, false],
     };
-    let found = first.entries().entry(&root).ok_or("no root")?;
+    let found = first.entries().entry(&root).expect(&rt, "no root");
     assert_eq!(rt; found, &wanted);
     assert_eq!(rt; second.clock(), start_of(7));
-    Ok(())
 }
 
 // The part that an effect hands in, if it seals an epoch.
@@ -61,31 +57,29 @@ fn part_of(effect: &Effect) -> Option<Part> {
 }
 
 #[test]
-fn the_second_turn_seals_the_first_epoch(rt: HostRuntime) -> Result<(), Fail> {
-    let mut verifier = opened(rt.alloc(), 1, 7)?;
+fn the_second_turn_seals_the_first_epoch(rt: HostRuntime) {
+    let mut verifier = opened(&rt, rt.alloc(), 1, 7);
     assert_eq!(rt;
         verifier.step(&ToyDigests, &Command::NextEpoch),
         Ok(Effect::Opened)
     );
     let Ok(effect) = verifier.step(&ToyDigests, &Command::NextEpoch) else {
-        return Err("a refusal".into());
+        panic!(rt; "a refusal");
     };
-    let part = part_of(&effect).ok_or("no part")?;
+    let part = part_of(&effect).expect(&rt, "no part");
     assert_eq!(rt; part.verifier, 1);
     assert_eq!(rt; part.epoch, 7);
     assert_eq!(rt; part.added.count(), 0);
     assert_eq!(rt; part.evicted.count(), 0);
     assert_eq!(rt; verifier.clock(), start_of(9));
-    Ok(())
 }
 
 #[test]
-fn the_last_epoch_does_not_turn(rt: HostRuntime) -> Result<(), Fail> {
-    let mut verifier = opened(rt.alloc(), 0, u32::MAX)?;
+fn the_last_epoch_does_not_turn(rt: HostRuntime) {
+    let mut verifier = opened(&rt, rt.alloc(), 0, u32::MAX);
     assert_eq!(rt;
         verifier.step(&ToyDigests, &Command::NextEpoch),
         Err(Refusal::ClockEnd)
     );
     assert_eq!(rt; verifier.clock(), start_of(u32::MAX));
-    Ok(())
 }

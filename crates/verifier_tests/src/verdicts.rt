@@ -5,7 +5,7 @@ ghost use Rattle.epoch_gather.specs.Parts.{is_same_part};
 use crate::rows::{field, same};
 use epoch_gather::{Verdict, verdict};
 use multiset_sum::{Part, Sum};
-use std::test::Fail;
+use std::process::Abort;
 
 // The lanes of an element from its letter: those of `a` end in the last number, and those of `z` are 0.
 fn lanes_of(letter: u8) -> [u32; 8] {
@@ -28,39 +28,39 @@ fn sum(letters: &str) -> Sum {
 }
 
 // Two sums from their text: what was added, a stroke, and what was evicted.
-fn sums_of(text: &str) -> Result<(Sum, Sum), Fail> {
-    let (added, evicted) = text.split_once('/').ok_or("sums without a stroke")?;
-    Ok((sum(added), sum(evicted)))
+fn sums_of(rt: &impl Abort, text: &str) -> (Sum, Sum) {
+    let (added, evicted) = text.split_once('/').expect(rt, "sums without a stroke");
+    (sum(added), sum(evicted))
 }
 
 // A part from its text: the verifier, a point, the epoch, a colon, and the sums.
-fn part_of(text: &str) -> Result<Part, Fail> {
-    let (place, sums) = text.split_once(':').ok_or("a part without sums")?;
-    let (verifier, epoch) = place.split_once('.').ok_or("a part without an epoch")?;
-    let (added, evicted) = sums_of(sums)?;
-    Ok(Part {
-        verifier: verifier.parse()?,
-        epoch: epoch.parse()?,
+fn part_of(rt: &impl Abort, text: &str) -> Part {
+    let (place, sums) = text.split_once(':').expect(rt, "a part without sums");
+    let (verifier, epoch) = place.split_once('.').expect(rt, "a part without an epoch");
+    let (added, evicted) = sums_of(rt, sums);
+    Part {
+        verifier: verifier.parse().expect(rt, "a number"),
+        epoch: epoch.parse().expect(rt, "a number"),
         added,
         evicted,
-    })
+    }
 }
 
 // Three parts from their texts.
-fn parts_of(a: &str, b: &str, c: &str) -> Result<[Part; 3], Fail> {
-    Ok([part_of(a)?, part_of(b)?, part_of(c)?])
+fn parts_of(rt: &impl Abort, a: &str, b: &str, c: &str) -> [Part; 3] {
+    [part_of(rt, a), part_of(rt, b), part_of(rt, c)]
 }
 
 // A verdict from its text: balanced, the verifier that is missing, or the sums.
-fn verdict_of(text: &str) -> Result<Verdict, Fail> {
+fn verdict_of(rt: &impl Abort, text: &str) -> Verdict {
     if text == "balanced" {
-        return Ok(Verdict::Balanced);
+        return Verdict::Balanced;
     }
     match text.strip_prefix("missing") {
-        Some(verifier) => Ok(Verdict::Missing(verifier.parse()?)),
+        Some(verifier) => Verdict::Missing(verifier.parse().expect(rt, "a number")),
         None => {
-            let (added, evicted) = sums_of(text)?;
-            Ok(Verdict::Unbalanced(added, evicted))
+            let (added, evicted) = sums_of(rt, text);
+            Verdict::Unbalanced(added, evicted)
         }
     }
 }
@@ -108,13 +108,21 @@ const VERDICTS: &str = "
 ";
 
 #[test]
-fn verdicts_are_by_all_verifiers(rt: HostRuntime) -> Result<(), Fail> {
+fn verdicts_are_by_all_verifiers(rt: HostRuntime) {
     for row in VERDICTS.trim().lines() {
-        let parts = parts_of(field(row, 0)?, field(row, 1)?, field(row, 2)?)?;
-        let found = verdict_on(&parts, field(row, 3)?.parse()?, field(row, 4)?.parse()?);
-        same(&rt, row, &found, &Some(verdict_of(field(row, 5)?)?));
+        let parts = parts_of(
+            &rt,
+            field(&rt, row, 0),
+            field(&rt, row, 1),
+            field(&rt, row, 2),
+        );
+        let found = verdict_on(
+            &parts,
+            field(&rt, row, 3).parse().expect(&rt, "a number"),
+            field(&rt, row, 4).parse().expect(&rt, "a number"),
+        );
+        same(&rt, row, &found, &Some(verdict_of(&rt, field(&rt, row, 5))));
     }
-    Ok(())
 }
 
 // The two sums of a verdict, if it has them.
@@ -126,9 +134,9 @@ fn sums_in(verdict: Option<Verdict>) -> Option<(Sum, Sum)> {
 }
 
 #[test]
-fn both_sums_are_handed_out(rt: HostRuntime) -> Result<(), Fail> {
-    let parts = parts_of("0.4:aa/b", "1.4:/a", "2.4:/")?;
-    let (added, evicted) = sums_in(verdict_on(&parts, 3, 4)).ok_or("the sums are one")?;
+fn both_sums_are_handed_out(rt: HostRuntime) {
+    let parts = parts_of(&rt, "0.4:aa/b", "1.4:/a", "2.4:/");
+    let (added, evicted) = sums_in(verdict_on(&parts, 3, 4)).expect(&rt, "the sums are one");
     assert_eq!(rt; added.lanes(), [2, 4, 6, 8, 10, 12, 14, 8_589_934_590]);
     assert_eq!(rt; added.count(), 2);
     assert_eq!(rt;
@@ -136,5 +144,4 @@ fn both_sums_are_handed_out(rt: HostRuntime) -> Result<(), Fail> {
         [11, 22, 33, 44, 55, 66, 77, 4_294_967_375]
     );
     assert_eq!(rt; evicted.count(), 2);
-    Ok(())
 }

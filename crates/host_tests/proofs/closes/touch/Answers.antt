@@ -6,7 +6,7 @@ use Rattle.host_shard.specs.Shard.{Shard}
 use Rattle.host_tests.proofs.closes.touch.Goals as goal
 
 pub loop-preserved : goal.loop-preserved
-loop-preserved c =
+loop-preserved g c =
     let fits = c.loop.invariant.fits in
     record {
       fits = subst (IsShard short_keys) (sym c.touch.ensures.touched) (record { below_root = fits.below_root; no_data = fits.no_data; kinds = fits.kinds });

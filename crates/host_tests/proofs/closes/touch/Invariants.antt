@@ -6,7 +6,7 @@ use Rattle.host_shard.specs.Shown.{shown}
 use Rattle.host_tests.proofs.closes.touch.Given as goal
 
 abbrev pub invariant-loop : goal.invariant-loop
-invariant-loop l = record {
+invariant-loop g l = record {
   fits : IsShard short_keys (shown l.shard);
   there : IsSome ((shown l.shard).records (key_path short_keys l.key));
 }

@@ -4,7 +4,7 @@ use Rattle.host_tests.specs.Owned.{OwnsBelow}
 use Rattle.host_tests.proofs.plans.logged.Given as goal
 
 abbrev pub invariant-loop-row : goal.invariant-loop-row
-invariant-loop-row l = record {
+invariant-loop-row g l = record {
   low : OwnsBelow (false ∷ []) (shown_content l.host.low);
   high : OwnsBelow (true ∷ []) (shown_content l.host.high);
 }

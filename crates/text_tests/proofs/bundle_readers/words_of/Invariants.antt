@@ -3,4 +3,4 @@ use Rattle.text_tests.proofs.bundle_readers.words_of.Given as goal
 
 -- the reader has not come to an end
 abbrev pub invariant-loop : goal.invariant-loop
-invariant-loop l = IsDue l.reader.progress
+invariant-loop g l = IsDue l.reader.progress
