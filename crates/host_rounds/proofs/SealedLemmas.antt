@@ -1,5 +1,5 @@
 -- Runs and passes that were lent to threads, once they are apart again.
-use Rattle.std.proofs.Common.{◌≡◌, ℕ, ◌+◌, ◌<◌, List, [], ◌∷◌, length, map, get_or, All, sym, ◌∙◌, arith}
+use Rattle.std.proofs.Common.{◌≡◌, ℕ, ◌+◌, ◌<◌, List, length, map, get_or, All, sym, ◌∙◌, arith}
 use Rattle.lamport_clocks.specs.declared.header.Header.{Header}
 use Rattle.merkle_records.specs.Scheme.{Scheme}
 use Rattle.record_hash.specs.Functions.{DigestFunctions}

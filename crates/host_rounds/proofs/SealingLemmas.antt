@@ -14,11 +14,10 @@ use Rattle.bundle_report.specs.SoFar.{left_from, runs_from}
 use Rattle.bundle_report.proofs.LeftLaws.{run_of}
 use Rattle.bundle_report.proofs.PartLaws.{left-part}
 use Rattle.certified_epochs.specs.declared.fed_run.FedRun.{FedRun}
-use Rattle.certified_epochs.specs.Turn.{AreFed}
 use Rattle.host_rounds.specs.Round.{logs_with}
 use Rattle.host_rounds.specs.Feeding.{Takes, AllTake}
 use Rattle.host_rounds.specs.SoFar.{RunsSoFar, HaveRun}
-use Rattle.host_rounds.specs.Sealing.{log_of, HasPartsOf, SealsOwn, HasTaken, HaveAllTaken}
+use Rattle.host_rounds.specs.Sealing.{log_of, HasPartsOf, SealsOwn, HaveAllTaken}
 use Rattle.host_rounds.proofs.RunLemmas.{round-taken}
 
 -- ---- whose the parts of runs are

@@ -1,5 +1,5 @@
 -- What a book settles of passes by which verifiers handed in what their runs have.
-use Rattle.std.proofs.Common.{◌≡◌, ℕ, zero, suc, ◌+◌, ◌<◌, ◌≤◌, false, List, [], ◌∷◌, ◌++◌, length, map, get_or, slice_get, Option, Some, None, All, refl, sym, ◌∙◌, ap, subst, arith}
+use Rattle.std.proofs.Common.{◌≡◌, ℕ, zero, suc, ◌+◌, ◌<◌, false, List, [], ◌∷◌, ◌++◌, length, map, get_or, slice_get, Option, Some, None, All, refl, sym, ◌∙◌, ap, subst, arith}
 use Rattle.std.specs.List.{AllByRecursion, cons_option}
 use Rattle.std.specs.Option.{option_to_list}
 use Rattle.std.proofs.lemmas.List.{length-map}
@@ -12,7 +12,7 @@ use Rattle.epoch_gather.specs.declared.outcome.Verdict.{Verdict}
 use Rattle.epoch_gather.specs.Verdict.{verdict_of}
 use Rattle.epoch_book.specs.declared.book.EpochBook.{EpochBook}
 use Rattle.epoch_book.specs.declared.pass.Pass.{Pass}
-use Rattle.epoch_book.specs.Passes.{IsPassOf, number_of, part_of, parts_of, verifiers_of, AreAllPassesOf}
+use Rattle.epoch_book.specs.Passes.{number_of, part_of, parts_of, verifiers_of, AreAllPassesOf}
 use Rattle.record_text.specs.declared.operation.Operation.{Operation}
 use Rattle.verifier_run.specs.Progress.{Progress}
 use Rattle.bundle_report.specs.declared.judged.Judged.{Judged}

@@ -1,5 +1,4 @@
-use Rattle.std.proofs.Common.{sym, ◌∙◌, subst, length}
-use Rattle.bundle_report.specs.Judged.{CanBeJudged}
+use Rattle.std.proofs.Common.{◌∙◌}
 use Rattle.certified_epochs.proofs.TurnLemmas.{gathered-verdict}
 use Rattle.certified_epochs.proofs.gathering.verdict_on.Goals as goal
 

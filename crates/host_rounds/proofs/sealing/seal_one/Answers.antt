@@ -1,11 +1,10 @@
-use Rattle.std.proofs.Common.{◌≡◌, ℕ, ◌+◌, List, [], ◌∷◌, ◌++◌, length, map, sym, ◌∙◌, ap, subst, arith}
+use Rattle.std.proofs.Common.{◌≡◌, ◌+◌, List, [], ◌∷◌, ◌++◌, length, map, sym, ◌∙◌, ap, subst, arith}
 use Rattle.std.proofs.lemmas.List.{with_items_is}
 use Rattle.epoch_gather.specs.declared.outcome.Verdict.{Verdict}
 use Rattle.epoch_book.specs.declared.pass.Pass.{Pass}
 use Rattle.epoch_book.specs.Passes.{verifiers_of}
 use Rattle.certified_epochs.specs.declared.fed_run.FedRun.{FedRun}
 use Rattle.certified_epochs.specs.Turn.{AreFed, IsVerdictAt}
-use Rattle.host_rounds.specs.declared.with_pass.WithPass.{WithPass}
 use Rattle.host_rounds.specs.WithPass.{item_in, pass_in}
 use Rattle.host_rounds.specs.Sealing.{CanTake, IsNewPass}
 use Rattle.host_rounds.proofs.WithPassLemmas.{half-count, of-half}

@@ -5,7 +5,7 @@ use Rattle.fv_outside.proofs.WrittenLaws.{Grows-then, GrowsByFront-whole, GrowsB
 use Rattle.verifier_run.specs.Progress.{weight}
 use Rattle.certified_epochs.specs.declared.fed_run.FedRun.{FedRun}
 use Rattle.host_log.specs.Frames.{pieces_text}
-use Rattle.host_rounds.specs.Round.{logs_with, pieces_of}
+use Rattle.host_rounds.specs.Round.{pieces_of}
 use Rattle.host_rounds.specs.Feeding.{AllTake}
 use Rattle.host_rounds.specs.SoFar.{RunsSoFar, HaveRun}
 use Rattle.host_rounds.specs.Sealing.{SealsOwn}
