@@ -2,8 +2,8 @@
 use fastver_top::{Status, fastver};
 use fv_outside::{FreeGate, MemorySink, MemorySource, MemoryVault};
 use std::alloc::Global;
+use std::process::Abort;
 use std::sync::Wait;
-use std::test::Fail;
 use std::thread::Threads;
 
 /// The words of an acceptance.
@@ -52,20 +52,20 @@ pub(crate) struct Asked {
 
 /// What is there behind the program with the words of a line, over these bytes, all byte by byte. The reads and the writes of
 /// these numbers fail.
-pub(crate) fn ask<R: Threads + Wait + Sync>(
+pub(crate) fn ask<R: Threads + Wait + Sync + Abort>(
     rt: &R,
     alloc: Global,
     line: &str,
     bytes: &[u8],
     fails: (&[u64], &[u64]),
-) -> Result<Asked, Fail> {
+) -> Asked {
     let mut words = Vec::new(alloc);
     for word in line.split_whitespace() {
-        words.push(word)?;
+        words.push(word).expect(rt, "memory");
     }
-    let mut source = MemorySource::new(alloc, bytes, 1, fails.0)?;
-    let mut out = MemorySink::new(alloc, 2000, 1, fails.1)?;
-    let mut vault = MemoryVault::new(alloc, 2000, 1, &[])?;
+    let mut source = MemorySource::new(alloc, bytes, 1, fails.0).expect(rt, "memory");
+    let mut out = MemorySink::new(alloc, 2000, 1, fails.1).expect(rt, "memory");
+    let mut vault = MemoryVault::new(alloc, 2000, 1, &[]).expect(rt, "memory");
     let status = fastver(
         rt,
         alloc,
@@ -75,43 +75,41 @@ pub(crate) fn ask<R: Threads + Wait + Sync>(
         &mut vault,
         &FreeGate,
     );
-    Ok(Asked { out, vault, status })
+    Asked { out, vault, status }
 }
 
 /// The line of this number of a text.
-pub(crate) fn line_at(text: &str, number: usize) -> Result<&str, Fail> {
-    match text.lines().nth(number) {
-        Some(line) => Ok(line),
-        None => Err("a text with too few lines")?,
-    }
+pub(crate) fn line_at<'a>(rt: &impl Abort, text: &'a str, number: usize) -> &'a str {
+    let line = text.lines().nth(number);
+    line.expect(rt, "a text with too few lines")
 }
 
 // The line that a letter stands for, if it stands for one.
-fn line_for(letter: u8) -> Result<Option<&'static str>, Fail> {
-    Ok(match letter {
-        b'P' => Some(line_at(REPORT, 2)?),
-        b'G' => Some(line_at(REPORT, 4)?),
-        b'C' => Some(line_at(REPORT, 5)?),
-        b'L' => Some(line_at(REPORT, 8)?),
-        b'D' => Some(line_at(REPORT, 9)?),
-        b'Q' => Some(line_at(OTHER_REPORT, 2)?),
-        b'E' => Some(line_at(OTHER_REPORT, 5)?),
+fn line_for(rt: &impl Abort, letter: u8) -> Option<&'static str> {
+    match letter {
+        b'P' => Some(line_at(rt, REPORT, 2)),
+        b'G' => Some(line_at(rt, REPORT, 4)),
+        b'C' => Some(line_at(rt, REPORT, 5)),
+        b'L' => Some(line_at(rt, REPORT, 8)),
+        b'D' => Some(line_at(rt, REPORT, 9)),
+        b'Q' => Some(line_at(rt, OTHER_REPORT, 2)),
+        b'E' => Some(line_at(rt, OTHER_REPORT, 5)),
         _ => None,
-    })
+    }
 }
 
 /// The text that letters stand for: P, G and L for the receipts of the put, the get and the later get, C and D for the
 /// certificates of the epochs 0 and 1, Q and E for the receipt of the put and the certificate under another key, / for the
 /// end of a line and ^ for a carriage return.
-pub(crate) fn text_of(alloc: Global, letters: &str) -> Result<Vec<u8>, Fail> {
+pub(crate) fn text_of(rt: &impl Abort, alloc: Global, letters: &str) -> Vec<u8> {
     let mut text = Vec::new(alloc);
     for letter in letters.as_bytes() {
-        match (line_for(*letter)?, *letter) {
-            (Some(line), _) => text.extend_from_slice(line.as_bytes())?,
-            (None, b'/') => text.push(b'\n')?,
-            (None, b'^') => text.push(b'\r')?,
-            (None, other) => text.push(other)?,
+        match (line_for(rt, *letter), *letter) {
+            (Some(line), _) => text.extend_from_slice(line.as_bytes()).expect(rt, "memory"),
+            (None, b'/') => text.push(b'\n').expect(rt, "memory"),
+            (None, b'^') => text.push(b'\r').expect(rt, "memory"),
+            (None, other) => text.push(other).expect(rt, "memory"),
         }
     }
-    Ok(text)
+    text
 }

@@ -3,7 +3,6 @@ use crate::asking::{ACCEPT, Asked, REPORT, ask, line_at, text_of};
 use std::alloc::Global;
 use std::process::Abort;
 use std::sync::Wait;
-use std::test::Fail;
 use std::thread::Threads;
 
 // The letters of a text, its status and, if something is written, that line.
@@ -35,11 +34,9 @@ P/C/C/  | bad script line 3 Shape |
 ";
 
 // The field of a row at this place, counted from 0.
-fn field(row: &str, place: usize) -> Result<&str, Fail> {
-    match row.split('|').nth(place) {
-        Some(text) => Ok(text.trim()),
-        None => Err("a row with too few fields")?,
-    }
+fn field<'a>(rt: &impl Abort, row: &'a str, place: usize) -> &'a str {
+    let text = row.split('|').nth(place);
+    text.expect(rt, "a row with too few fields").trim()
 }
 
 // The exit status that goes with these words.
@@ -59,11 +56,11 @@ fn assert_unused<R: Abort>(rt: &R, asked: &Asked) {
 }
 
 #[test]
-fn texts_are_accepted_or_refused(rt: HostRuntime) -> Result<(), Fail> {
+fn texts_are_accepted_or_refused(rt: HostRuntime) {
     for row in TEXTS.trim_matches('\n').lines() {
-        let text = text_of(rt.alloc(), field(row, 0)?)?;
-        let asked = ask(&rt, rt.alloc(), ACCEPT, &text, (&[], &[]))?;
-        let (words, line) = (field(row, 1)?, field(row, 2)?);
+        let text = text_of(&rt, rt.alloc(), field(&rt, row, 0));
+        let asked = ask(&rt, rt.alloc(), ACCEPT, &text, (&[], &[]));
+        let (words, line) = (field(&rt, row, 1), field(&rt, row, 2));
         assert_eq!(rt; asked.status.line().as_slice(), words.as_bytes(), "{row}");
         assert_eq!(rt; asked.status.number(), number_of(words), "{row}");
         // What is written is the line and its end, or nothing.
@@ -76,26 +73,27 @@ fn texts_are_accepted_or_refused(rt: HostRuntime) -> Result<(), Fail> {
         assert_eq!(rt; written.is_empty(), line.is_empty(), "{row}");
         assert_unused(&rt, &asked);
     }
-    Ok(())
 }
 
 // The bytes of digits with one bit changed, as digits.
-fn changed(alloc: Global, digits: &str, bit: usize) -> Result<String, Fail> {
-    let mut bytes = hex::decode(alloc, digits)?;
+fn changed(rt: &impl Abort, alloc: Global, digits: &str, bit: usize) -> String {
+    let mut bytes = hex::decode(alloc, digits).expect(rt, "memory");
     if let Some(byte) = bytes.get_mut(bit / 8) {
         *byte ^= 1 << (bit % 8);
     }
-    Ok(hex::encode(alloc, bytes.as_slice())?)
+    hex::encode(alloc, bytes.as_slice()).expect(rt, "memory")
 }
 
 // What these digits come to, of a receipt and of a certificate.
-fn accept<R: Threads + Wait + Sync>(
+fn accept<R: Threads + Wait + Sync + Abort>(
     rt: &R,
     alloc: Global,
     receipt: &str,
     certificate: &str,
-) -> Result<Asked, Fail> {
-    let text = format!(in alloc; "receipt {receipt}\ncertificate {certificate}\n")?;
+) -> Asked {
+    let text = format!(in alloc; "receipt {receipt}\ncertificate {certificate}\n").expect(
+        rt, "memory",
+    );
     ask(rt, alloc, ACCEPT, text.as_bytes(), (&[], &[]))
 }
 
@@ -111,53 +109,50 @@ fn assert_refused<R: Abort>(rt: &R, bit: usize, asked: &Asked, is_read: bool) {
 }
 
 // The digits of the receipt of the put, and those of the first certificate.
-fn digits() -> Result<(&'static str, &'static str), Fail> {
-    let receipt = line_at(REPORT, 2)?.strip_prefix("receipt ");
-    let certificate = line_at(REPORT, 5)?.strip_prefix("certificate ");
+fn digits(rt: &impl Abort) -> (&'static str, &'static str) {
+    let receipt = line_at(rt, REPORT, 2).strip_prefix("receipt ");
+    let certificate = line_at(rt, REPORT, 5).strip_prefix("certificate ");
     match (receipt, certificate) {
-        (Some(receipt), Some(certificate)) => Ok((receipt, certificate)),
-        _ => Err("lines that are none")?,
+        (Some(receipt), Some(certificate)) => (receipt, certificate),
+        _ => panic!(rt; "lines that are none"),
     }
 }
 
 #[test]
-fn no_bit_of_a_receipt_may_change(rt: HostRuntime) -> Result<(), Fail> {
-    let (receipt, certificate) = digits()?;
+fn no_bit_of_a_receipt_may_change(rt: HostRuntime) {
+    let (receipt, certificate) = digits(&rt);
     for bit in 0..8 * 64 {
-        let other = changed(rt.alloc(), receipt, bit)?;
-        let asked = accept(&rt, rt.alloc(), &other, certificate)?;
+        let other = changed(&rt, rt.alloc(), receipt, bit);
+        let asked = accept(&rt, rt.alloc(), &other, certificate);
         // The slow program reads no receipt in 31 of them: the 8 bits of its first byte, the 7 that make a get or a put
         // another command, and the 16 of the kind and of the length of its value.
         let is_read = !matches!(bit, 0..8 | 153..160 | 224..240);
         assert_refused(&rt, bit, &asked, is_read);
     }
-    Ok(())
 }
 
 #[test]
-fn no_bit_of_a_certificate_may_change(rt: HostRuntime) -> Result<(), Fail> {
-    let (receipt, certificate) = digits()?;
+fn no_bit_of_a_certificate_may_change(rt: HostRuntime) {
+    let (receipt, certificate) = digits(&rt);
     for bit in 0..8 * 41 {
-        let other = changed(rt.alloc(), certificate, bit)?;
-        let asked = accept(&rt, rt.alloc(), receipt, &other)?;
+        let other = changed(&rt, rt.alloc(), certificate, bit);
+        let asked = accept(&rt, rt.alloc(), receipt, &other);
         // The slow program reads no certificate in 8 of them: the bits of its first byte.
         assert_refused(&rt, bit, &asked, 8 <= bit);
     }
-    Ok(())
 }
 
 #[test]
-fn no_letter_may_be_a_capital(rt: HostRuntime) -> Result<(), Fail> {
-    let text = text_of(rt.alloc(), "P/C/")?;
+fn no_letter_may_be_a_capital(rt: HostRuntime) {
+    let text = text_of(&rt, rt.alloc(), "P/C/");
     for place in 0..text.len() {
-        let mut other = Vec::from_slice(rt.alloc(), &text)?;
+        let mut other = Vec::from_slice(rt.alloc(), &text).expect(&rt, "memory");
         if let Some(byte) = other.get_mut(place) {
             *byte = byte.to_ascii_uppercase();
         }
-        let asked = ask(&rt, rt.alloc(), ACCEPT, &other, (&[], &[]))?;
+        let asked = ask(&rt, rt.alloc(), ACCEPT, &other, (&[], &[]));
         let number = if other == text { 0 } else { 6 };
         assert_eq!(rt; asked.status.number(), number, "{place}");
         assert_eq!(rt; asked.out.bytes().is_empty(), other != text, "{place}");
     }
-    Ok(())
 }

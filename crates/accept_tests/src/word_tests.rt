@@ -1,7 +1,6 @@
 //! Words that are refused: nothing is read, written or named.
 use crate::asking::{ask, text_of};
 use fastver_top::Status;
-use std::test::Fail;
 
 // Words that ask for nothing, a line each.
 const REFUSED: &str = "\
@@ -18,15 +17,14 @@ fastver run --key 00000000000000000000000000000000 --verifiers 1 --shards 2 --re
 ";
 
 #[test]
-fn words_are_refused(rt: HostRuntime) -> Result<(), Fail> {
-    let text = text_of(rt.alloc(), "P/C/")?;
+fn words_are_refused(rt: HostRuntime) {
+    let text = text_of(&rt, rt.alloc(), "P/C/");
     assert_eq!(rt; REFUSED.lines().count(), 10);
     for line in REFUSED.lines() {
         // A read that is made fails.
-        let asked = ask(&rt, rt.alloc(), line, &text, (&[0], &[]))?;
+        let asked = ask(&rt, rt.alloc(), line, &text, (&[0], &[]));
         assert_eq!(rt; asked.status, Status::Usage, "{line}");
         assert!(rt; asked.out.bytes().is_empty(), "{line}");
         assert!(rt; asked.vault.bytes().is_empty(), "{line}");
     }
-    Ok(())
 }

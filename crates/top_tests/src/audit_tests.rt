@@ -7,26 +7,24 @@ use fv_outside::{MemorySink, MemorySource};
 use record_hash::ToyDigests;
 use std::alloc::Global;
 use std::process::Abort;
-use std::test::Fail;
 
 // What an audit of these bytes writes, and its status, where reads and writes go by so many bytes.
-fn audited(alloc: Global, bundle: &[u8], piece: usize) -> Result<(MemorySink, Status), Fail> {
-    let mut source = MemorySource::new(alloc, bundle, piece.max(1), &[])?;
-    let mut out = MemorySink::new(alloc, 10_000, piece.max(1), &[])?;
+fn audited(rt: &impl Abort, alloc: Global, bundle: &[u8], piece: usize) -> (MemorySink, Status) {
+    let mut source = MemorySource::new(alloc, bundle, piece.max(1), &[]).expect(rt, "memory");
+    let mut out = MemorySink::new(alloc, 10_000, piece.max(1), &[]).expect(rt, "memory");
     let status = audit_text(alloc, &ToyDigests, 1 << 20, &mut source, &mut out);
-    Ok((out, status))
+    (out, status)
 }
 
 // The bundle has this audit and status, whether it is read and written by bytes or as a whole.
-fn assert_audit<R: Abort>(rt: &R, alloc: Global, case: &Case<'_>) -> Result<(), Fail> {
+fn assert_audit<R: Abort>(rt: &R, alloc: Global, case: &Case<'_>) {
     let label = case.label;
     let bytes = bytes_of(rt, alloc, case);
     for piece in [1, 100_000] {
-        let (out, status) = audited(alloc, &bytes, piece)?;
+        let (out, status) = audited(rt, alloc, &bytes, piece);
         assert_eq!(rt; out.bytes(), case.report.as_bytes(), "{label}");
         assert_eq!(rt; status.number(), case.status, "{label}");
     }
-    Ok(())
 }
 
 // Audits of which most show two multisets with one sum.
@@ -200,13 +198,12 @@ done 2
 ";
 
 #[test]
-fn multisets_are_exhibited(rt: HostRuntime) -> Result<(), Fail> {
-    let cases = cases_of(rt.alloc(), MULTISETS)?;
+fn multisets_are_exhibited(rt: HostRuntime) {
+    let cases = cases_of(rt.alloc(), MULTISETS).expect(&rt, "memory");
     assert_eq!(rt; cases.len(), 10);
     for case in &cases {
-        assert_audit(&rt, rt.alloc(), case)?;
+        assert_audit(&rt, rt.alloc(), case);
     }
-    Ok(())
 }
 
 // Audits of which most show two strings with one digest.
@@ -376,13 +373,12 @@ done 1
 ";
 
 #[test]
-fn strings_are_exhibited(rt: HostRuntime) -> Result<(), Fail> {
-    let cases = cases_of(rt.alloc(), STRINGS)?;
+fn strings_are_exhibited(rt: HostRuntime) {
+    let cases = cases_of(rt.alloc(), STRINGS).expect(&rt, "memory");
     assert_eq!(rt; cases.len(), 10);
     for case in &cases {
-        assert_audit(&rt, rt.alloc(), case)?;
+        assert_audit(&rt, rt.alloc(), case);
     }
-    Ok(())
 }
 
 // Audits whose last line is the last of the report of a check.
@@ -502,13 +498,12 @@ bad bundle at byte 0
 ";
 
 #[test]
-fn the_last_line_is_the_checks(rt: HostRuntime) -> Result<(), Fail> {
-    let cases = cases_of(rt.alloc(), LAST_LINES)?;
+fn the_last_line_is_the_checks(rt: HostRuntime) {
+    let cases = cases_of(rt.alloc(), LAST_LINES).expect(&rt, "memory");
     assert_eq!(rt; cases.len(), 8);
     for case in &cases {
-        assert_audit(&rt, rt.alloc(), case)?;
+        assert_audit(&rt, rt.alloc(), case);
     }
-    Ok(())
 }
 
 // Another element with the same lanes comes back: 125 bytes.
@@ -531,32 +526,30 @@ done 1
 ";
 
 #[test]
-fn objects_that_fail_leave_a_front_of_an_audit(rt: HostRuntime) -> Result<(), Fail> {
-    let bytes = bundle_of(rt.alloc(), UNEVEN)?;
+fn objects_that_fail_leave_a_front_of_an_audit(rt: HostRuntime) {
+    let bytes = bundle_of(rt.alloc(), UNEVEN).expect(&rt, "memory");
     for k in 0..bytes.len() as u64 + 1 {
-        let mut source = MemorySource::new(rt.alloc(), &bytes, 1, &[k])?;
-        let mut out = MemorySink::new(rt.alloc(), 1000, 1, &[])?;
+        let mut source = MemorySource::new(rt.alloc(), &bytes, 1, &[k]).expect(&rt, "memory");
+        let mut out = MemorySink::new(rt.alloc(), 1000, 1, &[]).expect(&rt, "memory");
         let status = audit_text(rt.alloc(), &ToyDigests, 1 << 20, &mut source, &mut out);
         assert_eq!(rt; status.number(), 3, "{k}");
         assert!(rt; out.bytes().is_empty(), "{k}");
     }
     for k in 0..SHOWN.len() {
-        let mut source = MemorySource::new(rt.alloc(), &bytes, 1, &[])?;
-        let mut out = MemorySink::new(rt.alloc(), 1000, 1, &[k as u64])?;
+        let mut source = MemorySource::new(rt.alloc(), &bytes, 1, &[]).expect(&rt, "memory");
+        let mut out = MemorySink::new(rt.alloc(), 1000, 1, &[k as u64]).expect(&rt, "memory");
         let status = audit_text(rt.alloc(), &ToyDigests, 1 << 20, &mut source, &mut out);
         assert_eq!(rt; status.number(), 4, "{k}");
         assert_eq!(rt; out.bytes(), &SHOWN.as_bytes()[..k], "{k}");
     }
-    Ok(())
 }
 
 #[test]
-fn no_more_of_an_audit_is_read_than_the_limit(rt: HostRuntime) -> Result<(), Fail> {
-    let bytes = bundle_of(rt.alloc(), UNEVEN)?;
-    let mut source = MemorySource::new(rt.alloc(), &bytes, 10, &[])?;
-    let mut out = MemorySink::new(rt.alloc(), 1000, 10, &[])?;
+fn no_more_of_an_audit_is_read_than_the_limit(rt: HostRuntime) {
+    let bytes = bundle_of(rt.alloc(), UNEVEN).expect(&rt, "memory");
+    let mut source = MemorySource::new(rt.alloc(), &bytes, 10, &[]).expect(&rt, "memory");
+    let mut out = MemorySink::new(rt.alloc(), 1000, 10, &[]).expect(&rt, "memory");
     let status = audit_text(rt.alloc(), &ToyDigests, 50, &mut source, &mut out);
     assert_eq!(rt; status, Status::InputLimit { taken: 50 });
     assert!(rt; out.bytes().is_empty());
-    Ok(())
 }

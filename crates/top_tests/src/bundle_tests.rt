@@ -1,7 +1,6 @@
 //! Bundles that were written out by hand, with the report and the status that each must have.
 use crate::running::assert_case;
 use bundle_rows::cases_of;
-use std::test::Fail;
 
 // Bundles of one verifier.
 const WHOLE_BUNDLES: &str = "\
@@ -90,13 +89,12 @@ done 1
 ";
 
 #[test]
-fn whole_bundles_have_their_reports(rt: HostRuntime) -> Result<(), Fail> {
-    let cases = cases_of(rt.alloc(), WHOLE_BUNDLES)?;
+fn whole_bundles_have_their_reports(rt: HostRuntime) {
+    let cases = cases_of(rt.alloc(), WHOLE_BUNDLES).expect(&rt, "memory");
     assert_eq!(rt; cases.len(), 9);
     for case in &cases {
-        assert_case(&rt, rt.alloc(), case)?;
+        assert_case(&rt, rt.alloc(), case);
     }
-    Ok(())
 }
 
 // Bundles of two verifiers.
@@ -169,13 +167,12 @@ done 0
 ";
 
 #[test]
-fn many_verifiers_have_one_report(rt: HostRuntime) -> Result<(), Fail> {
-    let cases = cases_of(rt.alloc(), MANY_VERIFIERS)?;
+fn many_verifiers_have_one_report(rt: HostRuntime) {
+    let cases = cases_of(rt.alloc(), MANY_VERIFIERS).expect(&rt, "memory");
     assert_eq!(rt; cases.len(), 6);
     for case in &cases {
-        assert_case(&rt, rt.alloc(), case)?;
+        assert_case(&rt, rt.alloc(), case);
     }
-    Ok(())
 }
 
 // Refusals beside those of the lying logs.
@@ -217,11 +214,10 @@ refused v0 command 4 WrongValue
 ";
 
 #[test]
-fn other_commands_are_refused(rt: HostRuntime) -> Result<(), Fail> {
-    let cases = cases_of(rt.alloc(), REFUSED_COMMANDS)?;
+fn other_commands_are_refused(rt: HostRuntime) {
+    let cases = cases_of(rt.alloc(), REFUSED_COMMANDS).expect(&rt, "memory");
     assert_eq!(rt; cases.len(), 5);
     for case in &cases {
-        assert_case(&rt, rt.alloc(), case)?;
+        assert_case(&rt, rt.alloc(), case);
     }
-    Ok(())
 }

@@ -4,7 +4,6 @@ use bundle_rows::cases_of;
 use check_core::check;
 use fv_outside::{MemorySink, MemorySource};
 use record_hash::ToyDigests;
-use std::test::Fail;
 
 // What is certified is not serial where digests or sums collide; a wrong number of elements still tells.
 const COLLISIONS: &str = "\
@@ -48,13 +47,13 @@ epoch 0 unbalanced added 2 evicted 2
 ";
 
 #[test]
-fn digests_that_collide_certify_what_is_not_serial(rt: HostRuntime) -> Result<(), Fail> {
-    let cases = cases_of(rt.alloc(), COLLISIONS)?;
+fn digests_that_collide_certify_what_is_not_serial(rt: HostRuntime) {
+    let cases = cases_of(rt.alloc(), COLLISIONS).expect(&rt, "memory");
     assert_eq!(rt; cases.len(), 3);
     for case in &cases {
         let bytes = bytes_of(&rt, rt.alloc(), case);
-        let mut source = MemorySource::new(rt.alloc(), &bytes, 7, &[])?;
-        let mut out = MemorySink::new(rt.alloc(), 10_000, 7, &[])?;
+        let mut source = MemorySource::new(rt.alloc(), &bytes, 7, &[]).expect(&rt, "memory");
+        let mut out = MemorySink::new(rt.alloc(), 10_000, 7, &[]).expect(&rt, "memory");
         let status = check(
             &rt,
             rt.alloc(),
@@ -68,5 +67,4 @@ fn digests_that_collide_certify_what_is_not_serial(rt: HostRuntime) -> Result<()
         assert_eq!(rt; out.bytes(), case.report.as_bytes(), "{label}");
         assert_eq!(rt; status.number(), case.status, "{label}");
     }
-    Ok(())
 }

@@ -4,7 +4,7 @@ use collision_exhibit::{Exhibit, audit};
 use lamport_clocks::Header;
 use record_hash::ToyDigests;
 use std::alloc::Global;
-use std::test::Fail;
+use std::process::Abort;
 
 // What was put comes back by its digest.
 const CLEAN: &str = "\
@@ -40,31 +40,31 @@ next
 ";
 
 // What an audit of this log of one verifier shows over so many epochs.
-fn audited(alloc: Global, rows: &str, epochs: u64) -> Result<Exhibit, Fail> {
+fn audited(rt: &impl Abort, alloc: Global, rows: &str, epochs: u64) -> Exhibit {
     let header = Header {
         verifiers: 1,
         cache: 4,
         first: 0,
         end: 0xff_ffff,
     };
-    let logs = vec![in alloc; log_of(alloc, rows)?]?;
-    Ok(audit(alloc, &ToyDigests, &header, &logs, epochs)?)
+    let logs = vec![in alloc; log_of(alloc, rows).expect(rt, "memory")].expect(rt, "memory");
+    audit(alloc, &ToyDigests, &header, &logs, epochs).expect(rt, "memory")
 }
 
 #[test]
-fn logs_are_audited(rt: HostRuntime) -> Result<(), Fail> {
-    let clean = audited(rt.alloc(), CLEAN, 1)?;
+fn logs_are_audited(rt: HostRuntime) {
+    let clean = audited(&rt, rt.alloc(), CLEAN, 1);
     assert!(rt; matches!(clean, Exhibit::Clean));
-    let none = audited(rt.alloc(), CLASH, 0)?;
+    let none = audited(&rt, rt.alloc(), CLASH, 0);
     assert!(rt; matches!(none, Exhibit::Clean));
-    match audited(rt.alloc(), CLASH, 1)? {
+    match audited(&rt, rt.alloc(), CLASH, 1) {
         Exhibit::Strings(evicted, added) => {
             assert_eq!(rt; evicted.as_slice(), b"\x01\x02ab".as_slice());
             assert_eq!(rt; added.as_slice(), b"\x01\x02ba".as_slice());
         }
         _ => panic!(rt; "no strings"),
     }
-    match audited(rt.alloc(), UNEVEN, 1)? {
+    match audited(&rt, rt.alloc(), UNEVEN, 1) {
         Exhibit::Multisets(epoch, added, evicted) => {
             assert_eq!(rt; epoch, 0);
             assert_eq!(rt; added.as_slice().len(), 1);
@@ -72,5 +72,4 @@ fn logs_are_audited(rt: HostRuntime) -> Result<(), Fail> {
         }
         _ => panic!(rt; "no multisets"),
     }
-    Ok(())
 }

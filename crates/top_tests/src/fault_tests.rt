@@ -6,7 +6,6 @@ use fv_outside::{MemorySink, MemorySource};
 use std::alloc::Global;
 use std::process::Abort;
 use std::sync::Wait;
-use std::test::Fail;
 use std::thread::Threads;
 
 // Each case is a bundle behind the words that it is handed to, with what is written of it, and the status. The receipts are
@@ -69,16 +68,15 @@ fn assert_reads<R: Threads + Wait + Sync + Abort>(
     alloc: Global,
     case: &Case<'_>,
     bytes: &[u8],
-) -> Result<(), Fail> {
+) {
     for k in 0..bytes.len() as u64 {
-        let mut source = MemorySource::new(alloc, bytes, 1, &[k])?;
-        let mut out = MemorySink::new(alloc, 1000, 1, &[])?;
-        let status = run_between(rt, alloc, case.label, &mut source, &mut out)?;
+        let mut source = MemorySource::new(alloc, bytes, 1, &[k]).expect(rt, "memory");
+        let mut out = MemorySink::new(alloc, 1000, 1, &[]).expect(rt, "memory");
+        let status = run_between(rt, alloc, case.label, &mut source, &mut out);
         assert_eq!(rt; status, Status::ReadFault, "{} {k}", case.label);
         assert_eq!(rt; source.faults(), 1, "{} {k}", case.label);
         assert!(rt; out.bytes().is_empty(), "{} {k}", case.label);
     }
-    Ok(())
 }
 
 // Where a write of one byte fails, those before it stand.
@@ -87,11 +85,11 @@ fn assert_writes<R: Threads + Wait + Sync + Abort>(
     alloc: Global,
     case: &Case<'_>,
     bytes: &[u8],
-) -> Result<(), Fail> {
+) {
     for k in 0..case.report.len() {
-        let mut source = MemorySource::new(alloc, bytes, 1, &[])?;
-        let mut out = MemorySink::new(alloc, 1000, 1, &[k as u64])?;
-        let status = run_between(rt, alloc, case.label, &mut source, &mut out)?;
+        let mut source = MemorySource::new(alloc, bytes, 1, &[]).expect(rt, "memory");
+        let mut out = MemorySink::new(alloc, 1000, 1, &[k as u64]).expect(rt, "memory");
+        let status = run_between(rt, alloc, case.label, &mut source, &mut out);
         assert_eq!(rt; status, Status::WriteFault, "{} {k}", case.label);
         assert_eq!(rt; out.faults(), 1, "{} {k}", case.label);
         assert_eq!(rt;
@@ -101,7 +99,6 @@ fn assert_writes<R: Threads + Wait + Sync + Abort>(
             case.label
         );
     }
-    Ok(())
 }
 
 // A sink with too little room is filled, by whatever pieces.
@@ -110,11 +107,11 @@ fn assert_small_sinks<R: Threads + Wait + Sync + Abort>(
     alloc: Global,
     case: &Case<'_>,
     bytes: &[u8],
-) -> Result<(), Fail> {
+) {
     for room in 0..case.report.len() {
-        let mut source = MemorySource::new(alloc, bytes, 1000, &[])?;
-        let mut out = MemorySink::new(alloc, room, 7, &[])?;
-        let status = run_between(rt, alloc, case.label, &mut source, &mut out)?;
+        let mut source = MemorySource::new(alloc, bytes, 1000, &[]).expect(rt, "memory");
+        let mut out = MemorySink::new(alloc, room, 7, &[]).expect(rt, "memory");
+        let status = run_between(rt, alloc, case.label, &mut source, &mut out);
         assert_eq!(rt; status, Status::WriteFault, "{} {room}", case.label);
         assert_eq!(rt;
             out.bytes(),
@@ -123,23 +120,21 @@ fn assert_small_sinks<R: Threads + Wait + Sync + Abort>(
             case.label
         );
     }
-    let mut source = MemorySource::new(alloc, bytes, 1000, &[])?;
-    let mut out = MemorySink::new(alloc, case.report.len(), 7, &[])?;
-    let status = run_between(rt, alloc, case.label, &mut source, &mut out)?;
+    let mut source = MemorySource::new(alloc, bytes, 1000, &[]).expect(rt, "memory");
+    let mut out = MemorySink::new(alloc, case.report.len(), 7, &[]).expect(rt, "memory");
+    let status = run_between(rt, alloc, case.label, &mut source, &mut out);
     assert_eq!(rt; status.number(), case.status, "{}", case.label);
     assert_eq!(rt; out.bytes(), case.report.as_bytes(), "{}", case.label);
-    Ok(())
 }
 
 #[test]
-fn a_front_of_each_answer_stands(rt: HostRuntime) -> Result<(), Fail> {
-    let cases = cases_of(rt.alloc(), ANSWERS)?;
+fn a_front_of_each_answer_stands(rt: HostRuntime) {
+    let cases = cases_of(rt.alloc(), ANSWERS).expect(&rt, "memory");
     assert_eq!(rt; cases.len(), 5);
     for case in &cases {
         let bytes = bytes_of(&rt, rt.alloc(), case);
-        assert_reads(&rt, rt.alloc(), case, &bytes)?;
-        assert_writes(&rt, rt.alloc(), case, &bytes)?;
-        assert_small_sinks(&rt, rt.alloc(), case, &bytes)?;
+        assert_reads(&rt, rt.alloc(), case, &bytes);
+        assert_writes(&rt, rt.alloc(), case, &bytes);
+        assert_small_sinks(&rt, rt.alloc(), case, &bytes);
     }
-    Ok(())
 }

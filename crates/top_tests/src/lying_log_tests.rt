@@ -2,7 +2,6 @@
 use crate::framed::Framed;
 use crate::running::{assert_bundle, assert_case, bytes_of};
 use bundle_rows::cases_of;
-use std::test::Fail;
 
 // Each report is this one line; an audit shows nothing, and then the same line.
 const LYING_LOGS: &str = "\
@@ -133,28 +132,28 @@ refused v0 command 0 NotCached
 ";
 
 #[test]
-fn lying_logs_are_told(rt: HostRuntime) -> Result<(), Fail> {
-    let cases = cases_of(rt.alloc(), LYING_LOGS)?;
+fn lying_logs_are_told(rt: HostRuntime) {
+    let cases = cases_of(rt.alloc(), LYING_LOGS).expect(&rt, "memory");
     assert_eq!(rt; cases.len(), 22);
     for case in &cases {
-        assert_case(&rt, rt.alloc(), case)?;
+        assert_case(&rt, rt.alloc(), case);
     }
-    Ok(())
 }
 
 #[test]
-fn lying_logs_are_told_however_they_are_cut(rt: HostRuntime) -> Result<(), Fail> {
-    for case in &cases_of(rt.alloc(), LYING_LOGS)? {
+fn lying_logs_are_told_however_they_are_cut(rt: HostRuntime) {
+    for case in &cases_of(rt.alloc(), LYING_LOGS).expect(&rt, "memory") {
         let bytes = bytes_of(&rt, rt.alloc(), case);
-        let framed = Framed::of(rt.alloc(), &bytes)?;
+        let framed = Framed::of(rt.alloc(), &bytes).expect(&rt, "memory");
         for at in 1..framed.longest() {
-            let cut = framed.cut_at(rt.alloc(), at)?;
-            assert_bundle(&rt, rt.alloc(), case, &cut)?;
+            let cut = framed.cut_at(rt.alloc(), at).expect(&rt, "memory");
+            assert_bundle(&rt, rt.alloc(), case, &cut);
         }
-        let cut = framed.cut_in(rt.alloc(), framed.longest())?;
-        assert_bundle(&rt, rt.alloc(), case, &cut)?;
+        let cut = framed
+            .cut_in(rt.alloc(), framed.longest())
+            .expect(&rt, "memory");
+        assert_bundle(&rt, rt.alloc(), case, &cut);
     }
-    Ok(())
 }
 
 // Logs of two verifiers, of which one lies or both do. Each can be cut in four pieces. The slow program has the same reports.
@@ -249,18 +248,23 @@ refused v1 command 1 NotCached
 ";
 
 #[test]
-fn two_logs_are_told_in_whatever_order_their_frames_come(rt: HostRuntime) -> Result<(), Fail> {
-    let cases = cases_of(rt.alloc(), TWO_LOGS)?;
+fn two_logs_are_told_in_whatever_order_their_frames_come(rt: HostRuntime) {
+    let cases = cases_of(rt.alloc(), TWO_LOGS).expect(&rt, "memory");
     assert_eq!(rt; cases.len(), 8);
     for case in &cases {
         let bytes = bytes_of(&rt, rt.alloc(), case);
-        let pieces = Framed::of(rt.alloc(), &bytes)?.cut_in(rt.alloc(), 4)?;
-        let bundles = Framed::of(rt.alloc(), &pieces)?.in_any_order(rt.alloc())?;
+        let pieces = Framed::of(rt.alloc(), &bytes)
+            .expect(&rt, "memory")
+            .cut_in(rt.alloc(), 4)
+            .expect(&rt, "memory");
+        let bundles = Framed::of(rt.alloc(), &pieces)
+            .expect(&rt, "memory")
+            .in_any_order(rt.alloc())
+            .expect(&rt, "memory");
         // Four pieces out of eight are those of verifier 0.
         assert_eq!(rt; bundles.len(), 70, "{}", case.label);
         for bundle in &bundles {
-            assert_bundle(&rt, rt.alloc(), case, bundle)?;
+            assert_bundle(&rt, rt.alloc(), case, bundle);
         }
     }
-    Ok(())
 }

@@ -5,7 +5,6 @@ use fv_outside::{FreeGate, MemorySink, MemorySource, MemoryVault};
 use std::alloc::Global;
 use std::process::Abort;
 use std::sync::Wait;
-use std::test::Fail;
 use std::thread::Threads;
 
 /// The key of each run.
@@ -39,35 +38,37 @@ pub(crate) fn bytes_of<R: Abort>(rt: &R, alloc: Global, case: &Case<'_>) -> Vec<
 }
 
 /// Runs a command of the program, its words, between a source and a sink, and answers its status.
-pub(crate) fn run_between<R: Threads + Wait + Sync>(
+pub(crate) fn run_between<R: Threads + Wait + Sync + Abort>(
     rt: &R,
     alloc: Global,
     command: &str,
     source: &mut MemorySource,
     out: &mut MemorySink,
-) -> Result<Status, Fail> {
+) -> Status {
     let mut words = Vec::new(alloc);
-    words.push("fastver")?;
+    words.push("fastver").expect(rt, "memory");
     for word in command.split_whitespace() {
-        words.push(word)?;
+        words.push(word).expect(rt, "memory");
     }
-    words.extend_from_slice(&["--key", KEY])?;
-    let mut vault = MemoryVault::new(alloc, 100, 1, &[])?;
-    Ok(fastver(rt, alloc, &words, source, out, &mut vault, &FreeGate))
+    words
+        .extend_from_slice(&["--key", KEY])
+        .expect(rt, "memory");
+    let mut vault = MemoryVault::new(alloc, 100, 1, &[]).expect(rt, "memory");
+    fastver(rt, alloc, &words, source, out, &mut vault, &FreeGate)
 }
 
 /// What a command of the program writes of these bytes, and its status, where reads and writes go by so many bytes.
-pub(crate) fn run<R: Threads + Wait + Sync>(
+pub(crate) fn run<R: Threads + Wait + Sync + Abort>(
     rt: &R,
     alloc: Global,
     command: &str,
     bundle: &[u8],
     piece: usize,
-) -> Result<(MemorySink, Status), Fail> {
-    let mut source = MemorySource::new(alloc, bundle, piece.max(1), &[])?;
-    let mut out = MemorySink::new(alloc, 10_000, piece.max(1), &[])?;
-    let status = run_between(rt, alloc, command, &mut source, &mut out)?;
-    Ok((out, status))
+) -> (MemorySink, Status) {
+    let mut source = MemorySource::new(alloc, bundle, piece.max(1), &[]).expect(rt, "memory");
+    let mut out = MemorySink::new(alloc, 10_000, piece.max(1), &[]).expect(rt, "memory");
+    let status = run_between(rt, alloc, command, &mut source, &mut out);
+    (out, status)
 }
 
 /// The case's bundle has its report and status, whether it is read and written by bytes or as a whole. Where the
@@ -76,9 +77,9 @@ pub(crate) fn assert_case<R: Threads + Wait + Sync + Abort>(
     rt: &R,
     alloc: Global,
     case: &Case<'_>,
-) -> Result<(), Fail> {
+) {
     let bytes = bytes_of(rt, alloc, case);
-    assert_bundle(rt, alloc, case, &bytes)
+    assert_bundle(rt, alloc, case, &bytes);
 }
 
 /// The same of other bytes than those of the case.
@@ -87,18 +88,17 @@ pub(crate) fn assert_bundle<R: Threads + Wait + Sync + Abort>(
     alloc: Global,
     case: &Case<'_>,
     bytes: &[u8],
-) -> Result<(), Fail> {
+) {
     let label = case.label;
     for piece in [1, 100_000] {
-        let (out, status) = run(rt, alloc, "check", bytes, piece)?;
+        let (out, status) = run(rt, alloc, "check", bytes, piece);
         assert_eq!(rt; out.bytes(), case.report.as_bytes(), "{label}");
         assert_eq!(rt; status.number(), case.status, "{label}");
     }
     if case.status != 0 {
-        let shown = format!(in alloc; "clean 0\n{}", case.report)?;
-        let (out, status) = run(rt, alloc, "audit", bytes, 1000)?;
+        let shown = format!(in alloc; "clean 0\n{}", case.report).expect(rt, "memory");
+        let (out, status) = run(rt, alloc, "audit", bytes, 1000);
         assert_eq!(rt; out.bytes(), shown.as_bytes(), "{label}");
         assert_eq!(rt; status.number(), case.status, "{label}");
     }
-    Ok(())
 }

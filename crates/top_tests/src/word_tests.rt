@@ -6,7 +6,6 @@ use fv_outside::{FreeGate, MemorySink, MemorySource, MemoryVault};
 use std::alloc::Global;
 use std::process::Abort;
 use std::sync::Wait;
-use std::test::Fail;
 use std::thread::Threads;
 
 // Words that ask for nothing, a line each. One line has none.
@@ -27,18 +26,14 @@ fastver help
 ";
 
 // These words are refused: nothing is read, written or named.
-fn assert_refused<R: Threads + Wait + Sync + Abort>(
-    rt: &R,
-    alloc: Global,
-    line: &str,
-) -> Result<(), Fail> {
+fn assert_refused<R: Threads + Wait + Sync + Abort>(rt: &R, alloc: Global, line: &str) {
     let mut words = Vec::new(alloc);
     for word in line.split_whitespace() {
-        words.push(word)?;
+        words.push(word).expect(rt, "memory");
     }
-    let mut source = MemorySource::new(alloc, b"FVB1", 1, &[])?;
-    let mut out = MemorySink::new(alloc, 100, 1, &[])?;
-    let mut vault = MemoryVault::new(alloc, 100, 1, &[])?;
+    let mut source = MemorySource::new(alloc, b"FVB1", 1, &[]).expect(rt, "memory");
+    let mut out = MemorySink::new(alloc, 100, 1, &[]).expect(rt, "memory");
+    let mut vault = MemoryVault::new(alloc, 100, 1, &[]).expect(rt, "memory");
     let status = fastver(
         rt,
         alloc,
@@ -54,16 +49,14 @@ fn assert_refused<R: Threads + Wait + Sync + Abort>(
     assert_eq!(rt; source.left(), b"FVB1".as_slice());
     assert!(rt; vault.bytes().is_empty());
     assert!(rt; vault.name_taken().is_none());
-    Ok(())
 }
 
 #[test]
-fn words_that_ask_for_nothing_are_refused(rt: HostRuntime) -> Result<(), Fail> {
+fn words_that_ask_for_nothing_are_refused(rt: HostRuntime) {
     assert_eq!(rt; REFUSED.lines().count(), 13);
     for line in REFUSED.lines() {
-        assert_refused(&rt, rt.alloc(), line)?;
+        assert_refused(&rt, rt.alloc(), line);
     }
-    Ok(())
 }
 
 // What this command writes of a put and a get, and leaves of the vault.
@@ -72,12 +65,12 @@ fn assert_command<R: Threads + Wait + Sync + Abort>(
     alloc: Global,
     command: &str,
     shown: &str,
-) -> Result<(), Fail> {
-    let bytes = bundle_of(alloc, PUT_AND_GET)?;
+) {
+    let bytes = bundle_of(alloc, PUT_AND_GET).expect(rt, "memory");
     let words = ["fastver", command, "--key", KEY];
-    let mut source = MemorySource::new(alloc, &bytes, 10, &[])?;
-    let mut out = MemorySink::new(alloc, 1000, 10, &[])?;
-    let mut vault = MemoryVault::new(alloc, 100, 1, &[])?;
+    let mut source = MemorySource::new(alloc, &bytes, 10, &[]).expect(rt, "memory");
+    let mut out = MemorySink::new(alloc, 1000, 10, &[]).expect(rt, "memory");
+    let mut vault = MemoryVault::new(alloc, 100, 1, &[]).expect(rt, "memory");
     let status = fastver(
         rt,
         alloc,
@@ -91,11 +84,10 @@ fn assert_command<R: Threads + Wait + Sync + Abort>(
     assert_eq!(rt; out.bytes(), shown.as_bytes(), "{command}");
     assert!(rt; vault.bytes().is_empty(), "{command}");
     assert!(rt; vault.name_taken().is_none(), "{command}");
-    Ok(())
 }
 
 #[test]
-fn a_check_and_an_audit_by_their_words(rt: HostRuntime) -> Result<(), Fail> {
-    assert_command(&rt, rt.alloc(), "check", REPORT)?;
+fn a_check_and_an_audit_by_their_words(rt: HostRuntime) {
+    assert_command(&rt, rt.alloc(), "check", REPORT);
     assert_command(&rt, rt.alloc(), "audit", "clean 1\ndone 1\n")
 }
