@@ -5,12 +5,11 @@ ghost use Rattle.fv_outside.specs.SureSinkState.{IsUnused};
 use fastver_top::{Status, fastver};
 use fv_outside::{FreeGate, SureSink, SureSource, SureVault};
 use std::alloc::Global;
-use std::process::Abort;
 use std::sync::Wait;
 use std::thread::Threads;
 
 /// Runs the program, whatever its words: it comes to no fault.
-pub(crate) fn run_surely<R: Threads + Wait + Sync + Abort>(
+pub(crate) fn run_surely<R: Threads + Wait + Sync>(
     rt: &R,
     alloc: Global,
     words: &[&str],
