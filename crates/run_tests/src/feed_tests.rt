@@ -25,19 +25,11 @@ fn gets<R: Abort>(rt: &R, alloc: Global, count: u64) -> (String, String) {
 #[test]
 fn a_verifier_is_fed_while_its_worker_serves(rt: HostRuntime) {
     let alloc = rt.alloc();
-    let line = host_line(alloc, "1 --shards 1").expect(&rt, "the words");
+    let line = host_line(&rt, alloc, "1 --shards 1");
     let (script, report) = gets(&rt, alloc, 64);
     let gate = FeedingGate::new();
     let none: (&[u64], &[u64], &[u64]) = (&[], &[], &[]);
-    let (objects, status) = program_at(
-        &rt,
-        alloc,
-        &line,
-        script.as_bytes(),
-        1000,
-        none,
-        &gate,
-    ).expect(&rt, "a run");
+    let (objects, status) = program_at(&rt, alloc, &line, script.as_bytes(), 1000, none, &gate);
     assert!(rt; !gate.has_given_up());
     assert_eq!(rt; status, Status::Done { epochs: 1 });
     assert_eq!(rt; objects.out.bytes(), report.as_bytes());
@@ -69,17 +61,17 @@ fn assert_served_fifty_times<R: Threads + Wait + Sync + Abort>(
     words: &str,
     script: &str,
 ) {
-    let line = host_line(alloc, words).expect(rt, "the words");
+    let line = host_line(rt, alloc, words);
     for turn in 0..50 {
-        let (objects, status) = served(rt, alloc, &line, script, 100_000).expect(rt, "a run");
+        let (objects, status) = served(rt, alloc, &line, script, 100_000);
         assert_eq!(rt; answers_in(objects.out.bytes()), 256, "{turn}");
-        assert_checked(rt, alloc, &objects, status, 2, turn).expect(rt, "a check");
+        assert_checked(rt, alloc, &objects, status, 2, turn);
     }
 }
 
 #[test]
 fn all_of_64_workers_and_verifiers_meet_at_one_key(rt: HostRuntime) {
-    let script = contending(rt.alloc(), 64, &[5], 2, 2).expect(&rt, "a script");
+    let script = contending(&rt, rt.alloc(), 64, &[5], 2, 2);
     assert_served_fifty_times(&rt, rt.alloc(), "64 --shards 2", &script);
 }
 

@@ -1,7 +1,6 @@
 //! Scripts with keys that become hot.
 use crate::serving::assert_served;
 use bundle_rows::cases_of;
-use std::test::Fail;
 
 // Each case is a script behind the numbers of workers and shards and further words, with its status and report, as the slow
 // program has it: a key that becomes hot, and one that goes back; five keys that ask for four places; a key that takes the
@@ -151,11 +150,10 @@ done 2
 ";
 
 #[test]
-fn hot_keys_are_served(rt: HostRuntime) -> Result<(), Fail> {
-    let cases = cases_of(rt.alloc(), HOT)?;
+fn hot_keys_are_served(rt: HostRuntime) {
+    let cases = cases_of(rt.alloc(), HOT).expect(&rt, "memory");
     assert_eq!(rt; cases.len(), 8);
     for case in &cases {
-        assert_served(&rt, rt.alloc(), case)?;
+        assert_served(&rt, rt.alloc(), case);
     }
-    Ok(())
 }

@@ -6,7 +6,6 @@ use fastver_top::Status;
 use std::alloc::Global;
 use std::process::Abort;
 use std::sync::Wait;
-use std::test::Fail;
 use std::thread::Threads;
 
 // Each case is a script of three epochs behind the words of its run, with its status and report, as the slow program has it.
@@ -114,43 +113,46 @@ fn unfailing<R: Threads + Wait + Sync + Abort>(
     line: &str,
     case: &Case<'_>,
     whole: usize,
-) -> Result<Objects, Fail> {
-    let (objects, status) = served(rt, alloc, line, case.rows, 1)?;
+) -> Objects {
+    let (objects, status) = served(rt, alloc, line, case.rows, 1);
     assert_eq!(rt; status.number(), case.status, "{line}");
     assert_eq!(rt; objects.out.bytes(), case.report.as_bytes(), "{line}");
     assert_eq!(rt; objects.vault.bytes().len(), whole, "{line}");
-    Ok(objects)
+    objects
 }
 
 #[test]
-fn where_the_vault_fails_the_lines_of_the_rounds_before_stand(rt: HostRuntime) -> Result<(), Fail> {
-    let cases = cases_of(rt.alloc(), RUNS)?;
+fn where_the_vault_fails_the_lines_of_the_rounds_before_stand(rt: HostRuntime) {
+    let cases = cases_of(rt.alloc(), RUNS).expect(&rt, "memory");
     assert_eq!(rt; cases.len(), 3);
     for (case, marks) in cases.iter().zip(MARKS) {
-        let line = host_line(rt.alloc(), case.label)?;
-        let all = unfailing(&rt, rt.alloc(), &line, case, marks.whole)?;
+        let line = host_line(&rt, rt.alloc(), case.label);
+        let all = unfailing(&rt, rt.alloc(), &line, case, marks.whole);
         for k in 0..marks.whole {
             let fails: (&[u64], &[u64], &[u64]) = (&[], &[], &[k as u64]);
             let script = case.rows.as_bytes();
-            let (objects, status) = program(&rt, rt.alloc(), &line, script, 1, fails)?;
+            let (objects, status) = program(&rt, rt.alloc(), &line, script, 1, fails);
             assert_eq!(rt; status, Status::VaultFault, "{line} {k}");
             assert_first(&rt, &line, objects.vault.bytes(), all.vault.bytes(), k);
             let lines = if k < marks.second { 0 } else { marks.lines };
             assert_first(&rt, &line, objects.out.bytes(), all.out.bytes(), lines);
         }
     }
-    Ok(())
 }
 
 #[test]
-fn where_a_write_fails_the_vault_has_the_rounds_up_to_it(rt: HostRuntime) -> Result<(), Fail> {
-    for (case, marks) in cases_of(rt.alloc(), RUNS)?.iter().zip(MARKS) {
-        let line = host_line(rt.alloc(), case.label)?;
-        let all = unfailing(&rt, rt.alloc(), &line, case, marks.whole)?;
+fn where_a_write_fails_the_vault_has_the_rounds_up_to_it(rt: HostRuntime) {
+    for (case, marks) in cases_of(rt.alloc(), RUNS)
+        .expect(&rt, "memory")
+        .iter()
+        .zip(MARKS)
+    {
+        let line = host_line(&rt, rt.alloc(), case.label);
+        let all = unfailing(&rt, rt.alloc(), &line, case, marks.whole);
         for k in 0..case.report.len() {
             let fails: (&[u64], &[u64], &[u64]) = (&[], &[k as u64], &[]);
             let script = case.rows.as_bytes();
-            let (objects, status) = program(&rt, rt.alloc(), &line, script, 1, fails)?;
+            let (objects, status) = program(&rt, rt.alloc(), &line, script, 1, fails);
             assert_eq!(rt; status, Status::WriteFault, "{line} {k}");
             assert_first(&rt, &line, objects.out.bytes(), all.out.bytes(), k);
             let kept = if k < marks.lines {
@@ -161,23 +163,21 @@ fn where_a_write_fails_the_vault_has_the_rounds_up_to_it(rt: HostRuntime) -> Res
             assert_first(&rt, &line, objects.vault.bytes(), all.vault.bytes(), kept);
         }
     }
-    Ok(())
 }
 
 #[test]
-fn where_a_read_fails_no_round_is_begun(rt: HostRuntime) -> Result<(), Fail> {
-    for case in &cases_of(rt.alloc(), RUNS)? {
-        let line = host_line(rt.alloc(), case.label)?;
+fn where_a_read_fails_no_round_is_begun(rt: HostRuntime) {
+    for case in &cases_of(rt.alloc(), RUNS).expect(&rt, "the cases") {
+        let line = host_line(&rt, rt.alloc(), case.label);
         for k in 0..case.rows.len() as u64 + 1 {
             let fails: (&[u64], &[u64], &[u64]) = (&[k], &[], &[]);
             let script = case.rows.as_bytes();
-            let (objects, status) = program(&rt, rt.alloc(), &line, script, 1, fails)?;
+            let (objects, status) = program(&rt, rt.alloc(), &line, script, 1, fails);
             assert_eq!(rt; status, Status::ReadFault, "{line} {k}");
             assert!(rt; objects.out.bytes().is_empty(), "{line} {k}");
             assert!(rt; objects.vault.bytes().is_empty(), "{line} {k}");
         }
     }
-    Ok(())
 }
 
 // A load of two epochs, with its summary, which is written at the end alone. Its vault has 659 bytes.
@@ -192,31 +192,30 @@ worker 1 gets 1 none 1 puts 0 dels 0
 ";
 
 #[test]
-fn where_an_object_of_a_load_fails_a_front_stands(rt: HostRuntime) -> Result<(), Fail> {
-    let (all, status) = served(&rt, rt.alloc(), LOAD, "", 1)?;
+fn where_an_object_of_a_load_fails_a_front_stands(rt: HostRuntime) {
+    let (all, status) = served(&rt, rt.alloc(), LOAD, "", 1);
     assert_eq!(rt; status, Status::Done { epochs: 2 });
     assert_eq!(rt; all.out.bytes(), SUMMARY.as_bytes());
     assert_eq!(rt; all.vault.bytes().len(), 659);
     for k in 0..659 {
         let fails: (&[u64], &[u64], &[u64]) = (&[], &[], &[k as u64]);
-        let (objects, status) = program(&rt, rt.alloc(), LOAD, b"", 1, fails)?;
+        let (objects, status) = program(&rt, rt.alloc(), LOAD, b"", 1, fails);
         assert_eq!(rt; status, Status::VaultFault, "{k}");
         assert!(rt; objects.out.bytes().is_empty(), "{k}");
         assert_first(&rt, "load", objects.vault.bytes(), all.vault.bytes(), k);
     }
     for k in 0..SUMMARY.len() {
         let fails: (&[u64], &[u64], &[u64]) = (&[], &[k as u64], &[]);
-        let (objects, status) = program(&rt, rt.alloc(), LOAD, b"", 1, fails)?;
+        let (objects, status) = program(&rt, rt.alloc(), LOAD, b"", 1, fails);
         assert_eq!(rt; status, Status::WriteFault, "{k}");
         assert_eq!(rt; objects.out.bytes(), &SUMMARY.as_bytes()[..k], "{k}");
         assert_eq!(rt; objects.vault.bytes(), all.vault.bytes(), "{k}");
     }
-    let named = format!(in rt.alloc(); "{LOAD} --logs x")?;
+    let named = format!(in rt.alloc(); "{LOAD} --logs x").expect(&rt, "memory");
     let fails: (&[u64], &[u64], &[u64]) = (&[], &[], &[0]);
-    let (objects, status) = program(&rt, rt.alloc(), &named, b"", 1, fails)?;
+    let (objects, status) = program(&rt, rt.alloc(), &named, b"", 1, fails);
     assert_eq!(rt; status, Status::VaultFault);
     assert!(rt; objects.out.bytes().is_empty());
     assert!(rt; objects.vault.bytes().is_empty());
     assert!(rt; objects.vault.name_taken().is_none());
-    Ok(())
 }

@@ -3,7 +3,7 @@ use crate::serving::{assert_served, line_of, served};
 use bundle_rows::{bundle_of, cases_of};
 use fastver_top::Status;
 use std::alloc::Global;
-use std::test::Fail;
+use std::process::Abort;
 
 // Each case is a script behind the number of shards and further words, with its status and report.
 const SERVED: &str = "\
@@ -70,13 +70,12 @@ clock end worker 0 at 0.0
 ";
 
 #[test]
-fn scripts_are_served(rt: HostRuntime) -> Result<(), Fail> {
-    let cases = cases_of(rt.alloc(), SERVED)?;
+fn scripts_are_served(rt: HostRuntime) {
+    let cases = cases_of(rt.alloc(), SERVED).expect(&rt, "memory");
     assert_eq!(rt; cases.len(), 9);
     for case in &cases {
-        assert_served(&rt, rt.alloc(), case)?;
+        assert_served(&rt, rt.alloc(), case);
     }
-    Ok(())
 }
 
 // What the vault holds of an empty script.
@@ -96,25 +95,22 @@ next
 ";
 
 #[test]
-fn the_vault_holds_the_bundle_of_an_empty_script(rt: HostRuntime) -> Result<(), Fail> {
-    let bundle = bundle_of(rt.alloc(), EMPTY)?;
+fn the_vault_holds_the_bundle_of_an_empty_script(rt: HostRuntime) {
+    let bundle = bundle_of(rt.alloc(), EMPTY).expect(&rt, "memory");
     assert_eq!(rt; bundle.len(), 208);
-    let line = line_of(rt.alloc(), "2 --logs x")?;
-    let (objects, status) = served(&rt, rt.alloc(), &line, "", 10)?;
+    let line = line_of(&rt, rt.alloc(), "2 --logs x");
+    let (objects, status) = served(&rt, rt.alloc(), &line, "", 10);
     assert_eq!(rt; objects.vault.bytes(), bundle.as_slice());
     assert_eq!(rt; objects.vault.name_taken(), Some("x"));
     assert_eq!(rt; status, Status::Done { epochs: 1 });
-    Ok(())
 }
 
 #[test]
-fn where_counters_do_not_suffice_for_the_setup_the_vault_holds_a_header(
-    rt: HostRuntime,
-) -> Result<(), Fail> {
-    let header = bundle_of(rt.alloc(), "cache 128 end 1\n")?;
+fn where_counters_do_not_suffice_for_the_setup_the_vault_holds_a_header(rt: HostRuntime) {
+    let header = bundle_of(rt.alloc(), "cache 128 end 1\n").expect(&rt, "memory");
     assert_eq!(rt; header.len(), 18);
-    let line = line_of(rt.alloc(), "2 --counter 1 --logs x")?;
-    let (objects, status) = served(&rt, rt.alloc(), &line, "0 get 5\n", 10)?;
+    let line = line_of(&rt, rt.alloc(), "2 --counter 1 --logs x");
+    let (objects, status) = served(&rt, rt.alloc(), &line, "0 get 5\n", 10);
     assert_eq!(rt; objects.vault.bytes(), header.as_slice());
     assert_eq!(rt; objects.vault.name_taken(), Some("x"));
     assert_eq!(rt;
@@ -122,7 +118,6 @@ fn where_counters_do_not_suffice_for_the_setup_the_vault_holds_a_header(
         b"clock end worker 0 at 0.0\n".as_slice()
     );
     assert_eq!(rt; status.number(), 10);
-    Ok(())
 }
 
 // Bad scripts, each with what the program then says.
@@ -164,13 +159,13 @@ bad script line 2 Key
 ";
 
 #[test]
-fn bad_scripts_are_refused_before_anything_is_written(rt: HostRuntime) -> Result<(), Fail> {
-    let line = line_of(rt.alloc(), "2 --logs x")?;
-    let cases = cases_of(rt.alloc(), BAD)?;
+fn bad_scripts_are_refused_before_anything_is_written(rt: HostRuntime) {
+    let line = line_of(&rt, rt.alloc(), "2 --logs x");
+    let cases = cases_of(rt.alloc(), BAD).expect(&rt, "memory");
     assert_eq!(rt; cases.len(), 7);
     for case in &cases {
         let label = case.label;
-        let (objects, status) = served(&rt, rt.alloc(), &line, case.rows, 10)?;
+        let (objects, status) = served(&rt, rt.alloc(), &line, case.rows, 10);
         assert_eq!(rt; status.number(), case.status, "{label}");
         assert_eq!(rt;
             status.line().as_slice(),
@@ -181,32 +176,30 @@ fn bad_scripts_are_refused_before_anything_is_written(rt: HostRuntime) -> Result
         assert!(rt; objects.vault.bytes().is_empty(), "{label}");
         assert!(rt; objects.vault.name_taken().is_none(), "{label}");
     }
-    Ok(())
 }
 
 // A put of a value of so many bytes.
-fn long_put(alloc: Global, bytes: usize) -> Result<String, Fail> {
-    let mut script = String::from_str(alloc, "0 put 5 ")?;
+fn long_put(rt: &impl Abort, alloc: Global, bytes: usize) -> String {
+    let mut script = String::from_str(alloc, "0 put 5 ").expect(rt, "memory");
     for _ in 0..bytes {
-        script.push_str("7a")?;
+        script.push_str("7a").expect(rt, "memory");
     }
-    script.push_str("\n")?;
-    Ok(script)
+    script.push_str("\n").expect(rt, "memory");
+    script
 }
 
 #[test]
-fn a_value_has_64_bytes_at_most(rt: HostRuntime) -> Result<(), Fail> {
-    let line = line_of(rt.alloc(), "2")?;
-    let longest = long_put(rt.alloc(), 64)?;
-    let (objects, status) = served(&rt, rt.alloc(), &line, &longest, 10)?;
+fn a_value_has_64_bytes_at_most(rt: HostRuntime) {
+    let line = line_of(&rt, rt.alloc(), "2");
+    let longest = long_put(&rt, rt.alloc(), 64);
+    let (objects, status) = served(&rt, rt.alloc(), &line, &longest, 10);
     assert_eq!(rt; status, Status::Done { epochs: 1 });
     assert_eq!(rt; objects.out.bytes().len(), 20 + 13 + 128 + 1 + 7);
-    let longer = long_put(rt.alloc(), 65)?;
-    let (objects, status) = served(&rt, rt.alloc(), &line, &longer, 10)?;
+    let longer = long_put(&rt, rt.alloc(), 65);
+    let (objects, status) = served(&rt, rt.alloc(), &line, &longer, 10);
     assert_eq!(rt;
         status.line().as_slice(),
         b"bad script line 1 Hex".as_slice()
     );
     assert!(rt; objects.out.bytes().is_empty());
-    Ok(())
 }

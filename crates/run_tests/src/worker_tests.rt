@@ -5,7 +5,6 @@ use crate::serving::{
 };
 use bundle_rows::cases_of;
 use fastver_top::Status;
-use std::test::Fail;
 
 // Each case is a script behind the numbers of workers and shards and further words, with its status and report, as the slow
 // program has it. In each phase a shard is used by one worker alone, so they are the same under every schedule. Equal clocks
@@ -148,13 +147,12 @@ done 2
 ";
 
 #[test]
-fn workers_apart_are_served(rt: HostRuntime) -> Result<(), Fail> {
-    let cases = cases_of(rt.alloc(), APART)?;
+fn workers_apart_are_served(rt: HostRuntime) {
+    let cases = cases_of(rt.alloc(), APART).expect(&rt, "memory");
     assert_eq!(rt; cases.len(), 7);
     for case in &cases {
-        assert_served(&rt, rt.alloc(), case)?;
+        assert_served(&rt, rt.alloc(), case);
     }
-    Ok(())
 }
 
 // Two workers at one key: the report is one of these, as the one or the other comes first, or between.
@@ -165,11 +163,11 @@ const ORDERS: [&str; 3] = [
 ];
 
 #[test]
-fn workers_at_one_key_are_served_in_some_order(rt: HostRuntime) -> Result<(), Fail> {
-    let line = host_line(rt.alloc(), "2 --shards 2")?;
+fn workers_at_one_key_are_served_in_some_order(rt: HostRuntime) {
+    let line = host_line(&rt, rt.alloc(), "2 --shards 2");
     for turn in 0..50 {
         let script = "0 put 5 61\n1 put 5 62\n0 get 5\n";
-        let (objects, status) = served(&rt, rt.alloc(), &line, script, 100_000)?;
+        let (objects, status) = served(&rt, rt.alloc(), &line, script, 100_000);
         assert_eq!(rt; status, Status::Done { epochs: 1 }, "{turn}");
         let written = objects.out.bytes();
         assert!(rt;
@@ -177,13 +175,12 @@ fn workers_at_one_key_are_served_in_some_order(rt: HostRuntime) -> Result<(), Fa
             "{turn}"
         );
     }
-    Ok(())
 }
 
 // Worker 0 is held at its first request until worker 1 is at its second: whoever serves workers one after the other fails.
 #[test]
-fn workers_serve_beside_each_other(rt: HostRuntime) -> Result<(), Fail> {
-    let line = host_line(rt.alloc(), "2 --shards 2")?;
+fn workers_serve_beside_each_other(rt: HostRuntime) {
+    let line = host_line(&rt, rt.alloc(), "2 --shards 2");
     let script = "0 put 5 61\n1 put 9223372036854775808 62\n1 get 9223372036854775808\n";
     let gate = HoldingGate::new();
     let none: (&[u64], &[u64], &[u64]) = (&[], &[], &[]);
@@ -195,7 +192,7 @@ fn workers_serve_beside_each_other(rt: HostRuntime) -> Result<(), Fail> {
         1000,
         none,
         &gate,
-    )?;
+    );
     assert!(rt; !gate.has_given_up());
     assert_eq!(rt; status, Status::Done { epochs: 1 });
     let report = "\
@@ -206,26 +203,24 @@ epoch 0 certified 3
 done 1
 ";
     assert_eq!(rt; objects.out.bytes(), report.as_bytes());
-    Ok(())
 }
 
 #[test]
-fn a_script_that_contends_is_served_a_hundred_times(rt: HostRuntime) -> Result<(), Fail> {
-    let line = host_line(rt.alloc(), "4 --shards 2 --hot 3")?;
-    let script = contending(rt.alloc(), 4, &[5, 9223372036854775808, 5, 6], 8, 2)?;
+fn a_script_that_contends_is_served_a_hundred_times(rt: HostRuntime) {
+    let line = host_line(&rt, rt.alloc(), "4 --shards 2 --hot 3");
+    let script = contending(&rt, rt.alloc(), 4, &[5, 9223372036854775808, 5, 6], 8, 2);
     for turn in 0..100 {
-        let (objects, status) = served(&rt, rt.alloc(), &line, &script, 100_000)?;
+        let (objects, status) = served(&rt, rt.alloc(), &line, &script, 100_000);
         assert_eq!(rt; answers_in(objects.out.bytes()), 64, "{turn}");
-        assert_checked(&rt, rt.alloc(), &objects, status, 2, turn)?;
+        assert_checked(&rt, rt.alloc(), &objects, status, 2, turn);
     }
-    Ok(())
 }
 
 #[test]
-fn all_of_64_workers_ask_for_one_hot_key(rt: HostRuntime) -> Result<(), Fail> {
-    let line = host_line(rt.alloc(), "64 --shards 2 --hot 1")?;
-    let script = contending(rt.alloc(), 64, &[5], 2, 2)?;
-    let (objects, status) = served(&rt, rt.alloc(), &line, &script, 100_000)?;
+fn all_of_64_workers_ask_for_one_hot_key(rt: HostRuntime) {
+    let line = host_line(&rt, rt.alloc(), "64 --shards 2 --hot 1");
+    let script = contending(&rt, rt.alloc(), 64, &[5], 2, 2);
+    let (objects, status) = served(&rt, rt.alloc(), &line, &script, 100_000);
     assert_eq!(rt; answers_in(objects.out.bytes()), 256);
     assert_checked(&rt, rt.alloc(), &objects, status, 2, 0)
 }
