@@ -141,7 +141,7 @@ def loads(chance, _):
         "--seed": chance.choice([chance.getrandbits(64), edge(chance, 8)]),
         "--ops": chance.choice([0, 1, 2, 10, 60, 200]),
         "--verifiers": chance.choice([1, 1, 1, 2, 4, 64]),
-        "--shards": chance.choice([2, 2, 4, 4, 16]) if chance.random() < 0.9 else 256,
+        "--shards": chance.choice([2, 2, 4, 4, 16]) if chance.random() < 0.9 else chance.choice([256, 1024]),
     }
     shards = options["--shards"]
     more = {"--keys": [1, 2, 7, 65536], "--every": [shards // 3 + 1, 13 + shards, 1000000], "--hot": [1, 2, 1000000]}
