@@ -96,6 +96,7 @@ pub fn serve_phase_at_once<R: Threads + Wait + Sync, D: Digests + Sync, G: Gate 
         → NoneStopped (host_of (D.functions (digests_of world.old)) world.old) (shown_world world.new) }
     ensures stopped { IfOk result (λ end. IfSome end
         (λ _. SomeStopped (host_of (D.functions (digests_of world.old)) world.old) (shown_world world.new))) }
+    ensures lowest { IfOk result (λ end. end ≡ first_stopped 0 (shown_world world.new).workers) }
     ensures host { AreOfOneHost world.old world.new }
     ensures behind { OnOk result (StandsBehind (D.functions (digests_of world.new)) world.new) }
     ensures goes_on { OnOk result ((logs : List (List Command)) → StandsWith (D.functions (digests_of world.old)) world.old logs

@@ -176,6 +176,7 @@ returns g c =
       phase = ap (λ (w : World Content). w.phase) later;
       running = λ none before. none_stopped host (shown_world new) (sym end_is ∙ no_end c.first_end_of-end.result none);
       stopped = some_stopped host (shown_world new) c.first_end_of-end.result (sym end_is);
+      lowest = end_is;
       host = one_host;
       behind = (stands.0, on stands.0 stands.1);
       goes_on = on;
