@@ -1,6 +1,6 @@
 //! Bundles taken apart into frames, which are then cut, or come in another order.
 use std::alloc::Global;
-use std::test::Fail;
+use std::process::Abort;
 
 // How many bytes a bundle's header has, and the head of a frame.
 const HEADER_BYTES: usize = 18;
@@ -23,7 +23,7 @@ pub(crate) struct Framed<'a> {
 
 impl<'a> Framed<'a> {
     /// The parts of a bundle.
-    pub(crate) fn of(alloc: Global, bundle: &'a [u8]) -> Result<Framed<'a>, Fail> {
+    pub(crate) fn of(rt: &impl Abort, alloc: Global, bundle: &'a [u8]) -> Framed<'a> {
         let (header, behind) = bundle.split_at(HEADER_BYTES.min(bundle.len()));
         let mut frames = Vec::new(alloc);
         let mut rest = behind;
@@ -31,13 +31,14 @@ impl<'a> Framed<'a> {
             let (head, behind) = rest.split_at(HEAD_BYTES);
             let length = usize::from(head[5]).min(behind.len());
             let (body, more) = behind.split_at(length);
-            frames.push(Frame {
+            let frame = Frame {
                 verifier: head[1],
                 body,
-            })?;
+            };
+            frames.push(frame).expect(rt, "memory");
             rest = more;
         }
-        Ok(Framed { header, frames })
+        Framed { header, frames }
     }
 
     /// How many bytes of a log the longest frame has.
@@ -50,40 +51,40 @@ impl<'a> Framed<'a> {
     }
 
     /// The bundle where each frame is cut in two behind so many bytes, if it has more.
-    pub(crate) fn cut_at(&self, alloc: Global, at: usize) -> Result<Vec<u8>, Fail> {
-        let mut bundle = Vec::from_slice(alloc, self.header)?;
+    pub(crate) fn cut_at(&self, rt: &impl Abort, alloc: Global, at: usize) -> Vec<u8> {
+        let mut bundle = Vec::from_slice(alloc, self.header).expect(rt, "memory");
         for frame in &self.frames {
             let (front, rest) = frame.body.split_at(at.min(frame.body.len()));
-            push_frame(&mut bundle, frame.verifier, front)?;
-            push_frame(&mut bundle, frame.verifier, rest)?;
+            push_frame(rt, &mut bundle, frame.verifier, front);
+            push_frame(rt, &mut bundle, frame.verifier, rest);
         }
-        Ok(bundle)
+        bundle
     }
 
     /// The bundle where each frame is cut in pieces, all of so many parts of its length but the last.
-    pub(crate) fn cut_in(&self, alloc: Global, parts: usize) -> Result<Vec<u8>, Fail> {
-        let mut bundle = Vec::from_slice(alloc, self.header)?;
+    pub(crate) fn cut_in(&self, rt: &impl Abort, alloc: Global, parts: usize) -> Vec<u8> {
+        let mut bundle = Vec::from_slice(alloc, self.header).expect(rt, "memory");
         for frame in &self.frames {
-            push_pieces(&mut bundle, frame, parts)?;
+            push_pieces(rt, &mut bundle, frame, parts);
         }
-        Ok(bundle)
+        bundle
     }
 
     /// The bundles of these frames where those of the verifiers 0 and 1 come in any order, but those of each as they do here.
     /// There are at most eight frames.
-    pub(crate) fn in_any_order(&self, alloc: Global) -> Result<Vec<Vec<u8>>, Fail> {
+    pub(crate) fn in_any_order(&self, rt: &impl Abort, alloc: Global) -> Vec<Vec<u8>> {
         let mut bundles = Vec::new(alloc);
         for choice in 0..1 << 8 {
-            if let Some(bundle) = self.in_order(alloc, choice)? {
-                bundles.push(bundle)?;
+            if let Some(bundle) = self.in_order(rt, alloc, choice) {
+                bundles.push(bundle).expect(rt, "memory");
             }
         }
-        Ok(bundles)
+        bundles
     }
 
     // The bundle where a number's bits say, the lowest first, whose frame comes next, if no bit and no frame is left then.
-    fn in_order(&self, alloc: Global, choice: u32) -> Result<Option<Vec<u8>>, Fail> {
-        let mut bundle = Vec::from_slice(alloc, self.header)?;
+    fn in_order(&self, rt: &impl Abort, alloc: Global, choice: u32) -> Option<Vec<u8>> {
+        let mut bundle = Vec::from_slice(alloc, self.header).expect(rt, "memory");
         let mut first = self.frames.iter().filter(|frame| frame.verifier == 0);
         let mut second = self.frames.iter().filter(|frame| frame.verifier == 1);
         let mut choice = choice;
@@ -94,29 +95,29 @@ impl<'a> Framed<'a> {
                 second.next()
             };
             let Some(frame) = next else {
-                return Ok(None);
+                return None;
             };
-            push_frame(&mut bundle, frame.verifier, frame.body)?;
+            push_frame(rt, &mut bundle, frame.verifier, frame.body);
             choice /= 2;
         }
-        Ok(if choice == 0 { Some(bundle) } else { None })
+        if choice == 0 { Some(bundle) } else { None }
     }
 }
 
 // Appends the pieces of a frame.
-fn push_pieces(bundle: &mut Vec<u8>, frame: &Frame<'_>, parts: usize) -> Result<(), Fail> {
+fn push_pieces(rt: &impl Abort, bundle: &mut Vec<u8>, frame: &Frame<'_>, parts: usize) {
     let size = frame.body.len().div_ceil(parts.max(1)).max(1);
     for piece in frame.body.chunks(size) {
-        push_frame(bundle, frame.verifier, piece)?;
+        push_frame(rt, bundle, frame.verifier, piece);
     }
-    Ok(())
 }
 
 // Appends a frame of these bytes, if there are any.
-fn push_frame(bundle: &mut Vec<u8>, verifier: u8, body: &[u8]) -> Result<(), Fail> {
+fn push_frame(rt: &impl Abort, bundle: &mut Vec<u8>, verifier: u8, body: &[u8]) {
     if !body.is_empty() {
-        bundle.extend_from_slice(&[0, verifier, 0, 0, 0, u8::try_from(body.len())?])?;
-        bundle.extend_from_slice(body)?;
+        let length = u8::try_from(body.len()).expect(rt, "a short frame");
+        let head = [0, verifier, 0, 0, 0, length];
+        bundle.extend_from_slice(&head).expect(rt, "memory");
+        bundle.extend_from_slice(body).expect(rt, "memory");
     }
-    Ok(())
 }

@@ -144,14 +144,12 @@ fn lying_logs_are_told(rt: HostRuntime) {
 fn lying_logs_are_told_however_they_are_cut(rt: HostRuntime) {
     for case in &cases_of(rt.alloc(), LYING_LOGS).expect(&rt, "memory") {
         let bytes = bytes_of(&rt, rt.alloc(), case);
-        let framed = Framed::of(rt.alloc(), &bytes).expect(&rt, "memory");
+        let framed = Framed::of(&rt, rt.alloc(), &bytes);
         for at in 1..framed.longest() {
-            let cut = framed.cut_at(rt.alloc(), at).expect(&rt, "memory");
+            let cut = framed.cut_at(&rt, rt.alloc(), at);
             assert_bundle(&rt, rt.alloc(), case, &cut);
         }
-        let cut = framed
-            .cut_in(rt.alloc(), framed.longest())
-            .expect(&rt, "memory");
+        let cut = framed.cut_in(&rt, rt.alloc(), framed.longest());
         assert_bundle(&rt, rt.alloc(), case, &cut);
     }
 }
@@ -253,14 +251,8 @@ fn two_logs_are_told_in_whatever_order_their_frames_come(rt: HostRuntime) {
     assert_eq!(rt; cases.len(), 8);
     for case in &cases {
         let bytes = bytes_of(&rt, rt.alloc(), case);
-        let pieces = Framed::of(rt.alloc(), &bytes)
-            .expect(&rt, "memory")
-            .cut_in(rt.alloc(), 4)
-            .expect(&rt, "memory");
-        let bundles = Framed::of(rt.alloc(), &pieces)
-            .expect(&rt, "memory")
-            .in_any_order(rt.alloc())
-            .expect(&rt, "memory");
+        let pieces = Framed::of(&rt, rt.alloc(), &bytes).cut_in(&rt, rt.alloc(), 4);
+        let bundles = Framed::of(&rt, rt.alloc(), &pieces).in_any_order(&rt, rt.alloc());
         // Four pieces out of eight are those of verifier 0.
         assert_eq!(rt; bundles.len(), 70, "{}", case.label);
         for bundle in &bundles {
