@@ -8,12 +8,12 @@ use std::sync::Wait;
 use std::thread::Threads;
 
 // So many gets of one key, and their report: each takes a counter for its add and one for its evict, behind the two of the setup.
-fn gets<R: Abort>(rt: &R, alloc: Global, count: u64) -> (String, String) {
+fn gets<R: Abort>(rt: &R, alloc: Global, count: u16) -> (String, String) {
     let mut script = String::new(alloc);
     let mut report = format!(in alloc; "epoch 0 certified {count}\n").expect(rt, "the first line");
     for number in 0..count {
         script.push_str("0 get 5\n").expect(rt, "a request");
-        let line = format!(in alloc; "0.{} v0 get 5 none\n", 2 * number + 3).expect(rt, "a line");
+        let line = format!(in alloc; "0.{} v0 get 5 none\n", 2 * u32::from(number) + 3).expect(rt, "a line");
         report.push_str(&line).expect(rt, "its place");
     }
     report.push_str("done 1\n").expect(rt, "the last line");
