@@ -13,7 +13,9 @@ fn gets<R: Abort>(rt: &R, alloc: Global, count: u16) -> (String, String) {
     let mut report = format!(in alloc; "epoch 0 certified {count}\n").expect(rt, "the first line");
     for number in 0..count {
         script.push_str("0 get 5\n").expect(rt, "a request");
-        let line = format!(in alloc; "0.{} v0 get 5 none\n", 2 * u32::from(number) + 3).expect(rt, "a line");
+        let line = format!(in alloc; "0.{} v0 get 5 none\n", 2 * u32::from(number) + 3).expect(
+            rt, "a line",
+        );
         report.push_str(&line).expect(rt, "its place");
     }
     report.push_str("done 1\n").expect(rt, "the last line");
