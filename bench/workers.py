@@ -6,9 +6,8 @@ usage: bench/workers.py FOLDER [PROGRAM [REQUESTS]]    (FOLDER lies outside the 
 There are 16 shards, 1,000 keys and an epoch of 10,000 requests. In the load `apart` no two workers ask for keys of one shard, in
 the load `met` all ask for keys of one shard, and in the load `one` for one key; each is served plainly and with `--hot 2`. All
 numbers of workers of a load are run in turn, three times, and the best wall time of each counts, so that they had the same
-machine. Behind each comes the time of a check of its vault on one processor, which is what the calling thread does of a run
-while no worker is at work: it feeds the verifiers. The last column is the part of a run that is serial, as Amdahl's rule gives
-it from the times of one and of so many workers.
+machine. Behind each comes the time of a check of its vault on one processor. The last column is the part of a run that is serial, as
+Amdahl's rule gives it from the times of one and of so many workers, each with a verifier beside it.
 
 PROGRAM is crates/fastver_cli/out/fastver_cli where none is named. Run it when nothing else is at work on the machine.
 """
