@@ -27,7 +27,7 @@ fn gets<R: Abort>(rt: &R, alloc: Global, count: u16) -> (String, String) {
 #[test]
 fn a_verifier_is_fed_while_its_worker_serves(rt: HostRuntime) {
     let alloc = rt.alloc();
-    let line = host_line(&rt, alloc, "1 --shards 1");
+    let line = host_line(&rt, alloc, "1 --shards 2");
     let (script, report) = gets(&rt, alloc, 64);
     let gate = FeedingGate::new();
     let none: (&[u64], &[u64], &[u64]) = (&[], &[], &[]);
