@@ -27,7 +27,10 @@ impl<'a> Framed<'a> {
         let (header, behind) = bundle.split_at(HEADER_BYTES.min(bundle.len()));
         let mut frames = Vec::new(alloc);
         let mut rest = behind;
-        while rest.len() > HEAD_BYTES {
+        for _ in 0..behind.len() {
+            if rest.len() <= HEAD_BYTES {
+                break;
+            }
             let (head, behind) = rest.split_at(HEAD_BYTES);
             let length = usize::from(head[5]).min(behind.len());
             let (body, more) = behind.split_at(length);
