@@ -25,6 +25,7 @@ done 1
 
 // The exit statuses of want of memory and of an exhibit.
 const MEMORY: u8 = 2;
+
 const EXHIBIT: u8 = 13;
 
 /// An audit that shows two strings.

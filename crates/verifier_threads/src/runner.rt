@@ -279,8 +279,7 @@ impl<'a, D: Digests + Sync> Runner<'a, D> {
         what_is_due_stays_due();
         let bytes = self.rounds.bytes();
         let mut runs = self.rounds.lend_runs();
-        self.end =
-            serve_phase_at_once(rt, self.alloc, &mut self.world, gate, &mut runs, bytes)?;
+        self.end = serve_phase_at_once(rt, self.alloc, &mut self.world, gate, &mut runs, bytes)?;
         self.rounds.take_back(runs);
         self.set_down(vault)
     }

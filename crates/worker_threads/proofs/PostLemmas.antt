@@ -96,17 +96,17 @@ module _ (terms : Terms) (table : TableId) (posts : List Station) (workers : Lis
           let in_hands : i < length hands = omega (arith, there, counts.1) in
           let feed = All-get_or IsOpened posts i d there opened in
           record {
-           posted = record {
-            free = subst (IsFree table) (hand_at i d) (All-get_or (IsFree table) hands i d.post.hand in_hands ready.all.free);
-            new = subst IsNew (hand_at i d) (All-get_or IsNew hands i d.post.hand in_hands ready.new);
-            running = subst (λ (w : Worker). w.stopped ≡ false) (worker_at i d) (All-get_or (λ w. w.stopped ≡ false) workers i d.post.worker in_workers ready.running);
-            clock = subst (λ (w : Worker). IsClockOf terms w.clock) (worker_at i d) (All-get_or (λ w. IsClockOf terms w.clock) workers i d.post.worker in_workers ready.clocks);
-            empty = feed.empty;
-            served = feed.served;
-           };
-           ends = feed.ends;
-           fresh = feed.fresh;
-           room = feed.room;
+            posted = record {
+              free = subst (IsFree table) (hand_at i d) (All-get_or (IsFree table) hands i d.post.hand in_hands ready.all.free);
+              new = subst IsNew (hand_at i d) (All-get_or IsNew hands i d.post.hand in_hands ready.new);
+              running = subst (λ (w : Worker). w.stopped ≡ false) (worker_at i d) (All-get_or (λ w. w.stopped ≡ false) workers i d.post.worker in_workers ready.running);
+              clock = subst (λ (w : Worker). IsClockOf terms w.clock) (worker_at i d) (All-get_or (λ w. IsClockOf terms w.clock) workers i d.post.worker in_workers ready.clocks);
+              empty = feed.empty;
+              served = feed.served;
+            };
+            ends = feed.ends;
+            fresh = feed.fresh;
+            room = feed.room;
           }
 
       go : (ps : List Station) → posts ≡ ps → All (IsManned terms table) posts

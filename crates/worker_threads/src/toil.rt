@@ -112,7 +112,15 @@ impl Toil {
         let number = hand.worker();
         for (task, place) in shift.tasks.iter().zip(shift.places) {
             if task.worker == number {
-                self.serve(rt, shift, gate, hand, *place as usize, &task.request, outbox)?;
+                self.serve(
+                    rt,
+                    shift,
+                    gate,
+                    hand,
+                    *place as usize,
+                    &task.request,
+                    outbox,
+                )?;
             }
         }
         Ok(())

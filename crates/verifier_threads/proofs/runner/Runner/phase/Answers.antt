@@ -39,18 +39,20 @@ serve_phase_at_once-requires-clause-runs g c κs within =
 pub set_down-requires : goal.set_down-requires
 set_down-requires g c =
     let before = c.lend_runs-runs.result.items in
-    record { runs = (
-      c.requires.runs.0,
-      c.requires.runs.1,
-      before,
-      runs-fed c.requires.runs.0 g.D.Digests.functions c.args.self.now c.requires.runs.1 c.requires.runs.2 c.serve_phase_at_once.new.world c.in_ok-self.field-0 c.in_ok-self.field-0
-      c.take_back.new.self before c.serve_phase_at_once.ensures.host c.in_ok-self.ensures.leads
-      (ap (λ (e : Option ClockEnd). first_of e c.in_ok-self.field-0) (sym c.requires.begins.unended))
-      (rounds-back c.args.self.now.rounds c.lend_runs-runs.new.self c.take_back.new.self c.serve_phase_at_once.new.runs.items before c.lend_runs-runs.ensures.rest c.take_back.ensures.runs c.lend_runs-runs.ensures.runs),
-      took-round g.D.Digests.functions c.args.self.now.world c.serve_phase_at_once.new.world c.lend_runs-runs.new.self c.take_back.new.self before c.serve_phase_at_once.new.runs.items
-      c.serve_phase_at_once.ensures.host c.take_back.ensures.runs c.in_ok-self.ensures.taken,
-      c.requires.runs.3,
-    ) }
+    record {
+      runs = (
+        c.requires.runs.0,
+        c.requires.runs.1,
+        before,
+        runs-fed c.requires.runs.0 g.D.Digests.functions c.args.self.now c.requires.runs.1 c.requires.runs.2 c.serve_phase_at_once.new.world c.in_ok-self.field-0 c.in_ok-self.field-0
+            c.take_back.new.self before c.serve_phase_at_once.ensures.host c.in_ok-self.ensures.leads
+            (ap (λ (e : Option ClockEnd). first_of e c.in_ok-self.field-0) (sym c.requires.begins.unended))
+            (rounds-back c.args.self.now.rounds c.lend_runs-runs.new.self c.take_back.new.self c.serve_phase_at_once.new.runs.items before c.lend_runs-runs.ensures.rest c.take_back.ensures.runs c.lend_runs-runs.ensures.runs),
+        took-round g.D.Digests.functions c.args.self.now.world c.serve_phase_at_once.new.world c.lend_runs-runs.new.self c.take_back.new.self before c.serve_phase_at_once.new.runs.items
+            c.serve_phase_at_once.ensures.host c.take_back.ensures.runs c.in_ok-self.ensures.taken,
+        c.requires.runs.3,
+      );
+    }
 
 pub returns-in_err-self-clause-cut : goal.returns-in_err-self-clause-cut
 returns-in_err-self-clause-cut g c = λ receipts outputs runs held.
