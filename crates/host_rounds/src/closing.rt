@@ -1,5 +1,5 @@
 //! A close's round: the logs are taken, and verdicts are settled on the epochs that they may seal.
-ghost use Rattle.std.specs.Prelude.{◌≡◌, ◌≢◌, ℕ, ◌≤◌, List, Option, length, map, OnOk, OnErr, IfOk, Err};
+ghost use Rattle.std.specs.Prelude.{◌≡◌, ◌≢◌, ℕ, ◌≤◌, List, Option, true, false, length, map, OnOk, OnErr, IfOk, Err};
 ghost use Rattle.fv_outside.specs.Faults.{Rose};
 ghost use Rattle.fv_outside.specs.Written.{GrowsByFront};
 ghost use Rattle.lamport_clocks.specs.declared.header.Header.{Header};
@@ -27,7 +27,8 @@ use std::thread::Threads;
 impl Rounds {
     /// Takes the logs of a close's round, one of each verifier: writes them to the vault in frames, and feeds them to the runs side
     /// by side. Each verifier has a thread of its own, where one can be made, and there hands in what its run has sealed. Of 2^63
-    /// bytes or more in all that is want of memory. The answer is the verdicts that were settled so: on the next epoch, and in a last close, where two may be sealed, on the one behind it too.
+    /// bytes or more in all that is want of memory. The answer is the verdicts that were settled so: on the next epoch, and in
+    /// a last close, where two may be sealed, on the one behind it too.
     pub fn seal<R: Threads + Sync, D: Digests + Sync, V: Sink>(
         &mut self,
         rt: &R,
@@ -49,6 +50,8 @@ impl Rounds {
         ensures lines { (tell : EpochText) (functions : DigestFunctions) (header : Header) (before : List (List ℕ)) → HaveRun functions header before self.old
             → OnOk result (lines_counted tell functions header (logs_with before logs.now) self.new ≡ lines_counted tell functions header before self.old) }
         ensures runs { OnOk result (length self.new.runs ≡ length self.old.runs) }
+        ensures one { last ≡ false → IfOk result (λ settled. length settled.items ≡ 1) }
+        ensures two { last ≡ true → IfOk result (λ settled. length settled.items ≡ 2) }
         ensures settled { IfOk result (λ settled. AreVerdictsOn self.new.judged (map (λ fed. fed.run) self.new.runs) settled.items) }
 
         // Where it stops, the vault has a front of their bundle; at want of memory that may be the whole. What it had before

@@ -1,5 +1,5 @@
 //! How many bytes were fed to the runs, which count them in 64 bits.
-ghost use Rattle.std.specs.Prelude.{◌≡◌, ◌+◌, ◌≤◌, ◌<◌, ◌^◌, ℕ, length, IfOk, OnOk};
+ghost use Rattle.std.specs.Prelude.{◌≡◌, ◌+◌, ◌≤◌, ◌<◌, ◌^◌, ℕ, length, IfOk, OnOk, OnErr};
 ghost use Rattle.std.specs.List.{AllByRecursion};
 ghost use Rattle.host_rounds.specs.Sealing.{log_of};
 
@@ -9,10 +9,11 @@ use want_of_memory::Memory;
 // So many bytes are not fed in all.
 const MOST_BYTES: u64 = 1 << 63;
 
-// So many bytes more, if they are not too many.
-fn with_more(bytes: u64, more: usize) -> Result<u64, Memory>
+/// So many bytes more, if they are not 2^63 or more in all.
+pub fn with_more(bytes: u64, more: usize) -> Result<u64, Memory>
     ensures sum { IfOk result (λ all. all ≡ bytes + more) }
     ensures few { OnOk result (bytes + more < 2 ^ 63) }
+    ensures many { OnErr result (2 ^ 63 ≤ bytes + more) }
 {
     match bytes.checked_add(more as u64) {
         Some(all) if all < MOST_BYTES => Ok(all),

@@ -23,6 +23,7 @@ impl Rounds {
     ghost use Rattle.certified_epochs.specs.declared.fed_run.FedRun.{FedRun};
     ghost use Rattle.host_log.specs.Frames.{pieces_text};
     ghost use Rattle.host_rounds.specs.Round.{logs_with, pieces_of};
+    ghost use Rattle.host_rounds.specs.Bundle.{HasFront};
     ghost use Rattle.host_rounds.specs.Feeding.{AllTake};
     ghost use Rattle.host_rounds.specs.SoFar.{HaveRun, Keeps, lines_counted, with_runs};
 
@@ -65,8 +66,12 @@ impl Rounds {
             → OnOk result (lines_counted tell functions header (logs_with before logs.now) self.new ≡ lines_counted tell functions header before self.old) }
         ensures runs { OnOk result (self.new.runs ≡ self.old.runs) }
 
-        // What the vault had before stays, in any case.
+        // Where it stops, the vault has a front of their bundle; at want of memory that may be the whole. What it had before
+        // stays, in any case.
         ensures grown { GrowsByFront (V.held vault.old) (V.held vault.new) (pieces_text (pieces_of 0 logs.now)) }
+        ensures front { (functions : DigestFunctions) (header : Header) (before : List (List ℕ)) (held : Option (List ℕ)) (runs : List FedRun)
+            → Keeps functions header before (with_runs runs self.old) held (V.held vault.old) → AllTake functions logs.now runs self.old.runs
+            → OnErr result (HasFront header (logs_with before logs.now) held (V.held vault.new)) }
         ensures stop { result ≢ Err RoundStop.WriteFault }
         ensures vault_fault { result ≡ Err RoundStop.VaultFault → Rose (V.faults vault.old) (V.faults vault.new) }
         ensures never_falls { V.faults vault.old ≤ V.faults vault.new }

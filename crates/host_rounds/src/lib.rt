@@ -19,6 +19,7 @@ mod sealing;
 mod stops;
 mod with_pass;
 
+pub use counting::with_more;
 pub use laws::rounds_make_a_bundle;
 pub use rounds::{Rounds, write_end};
 pub use stops::RoundStop;

@@ -1,5 +1,5 @@
 //! The logs of a close's round, fed to the runs side by side, and the verdicts on what these seal, which are those of books.
-ghost use Rattle.std.specs.Prelude.{◌≡◌, ◌+◌, ◌≤◌, ◌<◌, ◌^◌, ℕ, length, map, get_or, IfOk, OnOk};
+ghost use Rattle.std.specs.Prelude.{◌≡◌, ◌+◌, ◌≤◌, ◌<◌, ◌^◌, ℕ, true, false, length, map, get_or, IfOk, OnOk};
 ghost use Rattle.std.specs.List.{AllByRecursion};
 ghost use Rattle.verifier_run.specs.Progress.{weight};
 ghost use Rattle.bundle_report.specs.declared.judged.Judged.{Judged};
@@ -20,9 +20,9 @@ use std::alloc::Global;
 use std::thread::Threads;
 use want_of_memory::Memory;
 
-/// Feeds each run the log of its verifier, and counts the bytes, as `feed_all` does, but each in a thread of its own where one can
-/// be made. There the verifier hands in what its run has sealed of the next epoch, and in a last round of the one behind it too.
-/// The answer has the verdicts on these.
+/// Feeds each run the log of its verifier, in a thread of its own where one can be made, and counts the bytes. There the verifier
+/// hands in what its run has sealed of the next epoch, and in a last round of the one behind it too. The answer has the verdicts
+/// on these.
 pub(crate) fn seal_round<R: Threads + Sync, D: Digests + Sync>(
     rt: &R,
     alloc: Global,
@@ -39,6 +39,8 @@ pub(crate) fn seal_round<R: Threads + Sync, D: Digests + Sync>(
         → SealsOwn (D.functions d.now) number logs.now (get_or runs.items number default) }
     ensures taken { IfOk result (λ left. AllTake (D.functions d.now) logs.now runs.items left.0.items) }
     ensures few { IfOk result (λ left. AllByRecursion (λ fed. weight fed.run ≤ bytes.new) left.0.items) }
+    ensures one { last ≡ false → IfOk result (λ left. length left.1.items ≡ 1) }
+    ensures two { last ≡ true → IfOk result (λ left. length left.1.items ≡ 2) }
     ensures settled { (judged : Judged) → IfOk result (λ left. AreVerdictsOn judged (map (λ fed. fed.run) left.0.items) left.1.items) }
 {
     let all = bytes_with(*bytes, logs)?;
@@ -60,6 +62,8 @@ fn seal_epochs<R: Threads + Sync, D: Digests + Sync>(
     requires ready { (number : ℕ) (default : FedRun) → number < length runs.items
         → CanTake (D.functions d.now) number logs.now (get_or runs.items number default) }
     ensures taken { IfOk result (λ left. HaveAllTaken (D.functions d.now) logs.now runs.items left.0.items) }
+    ensures one { last ≡ false → IfOk result (λ left. length left.1.items ≡ 1) }
+    ensures two { last ≡ true → IfOk result (λ left. length left.1.items ≡ 2) }
     ensures settled { (judged : Judged) → IfOk result (λ left. AreVerdictsOn judged (map (λ fed. fed.run) left.0.items) left.1.items) }
 {
     if last {
@@ -81,6 +85,7 @@ fn seal_one<R: Threads + Sync, D: Digests + Sync>(
     requires ready { (number : ℕ) (default : FedRun) → number < length runs.items
         → CanTake (D.functions d.now) number logs.now (get_or runs.items number default) }
     ensures taken { IfOk result (λ left. HaveAllTaken (D.functions d.now) logs.now runs.items left.0.items) }
+    ensures count { IfOk result (λ left. length left.1.items ≡ 1) }
     ensures settled { (judged : Judged) → IfOk result (λ left. AreVerdictsOn judged (map (λ fed. fed.run) left.0.items) left.1.items) }
 {
     let verifiers = runs.len() as u16;
@@ -106,6 +111,7 @@ fn seal_two<R: Threads + Sync, D: Digests + Sync>(
     requires ready { (number : ℕ) (default : FedRun) → number < length runs.items
         → CanTake (D.functions d.now) number logs.now (get_or runs.items number default) }
     ensures taken { IfOk result (λ left. HaveAllTaken (D.functions d.now) logs.now runs.items left.0.items) }
+    ensures count { IfOk result (λ left. length left.1.items ≡ 2) }
     ensures settled { (judged : Judged) → IfOk result (λ left. AreVerdictsOn judged (map (λ fed. fed.run) left.0.items) left.1.items) }
 {
     let verifiers = runs.len() as u16;

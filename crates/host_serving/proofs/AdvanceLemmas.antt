@@ -72,7 +72,7 @@ module _ {C R : Type 0} (host : Host C R) where
       -- what comes of it
       abbrev pub Goes : World C → Option ClockEnd → Type 0
       Goes new None = HaveAdvanced host world new (suc j)
-      Goes new (Some end) = (new.over ≡ true) × (end.worker ≡ 0)
+      Goes new (Some end) = (new.over ≡ true) × (end.worker ≡ 0) × ((i : ℕ) → IsKept (worker_at host world i) (worker_at host new i))
 
       abbrev next : World C
       next = record (with_worker later j (advanced (worker_at host later j))) { closing = true }
@@ -104,5 +104,9 @@ module _ {C R : Type 0} (host : Host C R) where
       goes_next new end is ends = go ((worker_at host later j).clock.at.epoch == last_epoch) is ends
         where
           go : (b : Bool) → new ≡ (if b then record later { over = true } else next) → end ≡ (if b then Some (end_at host later 0) else None) → Goes new end
-          go true is' ends' = subst (Goes new) (sym ends') (ap (λ (w : World C). w.over) is', refl)
+          go true is' ends' = subst (Goes new) (sym ends') (
+            ap (λ (w : World C). w.over) is',
+            refl,
+            λ i. subst (λ (w : World C). IsKept (worker_at host world i) (worker_at host w i)) (sym is') (advance_keeps later j have i),
+          )
           go false is' ends' = subst (Goes new) (sym ends') (subst (λ (w : World C). HaveAdvanced host world w (suc j)) (sym is') have_next)

@@ -71,6 +71,11 @@ module _ {C R : Type 0} (host : Host C R) where
   advance_lowest world later None ends = tt
   advance_lowest world later (Some end) over = λ i less. absurd (omega (arith, less, over.1))
 
+  -- each worker keeps what a close leaves, either way
+  pub advance_kept : (world later : World C) (end : Option ClockEnd) → EndsAdvance host world later end → (i : ℕ) → IsKept (worker_at host world i) (worker_at host later i)
+  advance_kept world later None have = advance_keeps host world later (length world.workers) have
+  advance_kept world later (Some end) over = over.2
+
   -- where a worker's clock ended in the close, and the others have moved their shards
   pub stuck_rests : (world later : World C) → HaveTurned host later → length later.workers ≡ length world.workers → HaveSomeStuck host world later → CanDoNoMore host later
   stuck_rests world later turned workers have = go
@@ -157,6 +162,12 @@ module _ {C R : Type 0} (host : Host C R) where
               zero_more n = omega arith
 
       module _ (later : World C) where
+        -- each worker keeps what a close leaves
+        kept : ((i : ℕ) → IsKept (worker_at host middle i) (worker_at host later i)) → (i : ℕ) → IsKept (worker_at host world i) (worker_at host later i)
+        kept moved i =
+            kept-then host (worker_at host world i) (worker_at host middle i) (worker_at host later i)
+            (advance_keeps host world middle (length world.workers) have i) (moved i)
+
         -- where all have moved them
         pub shards_closed : HaveAllMoved host middle later → ShardsAreClosed host world later
         shards_closed moved =
@@ -164,18 +175,14 @@ module _ {C R : Type 0} (host : Host C R) where
             let workers : length later.workers ≡ length world.workers = moved.keeps.workers ∙ have.workers in
             record {
               all = turned_still host middle later moved.keeps moves_begin.all;
-              through = over_still host world later phase workers kept served.over;
+              through = over_still host world later phase workers (kept moved.keeps.kept) served.over;
               phase = phase;
               workers = workers;
-              kept = kept;
+              kept = kept moved.keeps.kept;
               running = λ i within. (moved.each i (subst (λ (n : ℕ). i < n) (sym have.workers) within)).running;
               moved = λ s within. (moved.each (s % length later.workers) (owner s)).moved s within refl;
             }
           where
-            kept : (i : ℕ) → IsKept (worker_at host world i) (worker_at host later i)
-            kept i = kept-then host (worker_at host world i) (worker_at host middle i) (worker_at host later i)
-                (advance_keeps host world middle (length world.workers) have i) (moved.keeps.kept i)
-
             owner : (s : ℕ) → s % length later.workers < length middle.workers
             owner s =
                 let more : 0 < length later.workers = omega (arith, some, moved.keeps.workers, have.workers) in
@@ -188,7 +195,7 @@ module _ {C R : Type 0} (host : Host C R) where
         -- either way
         pub ends_shards : (end : Option ClockEnd) → EndsMoves host middle later end → EndsShards host world later end
         ends_shards None moved = shards_closed moved
-        ends_shards (Some end) stuck = (shards_stuck stuck.0, stuck.1)
+        ends_shards (Some end) stuck = (shards_stuck stuck.0, stuck.1, kept stuck.0.keeps.kept)
 
   -- ---- the second half
 

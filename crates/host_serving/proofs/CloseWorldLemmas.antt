@@ -111,6 +111,11 @@ pub on_err_then : {T E : Type 0} (P Q : Type 0) (r : Result T E) → (P → Q) �
 on_err_then P Q (Ok x) f p = tt
 on_err_then P Q (Err e) f p = f p
 
+-- what follows of an answer, whichever it is
+pub on_ok_then : {T E : Type 0} (P Q : Type 0) (r : Result T E) → (P → Q) → OnOk r P → IfOk r (λ _. Q)
+on_ok_then P Q (Ok x) f p = f p
+on_ok_then P Q (Err e) f p = tt
+
 -- what follows of an answer
 pub if_ok_then : {T E : Type 0} (P Q : T → Type 0) (r : Result T E) → ((x : T) → P x → Q x) → IfOk r P → IfOk r Q
 if_ok_then P Q (Ok x) f p = f x p

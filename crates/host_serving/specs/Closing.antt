@@ -74,10 +74,11 @@ module _ {C R : Type 0} (host : Host C R) (world : World C) where
     pub workers : length later.workers ≡ length world.workers
     pub closing : 0 < count → later.closing ≡ true
 
-  -- all have advanced, or there is no epoch to come, for which worker 0 is named
+  -- all have advanced, or there is no epoch to come, for which worker 0 is named, and each keeps what a close leaves
   abbrev pub EndsAdvance : World C → Option ClockEnd → Type 0
   EndsAdvance later None = HaveAdvanced later (length world.workers)
-  EndsAdvance later (Some end) = (later.over ≡ true) × (end.worker ≡ 0)
+  EndsAdvance later (Some end) =
+      (later.over ≡ true) × (end.worker ≡ 0) × ((i : ℕ) → IsKept (worker_at host world i) (worker_at host later i))
 
   -- What moves leave of the world and its workers.
   pub record KeepsTurned (later : World C) : Type 0 where
@@ -126,7 +127,8 @@ pub record ShardsAreClosed {C R : Type 0} (host : Host C R) (world later : World
   pub running : (i : ℕ) → i < length world.workers → (worker_at host later i).stuck ≡ false
   pub moved : AllMoved later
 
--- It is so, or a clock ended and nothing can follow; no lower worker's did.
+-- It is so, or a clock ended and nothing can follow; no lower worker's did, and each keeps what a close leaves.
 abbrev pub EndsShards : {C R : Type 0} → Host C R → World C → World C → Option ClockEnd → Type 0
 EndsShards host world later None = ShardsAreClosed host world later
-EndsShards host world later (Some end) = CanDoNoMore host later × NoneStuckBelow host later end.worker
+EndsShards host world later (Some end) =
+    CanDoNoMore host later × NoneStuckBelow host later end.worker × ((i : ℕ) → IsKept (worker_at host world i) (worker_at host later i))

@@ -1,8 +1,9 @@
 -- How a world stands while its script is served: within a phase, and at its end.
-use Rattle.std.specs.Prelude.{◌≡◌, ◌⊎◌, ℕ, suc, ◌+◌, ◌<◌, ◌≤◌, true, false, List, [], length, take, get_or, None}
+use Rattle.std.specs.Prelude.{◌≡◌, ◌⊎◌, ℕ, suc, ◌+◌, ◌<◌, ◌≤◌, true, false, List, [], length, take, get_or, Option, None, IfSome}
 use Rattle.host_core.specs.Host.{Host, asked_in, asked_from}
 use Rattle.host_core.specs.World.{Worker, World, worker_at}
 use Rattle.host_core.specs.WorldEvent.{IsPhaseOver, HasAdvanced}
+use Rattle.host_world.specs.declared.fault.ClockEnd.{ClockEnd}
 
 -- what a phase asks, each request with its worker
 abbrev pub turns_of : {C R : Type 0} → Host C R → ℕ → List (ℕ × R)
@@ -43,6 +44,13 @@ module _ {C R : Type 0} (host : Host C R) (world : World C) where
   -- no clock of a worker below this one ended in this close
   abbrev pub NoneStuckBelow : ℕ → Type 0
   NoneStuckBelow worker = (i : ℕ) → i < worker → (worker_at host world i).stuck ≡ false
+
+  -- The worker that an end names is the lowest whose clock ended in its round: no clock below it ended in the phase, and none in the
+  -- close, unless its own ended in the phase.
+  abbrev pub IsLowest : Option ClockEnd → Type 0
+  IsLowest end = IfSome end (λ found. (i : ℕ) → i < found.worker
+      → ((worker_at host world i).stopped ≡ false)
+      × ((worker_at host world found.worker).stopped ≡ false → (worker_at host world i).stuck ≡ false))
 
   -- The last close is whole: all workers have advanced twice, and what they served before stands.
   pub record IsClosed : Type 0 where

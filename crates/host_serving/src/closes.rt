@@ -2,6 +2,7 @@
 //! once more.
 ghost use Rattle.std.specs.Prelude.{◌≡◌, ◌↔◌, ℕ, suc, ◌<◌, true, false, List, length, Some, None, Ok, IfOk, IfSome, OnErr};
 ghost use Rattle.log_codec.specs.declared.command.Command.{Command};
+ghost use Rattle.host_core.specs.World.{worker_at};
 ghost use Rattle.host_core.specs.WorldEvent.{IsLast};
 ghost use Rattle.host_world.specs.Shown.{shown_world, digests_of};
 ghost use Rattle.host_world.specs.Behind.{host_of, StandsBehind, StandsWith, AreOfOneHost};
@@ -47,6 +48,10 @@ pub fn close_phase<D: Digests>(
         CanDoNoMore (host_of (D.functions (digests_of world.old)) world.old) (shown_world world.new))) }
     ensures lowest { IfOk result (λ end. IfSome end (λ found.
         NoneStuckBelow (host_of (D.functions (digests_of world.old)) world.old) (shown_world world.new) found.worker)) }
+
+    // Whose clock ended in the phase stays.
+    ensures stopped { IfOk result (λ _. (i : ℕ) → (worker_at (host_of (D.functions (digests_of world.old)) world.old) (shown_world world.new) i).stopped
+        ≡ (worker_at (host_of (D.functions (digests_of world.old)) world.old) (shown_world world.old) i).stopped) }
     ensures on_the_way { OnErr result (LeadsTo (host_of (D.functions (digests_of world.old)) world.old)
         (shown_world world.old) (shown_world world.new)) }
     ensures host { AreOfOneHost world.old world.new }

@@ -2,12 +2,14 @@
 //!
 //! A crate with tests is proved twice, so tests have a crate of their own for each layer. `scripts` and `loads` are of
 //! `script_text`, `logs` of `host_log`, `chains` of `host_shard`, `plans` and `setups` of `host_plan`, `moves` and
-//! `closes` of `protection_moves`. A table is one text, a row a line, which is read as the test runs: begin at `rows`, and at `shards`
+//! `closes` of `protection_moves`, with the rows of `close_rows`. A table is one text, a row a line, which is read as the test runs: begin at `rows`, and at `shards`
 //! for a host of two shards.
 #![tactic(auto)]
 
 #[cfg(test)]
 mod chains;
+#[cfg(test)]
+mod close_rows;
 #[cfg(test)]
 mod closes;
 #[cfg(test)]

@@ -3,6 +3,7 @@ ghost use Rattle.std.specs.Prelude.{◌≡◌};
 
 use certified_epochs::FedRun;
 use fv_outside::Gate;
+use host_rounds::with_more;
 use log_rings::Receiver;
 use record_hash::Digests;
 use record_text::Operation;
@@ -13,9 +14,6 @@ use want_of_memory::Memory;
 
 /// So many polls in a row that find nothing end a verifier's watch.
 const MOST_EMPTY_POLLS: u32 = 1_024;
-
-/// So many bytes are not fed in all: a run counts them in 64 bits.
-const MOST_BYTES: u64 = 1 << 63;
 
 /// A verifier's run, with the end of the lane from which it is fed, and whether memory was wanting for it.
 #[derive(Drop)]
@@ -92,13 +90,13 @@ impl Inbox {
         if self.wanting {
             return;
         }
-        match self.bytes.checked_add(piece.len() as u64) {
-            Some(bytes) if bytes < MOST_BYTES => {
+        match with_more(self.bytes, piece.len()) {
+            Ok(bytes) => {
                 self.fed.feed(d, piece);
                 self.bytes = bytes;
                 self.wanting = self.fed.is_starved;
             }
-            _ => self.wanting = true,
+            Err(_) => self.wanting = true,
         }
     }
 

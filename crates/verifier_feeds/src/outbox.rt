@@ -12,6 +12,8 @@ const LEAST_PARCEL: usize = 4_096;
 
 /// Where a worker puts what it logs, on the way to its verifier: what was sent, what waits for room in the lane, and what is
 /// in no parcel yet.
+///
+/// After want of memory it is of no more use.
 #[derive(Drop)]
 pub struct Outbox {
     pub(crate) sender: Sender,

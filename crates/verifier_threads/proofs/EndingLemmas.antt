@@ -50,7 +50,7 @@ use Rattle.verifier_threads.specs.Summing.{IsSummed, IsCutInSummary}
 use Rattle.verifier_threads.specs.Running.{IsRunning, Runs, IsAtPhase, IsAtEnd}
 use Rattle.verifier_threads.proofs.RunningLemmas.{running-workers}
 use Rattle.verifier_threads.proofs.HandingLemmas.{front-logs}
-use Rattle.verifier_threads.proofs.StandingLemmas.{all_with, rests_with}
+use Rattle.verifier_threads.proofs.StandingLemmas.{all_with, rests_with, lowest_with}
 
 -- ---- the setup
 
@@ -161,6 +161,7 @@ module _ (receipts : Bool) (functions : DigestFunctions) (settings : Settings) (
       rests = rests_with own_host running.logs world at.rests;
       logs_are = logs-are;
       whole = λ none'. all_with own_host running.logs world (at.whole none');
+      lowest = lowest_with own_host running.logs world end at.lowest;
     };
     unserved = λ short. absurd (omega (arith, short, running.counters));
   }

@@ -1,6 +1,7 @@
 -- What the proofs of this crate rest on.
 mod DueLemmas
 mod HandingLemmas
+mod LowestLemmas
 mod StandingLemmas
 mod RunningLemmas
 mod PassingLemmas

@@ -2,14 +2,16 @@
 use Rattle.std.proofs.Common.{◌≡◌, ◌⊎◌, inl, inr, ◌↔◌, ℕ, zero, suc, ◌<◌, ◌≤◌, Bool, true, false, List, [], ◌∷◌, length, map, get_or, replicate, Option, Some, None, IfSome, refl, sym, ◌∙◌, ap, subst, arith}
 use Rattle.std.proofs.lemmas.Bool.{false≢true}
 use Rattle.host_core.specs.Host.{Host}
-use Rattle.host_core.specs.World.{Worker, World, worker_at}
+use Rattle.host_core.specs.World.{Worker, World, fresh, worker_at}
 use Rattle.host_core.specs.WorldEvent.{IsLast}
 use Rattle.host_world.specs.declared.fault.ClockEnd.{ClockEnd}
 use Rattle.host_serving.specs.Leading.{first_of, CanDoNoMore}
-use Rattle.host_serving.specs.Standing.{IsServedUpTo, IsServedOut, NoneStopped, SomeStopped, IsClosed, IsAllServed}
+use Rattle.host_serving.specs.Standing.{IsServedUpTo, IsServedOut, NoneStopped, SomeStopped, NoneStuckBelow, IsLowest, IsClosed, IsAllServed}
+use Rattle.worker_threads.specs.Phase.{first_stopped}
 use Rattle.verifier_threads.specs.Running.{all_handed_out, IsAtPhase, IsAtClose, IsAtEnd}
 use Rattle.verifier_threads.proofs.HandingLemmas.{handed-none}
-use Rattle.verifier_threads.proofs.StandingLemmas.{phase_handed, all_handed, rests_handed}
+use Rattle.verifier_threads.proofs.StandingLemmas.{phase_handed, all_handed, rests_handed, lowest_handed}
+use Rattle.verifier_threads.proofs.LowestLemmas.{all-running, lower-running, first-stopped}
 
 -- what holds of a host, a world and an end holds of the same under other names
 pub moved : {C R : Type 0} (P : Host C R → World C → Option ClockEnd → Type 0) (h h' : Host C R) (w w' : World C) (e e' : Option ClockEnd)
@@ -53,9 +55,10 @@ closes-last host world end at_end last at script by_script by_end going = (forwa
 module _ {C R : Type 0} (host : Host C R) (old now : World C) where
   -- the phase was served
   pub at-close : (end : Option ClockEnd) → IsServedOut host now → NoneStopped host old
-      → (end ≡ None → NoneStopped host old → NoneStopped host now) → IfSome end (λ _. SomeStopped host now) → IsAtClose host now end
-  at-close None served before running stopped = record { served = served; ended = inl (refl, running refl before) }
-  at-close (Some end) served before running stopped = record { served = served; ended = inr (λ is. cc, stopped) }
+      → (end ≡ None → NoneStopped host old → NoneStopped host now) → IfSome end (λ _. SomeStopped host now)
+      → end ≡ first_stopped 0 now.workers → IsAtClose host now end
+  at-close None served before running stopped first = record { served = served; ended = inl (refl, running refl before); first = first }
+  at-close (Some end) served before running stopped first = record { served = served; ended = inr (λ is. cc, stopped); first = first }
 
   module _ (last : Bool) (start next : Option ClockEnd) (at : IsAtClose host old start) (is_last : (last ≡ true) ↔ IsLast host old) where
     -- where a clock ended in the phase the close is the last
@@ -80,14 +83,35 @@ module _ {C R : Type 0} (host : Host C R) (old now : World C) where
         )
         from_last running (inr stopped) = absurd (false≢true (sym (running stopped.0 stopped.1) ∙ stopped.2))
 
+    -- the end is that of the lowest worker of its round
+    lowest-end : ((i : ℕ) → (worker_at host now i).stopped ≡ (worker_at host old i).stopped) → IfSome next (λ found. NoneStuckBelow host now found.worker)
+        → IsLowest host now (first_of start next)
+    lowest-end stays below = go start next at.first below
+      where
+        go : (a b : Option ClockEnd) → a ≡ first_stopped 0 old.workers → IfSome b (λ found. NoneStuckBelow host now found.worker) → IsLowest host now (first_of a b)
+        go None None first below = tt
+        go None (Some found) first below = λ i less. (
+          stays i ∙ all-running (fresh host.header) refl 0 old.workers (sym first) i,
+          λ running. below i less,
+        )
+        go (Some found) b first below = λ i less. (
+          stays i ∙ lower-running (fresh host.header) refl 0 old.workers found (sym first) i (omega (arith, less)),
+          λ running.
+              let own = first-stopped (fresh host.header) refl 0 old.workers found (sym first) in
+              let there : found.worker ≡ own.0 = omega (arith, own.1) in
+              absurd (false≢true (sym running ∙ stays found.worker ∙ ap (λ (n : ℕ). (worker_at host old n).stopped) there ∙ own.2)),
+        )
+
     pub at-end : (closed : next ≡ None → last ≡ true → IsClosed host now × (now.phase ≡ old.phase) × (NoneStopped host old → NoneStopped host now))
         → (next ≡ None → last ≡ true → CanDoNoMore host now) → IfSome next (λ _. CanDoNoMore host now)
+        → ((i : ℕ) → (worker_at host now i).stopped ≡ (worker_at host old i).stopped) → IfSome next (λ found. NoneStuckBelow host now found.worker)
         → (last ≡ true) ⊎ (first_of start next ≡ None → ⊥) → IsAtEnd host (all_handed_out now) (first_of start next)
-    at-end closed rests ended over = record {
+    at-end closed rests ended stays below over = record {
       rests = rests_handed host now (no_more start next refl refl ended over);
       handed = handed-none now.workers;
       whole = λ none'. all_handed host now (whole none').0;
       last = λ none'. (whole none').1;
+      lowest = lowest_handed host now (first_of start next) (lowest-end stays below);
     }
       where
         none_first : (a b : Option ClockEnd) → first_of a b ≡ None → (a ≡ None) × (b ≡ None)

@@ -9,8 +9,9 @@ use Rattle.host_world.specs.declared.fault.ClockEnd.{ClockEnd}
 use Rattle.host_world.specs.Behind.{before_each, with_logs}
 use Rattle.host_world.proofs.FrontLaws.{unlogged, length-before_each, same_unlogged, over_other, advanced_other, enabled_other, enabled_without}
 use Rattle.host_serving.specs.Leading.{CanDoNoMore}
-use Rattle.host_serving.specs.Standing.{HasServedUpTo, IsServedUpTo, IsServedOut, NoneStopped, SomeStopped, IsClosed, IsAllServed, asked_by, turns_of}
+use Rattle.host_serving.specs.Standing.{HasServedUpTo, IsServedUpTo, IsServedOut, NoneStopped, SomeStopped, IsLowest, IsClosed, IsAllServed, asked_by, turns_of}
 use Rattle.verifier_threads.specs.Running.{with_no_log, all_handed_out, IsAtPhase, IsAtClose}
+use Rattle.verifier_threads.proofs.LowestLemmas.{first-handed}
 
 -- ---- other logs
 
@@ -54,6 +55,13 @@ module _ {C R : Type 0} (host : Host C R) (world : World C) (workers : List Work
   pub some_other : SomeStopped host world → SomeStopped host other
   some_other some = (some.0, omega (arith, some.1, count), stopped_other some.0 ∙ some.2)
 
+  pub lowest_other : (end : Option ClockEnd) → IsLowest host world end → IsLowest host other end
+  lowest_other None is = tt
+  lowest_other (Some found) is = λ i below. (
+    stopped_other i ∙ (is i below).0,
+    λ running. ap (λ (w : Worker). w.stuck) (same i) ∙ (is i below).1 (sym (stopped_other found.worker) ∙ running),
+  )
+
   pub closed_other : IsClosed host world → IsClosed host other
   closed_other is = record {
     over = over_other host world workers count same is.over;
@@ -92,6 +100,7 @@ module _ {C R : Type 0} (host : Host C R) (world : World C) where
   close_handed end is = record {
     served = out_other host world (map with_no_log world.workers) count_handed same is.served;
     ended = go is.ended;
+    first = is.first ∙ sym (first-handed 0 world.workers);
   }
     where
       go : ((end ≡ None) × NoneStopped host world) ⊎ ((end ≡ None → ⊥) × SomeStopped host world)
@@ -105,6 +114,9 @@ module _ {C R : Type 0} (host : Host C R) (world : World C) where
   pub rests_handed : CanDoNoMore host world → CanDoNoMore host (all_handed_out world)
   rests_handed rests = rests_other host world (map with_no_log world.workers) count_handed same rests
 
+  pub lowest_handed : (end : Option ClockEnd) → IsLowest host world end → IsLowest host (all_handed_out world) end
+  lowest_handed end is = lowest_other host world (map with_no_log world.workers) count_handed same end is
+
 -- ---- with logs in front
 
 module _ {C R : Type 0} (host : Host C R) (logs : List (List Command)) (world : World C) where
@@ -112,6 +124,11 @@ module _ {C R : Type 0} (host : Host C R) (logs : List (List Command)) (world : 
   all_with is =
       all_other host world (before_each logs world.workers) (length-before_each logs world.workers)
       (λ i. same_unlogged logs world.workers i (fresh host.header)) is
+
+  pub lowest_with : (end : Option ClockEnd) → IsLowest host world end → IsLowest host (with_logs logs world) end
+  lowest_with end is =
+      lowest_other host world (before_each logs world.workers) (length-before_each logs world.workers)
+      (λ i. same_unlogged logs world.workers i (fresh host.header)) end is
 
   pub rests_with : CanDoNoMore host world → CanDoNoMore host (with_logs logs world)
   rests_with rests = λ event may. rests event (enabled_without host logs world event may)

@@ -17,7 +17,8 @@ use Rattle.host_world.specs.Shown.{shown_world, digests_of, requests_of}
 use Rattle.host_world.specs.ShippedHost.{shipped_host}
 use Rattle.host_world.specs.Behind.{AreInRange, with_logs}
 use Rattle.host_serving.specs.Leading.{Leads, CanDoNoMore}
-use Rattle.host_serving.specs.Standing.{IsServedUpTo, IsServedOut, NoneStopped, SomeStopped, IsAllServed}
+use Rattle.host_serving.specs.Standing.{IsServedUpTo, IsServedOut, NoneStopped, SomeStopped, IsLowest, IsAllServed}
+use Rattle.worker_threads.specs.Phase.{first_stopped}
 use Rattle.certified_epochs.specs.declared.fed_run.FedRun.{FedRun}
 use Rattle.host_rounds.specs.Feeding.{AllTake}
 use Rattle.host_rounds.specs.SoFar.{RunsSoFar, Keeps, AllCounted, lines_counted, with_runs}
@@ -102,14 +103,17 @@ module _ {C R : Type 0} (host : Host C R) (world : machine.World C) (end : Optio
     pub running : NoneStopped host world
     pub unended : end ≡ None
 
-  -- A phase is served, and its clocks tell whether one has ended.
+  -- A phase is served, and its clocks tell whether one has ended; the end is that of the first worker whose did.
   pub record IsAtClose : Type 0 where
     pub served : IsServedOut host world
     pub ended : ((end ≡ None) × NoneStopped host world) ⊎ ((end ≢ None) × SomeStopped host world)
+    pub first : end ≡ first_stopped 0 world.workers
 
-  -- No more can be done, each log is handed out, and where no clock ended the script is served to its last phase.
+  -- No more can be done, each log is handed out, and where no clock ended the script is served to its last phase; else the end is that
+  -- of the lowest worker of its round.
   pub record IsAtEnd : Type 0 where
     pub rests : CanDoNoMore host world
     pub handed : AllByRecursion (λ worker. worker.log ≡ []) world.workers
     pub whole : end ≡ None → IsAllServed host world
     pub last : end ≡ None → suc world.phase ≡ length host.script
+    pub lowest : IsLowest host world end

@@ -18,7 +18,7 @@ use Rattle.host_world.specs.declared.fault.ClockEnd.{ClockEnd}
 use Rattle.host_world.specs.declared.settings.Settings.{Settings}
 use Rattle.host_world.specs.ShippedHost.{shipped_host}
 use Rattle.host_serving.specs.Leading.{Leads, CanDoNoMore}
-use Rattle.host_serving.specs.Standing.{IsAllServed}
+use Rattle.host_serving.specs.Standing.{IsLowest, IsAllServed}
 use Rattle.host_rounds.specs.declared.stops.RoundStop.{RoundStop}
 use Rattle.host_rounds.specs.declared.stops.RoundStop.TheVariants as stops
 use Rattle.host_rounds.specs.Bundle.{HasBundle}
@@ -50,13 +50,15 @@ texts_of logs = map (log_text short_keys) logs
 
 module _ (functions : DigestFunctions) (settings : Settings) (script : List (List Task)) (logs : List (List Command)) (end : Option ClockEnd) where
   -- The logs of a world to which enabled events lead from the setup, and in which no more can be done. Where no clock
-  -- ended on the way the whole script is served; else it is the first end that they come to.
+  -- ended on the way the whole script is served; else it is the first end that they come to, and that of the lowest worker whose clock
+  -- ended in its round.
   pub record AreServed : Type 0 where
     pub world : World Content
     pub way : Leads (shipped_host functions settings script) (set_up (shipped_host functions settings script)) world end
     pub rests : CanDoNoMore (shipped_host functions settings script) world
     pub logs_are : logs ≡ logs_of world
     pub whole : end ≡ None → IsAllServed (shipped_host functions settings script) world
+    pub lowest : IsLowest (shipped_host functions settings script) world end
 
   -- The same where the counters suffice for the setup; else nothing is logged.
   pub record AreOfRun : Type 0 where

@@ -1,9 +1,9 @@
-use Rattle.std.proofs.Common.{◌≡◌, suc, ◌<◌, length, Option, None, Result, OnOk, IfOk, IfSome, sym, subst, ◌∙◌, arith}
+use Rattle.std.proofs.Common.{◌≡◌, ℕ, suc, ◌<◌, length, Option, None, Result, OnOk, IfOk, IfSome, sym, ap, subst, ◌∙◌, arith}
 use Rattle.std.proofs.lemmas.Bool.{false≢true}
 use Rattle.want_of_memory.specs.declared.memory.Memory.{Memory}
 use Rattle.record_text.specs.declared.request.Request.{Request}
 use Rattle.host_core.specs.Host.{Host}
-use Rattle.host_core.specs.World.{World}
+use Rattle.host_core.specs.World.{World, worker_at}
 use Rattle.host_core.specs.WorldEvent.{opens, step, IsLast}
 use Rattle.host_shard.specs.Content.{Content}
 use Rattle.host_world.specs.declared.fault.ClockEnd.{ClockEnd}
@@ -12,8 +12,8 @@ use Rattle.host_world.specs.Shown.{shown_world, digests_of}
 use Rattle.host_serving.specs.Leading.{Leads, LeadsTo, CanDoNoMore}
 use Rattle.host_serving.specs.Standing.{IsServedUpTo, NoneStopped, NoneStuckBelow}
 use Rattle.host_serving.specs.Closing.{CanAllAdvance, HaveAdvanced, EndsAdvance, EndsShards, ShardsAreClosed}
-use Rattle.host_serving.proofs.CloseLemmas.{advance_rests, advance_lowest, again, may_open, is_closed, closed_phase, closed_running, closed_rests, opened_served, opened_phase, opened_running}
-use Rattle.host_serving.proofs.CloseWorldLemmas.{host_same, enabled_now, stepped_first, leads_on, leads_answered, way_on, way_kept, on_err_then, if_ok_then, workers_are}
+use Rattle.host_serving.proofs.CloseLemmas.{advance_rests, advance_lowest, advance_kept, again, may_open, is_closed, closed_phase, closed_running, closed_rests, opened_served, opened_phase, opened_running}
+use Rattle.host_serving.proofs.CloseWorldLemmas.{host_same, enabled_now, stepped_first, leads_on, leads_answered, way_on, way_kept, on_err_then, on_ok_then, if_ok_then, workers_are}
 use Rattle.host_serving.proofs.closes.close_phase.Goals as goal
 
 pub advance_all-requires-clause-may : goal.advance_all-requires-clause-may
@@ -45,6 +45,13 @@ returns-in-Some-clause-lowest g c =
     let old = c.args.world.now in
     let host = host_of (g.D.Digests.functions (digests_of old)) old in
     (subst (EndsShards host (shown_world old) (shown_world c.close_shards.new.world)) c.in-Some.is c.in_ok-end.ensures.ended).1
+
+pub returns-in-Some-clause-stopped : goal.returns-in-Some-clause-stopped
+returns-in-Some-clause-stopped g c =
+    let old = c.args.world.now in
+    let host = host_of (g.D.Digests.functions (digests_of old)) old in
+    let ends = subst (EndsShards host (shown_world old) (shown_world c.close_shards.new.world)) c.in-Some.is c.in_ok-end.ensures.ended in
+    λ i. (ends.2 i).stopped
 
 pub returns-then-last-clause-closed : goal.returns-then-last-clause-closed
 returns-then-last-clause-closed g c = λ answered last.
@@ -102,6 +109,36 @@ returns-then-last-clause-lowest g c =
     (λ end ends. advance_lowest host (shown_world now) (shown_world new) end
     (subst (λ (h : Host Content Request). EndsAdvance h (shown_world now) (shown_world new) end) (host_same functions old now c.close_shards.ensures.host) ends))
     c.advance_all.ensures.ended
+
+pub returns-then-last-clause-stopped : goal.returns-then-last-clause-stopped
+returns-then-last-clause-stopped g c =
+    let old = c.args.world.now in
+    let now = c.close_shards.new.world in
+    let new = c.advance_all.new.world in
+    let functions = g.D.Digests.functions in
+    let host = host_of (functions (digests_of old)) old in
+    let closed : ShardsAreClosed host (shown_world old) (shown_world now) = subst (EndsShards host (shown_world old) (shown_world now)) c.in_default.is c.in_ok-end.ensures.ended in
+    if_ok_then (EndsAdvance (host_of (functions (digests_of now)) now) (shown_world now) (shown_world new))
+    (λ end. (i : ℕ) → (worker_at host (shown_world new) i).stopped ≡ (worker_at host (shown_world old) i).stopped) c.advance_all.result
+    (λ end ends i.
+    (advance_kept host (shown_world now) (shown_world new) end
+    (subst (λ (h : Host Content Request). EndsAdvance h (shown_world now) (shown_world new) end) (host_same functions old now c.close_shards.ensures.host) ends) i).stopped
+    ∙ (closed.kept i).stopped)
+    c.advance_all.ensures.ended
+
+pub returns-else-last-clause-stopped : goal.returns-else-last-clause-stopped
+returns-else-last-clause-stopped g c =
+    let old = c.args.world.now in
+    let now = c.close_shards.new.world in
+    let new = c.step.new.self in
+    let functions = g.D.Digests.functions in
+    let host = host_of (functions (digests_of old)) old in
+    let closed : ShardsAreClosed host (shown_world old) (shown_world now) = subst (EndsShards host (shown_world old) (shown_world now)) c.in_default.is c.in_ok-end.ensures.ended in
+    on_ok_then (shown_world new ≡ step (host_of (functions (digests_of now)) now) (shown_world now) opens)
+    ((i : ℕ) → (worker_at host (shown_world new) i).stopped ≡ (worker_at host (shown_world old) i).stopped) c.step.result
+    (λ stepped i.
+    ap (λ (w : World Content). (worker_at host w i).stopped) (stepped_first functions old now c.close_shards.ensures.host new opens stepped) ∙ (closed.kept i).stopped)
+    c.step.ensures.stepped
 
 pub returns-then-last-clause-leads : goal.returns-then-last-clause-leads
 returns-then-last-clause-leads g c =

@@ -47,7 +47,7 @@ returns-in-Some-clause-ended g c =
     let middle = c.advance_all.new.world in
     let host = host_of (g.D.Digests.functions (digests_of old)) old in
     let over = subst (EndsAdvance host (shown_world old) (shown_world middle)) c.in-Some.is c.in_ok-end.ensures.ended in
-    (over_rests host (shown_world middle) over.0, advance_lowest host (shown_world old) (shown_world middle) (Some c.in-Some.end) over)
+    (over_rests host (shown_world middle) over.0, advance_lowest host (shown_world old) (shown_world middle) (Some c.in-Some.end) over, over.2)
 
 pub returns-clause-leads : goal.returns-clause-leads
 returns-clause-leads g c =

@@ -99,7 +99,7 @@ returns-clause-ended g c = λ over.
     (moved IsAtEnd host _ (all_handed_out (shown_world middle)) (shown_world new.world) (first_of start next) new.end
     (host_same functions old new.world (one_host old middle new.world c.close_phase.ensures.host c.pass_to_seal.ensures.host)) c.in_ok-settled.ensures.handed end_is
     (at-end host (shown_world old) (shown_world middle) c.args.last start next c.requires.served c.requires.last
-    (λ is last. says.closed (ap (λ (e : Option ClockEnd). Ok e) is) last) (λ is last. says.rests (ap (λ (e : Option ClockEnd). Ok e) is) last) says.ended
+    (λ is last. says.closed (ap (λ (e : Option ClockEnd). Ok e) is) last) (λ is last. says.rests (ap (λ (e : Option ClockEnd). Ok e) is) last) says.ended says.stopped says.lowest
     (over_at c.args.last new.end (first_of start next) end_is over)))
 
 pub returns-clause-opened : goal.returns-clause-opened

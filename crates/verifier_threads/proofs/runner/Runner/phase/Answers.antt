@@ -84,7 +84,7 @@ returns-clause-served g c =
     (host_same functions old new.world (one_host old middle new.world c.serve_phase_at_once.ensures.host c.set_down.ensures.host)) handed c.set_down.ensures.end
     (close_handed host (shown_world middle) end
     (at-close host (shown_world old) (shown_world middle) end c.in_ok-self.ensures.served c.requires.begins.running
-    (λ is. c.in_ok-self.ensures.running (ap (λ (e : Option ClockEnd). Ok e) is)) c.in_ok-self.ensures.stopped)))
+    (λ is. c.in_ok-self.ensures.running (ap (λ (e : Option ClockEnd). Ok e) is)) c.in_ok-self.ensures.stopped c.in_ok-self.ensures.lowest)))
 
 pub returns-clause-same_phase : goal.returns-clause-same_phase
 returns-clause-same_phase g c =
