@@ -1,7 +1,7 @@
 //! A close's round: the logs are taken, and verdicts are settled on the epochs that they may seal.
 ghost use Rattle.std.specs.Prelude.{◌≡◌, ◌≢◌, ℕ, ◌≤◌, List, Option, true, false, length, map, OnOk, OnErr, IfOk, Err};
 ghost use Rattle.fv_outside.specs.Faults.{Rose};
-ghost use Rattle.fv_outside.specs.Written.{GrowsByFront};
+ghost use Rattle.fv_outside.specs.Written.{Grows, GrowsByFront};
 ghost use Rattle.lamport_clocks.specs.declared.header.Header.{Header};
 ghost use Rattle.record_hash.specs.Functions.{DigestFunctions};
 ghost use Rattle.bundle_report.specs.Report.{EpochText};
@@ -54,9 +54,10 @@ impl Rounds {
         ensures two { last ≡ true → IfOk result (λ settled. length settled.items ≡ 2) }
         ensures settled { IfOk result (λ settled. AreVerdictsOn self.new.judged (map (λ fed. fed.run) self.new.runs) settled.items) }
 
-        // Where it stops, the vault has a front of their bundle; at want of memory that may be the whole. What it had before
-        // stays, in any case.
+        // Where it stops, the vault has a front of their bundle, and at want of memory the whole. What it had before stays, in any
+        // case.
         ensures grown { GrowsByFront (V.held vault.old) (V.held vault.new) (pieces_text (pieces_of 0 logs.now)) }
+        ensures whole { result ≡ Err RoundStop.Memory → Grows (V.held vault.old) (V.held vault.new) (pieces_text (pieces_of 0 logs.now)) }
         ensures front { (header : Header) (before : List (List ℕ)) (held : Option (List ℕ))
             → Keeps (D.functions d.now) header before self.old held (V.held vault.old)
             → OnErr result (HasFront header (logs_with before logs.now) held (V.held vault.new)) }

@@ -16,7 +16,7 @@ use verifier_run::pieces_do_not_matter;
 impl Rounds {
     ghost use Rattle.std.specs.Prelude.{◌≡◌, ◌≢◌, ◌≤◌, ℕ, [], List, Option, Err, length, OnOk, OnErr};
     ghost use Rattle.fv_outside.specs.Faults.{Rose};
-    ghost use Rattle.fv_outside.specs.Written.{GrowsByFront};
+    ghost use Rattle.fv_outside.specs.Written.{Grows, GrowsByFront};
     ghost use Rattle.lamport_clocks.specs.declared.header.Header.{Header};
     ghost use Rattle.record_hash.specs.Functions.{DigestFunctions};
     ghost use Rattle.bundle_report.specs.Report.{EpochText};
@@ -66,9 +66,10 @@ impl Rounds {
             → OnOk result (lines_counted tell functions header (logs_with before logs.now) self.new ≡ lines_counted tell functions header before self.old) }
         ensures runs { OnOk result (self.new.runs ≡ self.old.runs) }
 
-        // Where it stops, the vault has a front of their bundle; at want of memory that may be the whole. What it had before
-        // stays, in any case.
+        // Where it stops, the vault has a front of their bundle, and at want of memory the whole. What it had before stays, in any
+        // case.
         ensures grown { GrowsByFront (V.held vault.old) (V.held vault.new) (pieces_text (pieces_of 0 logs.now)) }
+        ensures whole { result ≡ Err RoundStop.Memory → Grows (V.held vault.old) (V.held vault.new) (pieces_text (pieces_of 0 logs.now)) }
         ensures front { (functions : DigestFunctions) (header : Header) (before : List (List ℕ)) (held : Option (List ℕ)) (runs : List FedRun)
             → Keeps functions header before (with_runs runs self.old) held (V.held vault.old) → AllTake functions logs.now runs self.old.runs
             → OnErr result (HasFront header (logs_with before logs.now) held (V.held vault.new)) }

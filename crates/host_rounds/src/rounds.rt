@@ -62,6 +62,7 @@ impl Rounds {
         ensures none { IfOk result (λ rounds. rounds.judged.count ≡ 0) }
         ensures runs { IfOk result (λ rounds. length rounds.runs ≡ header.now.verifiers) }
         ensures front { OnErr result (GrowsByFront (V.held vault.old) (V.held vault.new) (header_text header.now)) }
+        ensures unwritten { result ≡ Err RoundStop.Memory → vault.new ≡ vault.old }
         ensures stop { result ≢ Err RoundStop.WriteFault }
         ensures vault_fault { result ≡ Err RoundStop.VaultFault → Rose (V.faults vault.old) (V.faults vault.new) }
         ensures never_falls { V.faults vault.old ≤ V.faults vault.new }

@@ -1,7 +1,7 @@
 -- Each kind of step of a worker keeps the rule: a try, an entry noted, a clock's end noted, a word freed.
 use Rattle.std.proofs.Common.{◌≡◌, ◌≢◌, ℕ, suc, ◌<◌, eqb, List, [], ◌∷◌, ◌++◌, length, set, slice_index, length-set, get_or-set_other, get_or-set_same, refl, sym, ap, ◌∙◌, subst, Option, Some, None, arith}
 use mathlib.Core.Logic.{dite}
-use mathlib.Core.Option.{some, none}
+use mathlib.Core.Option.{some, none, some-injective}
 use native.Mathlib.Decide.{ℕ_discrete}
 use lib.ListN.{get_elem?}
 use lib.Seq.{set-get_or}
@@ -76,6 +76,16 @@ module _ (terms : Terms) (id i p slots : ℕ) (list : List Entry) (losses : List
         ((r.views id (Working idle) at).0, (r.views id (Working idle) at).1, (there, word, refl, refl))
         r.even
 
+    -- the word is not the worker's own, which holds nothing
+    not_own : slice_index s.words p ≢ suc i
+    not_own own =
+        let held = (r.places p there).held (λ zero. omega (arith, zero, own)) in
+        let worker : held.worker ≡ i = omega (arith, held.is, own) in
+        let found : get_elem? s.views (r.scene.view_of held.worker) ≡ some (Working idle) =
+        ap (λ (x : ℕ). get_elem? s.views (r.scene.view_of x)) worker ∙ ap (get_elem? s.views) (r.views id (Working idle) at).1.here ∙ at in
+        let view : held.view ≡ Working idle = some-injective held.view (Working idle) (sym held.there ∙ found) in
+        (subst (HoldsPlace held.worker p) view held.holds).1
+
     loses : slice_index s.words p ≢ 0 → (more : List Loss) → IsKept terms (stepped s p (slice_index s.words p) id [] (Working (desk_of i Idle list stop more)) keeps)
     loses busy more =
         let now : Desk = desk_of i Idle list stop more in
@@ -112,7 +122,7 @@ module _ (terms : Terms) (id i p slots : ℕ) (list : List Entry) (losses : List
         keeps,
         tt,
         loses stop there s r at busy (losses ++ record { place = p; found = slice_index s.words p } ∷ []),
-        ((λ zero. absurd (busy zero)), λ _. refl),
+        ((λ zero. absurd (busy zero)), λ _. (not_own stop there s r at, refl)),
       ))
 
   -- ---- while the place is held

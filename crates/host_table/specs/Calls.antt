@@ -1,5 +1,5 @@
 -- What the calls do to a worker's hand.
-use Rattle.std.specs.Prelude.{◌≡◌, ◌≢◌, ℕ, ◌<◌, List, [], ◌∷◌, ◌++◌, length, slice_index_or, All, Option, Some, None}
+use Rattle.std.specs.Prelude.{◌≡◌, ◌≢◌, ℕ, suc, ◌<◌, List, [], ◌∷◌, ◌++◌, length, slice_index_or, All, Option, Some, None}
 use Rattle.lamport_clocks.specs.declared.stamp.Stamp.{Stamp}
 use Rattle.lamport_clocks.specs.Reading.{Reading}
 use Rattle.record_text.specs.declared.request.Request.{Request}
@@ -46,10 +46,11 @@ pub record IsAfter (old new : Hand) (served : List Entry) (found : List Loss) (e
   pub losses : losses new ≡ losses old ++ found
   pub stop : stop new ≡ ended
 
--- one loss more: the place's word was found held
+-- one loss more: the place's word was found held, and not by this worker
 pub record Loses (old new : Hand) (place : ℕ) : Type 0 where
   pub found : ℕ
   pub held : found ≢ 0
+  pub other : found ≢ suc (worker_of old)
   pub after : IsAfter old new [] (record { place = place; found = found } ∷ []) (stop old)
 
 -- the place is taken: the hand holds it, with its content and its history

@@ -77,12 +77,12 @@ with_stop stop Spent = Spent
 -- ---- the kinds of step
 
 -- A try finds the place's word 0, and then the seat holds the place, with the content that was at home and its history; or it
--- finds the word held, and notes that.
+-- finds the word held by another worker, and notes that.
 abbrev pub tried : Terms → Step Content → Sat → ℕ → Sat → Type 0
 tried terms step m found m' =
     (found ≡ 0 → (x : Content) × (past : List Entry) × (m' ≡ (with_held (Has step.word x past) m.0, (step.word, x) ∷ m.1))
     × Leads terms step.word (first_at terms step.word) past x × (number_in m.0 < terms.workers))
-    × (found ≢ 0 → m' ≡ (with_loss step.word found m.0, m.1))
+    × (found ≢ 0 → (found ≢ suc (number_in m.0)) × (m' ≡ (with_loss step.word found m.0, m.1)))
 
 -- the entry is of this draft, at the place of the word that is read, by the seat's worker, from the content that it holds
 pub record IsDrafted (terms : Terms) (draft : Draft) (place : ℕ) (view : View) (entry : Entry) : Type 0 where

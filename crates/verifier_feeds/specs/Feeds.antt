@@ -1,5 +1,5 @@
 -- The two ends of a feed: what a worker has put in, and what its verifier's run has taken.
-use Rattle.std.specs.Prelude.{◌≡◌, ℕ, ◌≤◌, Bool, false, List, [], ◌++◌}
+use Rattle.std.specs.Prelude.{◌≡◌, ℕ, ◌≤◌, Bool, true, false, List, [], ◌∷◌, ◌++◌}
 use Rattle.std.specs.List.{flat_map}
 use Rattle.record_hash.specs.Functions.{DigestFunctions}
 use Rattle.merkle_records.specs.Scheme.{scheme_of}
@@ -8,6 +8,7 @@ use Rattle.verifier_run.specs.Progress.{fed, weight}
 use Rattle.certified_epochs.specs.declared.fed_run.FedRun.{FedRun}
 use Rattle.log_rings.specs.declared.parcel.Parcel.{Parcel}
 use Rattle.log_rings.specs.Lanes.{sent, received_by, AreEnds, SameSender, SameReceiver}
+use Rattle.log_rings.specs.Lanes as lanes
 use Rattle.verifier_feeds.specs.declared.outbox.Outbox.{Outbox}
 use Rattle.verifier_feeds.specs.declared.inbox.Inbox.{Inbox}
 
@@ -21,6 +22,10 @@ bytes_of parcels = flat_map (λ parcel. parcel.buffer) parcels
 abbrev pub queued : Outbox → List Parcel
 queued outbox = sent outbox.sender ++ outbox.backlog.items
 
+-- the bytes that are in no parcel yet
+abbrev pub rest_of : Outbox → List ℕ
+rest_of outbox = outbox.buffer
+
 -- all bytes that were put in
 abbrev pub put_in : Outbox → List ℕ
 put_in outbox = bytes_of (queued outbox) ++ outbox.buffer
@@ -28,6 +33,18 @@ put_in outbox = bytes_of (queued outbox) ++ outbox.buffer
 -- both are the sending end of one lane
 abbrev pub SameOutbox : Outbox → Outbox → Type 0
 SameOutbox old new = SameSender old.sender new.sender
+
+-- how many parcels can be sent at least before the other end has taken one
+abbrev pub free_slots : Outbox → ℕ
+free_slots outbox = lanes.room outbox.sender
+
+-- All that was put in is in parcels, and the last of these is marked as the worker's last of the round.
+pub record HasEnded (outbox : Outbox) : Type 0 where
+  pub parcels : List Parcel
+  pub parcel : Parcel
+  pub queued_are : queued outbox ≡ parcels ++ parcel ∷ []
+  pub marked : parcel.last ≡ true
+  pub rest : outbox.buffer ≡ []
 
 -- ---- the verifier's end
 
@@ -76,6 +93,7 @@ AreEndsOfOne outbox inbox = AreEnds outbox.sender inbox.receiver
 pub record IsOpen (run : FedRun) (outbox : Outbox) (inbox : Inbox) : Type 0 where
   pub ends : AreEndsOfOne outbox inbox
   pub empty : put_in outbox ≡ []
+  pub slots : free_slots outbox ≡ 16
   pub fresh : received_by inbox.receiver ≡ []
   pub run_is : run_of inbox ≡ run
   pub room : HasRoom inbox

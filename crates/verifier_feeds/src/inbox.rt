@@ -26,7 +26,7 @@ pub struct Inbox {
 }
 
 impl Inbox {
-    ghost use Rattle.std.specs.Prelude.{◌≡◌, [], length, false, IfOk, OnOk};
+    ghost use Rattle.std.specs.Prelude.{◌≡◌, [], length, true, false, IfOk, OnOk, OnErr};
     ghost use Rattle.log_rings.specs.Lanes.{received_by, waiting};
     ghost use Rattle.verifier_feeds.specs.Feeds.{HasRoom, SameInbox, HasTaken, GoesOnBy, TakesOn, bytes_of, run_of, is_wanting};
 
@@ -104,6 +104,7 @@ impl Inbox {
     pub fn into_run(self) -> Result<FedRun, Memory>
         ensures run { IfOk result (λ run. run ≡ run_of self) }
         ensures fed { OnOk result (is_wanting self ≡ false) }
+        ensures wanting { OnErr result (is_wanting self ≡ true) }
     {
         if self.wanting {
             Err(Memory)

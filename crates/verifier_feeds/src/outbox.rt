@@ -23,14 +23,15 @@ pub struct Outbox {
 }
 
 impl Outbox {
-    ghost use Rattle.std.specs.Prelude.{◌≡◌, ◌++◌, OnOk};
+    ghost use Rattle.std.specs.Prelude.{◌≡◌, ◌<◌, [], ◌∷◌, ◌++◌, length, OnOk};
     ghost use Rattle.record_text.specs.Format.{short_keys};
     ghost use Rattle.log_codec.specs.Log.{log_text};
-    ghost use Rattle.verifier_feeds.specs.Feeds.{put_in, queued, SameOutbox};
+    ghost use Rattle.verifier_feeds.specs.Feeds.{put_in, queued, rest_of, HasEnded, SameOutbox};
 
     /// Puts commands in, behind what is there. Where that makes a parcel of 4,096 bytes or more, it goes on its way.
     pub fn put(&mut self, commands: &[Command]) -> Result<(), Memory>
         ensures put { OnOk result (put_in self.new ≡ put_in self.old ++ log_text short_keys commands.now) }
+        ensures rest { OnOk result (length (rest_of self.new) < 4096) }
         ensures lane { SameOutbox self.old self.new }
     {
         self.write(commands)?;
@@ -43,6 +44,7 @@ impl Outbox {
     /// What is in no parcel yet goes on its way, marked as the worker's last of the round.
     pub fn end(&mut self) -> Result<(), Memory>
         ensures put { OnOk result (put_in self.new ≡ put_in self.old) }
+        ensures ended { OnOk result (HasEnded self.new) }
         ensures lane { SameOutbox self.old self.new }
     {
         self.hand_over(true)
@@ -62,6 +64,9 @@ impl Outbox {
     // What is in no parcel yet becomes one, behind those that wait.
     fn hand_over(&mut self, last: bool) -> Result<(), Memory>
         ensures put { OnOk result (put_in self.new ≡ put_in self.old) }
+        ensures queued { OnOk result (queued self.new
+            ≡ queued self.old ++ (record { number = self.old.parcels; buffer = self.old.buffer; last = last }) ∷ []) }
+        ensures rest { OnOk result (self.new.buffer ≡ []) }
         ensures lane { SameOutbox self.old self.new }
     {
         let parcel = Parcel {

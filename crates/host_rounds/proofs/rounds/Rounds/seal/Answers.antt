@@ -122,3 +122,6 @@ pub returns-clause-runs : goal.returns-clause-runs
 returns-clause-runs g c =
     length-take (g.D.Digests.functions c.args.d.now) c.args.logs.now c.replace-runs.result.items c.in_ok-runs.runs.items c.in_ok-runs.ensures.taken
     ∙ ap (λ (v : Vec FedRun Global). length v.items) c.replace-runs.ensures.value ∙ ap (λ (s : RunsSoFar). length s.runs) c.self.view_is
+
+pub returns-in_err-runs-clause-whole : goal.returns-in_err-runs-clause-whole
+returns-in_err-runs-clause-whole g c = λ memory. ok_holds _ c.write_round.result (sym c.is_err.ensures.value ∙ c.if-is_err.false) c.write_round.ensures.whole

@@ -84,3 +84,6 @@ pub returns-clause-lines : goal.returns-clause-lines
 returns-clause-lines g c = λ tell functions header before runs have.
     let now : RunsSoFar = record { judged = c.self.inside.certifier; runs = c.self.inside.runs.items; bytes = c.in_ok-self-inside.field-0; summary = c.self.inside.summary } in
     lines-stay functions header before (with_runs runs c.args.self.now) have tell c.args.logs.now now (ap (λ (s : RunsSoFar). s.judged) c.self.view_is)
+
+pub returns-in_err-self-inside-clause-whole : goal.returns-in_err-self-inside-clause-whole
+returns-in_err-self-inside-clause-whole g c = λ memory. ok_holds _ c.write_round.result (sym c.is_err.ensures.value ∙ c.if-is_err.false) c.write_round.ensures.whole
