@@ -1,13 +1,19 @@
-//! The program, asked between objects in memory, and reports whose lines it takes again.
+//! The program, asked between objects in memory, what it must leave, and reports whose lines it takes again.
+//!
+//! What must be is said by a call: a comparison that stands in a test costs far more to prove, the more is alive there.
 use fastver_top::{Status, fastver};
 use fv_outside::{FreeGate, MemorySink, MemorySource, MemoryVault};
 use std::alloc::Global;
+use std::fmt::Debug;
 use std::process::Abort;
 use std::sync::Wait;
 use std::thread::Threads;
 
 /// The words of an acceptance.
 pub(crate) const ACCEPT: &str = "fastver accept --key 00000000000000000000000000000000";
+
+/// What is written where the receipt of the put is accepted.
+pub(crate) const ACCEPTED: &str = "accepted 0.3 v0 put 5 6162\n";
 
 /// The words of a run of one worker over two shards.
 pub(crate) const RUN: &str =
@@ -50,22 +56,54 @@ pub(crate) struct Asked {
     pub status: Status,
 }
 
-/// What is there behind the program with the words of a line, over these bytes, all byte by byte. The reads and the writes of
-/// these numbers fail.
-pub(crate) fn ask<R: Threads + Wait + Sync + Abort>(
-    rt: &R,
-    alloc: Global,
-    line: &str,
-    bytes: &[u8],
-    fails: (&[u64], &[u64]),
-) -> Asked {
+/// How bytes are read and texts are written.
+#[derive(Clone, Copy)]
+pub(crate) struct Way<'a> {
+    /// How many bytes a read gives at most, and how many a write takes.
+    pub read: usize,
+    pub write: usize,
+    /// How many bytes the sink has room for, and the vault.
+    pub sink_room: usize,
+    pub vault_room: usize,
+    /// The numbers of the reads and of the writes that fail.
+    pub fails: (&'a [u64], &'a [u64]),
+}
+
+// The words of a line.
+fn words_of<'a>(rt: &impl Abort, alloc: Global, line: &'a str) -> Vec<&'a str> {
     let mut words = Vec::new(alloc);
     for word in line.split_whitespace() {
         words.push(word).expect(rt, "memory");
     }
-    let mut source = MemorySource::new(alloc, bytes, 1, fails.0).expect(rt, "memory");
-    let mut out = MemorySink::new(alloc, 2000, 1, fails.1).expect(rt, "memory");
-    let mut vault = MemoryVault::new(alloc, 2000, 1, &[]).expect(rt, "memory");
+    words
+}
+
+// A source of these bytes, and a sink.
+fn objects(
+    rt: &impl Abort,
+    alloc: Global,
+    bytes: &[u8],
+    way: Way<'_>,
+) -> (MemorySource, MemorySink) {
+    let (reads, writes) = way.fails;
+    let source = MemorySource::new(alloc, bytes, way.read.max(1), reads).expect(rt, "memory");
+    let out = MemorySink::new(alloc, way.sink_room, way.write.max(1), writes).expect(rt, "memory");
+    (source, out)
+}
+
+/// What is there behind the program with the words of a line, over these bytes.
+pub(crate) fn ask_by<R: Threads + Wait + Sync + Abort>(
+    rt: &R,
+    alloc: Global,
+    line: &str,
+    bytes: &[u8],
+    way: Way<'_>,
+) -> Asked {
+    let words = words_of(rt, alloc, line);
+    let (mut source, mut out) = objects(rt, alloc, bytes, way);
+    let mut vault = MemoryVault::new(alloc, way.vault_room, way.write.max(1), &[]).expect(
+        rt, "memory",
+    );
     let status = fastver(
         rt,
         alloc,
@@ -76,6 +114,67 @@ pub(crate) fn ask<R: Threads + Wait + Sync + Abort>(
         &FreeGate,
     );
     Asked { out, vault, status }
+}
+
+/// The same, all byte by byte. The reads and the writes of these numbers fail.
+pub(crate) fn ask<R: Threads + Wait + Sync + Abort>(
+    rt: &R,
+    alloc: Global,
+    line: &str,
+    bytes: &[u8],
+    fails: (&[u64], &[u64]),
+) -> Asked {
+    let way = Way {
+        read: 1,
+        write: 1,
+        sink_room: 2000,
+        vault_room: 2000,
+        fails,
+    };
+    ask_by(rt, alloc, line, bytes, way)
+}
+
+/// Two values are the same. Where they aren't, the test ends, and tells the label.
+pub(crate) fn same<T: PartialEq + Debug>(rt: &impl Abort, label: &str, found: &T, wanted: &T) {
+    assert_eq!(rt; found, wanted, "{label}");
+}
+
+/// Two texts are the same.
+pub(crate) fn same_bytes(rt: &impl Abort, label: &str, found: &[u8], wanted: &[u8]) {
+    assert_eq!(rt; found, wanted, "{label}");
+}
+
+/// This was written, and the status has this number. Where it isn't so, the test ends, and tells the label and which of
+/// those under it was asked.
+pub(crate) fn assert_ends(
+    rt: &impl Abort,
+    label: &str,
+    at: usize,
+    asked: &Asked,
+    written: &[u8],
+    number: u8,
+) {
+    assert_eq!(rt; asked.status.number(), number, "{label} {at}");
+    assert_eq!(rt; asked.out.bytes(), written, "{label} {at}");
+}
+
+/// The same of a status.
+pub(crate) fn assert_stops(
+    rt: &impl Abort,
+    label: &str,
+    at: usize,
+    asked: &Asked,
+    written: &[u8],
+    status: Status,
+) {
+    assert_eq!(rt; asked.status, status, "{label} {at}");
+    assert_eq!(rt; asked.out.bytes(), written, "{label} {at}");
+}
+
+/// The vault is as it was made.
+pub(crate) fn assert_unused(rt: &impl Abort, label: &str, asked: &Asked) {
+    assert!(rt; asked.vault.bytes().is_empty(), "{label}");
+    assert!(rt; asked.vault.name_taken().is_none(), "{label}");
 }
 
 /// The line of this number of a text.

@@ -1,5 +1,8 @@
 //! What a receipt and a certificate come to, whole, in other texts, and with one bit or one letter changed.
-use crate::asking::{ACCEPT, Asked, REPORT, ask, line_at, text_of};
+use crate::asking::{
+    ACCEPT, ACCEPTED, Asked, REPORT, ask, assert_ends, assert_unused, line_at, same, same_bytes,
+    text_of,
+};
 use std::alloc::Global;
 use std::process::Abort;
 use std::sync::Wait;
@@ -49,29 +52,28 @@ fn number_of(words: &str) -> u8 {
     }
 }
 
-// The vault is as it was made.
-fn assert_unused<R: Abort>(rt: &R, asked: &Asked) {
-    assert!(rt; asked.vault.bytes().is_empty());
-    assert!(rt; asked.vault.name_taken().is_none());
+// The text of a row has its status, and the line is written, if there is one.
+fn assert_row<R: Threads + Wait + Sync + Abort>(rt: &R, alloc: Global, row: &str) {
+    let text = text_of(rt, alloc, field(rt, row, 0));
+    let asked = ask(rt, alloc, ACCEPT, &text, (&[], &[]));
+    let (words, line) = (field(rt, row, 1), field(rt, row, 2));
+    same_bytes(rt, row, asked.status.line().as_slice(), words.as_bytes());
+    same(rt, row, &asked.status.number(), &number_of(words));
+    assert_line(rt, row, asked.out.bytes(), line);
+    assert_unused(rt, row, &asked);
+}
+
+// What is written is the line and its end, or nothing.
+fn assert_line(rt: &impl Abort, row: &str, written: &[u8], line: &str) {
+    let front = written.strip_suffix(b"\n").unwrap_or(b"");
+    same_bytes(rt, row, front, line.as_bytes());
+    same(rt, row, &written.is_empty(), &line.is_empty());
 }
 
 #[test]
 fn texts_are_accepted_or_refused(rt: HostRuntime) {
     for row in TEXTS.trim_matches('\n').lines() {
-        let text = text_of(&rt, rt.alloc(), field(&rt, row, 0));
-        let asked = ask(&rt, rt.alloc(), ACCEPT, &text, (&[], &[]));
-        let (words, line) = (field(&rt, row, 1), field(&rt, row, 2));
-        assert_eq!(rt; asked.status.line().as_slice(), words.as_bytes(), "{row}");
-        assert_eq!(rt; asked.status.number(), number_of(words), "{row}");
-        // What is written is the line and its end, or nothing.
-        let written = asked.out.bytes();
-        assert_eq!(rt;
-            written.strip_suffix(b"\n").unwrap_or(b""),
-            line.as_bytes(),
-            "{row}"
-        );
-        assert_eq!(rt; written.is_empty(), line.is_empty(), "{row}");
-        assert_unused(&rt, &asked);
+        assert_row(&rt, rt.alloc(), row);
     }
 }
 
@@ -98,14 +100,12 @@ fn accept<R: Threads + Wait + Sync + Abort>(
 }
 
 // A text is refused: because its tag isn't that of what it says, or because it says nothing.
-fn assert_refused<R: Abort>(rt: &R, bit: usize, asked: &Asked, is_read: bool) {
-    let (number, written): (u8, &str) = if is_read {
-        (11, "not tagged\n")
+fn assert_refused(rt: &impl Abort, bit: usize, asked: &Asked, is_read: bool) {
+    if is_read {
+        assert_ends(rt, "bit", bit, asked, b"not tagged\n", 11);
     } else {
-        (6, "")
-    };
-    assert_eq!(rt; asked.status.number(), number, "{bit}");
-    assert_eq!(rt; asked.out.bytes(), written.as_bytes(), "{bit}");
+        assert_ends(rt, "bit", bit, asked, b"", 6);
+    }
 }
 
 // The digits of the receipt of the put, and those of the first certificate.
@@ -118,27 +118,62 @@ fn digits(rt: &impl Abort) -> (&'static str, &'static str) {
     }
 }
 
+// The receipt is refused where this bit of it is changed.
+fn assert_receipt_bit<R: Threads + Wait + Sync + Abort>(rt: &R, alloc: Global, bit: usize) {
+    let (receipt, certificate) = digits(rt);
+    let other = changed(rt, alloc, receipt, bit);
+    let asked = accept(rt, alloc, &other, certificate);
+    // The slow program reads no receipt in 31 of them: the 8 bits of its first byte, the 7 that make a get or a put
+    // another command, and the 16 of the kind and of the length of its value.
+    let is_read = !matches!(bit, 0..8 | 153..160 | 224..240);
+    assert_refused(rt, bit, &asked, is_read);
+}
+
 #[test]
 fn no_bit_of_a_receipt_may_change(rt: HostRuntime) {
-    let (receipt, certificate) = digits(&rt);
     for bit in 0..8 * 64 {
-        let other = changed(&rt, rt.alloc(), receipt, bit);
-        let asked = accept(&rt, rt.alloc(), &other, certificate);
-        // The slow program reads no receipt in 31 of them: the 8 bits of its first byte, the 7 that make a get or a put
-        // another command, and the 16 of the kind and of the length of its value.
-        let is_read = !matches!(bit, 0..8 | 153..160 | 224..240);
-        assert_refused(&rt, bit, &asked, is_read);
+        assert_receipt_bit(&rt, rt.alloc(), bit);
     }
+}
+
+// The certificate is refused where this bit of it is changed.
+fn assert_certificate_bit<R: Threads + Wait + Sync + Abort>(rt: &R, alloc: Global, bit: usize) {
+    let (receipt, certificate) = digits(rt);
+    let other = changed(rt, alloc, certificate, bit);
+    let asked = accept(rt, alloc, receipt, &other);
+    // The slow program reads no certificate in 8 of them: the bits of its first byte.
+    assert_refused(rt, bit, &asked, 8 <= bit);
 }
 
 #[test]
 fn no_bit_of_a_certificate_may_change(rt: HostRuntime) {
-    let (receipt, certificate) = digits(&rt);
     for bit in 0..8 * 41 {
-        let other = changed(&rt, rt.alloc(), certificate, bit);
-        let asked = accept(&rt, rt.alloc(), receipt, &other);
-        // The slow program reads no certificate in 8 of them: the bits of its first byte.
-        assert_refused(&rt, bit, &asked, 8 <= bit);
+        assert_certificate_bit(&rt, rt.alloc(), bit);
+    }
+}
+
+// A text with the byte at this place as a capital.
+fn with_capital(rt: &impl Abort, alloc: Global, text: &[u8], place: usize) -> Vec<u8> {
+    let mut other = Vec::from_slice(alloc, text).expect(rt, "memory");
+    if let Some(byte) = other.get_mut(place) {
+        *byte = byte.to_ascii_uppercase();
+    }
+    other
+}
+
+// It is refused where that is another text.
+fn assert_capital<R: Threads + Wait + Sync + Abort>(
+    rt: &R,
+    alloc: Global,
+    text: &[u8],
+    place: usize,
+) {
+    let other = with_capital(rt, alloc, text, place);
+    let asked = ask(rt, alloc, ACCEPT, &other, (&[], &[]));
+    if other.as_slice() == text {
+        assert_ends(rt, "place", place, &asked, ACCEPTED.as_bytes(), 0);
+    } else {
+        assert_ends(rt, "place", place, &asked, b"", 6);
     }
 }
 
@@ -146,13 +181,6 @@ fn no_bit_of_a_certificate_may_change(rt: HostRuntime) {
 fn no_letter_may_be_a_capital(rt: HostRuntime) {
     let text = text_of(&rt, rt.alloc(), "P/C/");
     for place in 0..text.len() {
-        let mut other = Vec::from_slice(rt.alloc(), &text).expect(&rt, "memory");
-        if let Some(byte) = other.get_mut(place) {
-            *byte = byte.to_ascii_uppercase();
-        }
-        let asked = ask(&rt, rt.alloc(), ACCEPT, &other, (&[], &[]));
-        let number = if other == text { 0 } else { 6 };
-        assert_eq!(rt; asked.status.number(), number, "{place}");
-        assert_eq!(rt; asked.out.bytes().is_empty(), other != text, "{place}");
+        assert_capital(&rt, rt.alloc(), &text, place);
     }
 }

@@ -1,46 +1,100 @@
 //! Objects that fail, one call after the other, sinks that are too small, and objects that never fail.
-use crate::asking::{ACCEPT, REPORT, RUN, SCRIPT, ask, text_of};
-use fastver_top::{Status, fastver};
-use fv_outside::{
-    FreeGate, MemorySink, MemorySource, MemoryVault, SureSink, SureSource, SureVault,
+use crate::asking::{
+    ACCEPT, ACCEPTED, REPORT, RUN, SCRIPT, Way, ask, ask_by, assert_stops, same, text_of,
 };
+use fastver_top::{Status, fastver};
+use fv_outside::{FreeGate, SureSink, SureSource, SureVault};
+use std::alloc::Global;
+use std::process::Abort;
+use std::sync::Wait;
+use std::thread::Threads;
 
-// What is written where the receipt of the put is accepted.
-const ACCEPTED: &str = "accepted 0.3 v0 put 5 6162\n";
+// Where the read of this number fails, nothing is written.
+fn assert_read_fails<R: Threads + Wait + Sync + Abort>(
+    rt: &R,
+    alloc: Global,
+    text: &[u8],
+    k: usize,
+) {
+    let asked = ask(rt, alloc, ACCEPT, text, (&[k as u64], &[]));
+    assert_stops(rt, "read", k, &asked, b"", Status::ReadFault);
+}
 
 #[test]
 fn where_a_read_fails_nothing_is_written(rt: HostRuntime) {
     let text = text_of(&rt, rt.alloc(), "P/C/");
     // One read for each byte, and one at the end.
-    for k in 0..text.len() as u64 + 1 {
-        let asked = ask(&rt, rt.alloc(), ACCEPT, &text, (&[k], &[]));
-        assert_eq!(rt; asked.status, Status::ReadFault, "{k}");
-        assert!(rt; asked.out.bytes().is_empty(), "{k}");
+    for k in 0..text.len() + 1 {
+        assert_read_fails(&rt, rt.alloc(), &text, k);
+    }
+}
+
+// Where the write of one byte behind this front of what the words come to fails, the front stands.
+fn assert_write_fails<R: Threads + Wait + Sync + Abort>(
+    rt: &R,
+    alloc: Global,
+    words: &str,
+    bytes: &[u8],
+    front: &[u8],
+) {
+    let asked = ask(rt, alloc, words, bytes, (&[], &[front.len() as u64]));
+    let status = Status::WriteFault;
+    assert_stops(rt, words, front.len(), &asked, front, status);
+}
+
+// So it is at each byte of the line that the text of these letters comes to.
+fn assert_fronts<R: Threads + Wait + Sync + Abort>(
+    rt: &R,
+    alloc: Global,
+    letters: &str,
+    line: &str,
+) {
+    let text = text_of(rt, alloc, letters);
+    for k in 0..line.len() {
+        assert_write_fails(rt, alloc, ACCEPT, &text, &line.as_bytes()[..k]);
     }
 }
 
 #[test]
 fn where_a_write_fails_a_front_of_the_line_stands(rt: HostRuntime) {
-    for (letters, line) in [
-        ("P/C/", ACCEPTED),
-        ("Q/C/", "not tagged\n"),
-        ("L/C/", "not certified\n"),
-    ] {
-        let text = text_of(&rt, rt.alloc(), letters);
-        for k in 0..line.len() {
-            let asked = ask(&rt, rt.alloc(), ACCEPT, &text, (&[], &[k as u64]));
-            assert_eq!(rt; asked.status, Status::WriteFault, "{line} {k}");
-            assert_eq!(rt; asked.out.bytes(), &line.as_bytes()[..k], "{line} {k}");
-        }
-    }
+    assert_fronts(&rt, rt.alloc(), "P/C/", ACCEPTED);
+    assert_fronts(&rt, rt.alloc(), "Q/C/", "not tagged\n");
+    assert_fronts(&rt, rt.alloc(), "L/C/", "not certified\n");
 }
 
 #[test]
 fn where_a_write_fails_a_front_of_the_report_stands(rt: HostRuntime) {
     for k in (0..REPORT.len()).step_by(61) {
-        let asked = ask(&rt, rt.alloc(), RUN, SCRIPT.as_bytes(), (&[], &[k as u64]));
-        assert_eq!(rt; asked.status, Status::WriteFault, "{k}");
-        assert_eq!(rt; asked.out.bytes(), &REPORT.as_bytes()[..k], "{k}");
+        let front = &REPORT.as_bytes()[..k];
+        assert_write_fails(&rt, rt.alloc(), RUN, SCRIPT.as_bytes(), front);
+    }
+}
+
+// A sink with room for this front of the line alone is filled. Each call of the vault would fail, but there is none.
+fn assert_filled<R: Threads + Wait + Sync + Abort>(
+    rt: &R,
+    alloc: Global,
+    text: &[u8],
+    front: &[u8],
+) {
+    let way = Way {
+        read: 1000,
+        write: 7,
+        sink_room: front.len(),
+        vault_room: 0,
+        fails: (&[], &[]),
+    };
+    let asked = ask_by(rt, alloc, ACCEPT, text, way);
+    let status = Status::WriteFault;
+    assert_stops(rt, "room", front.len(), &asked, front, status);
+    same(rt, "faults", &asked.vault.faults(), &0);
+}
+
+#[test]
+fn a_sink_that_is_too_small_is_filled(rt: HostRuntime) {
+    let text = text_of(&rt, rt.alloc(), "P/C/");
+    for room in 0..ACCEPTED.len() {
+        assert_filled(&rt, rt.alloc(), &text, &ACCEPTED.as_bytes()[..room]);
     }
 }
 
@@ -50,29 +104,6 @@ const WORDS: [&str; 4] = [
     "--key",
     "00000000000000000000000000000000",
 ];
-
-#[test]
-fn a_sink_that_is_too_small_is_filled(rt: HostRuntime) {
-    let text = text_of(&rt, rt.alloc(), "P/C/");
-    for room in 0..ACCEPTED.len() {
-        let mut source = MemorySource::new(rt.alloc(), &text, 1000, &[]).expect(&rt, "memory");
-        let mut out = MemorySink::new(rt.alloc(), room, 7, &[]).expect(&rt, "memory");
-        // Each call of the vault would fail, but there is none.
-        let mut vault = MemoryVault::new(rt.alloc(), 0, 7, &[]).expect(&rt, "memory");
-        let status = fastver(
-            &rt,
-            rt.alloc(),
-            &WORDS,
-            &mut source,
-            &mut out,
-            &mut vault,
-            &FreeGate,
-        );
-        assert_eq!(rt; status, Status::WriteFault, "{room}");
-        assert_eq!(rt; out.bytes(), &ACCEPTED.as_bytes()[..room], "{room}");
-        assert_eq!(rt; vault.faults(), 0, "{room}");
-    }
-}
 
 #[test]
 fn objects_that_never_fail(rt: HostRuntime) {
@@ -89,7 +120,7 @@ fn objects_that_never_fail(rt: HostRuntime) {
         &mut vault,
         &FreeGate,
     );
-    assert_eq!(rt; status, Status::Done { epochs: 0 });
-    assert_eq!(rt; out.bytes(), Some(ACCEPTED.as_bytes()));
-    assert!(rt; !vault.is_named());
+    same(&rt, "status", &status, &Status::Done { epochs: 0 });
+    same(&rt, "written", &out.bytes(), &Some(ACCEPTED.as_bytes()));
+    same(&rt, "is named", &vault.is_named(), &false);
 }

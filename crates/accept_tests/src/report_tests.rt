@@ -1,5 +1,9 @@
 //! Reports with receipts: of a run, and of a check of what it wrote.
-use crate::asking::{OTHER_REPORT, REPORT, RUN, SCRIPT, ask};
+use crate::asking::{Asked, OTHER_REPORT, REPORT, RUN, SCRIPT, ask, assert_ends, assert_stops};
+use std::alloc::Global;
+use std::process::Abort;
+use std::sync::Wait;
+use std::thread::Threads;
 
 // The words of a check.
 const CHECK: &str = "fastver check --key 00000000000000000000000000000000";
@@ -40,29 +44,41 @@ certificate 020000000000000000d9f6d832690ffe03b32ea0ea7d73a6896c7900651a4f0ee61a
 done 1
 ";
 
+// A run of a script writes this report, and so does a check of its bundle.
+fn assert_same_receipts<R: Threads + Wait + Sync + Abort>(
+    rt: &R,
+    alloc: Global,
+    script: &str,
+    report: &str,
+) {
+    let run = ask(rt, alloc, RUN, script.as_bytes(), (&[], &[]));
+    assert_ends(rt, "run", script.len(), &run, report.as_bytes(), 0);
+    assert_checked(rt, alloc, CHECK_WITH_RECEIPTS, &run, report);
+}
+
+// A check with these words, of what a run left in its vault, writes this report and has the run's status.
+fn assert_checked<R: Threads + Wait + Sync + Abort>(
+    rt: &R,
+    alloc: Global,
+    words: &str,
+    run: &Asked,
+    report: &str,
+) {
+    let check = ask(rt, alloc, words, run.vault.bytes(), (&[], &[]));
+    assert_stops(rt, words, 0, &check, report.as_bytes(), run.status);
+}
+
 #[test]
 fn a_run_and_a_check_write_the_same_receipts(rt: HostRuntime) {
-    for (script, report) in [
-        (PUT_AND_GET, SHORT_REPORT),
-        (SCRIPT, REPORT),
-        ("", EMPTY_REPORT),
-    ] {
-        let run = ask(&rt, rt.alloc(), RUN, script.as_bytes(), (&[], &[]));
-        assert_eq!(rt; run.out.bytes(), report.as_bytes(), "{script}");
-        assert_eq!(rt; run.status.number(), 0, "{script}");
-        let bundle = run.vault.bytes();
-        let check = ask(&rt, rt.alloc(), CHECK_WITH_RECEIPTS, bundle, (&[], &[]));
-        assert_eq!(rt; check.out.bytes(), report.as_bytes(), "{script}");
-        assert_eq!(rt; check.status, run.status, "{script}");
-    }
+    assert_same_receipts(&rt, rt.alloc(), PUT_AND_GET, SHORT_REPORT);
+    assert_same_receipts(&rt, rt.alloc(), SCRIPT, REPORT);
+    assert_same_receipts(&rt, rt.alloc(), "", EMPTY_REPORT);
 }
 
 #[test]
 fn a_check_that_is_not_asked_for_receipts_writes_none(rt: HostRuntime) {
     let run = ask(&rt, rt.alloc(), RUN, PUT_AND_GET.as_bytes(), (&[], &[]));
-    let check = ask(&rt, rt.alloc(), CHECK, run.vault.bytes(), (&[], &[]));
-    assert_eq!(rt; check.out.bytes(), PLAIN_REPORT.as_bytes());
-    assert_eq!(rt; check.status, run.status);
+    assert_checked(&rt, rt.alloc(), CHECK, &run, PLAIN_REPORT);
 }
 
 #[test]
@@ -74,6 +90,5 @@ fn under_another_key_there_are_other_tags(rt: HostRuntime) {
         PUT_AND_GET.as_bytes(),
         (&[], &[]),
     );
-    assert_eq!(rt; run.out.bytes(), OTHER_REPORT.as_bytes());
-    assert_eq!(rt; run.status.number(), 0);
+    assert_ends(&rt, "another key", 0, &run, OTHER_REPORT.as_bytes(), 0);
 }

@@ -1,63 +1,111 @@
 //! The command of a row.
 use crate::fields::{path_of, stamp_of, value_of, verifier_of};
+use lamport_clocks::Stamp;
 use log_codec::Command;
+use record_text::Value;
 use std::str::SplitWhitespace;
+use tree_keys::Path;
 
 /// The command that a row spells, if it does.
 pub fn command_of(row: &str) -> Option<Command> {
     let mut words = row.split_whitespace();
-    let command = match words.next()? {
-        "addM" => add_by_tree(&mut words)?,
-        "evictM" => Command::EvictM {
-            path: path_of(words.next()?)?,
-            parent: path_of(words.next()?)?,
-        },
-        "addB" => add_by_stamp(&mut words)?,
-        "evictB" => Command::EvictB {
-            path: path_of(words.next()?)?,
-            stamp: stamp_of(words.next()?)?,
-        },
-        "evictBM" => Command::EvictBM {
-            path: path_of(words.next()?)?,
-            parent: path_of(words.next()?)?,
-            stamp: stamp_of(words.next()?)?,
-        },
-        "get" => {
-            let path = path_of(words.next()?)?;
-            let value = value_of(&path, words.next()?)?;
-            Command::Get { path, value }
-        }
-        "put" => {
-            let path = path_of(words.next()?)?;
-            let value = value_of(&path, words.next()?)?;
-            Command::Put { path, value }
-        }
-        "next" => Command::NextEpoch,
-        _ => return None,
-    };
+    let command = named(words.next()?, &mut words)?;
     match words.next() {
         None => Some(command),
         Some(_) => None,
     }
 }
 
+// The command of this name, of its fields.
+fn named(name: &str, fields: &mut SplitWhitespace<'_>) -> Option<Command> {
+    match name {
+        "addM" => add_by_tree(fields),
+        "evictM" => evict_to_tree(fields),
+        "addB" => add_by_stamp(fields),
+        "evictB" => evict_under_stamp(fields),
+        "evictBM" => evict_from_tree(fields),
+        "get" => get(fields),
+        "put" => put(fields),
+        "next" => Some(Command::NextEpoch),
+        _ => None,
+    }
+}
+
+// The path that the next field spells.
+fn path(fields: &mut SplitWhitespace<'_>) -> Option<Path> {
+    path_of(fields.next()?)
+}
+
+// The value at a path that the next field spells.
+fn value(path: &Path, fields: &mut SplitWhitespace<'_>) -> Option<Value> {
+    value_of(path, fields.next()?)
+}
+
+// The stamp that the next field spells.
+fn stamp(fields: &mut SplitWhitespace<'_>) -> Option<Stamp> {
+    stamp_of(fields.next()?)
+}
+
 // An add by the tree, of its fields.
-fn add_by_tree(words: &mut SplitWhitespace<'_>) -> Option<Command> {
-    let path = path_of(words.next()?)?;
+fn add_by_tree(fields: &mut SplitWhitespace<'_>) -> Option<Command> {
+    let added = path(fields)?;
     Some(Command::AddM {
-        value: value_of(&path, words.next()?)?,
-        parent: path_of(words.next()?)?,
-        path,
+        value: value(&added, fields)?,
+        parent: path(fields)?,
+        path: added,
+    })
+}
+
+// An evict to the tree, of its fields.
+fn evict_to_tree(fields: &mut SplitWhitespace<'_>) -> Option<Command> {
+    Some(Command::EvictM {
+        path: path(fields)?,
+        parent: path(fields)?,
     })
 }
 
 // An add by a stamp, of its fields.
-fn add_by_stamp(words: &mut SplitWhitespace<'_>) -> Option<Command> {
-    let path = path_of(words.next()?)?;
+fn add_by_stamp(fields: &mut SplitWhitespace<'_>) -> Option<Command> {
+    let added = path(fields)?;
     Some(Command::AddB {
-        value: value_of(&path, words.next()?)?,
-        stamp: stamp_of(words.next()?)?,
-        verifier: verifier_of(words.next()?)?,
-        path,
+        value: value(&added, fields)?,
+        stamp: stamp(fields)?,
+        verifier: verifier_of(fields.next()?)?,
+        path: added,
+    })
+}
+
+// An evict under a stamp, of its fields.
+fn evict_under_stamp(fields: &mut SplitWhitespace<'_>) -> Option<Command> {
+    Some(Command::EvictB {
+        path: path(fields)?,
+        stamp: stamp(fields)?,
+    })
+}
+
+// An evict under a stamp of what the tree had, of its fields.
+fn evict_from_tree(fields: &mut SplitWhitespace<'_>) -> Option<Command> {
+    Some(Command::EvictBM {
+        path: path(fields)?,
+        parent: path(fields)?,
+        stamp: stamp(fields)?,
+    })
+}
+
+// A get, of its fields.
+fn get(fields: &mut SplitWhitespace<'_>) -> Option<Command> {
+    let asked = path(fields)?;
+    Some(Command::Get {
+        value: value(&asked, fields)?,
+        path: asked,
+    })
+}
+
+// A put, of its fields.
+fn put(fields: &mut SplitWhitespace<'_>) -> Option<Command> {
+    let asked = path(fields)?;
+    Some(Command::Put {
+        value: value(&asked, fields)?,
+        path: asked,
     })
 }

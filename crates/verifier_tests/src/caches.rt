@@ -67,23 +67,33 @@ const COMINGS: &str = "
 2 out true 0100
 ";
 
+// Takes a key in or out, as a row says, and says whether it could.
+fn come_or_go(rt: &impl Abort, cache: &mut Cache, row: &str) -> bool {
+    let key = field(rt, row, 0).parse().expect(rt, "a number");
+    if field(rt, row, 1) == "in" {
+        take_in(cache, key)
+    } else {
+        take_out(cache, key).is_some()
+    }
+}
+
+// The keys from 0 on are there where the row has a 1.
+fn has_keys(rt: &impl Abort, cache: &Cache, row: &str) {
+    for (key, there) in field(rt, row, 3).as_bytes().iter().enumerate() {
+        same(rt, row, &has(cache, key as u64), &(*there == b'1'));
+    }
+}
+
 #[test]
 fn entries_come_and_go(rt: HostRuntime) {
     let mut cache = Cache::new(rt.alloc(), 3).expect(&rt, "memory");
-    assert_eq!(rt; cache.len(), 0);
+    same(&rt, "entries at first", &cache.len(), &0);
     for row in COMINGS.trim().lines() {
-        let key = field(&rt, row, 0).parse().expect(&rt, "a number");
-        let done = if field(&rt, row, 1) == "in" {
-            take_in(&mut cache, key)
-        } else {
-            take_out(&mut cache, key).is_some()
-        };
+        let done = come_or_go(&rt, &mut cache, row);
         same(&rt, row, &done, &(field(&rt, row, 2) == "true"));
-        for (key, there) in field(&rt, row, 3).as_bytes().iter().enumerate() {
-            same(&rt, row, &has(&cache, key as u64), &(*there == b'1'));
-        }
+        has_keys(&rt, &cache, row);
     }
-    assert_eq!(rt; cache.len(), 1);
+    same(&rt, "entries at last", &cache.len(), &1);
 }
 
 // Sets or clears a kid bit of a path, if it is there.
@@ -141,19 +151,34 @@ fn cache_of_two(cache: &mut Cache) -> bool {
     take_in(cache, 5)
 }
 
+// Changes a kid bit as a row says, and then looks at both entries.
+fn change_by(rt: &impl Abort, cache: &mut Cache, row: &str) {
+    let path = path_of(rt, field(rt, row, 0));
+    let side = field(rt, row, 1) == "1";
+    let changed = change(cache, &path, side, field(rt, row, 2) == "1");
+    same(rt, row, &changed, &true);
+    let root = Some((bits_of(rt, field(rt, row, 3)), Hold::Root));
+    same(rt, row, &state_of(cache, &Path::root()), &root);
+    let key = Some((bits_of(rt, field(rt, row, 4)), Hold::M));
+    same(rt, row, &state_of(cache, &Path::of_key(5)), &key);
+}
+
 #[test]
 fn one_kid_bit_changes_at_a_time(rt: HostRuntime) {
     let mut cache = Cache::new(rt.alloc(), 2).expect(&rt, "memory");
-    assert!(rt; cache_of_two(&mut cache));
+    same(&rt, "both come in", &cache_of_two(&mut cache), &true);
     for row in CHANGES.trim().lines() {
-        let path = path_of(&rt, field(&rt, row, 0));
-        let side = field(&rt, row, 1) == "1";
-        assert!(rt; change(&mut cache, &path, side, field(&rt, row, 2) == "1"));
-        let root = Some((bits_of(&rt, field(&rt, row, 3)), Hold::Root));
-        same(&rt, row, &state_of(&cache, &Path::root()), &root);
-        let key = Some((bits_of(&rt, field(&rt, row, 4)), Hold::M));
-        same(&rt, row, &state_of(&cache, &Path::of_key(5)), &key);
+        change_by(&rt, &mut cache, row);
     }
+}
+
+// The value of the key 5 leaves once.
+fn leaves_once(rt: &impl Abort, cache: &mut Cache, value: &Value) {
+    match take_out(cache, 5) {
+        Some(found) => same(rt, "the value that leaves", &found, value),
+        None => panic!(rt; "no value"),
+    }
+    same(rt, "a second leave", &take_out(cache, 5).is_none(), &true);
 }
 
 #[test]
@@ -161,12 +186,18 @@ fn one_entry_is_written_at_a_time(rt: HostRuntime) {
     let root = Path::root();
     let key = Path::of_key(5);
     let mut cache = Cache::new(rt.alloc(), 2).expect(&rt, "memory");
-    assert!(rt; cache_of_two(&mut cache));
-    assert!(rt; change(&mut cache, &root, false, true));
+    same(&rt, "both come in", &cache_of_two(&mut cache), &true);
+    same(
+        &rt,
+        "the root's bit",
+        &change(&mut cache, &root, false, true),
+        &true,
+    );
     rewrite(&rt, &mut cache, &key, "7");
-    assert_eq!(rt; state_of(&cache, &key), Some(([false, false], Hold::B)));
-    assert_eq!(rt; state_of(&cache, &root), Some(([true, false], Hold::Root)));
-    assert_eq!(rt; take_out(&mut cache, 5), Some(one_byte(&rt, "7")));
-    assert_eq!(rt; take_out(&mut cache, 5), None);
-    assert!(rt; cache.find(&root).is_some());
+    let written = Some(([false, false], Hold::B));
+    same(&rt, "the key then", &state_of(&cache, &key), &written);
+    let other = Some(([true, false], Hold::Root));
+    same(&rt, "the root then", &state_of(&cache, &root), &other);
+    leaves_once(&rt, &mut cache, &one_byte(&rt, "7"));
+    same(&rt, "the root stays", &cache.find(&root).is_some(), &true);
 }

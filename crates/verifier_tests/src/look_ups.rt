@@ -1,7 +1,9 @@
 //! A cache beside a plain list that is searched from its end, and how many comparisons a look-up makes.
 ghost use Rattle.std.specs.Prelude.{◌≡◌, ◌+◌, ◌<◌, ◌≤◌, length, IfSome};
 
+use crate::rows::{same, same_at};
 use record_text::{Blob, Value};
+use std::alloc::Global;
 use std::marker::Brand;
 use std::process::Abort;
 use std::sync::ledger::{Blank, Ledger};
@@ -129,6 +131,25 @@ fn both(rt: &impl Abort, cache: &mut Cache, plain: &mut Plain, room: usize, numb
     }
 }
 
+// Does the same to both, and then looks another path up in both.
+fn go_on(rt: &impl Abort, cache: &mut Cache, plain: &mut Plain, room: usize, number: u64) {
+    let alike = both(rt, cache, plain, room, number);
+    same_at(rt, number, &alike, &true);
+    same_at(rt, number, &cache.len(), &plain.entries.len());
+    let other = path_by(number_after(number));
+    same_at(rt, number, &cache.entry(&other), &plain.entry(&other));
+}
+
+// The cache has each of these entries.
+fn has_all(rt: &impl Abort, cache: &Cache, entries: &[Entry]) {
+    for entry in entries {
+        match cache.entry(&entry.path) {
+            Some(found) => same(rt, "an entry at last", found, entry),
+            None => panic!(rt; "an entry that has gone"),
+        }
+    }
+}
+
 #[test]
 fn a_cache_answers_as_a_plain_list_does(rt: HostRuntime) {
     for room in [1u32, 7, 70, 700] {
@@ -139,17 +160,9 @@ fn a_cache_answers_as_a_plain_list_does(rt: HostRuntime) {
         let mut number = u64::from(room);
         for _ in 0..3000 {
             number = number_after(number);
-            assert!(rt;
-                both(&rt, &mut cache, &mut plain, room as usize, number),
-                "{number}"
-            );
-            assert_eq!(rt; cache.len(), plain.entries.len(), "{number}");
-            let other = path_by(number_after(number));
-            assert_eq!(rt; cache.entry(&other), plain.entry(&other), "{number}");
+            go_on(&rt, &mut cache, &mut plain, room as usize, number);
         }
-        for entry in &plain.entries {
-            assert_eq!(rt; cache.entry(&entry.path), Some(entry));
-        }
+        has_all(&rt, &cache, &plain.entries);
     }
 }
 
@@ -173,22 +186,24 @@ fn has_by<L: Ledger>(cache: &Cache, k: &Path, blank: Blank) -> bool
     has(cache, k, &mut steps)
 }
 
+// A cache of the keys below the count.
+fn cache_of(rt: &impl Abort, alloc: Global, count: u64) -> Cache {
+    let mut cache = Cache::new(alloc, 4).expect(rt, "memory");
+    for key in 0..count {
+        let entry = Entry::new(Path::of_key(key), Value::Blob(Blob::none()), Hold::B);
+        same_at(rt, key, &insert(rt, &mut cache, entry), &true);
+    }
+    cache
+}
+
 #[test]
 fn few_entries_take_few_steps(rt: HostRuntime) {
     for count in [0u64, 1, 4] {
-        let mut cache = Cache::new(rt.alloc(), 4).expect(&rt, "memory");
-        for key in 0..count {
-            assert!(rt;
-                insert(
-                    &rt,
-                    &mut cache,
-                    Entry::new(Path::of_key(key), Value::Blob(Blob::none()), Hold::B)
-                )
-            );
-        }
+        let cache = cache_of(&rt, rt.alloc(), count);
         for key in 0..5 {
             let path = Path::of_key(key);
-            assert_eq!(rt; has_by::<Brand>(&cache, &path, Blank::new(1)), key < count);
+            let found = has_by::<Brand>(&cache, &path, Blank::new(1));
+            same_at(&rt, key, &found, &(key < count));
         }
     }
 }

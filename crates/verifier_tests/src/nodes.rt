@@ -113,22 +113,25 @@ root 10 root none
 0 0110 0110 Same
 ";
 
+// A node whose pointer of side 1 leads to this path.
+fn leading_to(path: Path) -> Node {
+    Node {
+        side0: None,
+        side1: Some(Pointer {
+            path,
+            digest: digest(3),
+            deferred: false,
+        }),
+    }
+}
+
 #[test]
 fn pointers_lead_by_their_paths(rt: HostRuntime) {
     for row in CASES.trim().lines() {
-        let node = Node {
-            side0: None,
-            side1: Some(Pointer {
-                path: path_of(&rt, field(&rt, row, 1)),
-                digest: digest(3),
-                deferred: false,
-            }),
-        };
-        let found = case_at(
-            &node,
-            &path_of(&rt, field(&rt, row, 0)),
-            &path_of(&rt, field(&rt, row, 2)),
-        );
+        let node = leading_to(path_of(&rt, field(&rt, row, 1)));
+        let at = path_of(&rt, field(&rt, row, 0));
+        let asked = path_of(&rt, field(&rt, row, 2));
+        let found = case_at(&node, &at, &asked);
         same(&rt, row, &found, &case_of(&rt, field(&rt, row, 3)));
     }
 }
@@ -137,11 +140,10 @@ fn pointers_lead_by_their_paths(rt: HostRuntime) {
 // and then 2, 2, 0x80, seven 0, and the digest, whose bytes add up to 9.
 #[test]
 fn digests_are_of_the_texts_of_values(rt: HostRuntime) {
-    assert_eq!(rt; digest_of(&ToyDigests, &one_byte(&rt, "7")), digest(9));
-    assert_eq!(rt;
-        digest_of(&ToyDigests, &value_of(&rt, "1:10,9,deferred")),
-        digest(141)
-    );
+    let byte = digest_of(&ToyDigests, &one_byte(&rt, "7"));
+    same(&rt, "the byte 7", &byte, &digest(9));
+    let node = digest_of(&ToyDigests, &value_of(&rt, "1:10,9,deferred"));
+    same(&rt, "a node", &node, &digest(141));
 }
 
 // The root's pointer of side 0, the path, its value, that pointer after the add, and the value then. The key
@@ -153,22 +155,24 @@ k5,4,deferred 0 empty 0,0 0:k5,4,deferred
 k8070450532247928832,4 0 empty 0,0 1:k8070450532247928832,4
 ";
 
+// Adds as a row says, and compares the node and the value then.
+fn add_by(rt: &impl Abort, row: &str) {
+    let node = with_left(rt, field(rt, row, 0));
+    let path = path_of(rt, field(rt, row, 1));
+    let value = value_of(rt, field(rt, row, 2));
+    match added(&node, &Path::root(), &path, &value) {
+        Some((node, value)) => {
+            same(rt, row, &node, &with_left(rt, field(rt, row, 3)));
+            same(rt, row, &value, &value_of(rt, field(rt, row, 4)));
+        }
+        None => panic!(rt; "{row}: no add"),
+    }
+}
+
 #[test]
 fn adds_change_one_side(rt: HostRuntime) {
     for row in ADDS.trim().lines() {
-        let node = with_left(&rt, field(&rt, row, 0));
-        let path = path_of(&rt, field(&rt, row, 1));
-        let found = added(
-            &node,
-            &Path::root(),
-            &path,
-            &value_of(&rt, field(&rt, row, 2)),
-        );
-        let wanted = (
-            with_left(&rt, field(&rt, row, 3)),
-            value_of(&rt, field(&rt, row, 4)),
-        );
-        same(&rt, row, &found, &Some(wanted));
+        add_by(&rt, row);
     }
 }
 
@@ -179,27 +183,28 @@ k5,4,deferred k5 7 k5,9
 none 0 empty 0,0
 ";
 
+// Evicts as a row says, and compares the node then.
+fn evict_by(rt: &impl Abort, row: &str) {
+    let node = with_left(rt, field(rt, row, 0));
+    let path = path_of(rt, field(rt, row, 1));
+    let value = value_of(rt, field(rt, row, 2));
+    let found = evicted(&node, &Path::root(), &path, &value);
+    same(rt, row, &found, &Some(with_left(rt, field(rt, row, 3))));
+}
+
 #[test]
 fn evicts_change_one_side(rt: HostRuntime) {
     for row in EVICTS.trim().lines() {
-        let node = with_left(&rt, field(&rt, row, 0));
-        let path = path_of(&rt, field(&rt, row, 1));
-        let found = evicted(
-            &node,
-            &Path::root(),
-            &path,
-            &value_of(&rt, field(&rt, row, 2)),
-        );
-        same(&rt, row, &found, &Some(with_left(&rt, field(&rt, row, 3))));
+        evict_by(&rt, row);
     }
 }
 
 #[test]
 fn deferrals_set_one_flag(rt: HostRuntime) {
     let node = with_left(&rt, "k5,4");
-    assert_eq!(rt;
-        deferred(&node, &Path::root(), &Path::of_key(5)),
-        Some(with_left(&rt, "k5,4,deferred"))
-    );
-    assert_eq!(rt; deferred(&node, &path_of(&rt, "0"), &Path::root()), None);
+    let found = deferred(&node, &Path::root(), &Path::of_key(5));
+    let wanted = Some(with_left(&rt, "k5,4,deferred"));
+    same(&rt, "below the node", &found, &wanted);
+    let foreign = deferred(&node, &path_of(&rt, "0"), &Path::root());
+    same(&rt, "above the node", &foreign, &None);
 }

@@ -53,23 +53,25 @@ const MERGES: &str = "
 4294967295 > 4294967295.4294967295/63.18446744073709551615 4294967295.0/0.0 > 4294967295.0/0.0 4294967295.4294967295/63.18446744073709551615
 ";
 
+// Merges the operations of a row.
+fn merge_row(rt: &impl Abort, alloc: Global, row: &str) {
+    let (epoch, rest) = row.split_once('>').expect(rt, "a row without operations");
+    let (given, expected) = rest.split_once('>').expect(rt, "a row without an answer");
+    let epoch = epoch.trim().parse().expect(rt, "a number");
+    let operations = puts_at(rt, alloc, given);
+    let merged = merge(alloc, &operations, epoch).expect(rt, "memory");
+    let expected = puts_at(rt, alloc, expected);
+    same(rt, row, &merged.as_slice(), &expected.as_slice());
+}
+
 #[test]
 fn operations_merge_by_clock_then_verifier_then_index(rt: HostRuntime) {
     for row in MERGES.trim().lines() {
-        let (epoch, rest) = row.split_once('>').expect(&rt, "a row without operations");
-        let (given, expected) = rest.split_once('>').expect(&rt, "a row without an answer");
-        let operations = puts_at(&rt, rt.alloc(), given);
-        let merged = merge(
-            rt.alloc(),
-            &operations,
-            epoch.trim().parse().expect(&rt, "a number"),
-        )
-        .expect(&rt, "memory");
-        let expected = puts_at(&rt, rt.alloc(), expected);
-        assert_eq!(rt; merged.as_slice(), expected.as_slice(), "{row}");
+        merge_row(&rt, rt.alloc(), row);
     }
     let earlier = Moment::of(&put_at(&rt, "0.1/2.3"));
-    assert!(rt; earlier < Moment::of(&put_at(&rt, "0.1/3.0")));
+    let is_earlier = earlier < Moment::of(&put_at(&rt, "0.1/3.0"));
+    same(&rt, "a verifier before the next", &is_earlier, &true);
 }
 
 // A data value from its text: none, or the bytes behind an equals sign.
@@ -81,20 +83,23 @@ fn blob_of(rt: &impl Abort, text: &str) -> Blob {
     Blob::of_bytes(bytes.as_bytes()).expect(rt, "a value that is too long")
 }
 
+// Puts a value at the key 5, and finds it there.
+fn put_at_5(rt: &impl Abort, map: &mut PlainMap, text: &str) {
+    map.put(5, blob_of(rt, text)).expect(rt, "memory");
+    same(rt, text, &map.get(5), &blob_of(rt, text));
+}
+
 #[test]
 fn a_plain_map_has_what_was_put_last(rt: HostRuntime) {
-    let longest = Blob::of_bytes(&[7; 64]).expect(&rt, "a value that is too long");
     let mut map = PlainMap::new(rt.alloc());
-    assert_eq!(rt; map.get(5), Blob::none());
-    map.put(5, blob_of(&rt, "=ab")).expect(&rt, "memory");
-    assert_eq!(rt; map.get(5), blob_of(&rt, "=ab"));
+    same(&rt, "nothing was put", &map.get(5), &Blob::none());
+    put_at_5(&rt, &mut map, "=ab");
+    let longest = Blob::of_bytes(&[7; 64]).expect(&rt, "a value that is too long");
     map.put(u64::MAX, longest.copy()).expect(&rt, "memory");
-    map.put(5, blob_of(&rt, "=")).expect(&rt, "memory");
-    assert_eq!(rt; map.get(5), blob_of(&rt, "="));
-    map.put(5, Blob::none()).expect(&rt, "memory");
-    assert_eq!(rt; map.get(5), Blob::none());
-    assert_eq!(rt; map.get(u64::MAX), longest);
-    assert_eq!(rt; map.get(0), Blob::none());
+    put_at_5(&rt, &mut map, "=");
+    put_at_5(&rt, &mut map, "none");
+    same(&rt, "the longest", &map.get(u64::MAX), &longest);
+    same(&rt, "another key", &map.get(0), &Blob::none());
 }
 
 // A get or a put from its text: which of both, the key, and the value.
@@ -126,22 +131,19 @@ false put,5,=a put,5,=b get,5,=a
 true put,5,= get,5,= put,5,none get,5,none
 ";
 
+// Whether the operations of a row, behind its first word, are serial.
+fn is_serial_row(rt: &impl Abort, alloc: Global, row: &str) -> bool {
+    let mut operations = Vec::new(alloc);
+    for word in row.split_whitespace().skip(1) {
+        operations.push(operation_of(rt, word)).expect(rt, "memory");
+    }
+    is_serial(alloc, &operations).expect(rt, "memory")
+}
+
 #[test]
 fn serial_lists_are_told_from_others(rt: HostRuntime) {
     for row in SERIAL.trim().lines() {
-        let mut words = row.split_whitespace();
-        let serial = words.next() == Some("true");
-        let mut operations = Vec::new(rt.alloc());
-        for word in words {
-            operations
-                .push(operation_of(&rt, word))
-                .expect(&rt, "memory");
-        }
-        same(
-            &rt,
-            row,
-            &is_serial(rt.alloc(), &operations).expect(&rt, "memory"),
-            &serial,
-        );
+        let serial = row.split_whitespace().next() == Some("true");
+        same(&rt, row, &is_serial_row(&rt, rt.alloc(), row), &serial);
     }
 }

@@ -16,6 +16,11 @@ pub fn same<T: PartialEq + Debug>(rt: &impl Abort, row: &str, found: &T, wanted:
     assert_eq!(rt; found, wanted, "{row}");
 }
 
+/// Two values are the same. Where they aren't, the test ends, and tells the number at which it stands.
+pub fn same_at<T: PartialEq + Debug>(rt: &impl Abort, number: u64, found: &T, wanted: &T) {
+    assert_eq!(rt; found, wanted, "{number}");
+}
+
 /// A path from its text: `root`, the key of a data path behind a `k`, or else its bits.
 pub fn path_of(rt: &impl Abort, text: &str) -> Path {
     if text == "root" {

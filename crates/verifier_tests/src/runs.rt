@@ -2,13 +2,14 @@
 ghost use Rattle.std.specs.Prelude.{◌≡◌, ◌<◌};
 ghost use Rattle.lamport_clocks.specs.Header.{IsHeader};
 
+use crate::rows::same;
 use lamport_clocks::{Header, Stamp};
-use record_hash::{ShaDigests, ToyDigests};
+use multiset_sum::Part;
+use record_hash::{Digests, ShaDigests, ToyDigests};
 use record_text::{Blob, Operation, Refusal};
 use std::alloc::Global;
 use std::process::Abort;
 use verifier_run::{Run, run_log};
-use want_of_memory::Memory;
 
 // One verifier, from epoch 0 on.
 fn header() -> Header
@@ -70,20 +71,20 @@ fn log_of(rt: &impl Abort, alloc: Global, text: &str) -> Vec<u8> {
 }
 
 // What a log comes to, fed in pieces of so many bytes.
-fn in_pieces(alloc: Global, d: &ShaDigests, log: &[u8], size: usize) -> Result<Run, Memory>
+fn in_pieces(rt: &impl Abort, alloc: Global, d: &ShaDigests, log: &[u8], size: usize) -> Run
     requires size { 0 < size }
 {
-    let mut run = Run::new(alloc, 0, &header())?;
+    let mut run = Run::new(alloc, 0, &header()).expect(rt, "memory");
     let mut fed = 0;
     while fed < log.len() {
         let len = size.min(log.len() - fed);
         if run.feed(d, &log[fed..fed + len]).is_err() {
-            return Err(Memory);
+            panic!(rt; "no memory");
         }
         fed += len;
     }
     run.end();
-    Ok(run)
+    run
 }
 
 // A get or put of "ab" at key 5, as the command of this number.
@@ -101,41 +102,60 @@ fn ab_at_5(rt: &impl Abort, index: u64, put: bool) -> Operation {
     }
 }
 
+// How many bytes a piece has.
+const SIZES: [(usize, &str); 3] = [(1, "by 1"), (7, "by 7"), (92, "by 92")];
+
+// The only part of a run.
+fn only_part(rt: &impl Abort, label: &str, run: &Run) -> Part {
+    same(rt, label, &run.parts().len(), &1);
+    *run.parts().first().expect(rt, "no part")
+}
+
+// The run of the put and the get has both, and seals one epoch.
+fn is_put_and_got(rt: &impl Abort, label: &str, run: &Run) {
+    same(rt, label, &run.refused(), &None);
+    let expected = [ab_at_5(rt, 1, true), ab_at_5(rt, 4, false)];
+    same(rt, label, &run.ops(), &expected.as_slice());
+    same(rt, label, &only_part(rt, label, run).epoch, &0);
+}
+
 #[test]
 fn pieces_do_not_matter(rt: HostRuntime) {
     let d = ShaDigests::new(b"a key");
     let log = log_of(&rt, rt.alloc(), PUT_AND_GOT);
-    let expected = [ab_at_5(&rt, 1, true), ab_at_5(&rt, 4, false)];
-    for size in [1, 7, 92] {
-        let run = in_pieces(rt.alloc(), &d, &log, size).expect(&rt, "memory");
-        assert_eq!(rt; run.refused(), None, "{size}");
-        assert_eq!(rt; run.ops(), &expected[..], "{size}");
-        assert_eq!(rt; run.parts().len(), 1, "{size}");
-        assert_eq!(rt; run.parts()[0].epoch, 0, "{size}");
+    for (size, label) in SIZES {
+        let run = in_pieces(&rt, rt.alloc(), &d, &log, size);
+        is_put_and_got(&rt, label, &run);
     }
 }
 
-// That a log is refused at this command, in whatever pieces it is fed.
-fn is_refused(alloc: Global, log: &[u8], index: u64, refusal: Refusal) -> Result<bool, Memory> {
+// A log is refused at this command, in whatever pieces it is fed.
+fn is_refused(rt: &impl Abort, alloc: Global, log: &[u8], index: u64, refusal: Refusal) {
     let d = ShaDigests::new(b"a key");
-    for size in [1, 7, 92] {
-        let run = in_pieces(alloc, &d, log, size)?;
-        if run.refused() != Some((index, refusal)) {
-            return Ok(false);
-        }
+    let wanted = Some((index, refusal));
+    for (size, label) in SIZES {
+        let run = in_pieces(rt, alloc, &d, log, size);
+        same(rt, label, &run.refused(), &wanted);
     }
-    Ok(true)
 }
 
 #[test]
 fn logs_are_refused_where_they_go_wrong(rt: HostRuntime) {
     let mut log = log_of(&rt, rt.alloc(), PUT_AND_GOT);
     let cut = log.get(..21).expect(&rt, "a log that is too short");
-    assert!(rt; is_refused(rt.alloc(), cut, 1, Refusal::Truncated).expect(&rt, "memory"));
-    assert!(rt; is_refused(rt.alloc(), &[9], 0, Refusal::Malformed).expect(&rt, "memory"));
+    is_refused(&rt, rt.alloc(), cut, 1, Refusal::Truncated);
+    is_refused(&rt, rt.alloc(), &[9], 0, Refusal::Malformed);
     // The last byte of the value that the get answers.
     *log.get_mut(89).expect(&rt, "a log that is too short") = b'c';
-    assert!(rt; is_refused(rt.alloc(), &log, 4, Refusal::WrongValue).expect(&rt, "memory"));
+    is_refused(&rt, rt.alloc(), &log, 4, Refusal::WrongValue);
+}
+
+// The run of a log that isn't refused.
+fn accepted_run<D: Digests>(rt: &impl Abort, alloc: Global, d: &D, text: &str) -> Run {
+    let log = log_of(rt, alloc, text);
+    let run: Run = run_log(alloc, d, 0, &header(), &log).expect(rt, "memory");
+    same(rt, text, &run.refused(), &None);
+    run
 }
 
 // With toy digests lane 0 of an element is the sum of its text's bytes, and the other lanes are 0. Two
@@ -144,17 +164,20 @@ fn logs_are_refused_where_they_go_wrong(rt: HostRuntime) {
 // the byte of that bit (128) and the counter of its stamp (2), which is 131. That is 133 in all.
 #[test]
 fn the_sums_of_an_epoch_are_those_of_its_elements(rt: HostRuntime) {
-    let log = log_of(&rt, rt.alloc(), TWO_SHARDS);
-    let run: Run = run_log(rt.alloc(), &ToyDigests, 0, &header(), &log).expect(&rt, "memory");
-    assert_eq!(rt; run.refused(), None);
-    assert_eq!(rt; run.parts().len(), 1);
-    let part = run.parts()[0];
-    assert_eq!(rt; part.verifier, 0);
-    assert_eq!(rt; part.epoch, 0);
+    let run = accepted_run(&rt, rt.alloc(), &ToyDigests, TWO_SHARDS);
+    let part = only_part(&rt, "one part", &run);
+    same(&rt, "the verifier", &part.verifier, &0);
+    same(&rt, "the epoch", &part.epoch, &0);
     for sum in [part.added, part.evicted] {
-        assert_eq!(rt; sum.count(), 2);
-        assert_eq!(rt; sum.lanes(), [133, 0, 0, 0, 0, 0, 0, 0]);
+        same(&rt, "two elements", &sum.count(), &2);
+        same(&rt, "the lanes", &sum.lanes(), &[133, 0, 0, 0, 0, 0, 0, 0]);
     }
+}
+
+// A run is refused at its second command, and has no gets and puts.
+fn is_refused_at_1(rt: &impl Abort, label: &str, run: &Run) {
+    same(rt, label, &run.refused(), &Some((1, Refusal::Malformed)));
+    same(rt, label, &run.ops().len(), &0);
 }
 
 // A log that goes wrong at its second command takes what follows, and does nothing.
@@ -164,41 +187,51 @@ fn a_refused_run_stays_as_it_is(rt: HostRuntime) {
     let more = log.get(..92).expect(&rt, "a log that is too short");
     let mut run = Run::new(rt.alloc(), 0, &header()).expect(&rt, "memory");
     let _ = run.feed(&ToyDigests, &[8, 9]);
-    assert_eq!(rt; run.refused(), Some((1, Refusal::Malformed)));
-    assert_eq!(rt; run.feed(&ToyDigests, more), Ok(()));
+    is_refused_at_1(&rt, "refused", &run);
+    same(&rt, "more", &run.feed(&ToyDigests, more), &Ok(()));
     run.end();
-    assert_eq!(rt; run.refused(), Some((1, Refusal::Malformed)));
-    assert_eq!(rt; run.ops().len(), 0);
+    is_refused_at_1(&rt, "ended", &run);
 }
 
 #[test]
 fn a_sealed_epoch_has_its_sums(rt: HostRuntime) {
     let d = ShaDigests::new(b"a key");
-    let log = log_of(&rt, rt.alloc(), TWO_SHARDS);
-    let run: Run = run_log(rt.alloc(), &d, 0, &header(), &log).expect(&rt, "memory");
-    assert_eq!(rt; run.refused(), None);
-    assert_eq!(rt; run.ops().len(), 0);
-    assert_eq!(rt; run.parts().len(), 1);
-    let part = run.parts()[0];
-    assert_eq!(rt; part.epoch, 0);
-    assert_eq!(rt; part.added.count(), 2);
-    assert_eq!(rt; part.added, part.evicted);
+    let run = accepted_run(&rt, rt.alloc(), &d, TWO_SHARDS);
+    same(&rt, "no gets and puts", &run.ops().len(), &0);
+    let part = only_part(&rt, "one part", &run);
+    same(&rt, "the epoch", &part.epoch, &0);
+    same(&rt, "two elements", &part.added.count(), &2);
+    same(&rt, "the sums", &part.added, &part.evicted);
+}
+
+// The index of the operation at this place.
+fn index_at(rt: &impl Abort, operations: &[Operation], place: usize) -> u64 {
+    operations.get(place).expect(rt, "no operation").index
+}
+
+// The run of the two puts has the second alone.
+fn has_the_second(rt: &impl Abort, run: &Run) {
+    same(rt, "one put left", &run.ops().len(), &1);
+    same(rt, "its index", &index_at(rt, run.ops(), 0), &3);
+    same(
+        rt,
+        "its epoch",
+        &only_part(rt, "one part left", run).epoch,
+        &1,
+    );
 }
 
 // What is taken is kept no longer, and what is of a later epoch is.
 #[test]
 fn what_is_taken_is_kept_no_longer(rt: HostRuntime) {
-    let log = log_of(&rt, rt.alloc(), PUT_TWICE);
-    let mut run: Run = run_log(rt.alloc(), &ToyDigests, 0, &header(), &log).expect(&rt, "memory");
+    let mut run = accepted_run(&rt, rt.alloc(), &ToyDigests, PUT_TWICE);
     let mut taken = run.take(0).expect(&rt, "memory");
-    assert_eq!(rt; taken.as_slice(), [ab_at_5(&rt, 1, true)].as_slice());
-    assert_eq!(rt; run.ops().len(), 1);
-    assert_eq!(rt; run.ops()[0].index, 3);
-    assert_eq!(rt; run.parts().len(), 1);
-    assert_eq!(rt; run.parts()[0].epoch, 1);
+    let first = [ab_at_5(&rt, 1, true)];
+    same(&rt, "taken", &taken.as_slice(), &first.as_slice());
+    has_the_second(&rt, &run);
     run.take_into(1, &mut taken).expect(&rt, "memory");
-    assert_eq!(rt; taken.len(), 2);
-    assert_eq!(rt; taken[1].index, 3);
-    assert_eq!(rt; run.ops().len(), 0);
-    assert_eq!(rt; run.parts().len(), 0);
+    same(&rt, "both", &taken.len(), &2);
+    same(&rt, "the second", &index_at(&rt, &taken, 1), &3);
+    same(&rt, "no put left", &run.ops().len(), &0);
+    same(&rt, "no part left", &run.parts().len(), &0);
 }

@@ -1,6 +1,7 @@
 //! Verifiers that only go to their next epochs; logs of every command are tested as bytes, by the crates above.
 ghost use Rattle.std.specs.Prelude.{◌≡◌, ◌<◌};
 
+use crate::rows::same;
 use lamport_clocks::{Header, Stamp};
 use log_codec::Command;
 use multiset_sum::Part;
@@ -30,12 +31,9 @@ fn start_of(epoch: u32) -> Stamp {
     Stamp { epoch, counter: 0 }
 }
 
-#[test]
-fn the_root_is_cached_by_verifier_0_alone(rt: HostRuntime) {
-    let first = opened(&rt, rt.alloc(), 0, 7);
-    let second = opened(&rt, rt.alloc(), 1, 7);
-    assert_eq!(rt; second.entries().len(), 0);
-    assert_eq!(rt; first.entries().len(), 1);
+// The one entry of a verifier is the empty root.
+fn has_the_root(rt: &impl Abort, verifier: &Verifier) {
+    same(rt, "one entry", &verifier.entries().len(), &1);
     let root = Path::root();
     let wanted = Entry {
         path: root,
@@ -43,9 +41,16 @@ fn the_root_is_cached_by_verifier_0_alone(rt: HostRuntime) {
         hold: Hold::Root,
         kids: [false, false],
     };
-    let found = first.entries().entry(&root).expect(&rt, "no root");
-    assert_eq!(rt; found, &wanted);
-    assert_eq!(rt; second.clock(), start_of(7));
+    let found = verifier.entries().entry(&root).expect(rt, "no root");
+    same(rt, "the root", found, &wanted);
+}
+
+#[test]
+fn the_root_is_cached_by_verifier_0_alone(rt: HostRuntime) {
+    has_the_root(&rt, &opened(&rt, rt.alloc(), 0, 7));
+    let second = opened(&rt, rt.alloc(), 1, 7);
+    same(&rt, "no entries", &second.entries().len(), &0);
+    same(&rt, "the clock", &second.clock(), &start_of(7));
 }
 
 // The part that an effect hands in, if it seals an epoch.
@@ -56,30 +61,30 @@ fn part_of(effect: &Effect) -> Option<Part> {
     }
 }
 
+// The part has no elements, and is verifier 1's of epoch 7.
+fn is_empty_part(rt: &impl Abort, part: &Part) {
+    same(rt, "the verifier", &part.verifier, &1);
+    same(rt, "the epoch", &part.epoch, &7);
+    same(rt, "added", &part.added.count(), &0);
+    same(rt, "evicted", &part.evicted.count(), &0);
+}
+
 #[test]
 fn the_second_turn_seals_the_first_epoch(rt: HostRuntime) {
     let mut verifier = opened(&rt, rt.alloc(), 1, 7);
-    assert_eq!(rt;
-        verifier.step(&ToyDigests, &Command::NextEpoch),
-        Ok(Effect::Opened)
-    );
+    let opened = verifier.step(&ToyDigests, &Command::NextEpoch);
+    same(&rt, "the first turn", &opened, &Ok(Effect::Opened));
     let Ok(effect) = verifier.step(&ToyDigests, &Command::NextEpoch) else {
         panic!(rt; "a refusal");
     };
-    let part = part_of(&effect).expect(&rt, "no part");
-    assert_eq!(rt; part.verifier, 1);
-    assert_eq!(rt; part.epoch, 7);
-    assert_eq!(rt; part.added.count(), 0);
-    assert_eq!(rt; part.evicted.count(), 0);
-    assert_eq!(rt; verifier.clock(), start_of(9));
+    is_empty_part(&rt, &part_of(&effect).expect(&rt, "no part"));
+    same(&rt, "the clock", &verifier.clock(), &start_of(9));
 }
 
 #[test]
 fn the_last_epoch_does_not_turn(rt: HostRuntime) {
     let mut verifier = opened(&rt, rt.alloc(), 0, u32::MAX);
-    assert_eq!(rt;
-        verifier.step(&ToyDigests, &Command::NextEpoch),
-        Err(Refusal::ClockEnd)
-    );
-    assert_eq!(rt; verifier.clock(), start_of(u32::MAX));
+    let turn = verifier.step(&ToyDigests, &Command::NextEpoch);
+    same(&rt, "the turn", &turn, &Err(Refusal::ClockEnd));
+    same(&rt, "the clock", &verifier.clock(), &start_of(u32::MAX));
 }

@@ -107,20 +107,18 @@ const VERDICTS: &str = "
 0.0:/ 3.0:/ 1.1:/ 64 7 missing0
 ";
 
+// The three parts of a row.
+fn parts_in(rt: &impl Abort, row: &str) -> [Part; 3] {
+    parts_of(rt, field(rt, row, 0), field(rt, row, 1), field(rt, row, 2))
+}
+
 #[test]
 fn verdicts_are_by_all_verifiers(rt: HostRuntime) {
     for row in VERDICTS.trim().lines() {
-        let parts = parts_of(
-            &rt,
-            field(&rt, row, 0),
-            field(&rt, row, 1),
-            field(&rt, row, 2),
-        );
-        let found = verdict_on(
-            &parts,
-            field(&rt, row, 3).parse().expect(&rt, "a number"),
-            field(&rt, row, 4).parse().expect(&rt, "a number"),
-        );
+        let parts = parts_in(&rt, row);
+        let verifiers = field(&rt, row, 3).parse().expect(&rt, "a number");
+        let epoch = field(&rt, row, 4).parse().expect(&rt, "a number");
+        let found = verdict_on(&parts, verifiers, epoch);
         same(&rt, row, &found, &Some(verdict_of(&rt, field(&rt, row, 5))));
     }
 }
@@ -137,11 +135,10 @@ fn sums_in(verdict: Option<Verdict>) -> Option<(Sum, Sum)> {
 fn both_sums_are_handed_out(rt: HostRuntime) {
     let parts = parts_of(&rt, "0.4:aa/b", "1.4:/a", "2.4:/");
     let (added, evicted) = sums_in(verdict_on(&parts, 3, 4)).expect(&rt, "the sums are one");
-    assert_eq!(rt; added.lanes(), [2, 4, 6, 8, 10, 12, 14, 8_589_934_590]);
-    assert_eq!(rt; added.count(), 2);
-    assert_eq!(rt;
-        evicted.lanes(),
-        [11, 22, 33, 44, 55, 66, 77, 4_294_967_375]
-    );
-    assert_eq!(rt; evicted.count(), 2);
+    let lanes = [2, 4, 6, 8, 10, 12, 14, 8_589_934_590];
+    same(&rt, "added", &added.lanes(), &lanes);
+    same(&rt, "how many were added", &added.count(), &2);
+    let lanes = [11, 22, 33, 44, 55, 66, 77, 4_294_967_375];
+    same(&rt, "evicted", &evicted.lanes(), &lanes);
+    same(&rt, "how many were evicted", &evicted.count(), &2);
 }
