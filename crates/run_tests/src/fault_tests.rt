@@ -1,5 +1,7 @@
 //! Objects that fail, one call after the other, such that are too small, and objects that never fail.
-use crate::serving::{Objects, REPORT, SCRIPT, assert_front, checked, line_of, program, served};
+use crate::serving::{
+    Objects, REPORT, SCRIPT, assert_ended, assert_front, checked, line_of, program, served,
+};
 use crate::sure_objects::run_surely;
 use fastver_top::{Status, fastver};
 use fv_outside::{
@@ -24,31 +26,24 @@ fn failing<R: Threads + Wait + Sync + Abort>(
 #[test]
 fn where_a_read_fails_nothing_is_written(rt: HostRuntime) {
     // One read for each byte, and one at the end.
-    for k in 0..SCRIPT.len() as u64 + 1 {
-        let (objects, status) = failing(&rt, rt.alloc(), "2 --logs x", (&[k], &[], &[]));
-        assert_eq!(rt; status, Status::ReadFault, "{k}");
+    for k in 0..SCRIPT.len() + 1 {
+        let (objects, status) = failing(&rt, rt.alloc(), "2 --logs x", (&[k as u64], &[], &[]));
+        assert_ended(&rt, k, &status, &Status::ReadFault);
         assert_eq!(rt; objects.source.faults(), 1, "{k}");
-        assert!(rt; objects.out.bytes().is_empty(), "{k}");
-        assert!(rt; objects.vault.bytes().is_empty(), "{k}");
-        assert!(rt; objects.vault.name_taken().is_none(), "{k}");
+        objects.assert_hold(&rt, k, &[], &[], None);
     }
 }
 
 #[test]
 fn where_a_write_fails_a_front_of_the_report_stands(rt: HostRuntime) {
+    let line = line_of(&rt, rt.alloc(), "2");
+    let (whole, _status) = served(&rt, rt.alloc(), &line, SCRIPT, 1);
     for k in 0..REPORT.len() {
         let (objects, status) = failing(&rt, rt.alloc(), "2 --logs x", (&[], &[k as u64], &[]));
-        assert_eq!(rt; status, Status::WriteFault, "{k}");
-        assert_eq!(rt; objects.out.bytes(), &REPORT.as_bytes()[..k], "{k}");
-        assert_eq!(rt; objects.vault.name_taken(), Some("x"), "{k}");
+        assert_ended(&rt, k, &status, &Status::WriteFault);
         // The vault has the frames of what was written.
-        let (again, _status) = checked(&rt, rt.alloc(), objects.vault.bytes());
-        assert_front(
-            &rt,
-            "the vault's lines",
-            objects.out.bytes(),
-            again.out.bytes(),
-        );
+        let (out, vault) = (&REPORT.as_bytes()[..k], whole.vault.bytes());
+        objects.assert_hold(&rt, k, out, vault, Some("x"));
     }
 }
 
@@ -58,7 +53,7 @@ fn a_second_write_that_fails_leaves_the_first(rt: HostRuntime) {
     for piece in [7, 30, 1000] {
         let fails: (&[u64], &[u64], &[u64]) = (&[], &[1], &[]);
         let (objects, status) = program(&rt, rt.alloc(), &line, SCRIPT.as_bytes(), piece, fails);
-        assert_eq!(rt; status, Status::WriteFault, "{piece}");
+        assert_ended(&rt, piece, &status, &Status::WriteFault);
         assert!(rt; !objects.out.bytes().is_empty(), "{piece}");
         assert_front(&rt, "the report", objects.out.bytes(), REPORT.as_bytes());
     }
@@ -68,16 +63,14 @@ fn a_second_write_that_fails_leaves_the_first(rt: HostRuntime) {
 fn where_the_vault_fails_a_front_of_the_bundle_stands(rt: HostRuntime) {
     let line = line_of(&rt, rt.alloc(), "2");
     let (whole, status) = served(&rt, rt.alloc(), &line, SCRIPT, 1);
-    assert_eq!(rt; status, Status::Done { epochs: 1 });
+    assert_ended(&rt, 0, &status, &Status::Done { epochs: 1 });
     let bundle = whole.vault.bytes();
     assert!(rt; bundle.len() > 208);
     for k in 0..bundle.len() {
         let (objects, status) = failing(&rt, rt.alloc(), "2", (&[], &[], &[k as u64]));
-        assert_eq!(rt; status, Status::VaultFault, "{k}");
-        assert_eq!(rt; objects.vault.bytes(), &bundle[..k], "{k}");
-        assert!(rt; objects.vault.name_taken().is_none(), "{k}");
+        assert_ended(&rt, k, &status, &Status::VaultFault);
         // The one round's lines wait until the vault has its frames.
-        assert!(rt; objects.out.bytes().is_empty(), "{k}");
+        objects.assert_hold(&rt, k, &[], &bundle[..k], None);
     }
 }
 
@@ -85,24 +78,22 @@ fn where_the_vault_fails_a_front_of_the_bundle_stands(rt: HostRuntime) {
 fn a_vault_that_can_not_be_named_takes_nothing(rt: HostRuntime) {
     // Naming is the vault's first call.
     let (objects, status) = failing(&rt, rt.alloc(), "2 --logs x", (&[], &[], &[0]));
-    assert_eq!(rt; status, Status::VaultFault);
-    assert!(rt; objects.out.bytes().is_empty());
-    assert!(rt; objects.vault.bytes().is_empty());
-    assert!(rt; objects.vault.name_taken().is_none());
+    assert_ended(&rt, 0, &status, &Status::VaultFault);
+    objects.assert_hold(&rt, 0, &[], &[], None);
     // Behind it comes the first byte of the header.
     let (objects, status) = failing(&rt, rt.alloc(), "2 --logs x", (&[], &[], &[1]));
-    assert_eq!(rt; status, Status::VaultFault);
-    assert!(rt; objects.vault.bytes().is_empty());
-    assert_eq!(rt; objects.vault.name_taken(), Some("x"));
+    assert_ended(&rt, 1, &status, &Status::VaultFault);
+    objects.assert_hold(&rt, 1, &[], &[], Some("x"));
 }
 
-// Words and a script, with a sink and a vault that have room for so many bytes and take seven of them a write.
+// What is there behind a run with the words of a line, whose sink and vault have room for so many bytes and take seven of
+// them a write, and its status.
 fn cramped<R: Threads + Wait + Sync + Abort>(
     rt: &R,
     alloc: Global,
     line: &str,
     rooms: (usize, usize),
-) -> (MemorySink, MemoryVault, Status) {
+) -> (Objects, Status) {
     let mut words = Vec::new(alloc);
     for word in line.split_whitespace() {
         words.push(word).expect(rt, "memory");
@@ -119,37 +110,34 @@ fn cramped<R: Threads + Wait + Sync + Abort>(
         &mut vault,
         &FreeGate,
     );
-    (out, vault, status)
+    (Objects { source, out, vault }, status)
 }
 
 #[test]
 fn objects_that_are_too_small_are_filled(rt: HostRuntime) {
     let line = line_of(&rt, rt.alloc(), "2");
     let (whole, status) = served(&rt, rt.alloc(), &line, SCRIPT, 1);
-    assert_eq!(rt; status, Status::Done { epochs: 1 });
-    assert_eq!(rt; whole.vault.bytes().len(), 479);
-    for room in 0..REPORT.len() {
-        let (out, vault, status) = cramped(&rt, rt.alloc(), &line, (room, 479));
-        assert_eq!(rt; status, Status::WriteFault, "{room}");
-        assert_eq!(rt; out.bytes(), &REPORT.as_bytes()[..room], "{room}");
-        assert_eq!(rt; vault.bytes(), whole.vault.bytes(), "{room}");
+    assert_ended(&rt, 0, &status, &Status::Done { epochs: 1 });
+    let (report, bundle) = (REPORT.as_bytes(), whole.vault.bytes());
+    assert!(rt; bundle.len() == 479);
+    for room in 0..report.len() {
+        let (objects, status) = cramped(&rt, rt.alloc(), &line, (room, 479));
+        assert_ended(&rt, room, &status, &Status::WriteFault);
+        objects.assert_hold(&rt, room, &report[..room], bundle, None);
     }
     for room in 0..479 {
-        let (out, vault, status) = cramped(&rt, rt.alloc(), &line, (REPORT.len(), room));
-        assert_eq!(rt; status, Status::VaultFault, "{room}");
-        assert!(rt; out.bytes().is_empty(), "{room}");
-        assert_eq!(rt; vault.bytes(), &whole.vault.bytes()[..room], "{room}");
+        let (objects, status) = cramped(&rt, rt.alloc(), &line, (report.len(), room));
+        assert_ended(&rt, room, &status, &Status::VaultFault);
+        objects.assert_hold(&rt, room, &[], &bundle[..room], None);
     }
-    let (out, _vault, status) = cramped(&rt, rt.alloc(), &line, (REPORT.len(), 479));
-    assert_eq!(rt; status, Status::Done { epochs: 1 });
-    assert_eq!(rt; out.bytes(), REPORT.as_bytes());
+    let (objects, status) = cramped(&rt, rt.alloc(), &line, (report.len(), 479));
+    assert_ended(&rt, 479, &status, &Status::Done { epochs: 1 });
+    objects.assert_hold(&rt, 479, report, bundle, None);
     // A name that is too long is none.
     let line = line_of(&rt, rt.alloc(), "2 --logs xy");
-    let (out, vault, status) = cramped(&rt, rt.alloc(), &line, (REPORT.len(), 1));
-    assert_eq!(rt; status, Status::VaultFault);
-    assert!(rt; out.bytes().is_empty());
-    assert!(rt; vault.bytes().is_empty());
-    assert!(rt; vault.name_taken().is_none());
+    let (objects, status) = cramped(&rt, rt.alloc(), &line, (report.len(), 1));
+    assert_ended(&rt, 1, &status, &Status::VaultFault);
+    objects.assert_hold(&rt, 1, &[], &[], None);
 }
 
 #[test]

@@ -1,6 +1,6 @@
 //! Objects that fail, one call after the other, in a run of several rounds and in a load: what stands then in the sink and in
 //! the vault.
-use crate::serving::{Objects, host_line, program, served};
+use crate::serving::{Objects, assert_ended, host_line, program, served};
 use bundle_rows::{Case, cases_of};
 use fastver_top::Status;
 use std::alloc::Global;
@@ -132,7 +132,7 @@ fn where_the_vault_fails_the_lines_of_the_rounds_before_stand(rt: HostRuntime) {
             let fails: (&[u64], &[u64], &[u64]) = (&[], &[], &[k as u64]);
             let script = case.rows.as_bytes();
             let (objects, status) = program(&rt, rt.alloc(), &line, script, 1, fails);
-            assert_eq!(rt; status, Status::VaultFault, "{line} {k}");
+            assert_ended(&rt, k, &status, &Status::VaultFault);
             assert_first(&rt, &line, objects.vault.bytes(), all.vault.bytes(), k);
             let lines = if k < marks.second { 0 } else { marks.lines };
             assert_first(&rt, &line, objects.out.bytes(), all.out.bytes(), lines);
@@ -153,7 +153,7 @@ fn where_a_write_fails_the_vault_has_the_rounds_up_to_it(rt: HostRuntime) {
             let fails: (&[u64], &[u64], &[u64]) = (&[], &[k as u64], &[]);
             let script = case.rows.as_bytes();
             let (objects, status) = program(&rt, rt.alloc(), &line, script, 1, fails);
-            assert_eq!(rt; status, Status::WriteFault, "{line} {k}");
+            assert_ended(&rt, k, &status, &Status::WriteFault);
             assert_first(&rt, &line, objects.out.bytes(), all.out.bytes(), k);
             let kept = if k < marks.lines {
                 marks.second
@@ -169,13 +169,12 @@ fn where_a_write_fails_the_vault_has_the_rounds_up_to_it(rt: HostRuntime) {
 fn where_a_read_fails_no_round_is_begun(rt: HostRuntime) {
     for case in &cases_of(rt.alloc(), RUNS).expect(&rt, "the cases") {
         let line = host_line(&rt, rt.alloc(), case.label);
-        for k in 0..case.rows.len() as u64 + 1 {
-            let fails: (&[u64], &[u64], &[u64]) = (&[k], &[], &[]);
+        for k in 0..case.rows.len() + 1 {
+            let fails: (&[u64], &[u64], &[u64]) = (&[k as u64], &[], &[]);
             let script = case.rows.as_bytes();
             let (objects, status) = program(&rt, rt.alloc(), &line, script, 1, fails);
-            assert_eq!(rt; status, Status::ReadFault, "{line} {k}");
-            assert!(rt; objects.out.bytes().is_empty(), "{line} {k}");
-            assert!(rt; objects.vault.bytes().is_empty(), "{line} {k}");
+            assert_ended(&rt, k, &status, &Status::ReadFault);
+            objects.assert_hold(&rt, k, &[], &[], None);
         }
     }
 }
@@ -194,28 +193,25 @@ worker 1 gets 1 none 1 puts 0 dels 0
 #[test]
 fn where_an_object_of_a_load_fails_a_front_stands(rt: HostRuntime) {
     let (all, status) = served(&rt, rt.alloc(), LOAD, "", 1);
-    assert_eq!(rt; status, Status::Done { epochs: 2 });
-    assert_eq!(rt; all.out.bytes(), SUMMARY.as_bytes());
-    assert_eq!(rt; all.vault.bytes().len(), 659);
+    assert_ended(&rt, 0, &status, &Status::Done { epochs: 2 });
+    let (summary, bundle) = (SUMMARY.as_bytes(), all.vault.bytes());
+    all.assert_hold(&rt, 0, summary, bundle, None);
+    assert!(rt; bundle.len() == 659);
     for k in 0..659 {
         let fails: (&[u64], &[u64], &[u64]) = (&[], &[], &[k as u64]);
         let (objects, status) = program(&rt, rt.alloc(), LOAD, b"", 1, fails);
-        assert_eq!(rt; status, Status::VaultFault, "{k}");
-        assert!(rt; objects.out.bytes().is_empty(), "{k}");
-        assert_first(&rt, "load", objects.vault.bytes(), all.vault.bytes(), k);
+        assert_ended(&rt, k, &status, &Status::VaultFault);
+        objects.assert_hold(&rt, k, &[], &bundle[..k], None);
     }
-    for k in 0..SUMMARY.len() {
+    for k in 0..summary.len() {
         let fails: (&[u64], &[u64], &[u64]) = (&[], &[k as u64], &[]);
         let (objects, status) = program(&rt, rt.alloc(), LOAD, b"", 1, fails);
-        assert_eq!(rt; status, Status::WriteFault, "{k}");
-        assert_eq!(rt; objects.out.bytes(), &SUMMARY.as_bytes()[..k], "{k}");
-        assert_eq!(rt; objects.vault.bytes(), all.vault.bytes(), "{k}");
+        assert_ended(&rt, k, &status, &Status::WriteFault);
+        objects.assert_hold(&rt, k, &summary[..k], bundle, None);
     }
     let named = format!(in rt.alloc(); "{LOAD} --logs x").expect(&rt, "memory");
     let fails: (&[u64], &[u64], &[u64]) = (&[], &[], &[0]);
     let (objects, status) = program(&rt, rt.alloc(), &named, b"", 1, fails);
-    assert_eq!(rt; status, Status::VaultFault);
-    assert!(rt; objects.out.bytes().is_empty());
-    assert!(rt; objects.vault.bytes().is_empty());
-    assert!(rt; objects.vault.name_taken().is_none());
+    assert_ended(&rt, 0, &status, &Status::VaultFault);
+    objects.assert_hold(&rt, 0, &[], &[], None);
 }

@@ -1,5 +1,5 @@
 //! Scripts that are served, scripts that are bad, and clocks that end.
-use crate::serving::{assert_served, line_of, served};
+use crate::serving::{assert_ended, assert_served, line_of, served};
 use bundle_rows::{bundle_of, cases_of};
 use fastver_top::Status;
 use std::alloc::Global;
@@ -100,9 +100,9 @@ fn the_vault_holds_the_bundle_of_an_empty_script(rt: HostRuntime) {
     assert_eq!(rt; bundle.len(), 208);
     let line = line_of(&rt, rt.alloc(), "2 --logs x");
     let (objects, status) = served(&rt, rt.alloc(), &line, "", 10);
-    assert_eq!(rt; objects.vault.bytes(), bundle.as_slice());
-    assert_eq!(rt; objects.vault.name_taken(), Some("x"));
-    assert_eq!(rt; status, Status::Done { epochs: 1 });
+    let report = b"epoch 0 certified 0\ndone 1\n";
+    objects.assert_hold(&rt, 0, report, &bundle, Some("x"));
+    assert_ended(&rt, 0, &status, &Status::Done { epochs: 1 });
 }
 
 #[test]
@@ -111,12 +111,8 @@ fn where_counters_do_not_suffice_for_the_setup_the_vault_holds_a_header(rt: Host
     assert_eq!(rt; header.len(), 18);
     let line = line_of(&rt, rt.alloc(), "2 --counter 1 --logs x");
     let (objects, status) = served(&rt, rt.alloc(), &line, "0 get 5\n", 10);
-    assert_eq!(rt; objects.vault.bytes(), header.as_slice());
-    assert_eq!(rt; objects.vault.name_taken(), Some("x"));
-    assert_eq!(rt;
-        objects.out.bytes(),
-        b"clock end worker 0 at 0.0\n".as_slice()
-    );
+    let report = b"clock end worker 0 at 0.0\n";
+    objects.assert_hold(&rt, 0, report, &header, Some("x"));
     assert_eq!(rt; status.number(), 10);
 }
 
@@ -172,9 +168,7 @@ fn bad_scripts_are_refused_before_anything_is_written(rt: HostRuntime) {
             case.report.trim().as_bytes(),
             "{label}"
         );
-        assert!(rt; objects.out.bytes().is_empty(), "{label}");
-        assert!(rt; objects.vault.bytes().is_empty(), "{label}");
-        assert!(rt; objects.vault.name_taken().is_none(), "{label}");
+        objects.assert_hold(&rt, 0, &[], &[], None);
     }
 }
 

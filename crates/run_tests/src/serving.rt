@@ -32,6 +32,27 @@ pub(crate) struct Objects {
     pub vault: MemoryVault,
 }
 
+impl Objects {
+    /// The sink and the vault hold these bytes, and the vault took this name. Else the test ends, and tells which turn it was.
+    pub(crate) fn assert_hold(
+        &self,
+        rt: &impl Abort,
+        turn: usize,
+        out: &[u8],
+        vault: &[u8],
+        name: Option<&str>,
+    ) {
+        assert_eq!(rt; self.out.bytes(), out, "{turn}");
+        assert_eq!(rt; self.vault.bytes(), vault, "{turn}");
+        assert_eq!(rt; self.vault.name_taken(), name, "{turn}");
+    }
+}
+
+/// A run ended so. Else the test ends, and tells which turn it was.
+pub(crate) fn assert_ended(rt: &impl Abort, turn: usize, status: &Status, wanted: &Status) {
+    assert_eq!(rt; status, wanted, "{turn}");
+}
+
 /// What is there behind the program with the words of a line, over these bytes, all by pieces of so many and with calls
 /// that fail, and its status.
 pub(crate) fn program<R: Threads + Wait + Sync + Abort>(
