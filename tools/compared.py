@@ -13,7 +13,7 @@ import slow_fastver
 import slow_judge
 
 VAULT = "vault"  # where the vault goes that is looked at
-SECONDS = 120  # how long a program may take for one input
+SECONDS = 600  # how long a program may take for one input, also beside other work
 SHOWN = 2000  # bytes of an output that are shown
 
 

@@ -78,7 +78,7 @@ fn come_or_go(rt: &impl Abort, cache: &mut Cache, row: &str) -> bool {
 }
 
 // The keys from 0 on are there where the row has a 1.
-fn has_keys(rt: &impl Abort, cache: &Cache, row: &str) {
+fn assert_keys(rt: &impl Abort, cache: &Cache, row: &str) {
     for (key, there) in field(rt, row, 3).as_bytes().iter().enumerate() {
         same(rt, row, &has(cache, key as u64), &(*there == b'1'));
     }
@@ -91,7 +91,7 @@ fn entries_come_and_go(rt: HostRuntime) {
     for row in COMINGS.trim().lines() {
         let done = come_or_go(&rt, &mut cache, row);
         same(&rt, row, &done, &(field(&rt, row, 2) == "true"));
-        has_keys(&rt, &cache, row);
+        assert_keys(&rt, &cache, row);
     }
     same(&rt, "entries at last", &cache.len(), &1);
 }
@@ -152,7 +152,7 @@ fn cache_of_two(cache: &mut Cache) -> bool {
 }
 
 // Changes a kid bit as a row says, and then looks at both entries.
-fn change_by(rt: &impl Abort, cache: &mut Cache, row: &str) {
+fn assert_change(rt: &impl Abort, cache: &mut Cache, row: &str) {
     let path = path_of(rt, field(rt, row, 0));
     let side = field(rt, row, 1) == "1";
     let changed = change(cache, &path, side, field(rt, row, 2) == "1");
@@ -168,12 +168,12 @@ fn one_kid_bit_changes_at_a_time(rt: HostRuntime) {
     let mut cache = Cache::new(rt.alloc(), 2).expect(&rt, "memory");
     same(&rt, "both come in", &cache_of_two(&mut cache), &true);
     for row in CHANGES.trim().lines() {
-        change_by(&rt, &mut cache, row);
+        assert_change(&rt, &mut cache, row);
     }
 }
 
 // The value of the key 5 leaves once.
-fn leaves_once(rt: &impl Abort, cache: &mut Cache, value: &Value) {
+fn assert_leaves_once(rt: &impl Abort, cache: &mut Cache, value: &Value) {
     match take_out(cache, 5) {
         Some(found) => same(rt, "the value that leaves", &found, value),
         None => panic!(rt; "no value"),
@@ -198,6 +198,6 @@ fn one_entry_is_written_at_a_time(rt: HostRuntime) {
     same(&rt, "the key then", &state_of(&cache, &key), &written);
     let other = Some(([true, false], Hold::Root));
     same(&rt, "the root then", &state_of(&cache, &root), &other);
-    leaves_once(&rt, &mut cache, &one_byte(&rt, "7"));
+    assert_leaves_once(&rt, &mut cache, &one_byte(&rt, "7"));
     same(&rt, "the root stays", &cache.find(&root).is_some(), &true);
 }

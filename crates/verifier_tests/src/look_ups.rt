@@ -132,7 +132,7 @@ fn both(rt: &impl Abort, cache: &mut Cache, plain: &mut Plain, room: usize, numb
 }
 
 // Does the same to both, and then looks another path up in both.
-fn go_on(rt: &impl Abort, cache: &mut Cache, plain: &mut Plain, room: usize, number: u64) {
+fn assert_alike(rt: &impl Abort, cache: &mut Cache, plain: &mut Plain, room: usize, number: u64) {
     let alike = both(rt, cache, plain, room, number);
     same_at(rt, number, &alike, &true);
     same_at(rt, number, &cache.len(), &plain.entries.len());
@@ -141,7 +141,7 @@ fn go_on(rt: &impl Abort, cache: &mut Cache, plain: &mut Plain, room: usize, num
 }
 
 // The cache has each of these entries.
-fn has_all(rt: &impl Abort, cache: &Cache, entries: &[Entry]) {
+fn assert_all_there(rt: &impl Abort, cache: &Cache, entries: &[Entry]) {
     for entry in entries {
         match cache.entry(&entry.path) {
             Some(found) => same(rt, "an entry at last", found, entry),
@@ -160,9 +160,9 @@ fn a_cache_answers_as_a_plain_list_does(rt: HostRuntime) {
         let mut number = u64::from(room);
         for _ in 0..3000 {
             number = number_after(number);
-            go_on(&rt, &mut cache, &mut plain, room as usize, number);
+            assert_alike(&rt, &mut cache, &mut plain, room as usize, number);
         }
-        has_all(&rt, &cache, &plain.entries);
+        assert_all_there(&rt, &cache, &plain.entries);
     }
 }
 

@@ -156,7 +156,7 @@ k8070450532247928832,4 0 empty 0,0 1:k8070450532247928832,4
 ";
 
 // Adds as a row says, and compares the node and the value then.
-fn add_by(rt: &impl Abort, row: &str) {
+fn assert_added(rt: &impl Abort, row: &str) {
     let node = with_left(rt, field(rt, row, 0));
     let path = path_of(rt, field(rt, row, 1));
     let value = value_of(rt, field(rt, row, 2));
@@ -172,7 +172,7 @@ fn add_by(rt: &impl Abort, row: &str) {
 #[test]
 fn adds_change_one_side(rt: HostRuntime) {
     for row in ADDS.trim().lines() {
-        add_by(&rt, row);
+        assert_added(&rt, row);
     }
 }
 
@@ -184,7 +184,7 @@ none 0 empty 0,0
 ";
 
 // Evicts as a row says, and compares the node then.
-fn evict_by(rt: &impl Abort, row: &str) {
+fn assert_evicted(rt: &impl Abort, row: &str) {
     let node = with_left(rt, field(rt, row, 0));
     let path = path_of(rt, field(rt, row, 1));
     let value = value_of(rt, field(rt, row, 2));
@@ -195,7 +195,7 @@ fn evict_by(rt: &impl Abort, row: &str) {
 #[test]
 fn evicts_change_one_side(rt: HostRuntime) {
     for row in EVICTS.trim().lines() {
-        evict_by(&rt, row);
+        assert_evicted(&rt, row);
     }
 }
 

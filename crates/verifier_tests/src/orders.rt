@@ -54,7 +54,7 @@ const MERGES: &str = "
 ";
 
 // Merges the operations of a row.
-fn merge_row(rt: &impl Abort, alloc: Global, row: &str) {
+fn assert_merged(rt: &impl Abort, alloc: Global, row: &str) {
     let (epoch, rest) = row.split_once('>').expect(rt, "a row without operations");
     let (given, expected) = rest.split_once('>').expect(rt, "a row without an answer");
     let epoch = epoch.trim().parse().expect(rt, "a number");
@@ -67,7 +67,7 @@ fn merge_row(rt: &impl Abort, alloc: Global, row: &str) {
 #[test]
 fn operations_merge_by_clock_then_verifier_then_index(rt: HostRuntime) {
     for row in MERGES.trim().lines() {
-        merge_row(&rt, rt.alloc(), row);
+        assert_merged(&rt, rt.alloc(), row);
     }
     let earlier = Moment::of(&put_at(&rt, "0.1/2.3"));
     let is_earlier = earlier < Moment::of(&put_at(&rt, "0.1/3.0"));

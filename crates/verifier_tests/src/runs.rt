@@ -112,7 +112,7 @@ fn only_part(rt: &impl Abort, label: &str, run: &Run) -> Part {
 }
 
 // The run of the put and the get has both, and seals one epoch.
-fn is_put_and_got(rt: &impl Abort, label: &str, run: &Run) {
+fn assert_put_and_got(rt: &impl Abort, label: &str, run: &Run) {
     same(rt, label, &run.refused(), &None);
     let expected = [ab_at_5(rt, 1, true), ab_at_5(rt, 4, false)];
     same(rt, label, &run.ops(), &expected.as_slice());
@@ -125,12 +125,12 @@ fn pieces_do_not_matter(rt: HostRuntime) {
     let log = log_of(&rt, rt.alloc(), PUT_AND_GOT);
     for (size, label) in SIZES {
         let run = in_pieces(&rt, rt.alloc(), &d, &log, size);
-        is_put_and_got(&rt, label, &run);
+        assert_put_and_got(&rt, label, &run);
     }
 }
 
 // A log is refused at this command, in whatever pieces it is fed.
-fn is_refused(rt: &impl Abort, alloc: Global, log: &[u8], index: u64, refusal: Refusal) {
+fn assert_refused(rt: &impl Abort, alloc: Global, log: &[u8], index: u64, refusal: Refusal) {
     let d = ShaDigests::new(b"a key");
     let wanted = Some((index, refusal));
     for (size, label) in SIZES {
@@ -143,11 +143,11 @@ fn is_refused(rt: &impl Abort, alloc: Global, log: &[u8], index: u64, refusal: R
 fn logs_are_refused_where_they_go_wrong(rt: HostRuntime) {
     let mut log = log_of(&rt, rt.alloc(), PUT_AND_GOT);
     let cut = log.get(..21).expect(&rt, "a log that is too short");
-    is_refused(&rt, rt.alloc(), cut, 1, Refusal::Truncated);
-    is_refused(&rt, rt.alloc(), &[9], 0, Refusal::Malformed);
+    assert_refused(&rt, rt.alloc(), cut, 1, Refusal::Truncated);
+    assert_refused(&rt, rt.alloc(), &[9], 0, Refusal::Malformed);
     // The last byte of the value that the get answers.
     *log.get_mut(89).expect(&rt, "a log that is too short") = b'c';
-    is_refused(&rt, rt.alloc(), &log, 4, Refusal::WrongValue);
+    assert_refused(&rt, rt.alloc(), &log, 4, Refusal::WrongValue);
 }
 
 // The run of a log that isn't refused.
@@ -175,7 +175,7 @@ fn the_sums_of_an_epoch_are_those_of_its_elements(rt: HostRuntime) {
 }
 
 // A run is refused at its second command, and has no gets and puts.
-fn is_refused_at_1(rt: &impl Abort, label: &str, run: &Run) {
+fn assert_refused_at_1(rt: &impl Abort, label: &str, run: &Run) {
     same(rt, label, &run.refused(), &Some((1, Refusal::Malformed)));
     same(rt, label, &run.ops().len(), &0);
 }
@@ -187,10 +187,10 @@ fn a_refused_run_stays_as_it_is(rt: HostRuntime) {
     let more = log.get(..92).expect(&rt, "a log that is too short");
     let mut run = Run::new(rt.alloc(), 0, &header()).expect(&rt, "memory");
     let _ = run.feed(&ToyDigests, &[8, 9]);
-    is_refused_at_1(&rt, "refused", &run);
+    assert_refused_at_1(&rt, "refused", &run);
     same(&rt, "more", &run.feed(&ToyDigests, more), &Ok(()));
     run.end();
-    is_refused_at_1(&rt, "ended", &run);
+    assert_refused_at_1(&rt, "ended", &run);
 }
 
 #[test]
@@ -210,7 +210,7 @@ fn index_at(rt: &impl Abort, operations: &[Operation], place: usize) -> u64 {
 }
 
 // The run of the two puts has the second alone.
-fn has_the_second(rt: &impl Abort, run: &Run) {
+fn assert_second_left(rt: &impl Abort, run: &Run) {
     same(rt, "one put left", &run.ops().len(), &1);
     same(rt, "its index", &index_at(rt, run.ops(), 0), &3);
     same(
@@ -228,7 +228,7 @@ fn what_is_taken_is_kept_no_longer(rt: HostRuntime) {
     let mut taken = run.take(0).expect(&rt, "memory");
     let first = [ab_at_5(&rt, 1, true)];
     same(&rt, "taken", &taken.as_slice(), &first.as_slice());
-    has_the_second(&rt, &run);
+    assert_second_left(&rt, &run);
     run.take_into(1, &mut taken).expect(&rt, "memory");
     same(&rt, "both", &taken.len(), &2);
     same(&rt, "the second", &index_at(&rt, &taken, 1), &3);

@@ -32,7 +32,7 @@ fn start_of(epoch: u32) -> Stamp {
 }
 
 // The one entry of a verifier is the empty root.
-fn has_the_root(rt: &impl Abort, verifier: &Verifier) {
+fn assert_root_alone(rt: &impl Abort, verifier: &Verifier) {
     same(rt, "one entry", &verifier.entries().len(), &1);
     let root = Path::root();
     let wanted = Entry {
@@ -47,7 +47,7 @@ fn has_the_root(rt: &impl Abort, verifier: &Verifier) {
 
 #[test]
 fn the_root_is_cached_by_verifier_0_alone(rt: HostRuntime) {
-    has_the_root(&rt, &opened(&rt, rt.alloc(), 0, 7));
+    assert_root_alone(&rt, &opened(&rt, rt.alloc(), 0, 7));
     let second = opened(&rt, rt.alloc(), 1, 7);
     same(&rt, "no entries", &second.entries().len(), &0);
     same(&rt, "the clock", &second.clock(), &start_of(7));
@@ -62,7 +62,7 @@ fn part_of(effect: &Effect) -> Option<Part> {
 }
 
 // The part has no elements, and is verifier 1's of epoch 7.
-fn is_empty_part(rt: &impl Abort, part: &Part) {
+fn assert_empty_part(rt: &impl Abort, part: &Part) {
     same(rt, "the verifier", &part.verifier, &1);
     same(rt, "the epoch", &part.epoch, &7);
     same(rt, "added", &part.added.count(), &0);
@@ -77,7 +77,7 @@ fn the_second_turn_seals_the_first_epoch(rt: HostRuntime) {
     let Ok(effect) = verifier.step(&ToyDigests, &Command::NextEpoch) else {
         panic!(rt; "a refusal");
     };
-    is_empty_part(&rt, &part_of(&effect).expect(&rt, "no part"));
+    assert_empty_part(&rt, &part_of(&effect).expect(&rt, "no part"));
     same(&rt, "the clock", &verifier.clock(), &start_of(9));
 }
 
