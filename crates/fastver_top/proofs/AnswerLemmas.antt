@@ -1,5 +1,5 @@
 -- What was asked is what the words ask for, and the headline of whatever a source has.
-use Rattle.std.proofs.Common.{◌≡◌, ℕ, List, Option, Some, None, IfSome, refl, sym, ◌∙◌, ap, inr, arith}
+use Rattle.std.proofs.Common.{◌≡◌, ℕ, List, Option, Some, None, IfSome, refl, sym, ◌∙◌, ap, inl, inr, arith}
 use Rattle.fv_outside.specs.Consumed.{TookAtMost}
 use Rattle.record_hash.specs.ShaDigests.{sha_under}
 use Rattle.program_words.specs.declared.words.Asked.TheVariants.{Check, Audit, Run, Gen, Accept}
@@ -12,7 +12,7 @@ use Rattle.bundle_report.proofs.HeadlineLaws.{sha_headline, of_left}
 use Rattle.fastver_top.specs.Auditing.{sha_audit_answer}
 use Rattle.fastver_top.specs.Answers.{asked_key, AnswersFor, bundle_for, IsSoundFor}
 use Rattle.check_core.specs.declared.stops.ReadStop.TheVariants as reads
-use Rattle.fastver_top.proofs.RunLemmas.{cut-none, runs-memory}
+use Rattle.fastver_top.proofs.RunLemmas.{runs-memory}
 use Rattle.fastver_top.proofs.LoadLemmas.{gens-nothing}
 use Rattle.fastver_top.proofs.AcceptLemmas.{answers-unread}
 
@@ -41,8 +41,7 @@ answers-nothing (Check check) most left held vault name r r' w w' v v' =
     answers-none (sha_check_answer check.receipts check.key) reading_end most left held r r' w w'
 answers-nothing (Audit key) most left held vault name r r' w w' v v' = answers-none (sha_audit_answer key) reading_end most left held r r' w w'
 answers-nothing (Run run) most left held vault name r r' w w' v v' =
-    runs-memory (sha_under run.key) run most _ _ _ (took_none most left)
-    (cut-none run.receipts (sha_under run.key) (record { vault = vault; vault_after = vault; out = held; out_after = held }) refl refl)
+    runs-memory (sha_under run.key) run most _ _ _ (took_none most left) (inl (record { unnamed = refl; vault = refl; out = refl }))
     (inr (record { unnamed = refl; vault = refl; out = refl }))
 answers-nothing (Gen load) most left held vault name r r' w w' v v' =
     gens-nothing (sha_under load.key) load _ _ (record { unnamed = refl; vault = refl; out = refl })

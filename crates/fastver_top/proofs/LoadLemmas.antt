@@ -6,7 +6,6 @@ use Rattle.std.specs.Option.{ForSome}
 use Rattle.std.proofs.lemmas.Bool.{false≢true}
 use Rattle.std.proofs.lemmas.Nat.{mod_below}
 use Rattle.fv_outside.specs.Faults.{Rose}
-use Rattle.fv_outside.proofs.WrittenLaws.{Grows-same}
 use Rattle.record_hash.specs.Functions.{DigestFunctions}
 use Rattle.record_text.specs.declared.request.Request.{Request}
 use Rattle.record_text.proofs.FieldLaws.{AreBytes}
@@ -141,7 +140,8 @@ module _ (functions : DigestFunctions) (words : GenWords) (writing : Writing) (k
   own_outputs = outputs_of writing keeping
 
   -- memory was wanting
-  pub gens-memory : IsCutBefore own_outputs → IsNamedFor words.logs keeping.name keeping.name_after ⊎ IsUntouched keeping.name keeping.name_after own_outputs
+  pub gens-memory : IsUntouched keeping.name keeping.name_after own_outputs ⊎ IsCutBefore functions (settings_for words.numbers) (script_for words) own_outputs
+      → IsNamedFor words.logs keeping.name keeping.name_after ⊎ IsUntouched keeping.name keeping.name_after own_outputs
       → GensTo functions words statuses.Memory writing keeping
   gens-memory before named = record {
     summed = λ end. absurd end;
@@ -159,15 +159,15 @@ module _ (functions : DigestFunctions) (words : GenWords) (writing : Writing) (k
 
   -- nothing was done
   pub gens-nothing : IsUntouched keeping.name keeping.name_after own_outputs → GensTo functions words statuses.Memory writing keeping
-  gens-nothing untouched =
-      gens-memory (record { bytes = []; vault = Grows-same own_outputs.vault own_outputs.vault_after untouched.vault; out = untouched.out }) (inr untouched)
+  gens-nothing untouched = gens-memory (inl untouched) (inr untouched)
 
   -- the vault failed
-  gens-vault_fault : IsCutBefore own_outputs → IsNamedFor words.logs keeping.name keeping.name_after ⊎ IsUntouched keeping.name keeping.name_after own_outputs
+  gens-vault_fault : IsCutBefore functions (settings_for words.numbers) (script_for words) own_outputs
+      → IsNamedFor words.logs keeping.name keeping.name_after ⊎ IsUntouched keeping.name keeping.name_after own_outputs
       → Rose keeping.faults keeping.faults_after → GensTo functions words statuses.VaultFault writing keeping
   gens-vault_fault before named rose = record {
     summed = λ end. absurd end;
-    before = λ _. before;
+    before = λ _. inr before;
     cut = λ is. absurd (cc);
     named = named;
     named_at_end = λ is. absurd (not_end is);
@@ -203,7 +203,7 @@ module _ (functions : DigestFunctions) (words : GenWords) (writing : Writing) (k
       → IsNamedFor words.logs keeping.name keeping.name_after ⊎ IsUntouched keeping.name keeping.name_after own_outputs
       → (stop ≡ rounds.VaultFault → Rose keeping.faults keeping.faults_after) → (stop ≡ rounds.WriteFault → Rose writing.faults writing.faults_after)
       → GensTo functions words (run_stopped stop) writing keeping
-  gens-stopped rounds.Memory sums named first vault out = gens-memory sums first
+  gens-stopped rounds.Memory sums named first vault out = gens-memory (inr sums) first
   gens-stopped rounds.VaultFault sums named first vault out = gens-vault_fault sums first (vault refl)
   gens-stopped rounds.WriteFault sums named first vault out = gens-write_fault sums (named (λ is. cc)) (out refl)
 

@@ -1,9 +1,8 @@
 -- What a run does, by how it ends.
-use Rattle.std.proofs.Common.{◌≡◌, Bool, ◌⊎◌, ℕ, ◌+◌, List, [], ◌++◌, length, Option, Some, None, Ok, Err, inl, inr, refl, sym, ◌∙◌, ap, subst}
+use Rattle.std.proofs.Common.{◌≡◌, Bool, ◌⊎◌, ℕ, ◌+◌, List, ◌++◌, length, Option, Some, None, Ok, Err, inl, inr, refl, sym, ◌∙◌, ap, subst}
 use Rattle.fv_outside.specs.Consumed.{TookAtMost, TookJust}
 use Rattle.fv_outside.specs.Faults.{Rose}
-use Rattle.fv_outside.specs.Written.{Grows, GrowsByFront}
-use Rattle.fv_outside.proofs.WrittenLaws.{Grows-same, GrowsByFront-none}
+use Rattle.fv_outside.specs.Written.{Grows}
 use Rattle.record_hash.specs.Functions.{DigestFunctions}
 use Rattle.record_text.specs.declared.cause.Cause.{Cause}
 use Rattle.program_words.specs.declared.host_words.RunWords.{RunWords}
@@ -15,7 +14,6 @@ use Rattle.report_text.specs.Ending.{status_of}
 use Rattle.report_text.specs.Status.{last_line}
 use Rattle.check_core.specs.declared.stops.ReadStop.TheVariants as reads
 use Rattle.bundle_report.specs.Report.{told_by}
-use Rattle.bundle_report.specs.Answer.{check_answer}
 use Rattle.script_text.specs.declared.fault.ScriptFault.TheVariants as faults
 use Rattle.script_text.specs.declared.task.Task.{Task}
 use Rattle.log_codec.specs.declared.command.Command.{Command}
@@ -30,7 +28,7 @@ use Rattle.verifier_threads.specs.declared.ending.RunEnd.TheVariants as ends
 use Rattle.verifier_threads.specs.Serving.{Outputs, AreOfRun, IsServed, IsCutOff, IsCutAtEnd, ServesTo, end_by, status_at, texts_of}
 use Rattle.fastver_top.specs.declared.scripts.ScriptStop.{ScriptStop}
 use Rattle.fastver_top.specs.declared.scripts.ScriptStop.TheVariants as scripts
-use Rattle.fastver_top.specs.Running.{HasScript, HasBadLine, ReadsScript, script_stopped, run_stopped, settings_for, Keeping, outputs_of, EndsServed, IsDueByCheck, IsAnswerOfCheck, IsNamedFor, IsUntouched, IsBehindScript, RunsTo}
+use Rattle.fastver_top.specs.Running.{HasScript, HasBadLine, ReadsScript, script_stopped, run_stopped, settings_for, Keeping, outputs_of, EndsServed, EndsCutOff, IsDueByCheck, IsAnswerOfCheck, IsNamedFor, IsUntouched, IsBehindScript, RunsTo}
 
 -- ---- what a check of the vault's bytes answers
 
@@ -68,19 +66,12 @@ module _ (receipts : Bool) (functions : DigestFunctions) (settings : Settings) (
         status = bundle-end receipts functions settings.header (texts_of served.logs) served.vault.bytes served.vault.is_bundle ∙ sym status;
       }
 
--- nothing was written
-pub cut-none : (receipts : Bool) (functions : DigestFunctions) (outputs : Outputs) → outputs.vault_after ≡ outputs.vault → outputs.out_after ≡ outputs.out → IsCutOff receipts functions outputs
-cut-none receipts functions outputs vault out = record {
-  bytes = [];
-  vault = Grows-same outputs.vault outputs.vault_after vault;
-  out = subst (λ (held : Option (List ℕ)). GrowsByFront outputs.out held (check_answer receipts functions []).due) (sym out) (GrowsByFront-none outputs.out (check_answer receipts functions []).due);
-}
-
 -- ---- how it ends
 
 module _ (functions : DigestFunctions) (run : RunWords) (most : ℕ) (reading : Reading) (writing : Writing) (keeping : Keeping) where
   -- memory was wanting
-  pub runs-memory : TookAtMost most reading.left reading.left_after → IsCutOff run.receipts functions (outputs_of writing keeping)
+  pub runs-memory : TookAtMost most reading.left reading.left_after
+      → IsUntouched keeping.name keeping.name_after (outputs_of writing keeping) ⊎ EndsCutOff functions run statuses.Memory reading (outputs_of writing keeping)
       → IsNamedFor run.logs keeping.name keeping.name_after ⊎ IsUntouched keeping.name keeping.name_after (outputs_of writing keeping)
       → RunsTo functions run most statuses.Memory reading writing keeping
   runs-memory within cut named = record {
@@ -194,14 +185,15 @@ module _ (functions : DigestFunctions) (run : RunWords) (most : ℕ) (reading : 
 
   -- the vault failed
   pub runs-vault_fault : (script : List (List Task)) → HasScript run.numbers.verifiers reading script → TookAtMost most reading.left reading.left_after
-      → IsCutOff run.receipts functions (outputs_of writing keeping) → IsNamedFor run.logs keeping.name keeping.name_after ⊎ IsUntouched keeping.name keeping.name_after (outputs_of writing keeping)
+      → IsCutOff run.receipts functions (settings_for run.numbers) script (outputs_of writing keeping)
+      → IsNamedFor run.logs keeping.name keeping.name_after ⊎ IsUntouched keeping.name keeping.name_after (outputs_of writing keeping)
       → Rose keeping.faults keeping.faults_after
       → RunsTo functions run most statuses.VaultFault reading writing keeping
   runs-vault_fault script read within cut named rose = record {
     served = λ end. absurd end;
     due = λ end. absurd end;
     checked = λ epochs is. absurd (cc);
-    cut = λ _. cut;
+    cut = λ _. inr (record { script = script; read = read; cut = cut });
     cut_report = λ is. absurd (cc);
     bad = λ line cause is. absurd (cc);
     good = λ _. (script, read);
@@ -220,7 +212,8 @@ module _ (functions : DigestFunctions) (run : RunWords) (most : ℕ) (reading : 
 
   -- the sink failed
   pub runs-write_fault : (script : List (List Task)) → HasScript run.numbers.verifiers reading script → TookAtMost most reading.left reading.left_after
-      → IsCutOff run.receipts functions (outputs_of writing keeping) ⊎ IsCutAtEnd run.receipts functions (settings_for run.numbers) script (outputs_of writing keeping)
+      → IsCutOff run.receipts functions (settings_for run.numbers) script (outputs_of writing keeping)
+      ⊎ IsCutAtEnd run.receipts functions (settings_for run.numbers) script (outputs_of writing keeping)
       → IsNamedFor run.logs keeping.name keeping.name_after → Rose writing.faults writing.faults_after
       → RunsTo functions run most statuses.WriteFault reading writing keeping
   runs-write_fault script read within cut named rose = record {
@@ -278,11 +271,11 @@ module _ (functions : DigestFunctions) (run : RunWords) (most : ℕ) (reading : 
       → IsUntouched keeping.name keeping.name_after (outputs_of writing keeping)
       → RunsTo functions run most (script_stopped most stop) reading writing keeping
   runs-unread (scripts.Reading reads.Memory) read untouched =
-      runs-memory (read.within (λ is. cc)) (cut-none run.receipts functions (outputs_of writing keeping) untouched.vault untouched.out) (inr untouched)
+      runs-memory (read.within (λ is. cc)) (inl untouched) (inr untouched)
   runs-unread (scripts.Reading reads.ReadFault) read untouched = runs-read_fault (read.within (λ is. cc)) (read.fault refl) untouched
   runs-unread (scripts.Reading reads.InputLimit) read untouched = runs-limit (read.limit refl) untouched
   runs-unread (scripts.Script faults.Memory) read untouched =
-      runs-memory (read.within (λ is. cc)) (cut-none run.receipts functions (outputs_of writing keeping) untouched.vault untouched.out) (inr untouched)
+      runs-memory (read.within (λ is. cc)) (inl untouched) (inr untouched)
   runs-unread (scripts.Script (faults.BadScript line cause)) read untouched =
       runs-bad_script line cause (read.within (λ is. cc)) (read.bad line cause refl) untouched
 
@@ -293,7 +286,7 @@ module _ (functions : DigestFunctions) (run : RunWords) (most : ℕ) (reading : 
         → IsNamedFor run.logs keeping.name keeping.name_after ⊎ IsUntouched keeping.name keeping.name_after (outputs_of writing keeping)
         → (stop ≡ rounds.VaultFault → Rose keeping.faults keeping.faults_after) → (stop ≡ rounds.WriteFault → Rose writing.faults writing.faults_after)
         → RunsTo functions run most (run_stopped stop) reading writing keeping
-    runs-stopped rounds.Memory served named first vault out = runs-memory (read.within (λ is. cc)) served first
+    runs-stopped rounds.Memory served named first vault out = runs-memory (read.within (λ is. cc)) (inr (record { script = script; read = read.script; cut = served })) first
     runs-stopped rounds.VaultFault served named first vault out = runs-vault_fault script read.script (read.within (λ is. cc)) served first (vault refl)
     runs-stopped rounds.WriteFault served named first vault out = runs-write_fault script read.script (read.within (λ is. cc)) served (named (λ is. cc)) (out refl)
 

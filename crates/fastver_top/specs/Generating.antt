@@ -67,8 +67,11 @@ pub record EndsSummed (functions : DigestFunctions) (words : GenWords) (result :
 pub record GensTo (functions : DigestFunctions) (words : GenWords) (result : Status) (writing : Writing) (keeping : Keeping) : Type 0 where
   -- where it ends it served the script that is made of the seed: the vault took the bundle of the logs, and the sink the summary
   pub summed : IsEnd result → EndsSummed functions words result (outputs_of writing keeping)
-  -- where memory was wanting or the vault failed, nothing is written
-  pub before : (result ≡ statuses.Memory) ⊎ (result ≡ statuses.VaultFault) → IsCutBefore (outputs_of writing keeping)
+  -- where memory was wanting or the vault failed, nothing was done, or the vault has a front of the bundle of that script's logs and
+  -- the sink nothing
+  pub before : (result ≡ statuses.Memory) ⊎ (result ≡ statuses.VaultFault)
+      → IsUntouched keeping.name keeping.name_after (outputs_of writing keeping)
+      ⊎ IsCutBefore functions (settings_for words.numbers) (script_for words) (outputs_of writing keeping)
   -- where the sink failed, all is served, and it has a front of the summary
   pub cut : result ≡ statuses.WriteFault
       → IsCutInSummary functions (settings_for words.numbers) (script_for words) (load_for words.load) (outputs_of writing keeping)

@@ -129,11 +129,17 @@ module _ (functions : DigestFunctions) (run : RunWords) (result : Status) (readi
     pub is : result ≡ status_at end
     pub served : IsServed run.receipts functions (settings_for run.numbers) script end outputs
 
+  -- It stopped before: the vault took a front of the bundle of the script's logs, and the sink one of the lines that this certifies.
+  pub record EndsCutOff : Type 0 where
+    pub script : List (List Task)
+    pub read : HasScript run.numbers.verifiers reading script
+    pub cut : IsCutOff run.receipts functions (settings_for run.numbers) script outputs
+
   -- The sink failed: it took a front of the lines that the vault's bytes certify, or at the last line of the report.
   pub record EndsCut : Type 0 where
     pub script : List (List Task)
     pub read : HasScript run.numbers.verifiers reading script
-    pub cut : IsCutOff run.receipts functions outputs ⊎ IsCutAtEnd run.receipts functions (settings_for run.numbers) script outputs
+    pub cut : IsCutOff run.receipts functions (settings_for run.numbers) script outputs ⊎ IsCutAtEnd run.receipts functions (settings_for run.numbers) script outputs
 
 -- A check of what the vault took is due to write the same lines.
 pub record IsDueByCheck (receipts : Bool) (functions : DigestFunctions) (result : Status) (outputs : Outputs) : Type 0 where
@@ -171,8 +177,10 @@ pub record RunsTo (functions : DigestFunctions) (run : RunWords) (most : ℕ) (r
   -- so a check of what the vault took writes these lines, and where all is done it answers just the same
   pub due : IsEnd result → IsDueByCheck run.receipts functions result (outputs_of writing keeping)
   pub checked : (epochs : ℕ) → result ≡ statuses.Done epochs → IsAnswerOfCheck run.receipts functions result (outputs_of writing keeping)
-  -- where memory was wanting or the vault failed, the sink has a front of the lines that the vault's bytes certify
-  pub cut : (result ≡ statuses.Memory) ⊎ (result ≡ statuses.VaultFault) → IsCutOff run.receipts functions (outputs_of writing keeping)
+  -- where memory was wanting or the vault failed, nothing was done, or the vault has a front of the bundle of the script's logs and
+  -- the sink a front of the lines that this certifies
+  pub cut : (result ≡ statuses.Memory) ⊎ (result ≡ statuses.VaultFault)
+      → IsUntouched keeping.name keeping.name_after (outputs_of writing keeping) ⊎ EndsCutOff functions run result reading (outputs_of writing keeping)
   -- where the sink failed too, or it has a front of the report
   pub cut_report : result ≡ statuses.WriteFault → EndsCut functions run result reading (outputs_of writing keeping)
   -- a script is bad where the first line outside the grammar is this one

@@ -18,7 +18,7 @@ use script_text::{Requests, Shape, generate};
 use std::alloc::Global;
 use std::sync::Wait;
 use std::thread::Threads;
-use verifier_threads::{Load, RunEnd, serve_load};
+use verifier_threads::{Load, RunEnd, a_header_begins_the_bundle, serve_load};
 
 /// Makes the load that the words ask for, names the vault if they say so, and serves it: the vault takes the bundle of the
 /// logs, and the sink the summary of the load. Nothing is read.
@@ -75,9 +75,10 @@ fn serve<R: Threads + Wait + Sync, D: Digests + Sync, V: Vault, O: Sink, G: Gate
     ensures vault_fault { result ≡ Err RoundStop.VaultFault → Rose (V.faults vault.old) (V.faults vault.new) }
     ensures write_fault { result ≡ Err RoundStop.WriteFault → Rose (O.faults out.old) (O.faults out.new) }
 {
+    let settings = settings_for(&words.numbers);
+    a_header_begins_the_bundle(&settings);
     match name_vault(&words.logs, vault) {
         Ok(()) => {
-            let settings = settings_for(&words.numbers);
             let load = load_for(&words.load);
             serve_load(rt, alloc, d, &settings, requests, &load, gate, vault, out)
         }

@@ -23,7 +23,7 @@ use script_text::Requests;
 use std::alloc::Global;
 use std::sync::Wait;
 use std::thread::Threads;
-use verifier_threads::{RunEnd, serve_script};
+use verifier_threads::{RunEnd, a_header_begins_the_bundle, serve_script};
 
 // How many entries a verifier of the host may cache.
 const HOST_CACHE: u32 = 128;
@@ -98,21 +98,20 @@ fn serve<R: Threads + Wait + Sync, D: Digests + Sync, V: Vault, O: Sink, G: Gate
     ensures vault_fault { result ≡ Err RoundStop.VaultFault → Rose (V.faults vault.old) (V.faults vault.new) }
     ensures write_fault { result ≡ Err RoundStop.WriteFault → Rose (O.faults out.old) (O.faults out.new) }
 {
+    let settings = settings_for(&run.numbers);
+    a_header_begins_the_bundle(&settings);
     match name_vault(&run.logs, vault) {
-        Ok(()) => {
-            let settings = settings_for(&run.numbers);
-            serve_script(
-                rt,
-                alloc,
-                d,
-                &settings,
-                requests,
-                run.receipts,
-                gate,
-                vault,
-                out,
-            )
-        }
+        Ok(()) => serve_script(
+            rt,
+            alloc,
+            d,
+            &settings,
+            requests,
+            run.receipts,
+            gate,
+            vault,
+            out,
+        ),
         Err(_) => Err(RoundStop::VaultFault),
     }
 }

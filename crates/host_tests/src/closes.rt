@@ -11,10 +11,9 @@ ghost use Rattle.protection_moves.specs.Stage.{hot_records};
 ghost use Rattle.host_tests.specs.Owned.{IsFit};
 
 use crate::close_rows::CASES;
-use crate::plans::header;
-use crate::shards::{clock_at, push_all, request_of, serve};
-use bundle_rows::log_of;
-use host_plan::setup;
+use crate::plans::{assert_accepted, log_setup};
+use crate::rows::{same, same_at, same_bytes};
+use crate::shards::{bytes_of_rows, clock_at, push_all, request_of, serve};
 use host_shard::{Content, Shard};
 use lamport_clocks::{Clock, Stamp};
 use log_codec::Command;
@@ -24,7 +23,6 @@ use record_text::Request;
 use std::alloc::Global;
 use std::process::Abort;
 use tree_keys::Path;
-use verifier_run::Run;
 
 /// A shard and its hot places.
 #[derive(Drop)]
@@ -206,6 +204,22 @@ impl Seats {
         }
         serve(rt, alloc, d, &mut self.cold, request, 0, clock, log);
     }
+
+    // Serves the request of a row under toy digests.
+    fn ask(
+        &mut self,
+        rt: &impl Abort,
+        alloc: Global,
+        row: &str,
+        clock: &mut Clock,
+        log: &mut Vec<u8>,
+    )
+        requires fit { IsFit (shown_content self.old.cold) }
+        ensures fit { IsFit (shown_content self.new.cold) }
+    {
+        let request = request_of(rt, alloc, row);
+        self.serve(rt, alloc, &ToyDigests, &request, clock, log);
+    }
 }
 
 // Serves the requests of these rows on two new shards and closes at each `epoch`, behind what is logged already.
@@ -222,9 +236,7 @@ fn play<D: Digests>(
     let mut clock = clock_at(2);
     for row in script.trim().lines() {
         if row == "epoch" {
-            if clock.next_epoch().is_err() {
-                panic!(rt; "no next epoch");
-            }
+            go_on(rt, &mut clock);
             push_all(rt, log, &[Command::NextEpoch]);
             low.close(rt, alloc, d, threshold, &mut clock, log);
             high.close(rt, alloc, d, threshold, &mut clock, log);
@@ -244,35 +256,20 @@ fn closes_are_those_of_the_slow_program(rt: HostRuntime) {
     for (label, threshold, script, rows) in CASES {
         let mut log = Vec::new(rt.alloc());
         play(&rt, rt.alloc(), &ToyDigests, threshold, script, &mut log);
-        let wanted = match log_of(rt.alloc(), rows.trim()) {
-            Ok(bytes) => bytes,
-            Err(_) => panic!(rt; "a row that is no command"),
-        };
-        assert_eq!(rt; log.as_slice(), wanted.as_slice(), "{label}");
+        let wanted = bytes_of_rows(&rt, rt.alloc(), rows);
+        same_bytes(&rt, label, &log, &wanted);
     }
 }
 
 #[test]
 fn a_verifier_accepts_closes_with_hot_records(rt: HostRuntime) {
     let d = ShaDigests::new(&[7; 32]);
-    let header = header();
     for (label, threshold, script, _) in CASES {
-        let Ok((commands, _)) = setup(rt.alloc(), 2, &header) else {
-            panic!(rt; "no setup");
-        };
         let mut log = Vec::new(rt.alloc());
-        push_all(&rt, &mut log, commands.as_slice());
+        log_setup(&rt, rt.alloc(), &mut log);
         play(&rt, rt.alloc(), &d, threshold, script, &mut log);
-        let Ok(mut run) = Run::new(rt.alloc(), 0, &header) else {
-            panic!(rt; "no memory");
-        };
-        if run.feed(&d, log.as_slice()).is_err() {
-            panic!(rt; "no memory");
-        }
-        run.end();
-        assert_eq!(rt; run.refused(), None, "{label}");
         let asked = script.trim().lines().filter(|row| *row != "epoch").count();
-        assert_eq!(rt; run.ops().len(), asked, "{label}");
+        assert_accepted(&rt, rt.alloc(), label, &d, &log, asked);
     }
 }
 
@@ -289,67 +286,99 @@ fn touch(rt: &impl Abort, shard: &mut Shard, key: u64, touches: u32)
     }
 }
 
+// The clock goes on to the next epoch.
+fn go_on(rt: &impl Abort, clock: &mut Clock) {
+    if clock.next_epoch().is_err() {
+        panic!(rt; "no next epoch");
+    }
+}
+
+// Whether a place has a hot record.
+fn is_hot(place: &Content) -> bool {
+    matches!(place, Content::Hot(_))
+}
+
+// Moves a shard at a close behind so many touches more of key 5, and answers whether the key is hot then. A million make it so.
+fn becomes_hot(
+    rt: &impl Abort,
+    alloc: Global,
+    low: &mut Seats,
+    clock: &mut Clock,
+    touches: u32,
+) -> bool
+    requires fit { IsFit (shown_content low.old.cold) }
+    ensures fit { IsFit (shown_content low.new.cold) }
+{
+    match &mut low.cold {
+        Content::Cold(shard) => touch(rt, shard, 5, touches),
+        _ => panic!(rt; "no shard"),
+    }
+    go_on(rt, clock);
+    let mut log = Vec::new(alloc);
+    let reached = low.close(rt, alloc, &ToyDigests, 1_000_000, clock, &mut log);
+    same(rt, "reached", &reached, &true);
+    is_hot(&low.hot[0])
+}
+
 #[test]
 fn a_million_touches_make_a_key_hot(rt: HostRuntime) {
     let mut low = fresh(rt.alloc(), false, 1);
     let mut clock = clock_at(2);
     let mut log = Vec::new(rt.alloc());
-    let request = request_of(&rt, rt.alloc(), "get 5");
-    low.serve(&rt, rt.alloc(), &ToyDigests, &request, &mut clock, &mut log);
-    for (touches, becomes_hot) in [(999_998, false), (1_000_000, true)] {
-        match &mut low.cold {
-            Content::Cold(shard) => touch(&rt, shard, 5, touches),
-            _ => panic!(rt; "no shard"),
-        }
-        if clock.next_epoch().is_err() {
-            panic!(rt; "no next epoch");
-        }
-        assert!(rt;
-            low.close(
-                &rt,
-                rt.alloc(),
-                &ToyDigests,
-                1_000_000,
-                &mut clock,
-                &mut log
-            )
-        );
-        assert_eq!(rt; matches!(&low.hot[0], Content::Hot(_)), becomes_hot);
-    }
+    low.ask(&rt, rt.alloc(), "get 5", &mut clock, &mut log);
+    let once = becomes_hot(&rt, rt.alloc(), &mut low, &mut clock, 999_998);
+    let twice = becomes_hot(&rt, rt.alloc(), &mut low, &mut clock, 1_000_000);
+    same(&rt, "hot", &(once, twice), &(false, true));
 }
 
-// Two keys that were touched, in a shard that is to be moved with a clock whose counters end here.
-fn moved_by(rt: &impl Abort, alloc: Global, end: u32) -> (bool, u32, Seats) {
+// A shard with two keys that were touched is moved with a clock whose counters end here, and waits with this stamp then. A
+// move that isn't made logs nothing.
+fn assert_moved_by(
+    rt: &impl Abort,
+    alloc: Global,
+    end: u32,
+    reached: bool,
+    counter: u32,
+    stamp: Stamp,
+) {
     let mut low = fresh(alloc, false, 1);
     let mut clock = clock_at(2);
     let mut log = Vec::new(alloc);
-    for row in ["get 1", "get 2"] {
-        let request = request_of(rt, alloc, row);
-        low.serve(rt, alloc, &ToyDigests, &request, &mut clock, &mut log);
-    }
+    low.ask(rt, alloc, "get 1", &mut clock, &mut log);
+    low.ask(rt, alloc, "get 2", &mut clock, &mut log);
     let logged = log.len();
     let mut later = Clock::new(0, end);
-    if later.next_epoch().is_err() {
-        panic!(rt; "no next epoch");
+    go_on(rt, &mut later);
+    let found = low.close(rt, alloc, &ToyDigests, 1, &mut later, &mut log);
+    let at = end as usize;
+    same_at(rt, at, &found, &reached);
+    same_at(rt, at, &(log.len() != logged), &reached);
+    same_at(rt, at, &later.at().counter, &counter);
+    same_at(rt, at, &is_hot(&low.hot[0]), &reached);
+    assert_waits(rt, &low.cold, stamp);
+}
+
+// A content waits with this stamp.
+fn assert_waits(rt: &impl Abort, content: &Content, stamp: Stamp) {
+    match content.pending() {
+        Some(element) => same(rt, "waits", &element.stamp, &stamp),
+        None => panic!(rt; "no shard"),
     }
-    let reached = low.close(rt, alloc, &ToyDigests, 1, &mut later, &mut log);
-    if !reached && log.len() != logged {
-        panic!(rt; "a log of a move that was not made");
-    }
-    (reached, later.at().counter, low)
 }
 
 #[test]
 fn the_counters_end_between_two_errands(rt: HostRuntime) {
     // the frontier is taken in, the keys are handed out, and the frontier is
-    for (end, counter) in [(1, 0), (2, 0), (3, 0), (4, 4)] {
-        let (reached, at, low) = moved_by(&rt, rt.alloc(), end);
-        assert_eq!(rt; (reached, at), (end == 4, counter));
-        assert_eq!(rt; matches!(&low.hot[0], Content::Hot(_)), reached);
-        let Some(element) = low.cold.pending() else {
-            panic!(rt; "no shard");
-        };
-        let stamp = if reached { (1, 4) } else { (0, 6) };
-        assert_eq!(rt; (element.stamp.epoch, element.stamp.counter), stamp);
-    }
+    let before = Stamp {
+        epoch: 0,
+        counter: 6,
+    };
+    let behind = Stamp {
+        epoch: 1,
+        counter: 4,
+    };
+    assert_moved_by(&rt, rt.alloc(), 1, false, 0, before);
+    assert_moved_by(&rt, rt.alloc(), 2, false, 0, before);
+    assert_moved_by(&rt, rt.alloc(), 3, false, 0, before);
+    assert_moved_by(&rt, rt.alloc(), 4, true, 4, behind);
 }

@@ -1,6 +1,8 @@
 //! Loads of a seed, as `tools/slow_load.py` prints them.
-use crate::rows::{field, phases_in_short, same};
+use crate::rows::{field, number, phases_in_short, same};
 use script_text::{Shape, generate};
+use std::alloc::Global;
+use std::process::Abort;
 
 // The seed, then how many requests, workers, keys, and requests of an epoch; and the load, whose closes are slashes.
 const LOADS: &str = "
@@ -13,25 +15,30 @@ const LOADS: &str = "
 5 | 4 | 64 | 1 | 1 | 0 get 0,/1 get 11400714819323198485,/2 get 4354685564936845354,/3 put 15755400384260043839 [e736bb6a55cc984d],/
 ";
 
+// The shape of a row.
+fn shape_of(rt: &impl Abort, row: &str) -> Shape {
+    Shape {
+        ops: number(rt, row, 1),
+        verifiers: number(rt, row, 2),
+        keys: number(rt, row, 3),
+        every: number(rt, row, 4),
+    }
+}
+
+// The load of a row in short.
+fn load_in_short(rt: &impl Abort, alloc: Global, row: &str) -> String {
+    let shape = shape_of(rt, row);
+    if shape.verifiers == 0 || shape.keys == 0 || shape.every == 0 {
+        panic!(rt; "a shape of none");
+    }
+    let load = generate(alloc, number(rt, row, 0), &shape).expect(rt, "memory");
+    phases_in_short(rt, alloc, &load)
+}
+
 #[test]
 fn loads_are_made_as_the_slow_program_makes_them(rt: HostRuntime) {
     for row in LOADS.trim().lines() {
-        let shape = Shape {
-            ops: field(&rt, row, 1).parse().expect(&rt, "a number"),
-            verifiers: field(&rt, row, 2).parse().expect(&rt, "a number"),
-            keys: field(&rt, row, 3).parse().expect(&rt, "a number"),
-            every: field(&rt, row, 4).parse().expect(&rt, "a number"),
-        };
-        if shape.verifiers == 0 || shape.keys == 0 || shape.every == 0 {
-            panic!(rt; "a shape of none");
-        }
-        let load = generate(
-            rt.alloc(),
-            field(&rt, row, 0).parse().expect(&rt, "a number"),
-            &shape,
-        )
-        .expect(&rt, "memory");
-        let found = phases_in_short(&rt, rt.alloc(), &load);
+        let found = load_in_short(&rt, rt.alloc(), row);
         same(&rt, row, &found.as_str(), &field(&rt, row, 5));
     }
 }

@@ -1,5 +1,5 @@
 //! A host's log: its bytes and its frames.
-use crate::rows::{bytes_of, field, same, same_bytes};
+use crate::rows::{bytes_of, field, number, same, same_bytes};
 use bundle_frames::write_header;
 use bundle_rows::command_of;
 use fv_outside::{Failed, MemorySink};
@@ -57,26 +57,40 @@ fn push_rows(rt: &impl Abort, log: &mut LogBuffer, rows: &str) {
     }
 }
 
+// Writes the commands of rows as frames of verifier 0, from a log that takes a spare one's place, which it answers.
+fn write_round(
+    rt: &impl Abort,
+    log: &mut LogBuffer,
+    spare: LogBuffer,
+    rows: &str,
+    sink: &mut MemorySink,
+) -> LogBuffer {
+    push_rows(rt, log, rows);
+    let taken = log.exchange(spare);
+    same(rt, rows, &log.bytes().len(), &0);
+    same(rt, rows, &frames(0, taken.bytes(), sink), &Ok(()));
+    taken
+}
+
 #[test]
 fn the_rounds_of_an_empty_script_are_its_bundle(rt: HostRuntime) {
     let bundle = bytes_of(&rt, rt.alloc(), SETUP);
     let mut sink = MemorySink::new(rt.alloc(), 1000, 50, &[]).expect(&rt, "memory");
-    same(
-        &rt,
-        "header",
-        &write_header(&SETUP_HEADER, &mut sink),
-        &Ok(()),
-    );
+    let header = write_header(&SETUP_HEADER, &mut sink);
+    same(&rt, "header", &header, &Ok(()));
     let mut log = LogBuffer::new(rt.alloc());
-    let mut spare = LogBuffer::new(rt.alloc());
-    for rows in [FIRST_ROUND, "", LAST_CLOSE] {
-        push_rows(&rt, &mut log, rows);
-        let taken = log.exchange(spare);
-        same(&rt, rows, &log.bytes().len(), &0);
-        same(&rt, rows, &frames(0, taken.bytes(), &mut sink), &Ok(()));
-        spare = taken;
-    }
+    let spare = LogBuffer::new(rt.alloc());
+    let spare = write_round(&rt, &mut log, spare, FIRST_ROUND, &mut sink);
+    let spare = write_round(&rt, &mut log, spare, "", &mut sink);
+    let _ = write_round(&rt, &mut log, spare, LAST_CLOSE, &mut sink);
     same_bytes(&rt, "bundle", sink.bytes(), &bundle);
+}
+
+// A log has the bytes of a bundle from one place up to another.
+fn assert_log(rt: &impl Abort, label: &str, log: &LogBuffer, bundle: &[u8], part: (usize, usize)) {
+    let (from, to) = part;
+    let wanted = bundle.get(from..to).expect(rt, "a short bundle");
+    same_bytes(rt, label, log.bytes(), wanted);
 }
 
 #[test]
@@ -84,18 +98,18 @@ fn a_buffer_goes_on_when_it_was_emptied(rt: HostRuntime) {
     let bundle = bytes_of(&rt, rt.alloc(), SETUP);
     let mut log = LogBuffer::new(rt.alloc());
     push_rows(&rt, &mut log, FIRST_ROUND);
-    same(&rt, "first", &Some(log.bytes()), &bundle.get(24..120));
+    assert_log(&rt, "first", &log, &bundle, (24, 120));
     log.clear();
     same_bytes(&rt, "clear", log.bytes(), b"");
     push_rows(&rt, &mut log, LAST_CLOSE);
     let taken = log.take();
-    same(&rt, "last", &Some(taken.bytes()), &bundle.get(126..208));
+    assert_log(&rt, "last", &taken, &bundle, (126, 208));
     same_bytes(&rt, "take", log.bytes(), b"");
     push_rows(&rt, &mut log, FIRST_ROUND);
-    same(&rt, "again", &Some(log.bytes()), &bundle.get(24..120));
+    assert_log(&rt, "again", &log, &bundle, (24, 120));
     push_rows(&rt, &mut log, LAST_CLOSE);
     log.truncate(96);
-    same(&rt, "truncate", &Some(log.bytes()), &bundle.get(24..120));
+    assert_log(&rt, "truncate", &log, &bundle, (24, 120));
 }
 
 // So many bytes, and the heads of the frames in which they are written for verifier 258.
@@ -133,18 +147,19 @@ fn frames_with(rt: &impl Abort, alloc: Global, heads: &str, bytes: &[u8]) -> Vec
     frames
 }
 
+// The bytes of a row are written as frames with its heads.
+fn assert_frames(rt: &impl Abort, alloc: Global, row: &str) {
+    let bytes = some_bytes(rt, alloc, number(rt, row, 0));
+    let wanted = frames_with(rt, alloc, field(rt, row, 1), &bytes);
+    let mut sink = MemorySink::new(alloc, 200_000, 30_000, &[]).expect(rt, "memory");
+    same(rt, row, &frames(258, &bytes, &mut sink), &Ok(()));
+    same(rt, row, &(sink.bytes() == wanted.as_slice()), &true);
+}
+
 #[test]
 fn frames_have_at_most_65536_bytes(rt: HostRuntime) {
     for row in FRAMES.trim().lines() {
-        let bytes = some_bytes(
-            &rt,
-            rt.alloc(),
-            field(&rt, row, 0).parse().expect(&rt, "a number"),
-        );
-        let wanted = frames_with(&rt, rt.alloc(), field(&rt, row, 1), &bytes);
-        let mut sink = MemorySink::new(rt.alloc(), 200_000, 30_000, &[]).expect(&rt, "memory");
-        same(&rt, row, &frames(258, &bytes, &mut sink), &Ok(()));
-        same(&rt, row, &(sink.bytes() == wanted.as_slice()), &true);
+        assert_frames(&rt, rt.alloc(), row);
     }
 }
 

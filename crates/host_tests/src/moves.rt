@@ -7,9 +7,11 @@ ghost use Rattle.host_shard.specs.Mirrors.{IsShard};
 ghost use Rattle.host_shard.specs.Shown.{shown};
 
 use crate::closes::owns_all;
+use crate::rows::{bytes_of, same, same_bytes};
+use crate::shards::{bytes_logged, push_all};
 use host_shard::{Content, HotRecord, Shard};
 use lamport_clocks::{Clock, Stamp};
-use log_codec::{Command, write};
+use log_codec::Command;
 use protection_moves::{MoveFault, migrate};
 use record_hash::ShaDigests;
 use record_text::Blob;
@@ -37,25 +39,6 @@ const TOUCHED: &str = "
 03 010000000000000000 0000 0000000000000001 0000
 04 010000000000000000 0000000100000006
 ";
-
-// The bytes that these digits spell, between which blanks stand.
-fn bytes_of(rt: &impl Abort, alloc: Global, digits: &str) -> Vec<u8> {
-    let mut bytes = Vec::new(alloc);
-    for part in digits.split_whitespace() {
-        bytes
-            .extend_from_slice(&hex::decode(alloc, part).expect(rt, "memory"))
-            .expect(rt, "memory");
-    }
-    bytes
-}
-
-// Adds the bytes of these commands to a log.
-fn push_all(rt: &impl Abort, log: &mut Vec<u8>, commands: &[Command]) {
-    for command in commands {
-        log.extend_from_slice(write(command).as_slice())
-            .expect(rt, "memory");
-    }
-}
 
 // A shard as a setup leaves it, evicted last with this counter of epoch 0.
 fn fresh(alloc: Global, side: bool, counter: u32) -> Shard
@@ -110,31 +93,25 @@ fn log_move(
     }
 }
 
+// A stamp of this epoch and counter.
+fn stamp(epoch: u32, counter: u32) -> Stamp {
+    Stamp { epoch, counter }
+}
+
 #[test]
 fn a_close_takes_each_shard_in_and_hands_it_out(rt: HostRuntime) {
     let mut low = fresh(rt.alloc(), false, 1);
     let mut high = fresh(rt.alloc(), true, 2);
     let mut clock = second_epoch(&rt, 16_777_215);
-    let mut log = Vec::new(rt.alloc());
+    let mut log = bytes_logged(&rt, rt.alloc(), &[Command::NextEpoch]);
+    let is_low_moved = log_move(&rt, rt.alloc(), &mut low, &mut clock, &mut log);
+    let is_high_moved = log_move(&rt, rt.alloc(), &mut high, &mut clock, &mut log);
     push_all(&rt, &mut log, &[Command::NextEpoch]);
-    assert!(rt; log_move(&rt, rt.alloc(), &mut low, &mut clock, &mut log));
-    assert!(rt; log_move(&rt, rt.alloc(), &mut high, &mut clock, &mut log));
-    push_all(&rt, &mut log, &[Command::NextEpoch]);
-    assert_eq!(rt; log, bytes_of(&rt, rt.alloc(), CLOSE));
-    assert_eq!(rt;
-        low.stamp,
-        Stamp {
-            epoch: 1,
-            counter: 2
-        }
-    );
-    assert_eq!(rt;
-        high.stamp,
-        Stamp {
-            epoch: 1,
-            counter: 4
-        }
-    );
+    let are_moved = (is_low_moved, is_high_moved);
+    same(&rt, "moved", &are_moved, &(true, true));
+    same_bytes(&rt, "log", &log, &bytes_of(&rt, rt.alloc(), CLOSE));
+    same(&rt, "low", &low.stamp, &stamp(1, 2));
+    same(&rt, "high", &high.stamp, &stamp(1, 4));
 }
 
 #[test]
@@ -143,24 +120,14 @@ fn the_clock_ends_at_the_second_shard(rt: HostRuntime) {
     let mut high = fresh(rt.alloc(), true, 2);
     let mut clock = second_epoch(&rt, 3);
     let mut log = Vec::new(rt.alloc());
-    assert!(rt; log_move(&rt, rt.alloc(), &mut low, &mut clock, &mut log));
+    let is_low_moved = log_move(&rt, rt.alloc(), &mut low, &mut clock, &mut log);
     let logged = log.len();
-    assert!(rt; !log_move(&rt, rt.alloc(), &mut high, &mut clock, &mut log));
-    assert_eq!(rt; log.len(), logged);
-    assert_eq!(rt;
-        clock.at(),
-        Stamp {
-            epoch: 1,
-            counter: 2
-        }
-    );
-    assert_eq!(rt;
-        high.stamp,
-        Stamp {
-            epoch: 0,
-            counter: 2
-        }
-    );
+    let is_high_moved = log_move(&rt, rt.alloc(), &mut high, &mut clock, &mut log);
+    let are_moved = (is_low_moved, is_high_moved);
+    same(&rt, "moved", &are_moved, &(true, false));
+    same(&rt, "log", &log.len(), &logged);
+    same(&rt, "clock", &clock.at(), &stamp(1, 2));
+    same(&rt, "high", &high.stamp, &stamp(0, 2));
 }
 
 // A hot record that was touched once, evicted last by this verifier with this counter of epoch 0.
@@ -182,6 +149,18 @@ fn touched(key: u64, value: Blob, counter: u32, evictor: u16) -> Content
     })
 }
 
+// The record in a place is of this key, untouched, and was evicted by verifier 2 with this stamp.
+fn assert_moved(rt: &impl Abort, hot: &[Content], place: usize, key: u64, stamp: Stamp) {
+    match hot.get(place) {
+        Some(Content::Hot(found)) => {
+            let numbers = (found.key, found.evictor, found.touches);
+            same(rt, "record", &numbers, &(key, 2, 0));
+            same(rt, "its stamp", &found.stamp, &stamp);
+        }
+        _ => panic!(rt; "a place without its record"),
+    }
+}
+
 #[test]
 fn touched_hot_records_come_first_by_key(rt: HostRuntime) {
     let d = ShaDigests::new(b"a key");
@@ -200,28 +179,8 @@ fn touched_hot_records_come_first_by_key(rt: HostRuntime) {
     let Ok(commands) = migrate(rt.alloc(), &d, &mut low, &mut hot, None, 2, &mut clock) else {
         panic!(rt; "no move");
     };
-    let mut log = Vec::new(rt.alloc());
-    push_all(&rt, &mut log, commands.as_slice());
-    assert_eq!(rt; log, bytes_of(&rt, rt.alloc(), TOUCHED));
-    match (&hot[1], &hot[2]) {
-        (Content::Hot(seven), Content::Hot(three)) => {
-            assert_eq!(rt; (seven.key, seven.evictor, seven.touches), (7, 2, 0));
-            assert_eq!(rt;
-                seven.stamp,
-                Stamp {
-                    epoch: 1,
-                    counter: 4
-                }
-            );
-            assert_eq!(rt; (three.key, three.evictor, three.touches), (3, 2, 0));
-            assert_eq!(rt;
-                three.stamp,
-                Stamp {
-                    epoch: 1,
-                    counter: 2
-                }
-            );
-        }
-        _ => panic!(rt; "a place without its record"),
-    }
+    let log = bytes_logged(&rt, rt.alloc(), commands.as_slice());
+    same_bytes(&rt, "log", &log, &bytes_of(&rt, rt.alloc(), TOUCHED));
+    assert_moved(&rt, &hot, 1, 7, stamp(1, 4));
+    assert_moved(&rt, &hot, 2, 3, stamp(1, 2));
 }

@@ -1,11 +1,13 @@
 //! Plans, beside the rows that `tools/slow_plans.py` prints for the same requests.
 ghost use Rattle.std.specs.Prelude.{◌≡◌, ◌∷◌, [], true, false};
 ghost use Rattle.lamport_clocks.specs.Header.{IsHeader};
+ghost use Rattle.record_text.specs.Format.{short_keys};
 ghost use Rattle.host_shard.specs.Shown.{shown_content};
+ghost use Rattle.host_plan.specs.Plan.{Owns};
 ghost use Rattle.host_tests.specs.Owned.{OwnsBelow};
 
-use crate::shards::{Host, clock_at, push_all, request_of, serve};
-use bundle_rows::log_of;
+use crate::rows::{same, same_bytes};
+use crate::shards::{Host, bytes_of_rows, clock_at, push_all, request_of, serve};
 use host_plan::setup;
 use host_shard::{Content, HotRecord};
 use lamport_clocks::{Header, Stamp};
@@ -14,7 +16,7 @@ use record_text::{Blob, Request};
 use stamp_order::PlainMap;
 use std::alloc::Global;
 use std::process::Abort;
-use verifier_run::Run;
+use verifier_run::run_log;
 
 // What is tried, the worker, its clock's counter, requests on two shards, and the rows of the log.
 const CASES: [(&str, u16, u32, &str, &str); 6] = [
@@ -218,11 +220,8 @@ fn logged(rt: &impl Abort, alloc: Global, worker: u16, counter: u32, requests: &
 fn plans_are_those_of_the_slow_program(rt: HostRuntime) {
     for (label, worker, counter, requests, rows) in CASES {
         let log = logged(&rt, rt.alloc(), worker, counter, requests);
-        let wanted = match log_of(rt.alloc(), rows.trim()) {
-            Ok(bytes) => bytes,
-            Err(_) => panic!(rt; "a row that is no command"),
-        };
-        assert_eq!(rt; log.as_slice(), wanted.as_slice(), "{label}");
+        let wanted = bytes_of_rows(&rt, rt.alloc(), rows);
+        same_bytes(&rt, label, &log, &wanted);
     }
 }
 
@@ -261,34 +260,48 @@ fn serve_many<D: Digests>(rt: &impl Abort, alloc: Global, d: &D, host: &mut Host
         x = next(x);
         let request = request_by(x).expect(rt, "no request");
         let answer = host.serve(rt, alloc, d, &request);
-        if request.put && map.put(request.key, request.value.copy()).is_err() {
-            panic!(rt; "no memory");
-        }
-        if answer != map.get(request.key) {
-            panic!(rt; "another answer");
-        }
+        assert_answer(rt, &mut map, &request, &answer);
     }
+}
+
+// A plain map has this answer, once the request was made there too.
+fn assert_answer(rt: &impl Abort, map: &mut PlainMap, request: &Request, answer: &Blob) {
+    if request.put {
+        map.put(request.key, request.value.copy())
+            .expect(rt, "memory");
+    }
+    same(rt, "answer", &map.get(request.key), answer);
+}
+
+// A verifier accepts a log under these digests, and so many gets and puts are in it.
+pub(crate) fn assert_accepted<D: Digests>(
+    rt: &impl Abort,
+    alloc: Global,
+    label: &str,
+    d: &D,
+    log: &[u8],
+    count: usize,
+) {
+    let run = run_log(alloc, d, 0, &header(), log).expect(rt, "memory");
+    same(rt, label, &run.refused(), &None);
+    same(rt, label, &run.ops().len(), &count);
 }
 
 #[test]
 fn a_verifier_accepts_what_the_host_logs(rt: HostRuntime) {
     let d = ShaDigests::new(&[7; 32]);
-    let header = header();
     let mut host = Host::new(rt.alloc(), 0, 2);
-    let Ok((commands, _)) = setup(rt.alloc(), 2, &header) else {
-        panic!(rt; "no setup");
-    };
-    push_all(&rt, &mut host.log, commands.as_slice());
+    log_setup(&rt, rt.alloc(), &mut host.log);
     serve_many(&rt, rt.alloc(), &d, &mut host, 200);
-    let Ok(mut run) = Run::new(rt.alloc(), 0, &header) else {
-        panic!(rt; "no memory");
-    };
-    if run.feed(&d, host.log.as_slice()).is_err() {
-        panic!(rt; "no memory");
+    assert_accepted(&rt, rt.alloc(), "200 requests", &d, &host.log, 200);
+}
+
+// Logs the setup of two shards.
+pub(crate) fn log_setup(rt: &impl Abort, alloc: Global, log: &mut Vec<u8>) {
+    match setup(alloc, 2, &header()) {
+        Ok((commands, _)) => push_all(rt, log, commands.as_slice()),
+        Err(_) => panic!(rt; "no setup"),
     }
-    run.end();
-    assert_eq!(rt; run.refused(), None);
-    assert_eq!(rt; run.ops().len(), 200);
 }
 
 // One verifier, from epoch 0 on.
@@ -304,22 +317,49 @@ pub(crate) fn header() -> Header
     }
 }
 
-#[test]
-fn a_hot_key_is_taken_alone(rt: HostRuntime) {
-    let mut content = Content::Hot(HotRecord {
+// A hot record of key 5.
+fn hot_at_5(rt: &impl Abort) -> Content
+    ensures own { Owns short_keys (shown_content result) 5 }
+{
+    Content::Hot(HotRecord {
         key: 5,
-        value: Blob::of_bytes(b"ab").expect(&rt, "no value"),
+        value: Blob::of_bytes(b"ab").expect(rt, "no value"),
         stamp: Stamp {
             epoch: 0,
             counter: 7,
         },
         evictor: 3,
         touches: 1,
-    });
-    let request = request_of(&rt, rt.alloc(), "get 5");
-    if request.key != 5 {
-        panic!(rt; "another key");
+    })
+}
+
+// A get of key 5.
+fn get_at_5() -> Request
+    ensures key { result.key ≡ 5 }
+{
+    Request {
+        put: false,
+        key: 5,
+        value: Blob::none(),
     }
+}
+
+// A hot record was evicted with this counter by this verifier, and touched so often.
+fn assert_kept(rt: &impl Abort, content: &Content, kept: (u32, u16, u64)) {
+    match content {
+        Content::Hot(found) => same(
+            rt,
+            "kept",
+            &(found.stamp.counter, found.evictor, found.touches),
+            &kept,
+        ),
+        _ => panic!(rt; "no hot record"),
+    }
+}
+
+#[test]
+fn a_hot_key_is_taken_alone(rt: HostRuntime) {
+    let mut content = hot_at_5(&rt);
     let mut clock = clock_at(2);
     let mut log = Vec::new(rt.alloc());
     let answer = serve(
@@ -327,18 +367,13 @@ fn a_hot_key_is_taken_alone(rt: HostRuntime) {
         rt.alloc(),
         &ToyDigests,
         &mut content,
-        &request,
+        &get_at_5(),
         1,
         &mut clock,
         &mut log,
     );
-    assert_eq!(rt; answer, Blob::of_bytes(b"ab").expect(&rt, "no value"));
-    let Ok(wanted) = log_of(rt.alloc(), "addB 5 6162 0.7 v3\nget 5 6162\nevictB 5 0.9") else {
-        panic!(rt; "a row that is no command");
-    };
-    assert_eq!(rt; log, wanted);
-    let Content::Hot(kept) = &content else {
-        panic!(rt; "no hot record");
-    };
-    assert_eq!(rt; (kept.stamp.counter, kept.evictor, kept.touches), (9, 1, 2));
+    same(&rt, "answer", &answer.bytes(), &Some(b"ab".as_slice()));
+    let rows = "addB 5 6162 0.7 v3\nget 5 6162\nevictB 5 0.9";
+    same_bytes(&rt, rows, &log, &bytes_of_rows(&rt, rt.alloc(), rows));
+    assert_kept(&rt, &content, (9, 1, 2));
 }

@@ -3,11 +3,20 @@ use script_text::{Requests, Task};
 use std::alloc::Global;
 use std::fmt::Debug;
 use std::process::Abort;
+use std::str::FromStr;
 
 /// The field of a row at this place, counted from 0.
 pub fn field<'a>(rt: &impl Abort, row: &'a str, place: usize) -> &'a str {
     let text = row.split('|').nth(place);
     text.expect(rt, "a row with too few fields").trim()
+}
+
+/// The number in the field at this place.
+pub fn number<T: FromStr>(rt: &impl Abort, row: &str, place: usize) -> T
+where
+    T::Err: Debug,
+{
+    field(rt, row, place).parse().expect(rt, "a number")
 }
 
 /// The bytes that these digits spell, between which blanks may stand.
@@ -52,6 +61,11 @@ fn push_task(rt: &impl Abort, alloc: Global, text: &mut String, task: &Task) {
 /// Two values are the same. Where they aren't, the test ends, and tells the row.
 pub fn same<T: PartialEq + Debug>(rt: &impl Abort, row: &str, found: &T, wanted: &T) {
     assert_eq!(rt; found, wanted, "{row}");
+}
+
+/// Two values are the same. Where they aren't, the test ends, and tells the number at which it stands.
+pub fn same_at<T: PartialEq + Debug>(rt: &impl Abort, number: usize, found: &T, wanted: &T) {
+    assert_eq!(rt; found, wanted, "{number}");
 }
 
 /// Two texts are the same.

@@ -1,5 +1,5 @@
 //! Scripts that were judged by hand.
-use crate::rows::{field, phases_in_short, same, same_bytes};
+use crate::rows::{field, number, phases_in_short, same, same_bytes};
 use script_text::{Requests, ScriptFault, write_script};
 use std::alloc::Global;
 use std::process::Abort;
@@ -121,20 +121,19 @@ x_put_x_x | 1 | line 1 Worker
 0_put_5_none | 1 | line 1 Hex
 ";
 
+// Each script of a table is read as its row says.
+fn assert_table(rt: &impl Abort, alloc: Global, table: &str) {
+    for row in table.trim_matches('\n').lines() {
+        let script = script_of(rt, alloc, field(rt, row, 0));
+        let found = read_in_short(rt, alloc, &script, number(rt, row, 1));
+        same(rt, row, &found.as_str(), &field(rt, row, 2));
+    }
+}
+
 #[test]
 fn scripts_are_read_as_judged(rt: HostRuntime) {
-    for table in [SCRIPTS, REFUSED] {
-        for row in table.trim_matches('\n').lines() {
-            let script = script_of(&rt, rt.alloc(), field(&rt, row, 0));
-            let found = read_in_short(
-                &rt,
-                rt.alloc(),
-                &script,
-                field(&rt, row, 1).parse().expect(&rt, "a number"),
-            );
-            same(&rt, row, &found.as_str(), &field(&rt, row, 2));
-        }
-    }
+    assert_table(&rt, rt.alloc(), SCRIPTS);
+    assert_table(&rt, rt.alloc(), REFUSED);
 }
 
 // Adds a byte so many times.
@@ -153,20 +152,31 @@ const VALUES: &str = "
 130 | line 1 Hex
 ";
 
+// So many digits between two texts.
+fn with_digits(rt: &impl Abort, alloc: Global, front: &str, digits: usize, end: &str) -> Vec<u8> {
+    let mut text = Vec::from_slice(alloc, front.as_bytes()).expect(rt, "memory");
+    push_times(rt, &mut text, b'7', digits);
+    text.extend_from_slice(end.as_bytes()).expect(rt, "memory");
+    text
+}
+
+// A value of a row's digits is taken, or refused as the row says.
+fn assert_value(rt: &impl Abort, alloc: Global, row: &str) {
+    let digits = number(rt, row, 0);
+    let script = with_digits(rt, alloc, "0 put 5 ", digits, "");
+    let found = read_in_short(rt, alloc, &script, 1);
+    let taken = with_digits(rt, alloc, "0 put 5 [", digits, "],/");
+    let wanted = match field(rt, row, 1) {
+        "taken" => taken.as_slice(),
+        refused => refused.as_bytes(),
+    };
+    same_bytes(rt, row, found.as_bytes(), wanted);
+}
+
 #[test]
 fn values_have_at_most_64_bytes(rt: HostRuntime) {
     for row in VALUES.trim().lines() {
-        let digits = field(&rt, row, 0).parse().expect(&rt, "a number");
-        let mut script = Vec::from_slice(rt.alloc(), b"0 put 5 ").expect(&rt, "memory");
-        push_times(&rt, &mut script, b'7', digits);
-        let found = read_in_short(&rt, rt.alloc(), &script, 1);
-        let mut wanted = Vec::from_slice(rt.alloc(), b"0 put 5 [").expect(&rt, "memory");
-        push_times(&rt, &mut wanted, b'7', digits);
-        wanted.extend_from_slice(b"],/").expect(&rt, "memory");
-        match field(&rt, row, 1) {
-            "taken" => same_bytes(&rt, row, found.as_bytes(), &wanted),
-            refused => same(&rt, row, &found.as_str(), &refused),
-        }
+        assert_value(&rt, rt.alloc(), row);
     }
 }
 
@@ -177,41 +187,43 @@ const LINES: &str = "
 1000 | line 1 Shape
 ";
 
+// A line of a row's digits is refused as the row says, whether it is ended or not.
+fn assert_line(rt: &impl Abort, alloc: Global, row: &str) {
+    for end in [" get 5", " get 5\n"] {
+        let script = with_digits(rt, alloc, "", number(rt, row, 0), end);
+        let found = read_in_short(rt, alloc, &script, 1);
+        same(rt, row, &found.as_str(), &field(rt, row, 1));
+    }
+}
+
 #[test]
 fn lines_have_at_most_256_bytes(rt: HostRuntime) {
     for row in LINES.trim().lines() {
-        let mut script = Vec::new(rt.alloc());
-        push_times(
-            &rt,
-            &mut script,
-            b'7',
-            field(&rt, row, 0).parse().expect(&rt, "a number"),
-        );
-        script.extend_from_slice(b" get 5").expect(&rt, "memory");
-        let found = read_in_short(&rt, rt.alloc(), &script, 1);
-        same(&rt, row, &found.as_str(), &field(&rt, row, 1));
-        script.push(b'\n').expect(&rt, "memory");
-        let found = read_in_short(&rt, rt.alloc(), &script, 1);
-        same(&rt, row, &found.as_str(), &field(&rt, row, 1));
+        assert_line(&rt, rt.alloc(), row);
     }
+}
+
+// The requests of a row's script as they are written.
+fn written(rt: &impl Abort, alloc: Global, script: &[u8], workers: u16) -> Vec<u8> {
+    match Requests::read(alloc, script, workers) {
+        Ok(requests) => write_script(alloc, &requests).expect(rt, "memory"),
+        Err(_) => panic!(rt; "a script is refused"),
+    }
+}
+
+// The script of a row is written as it was read, with its last line ended.
+fn assert_written(rt: &impl Abort, alloc: Global, row: &str) {
+    let mut script = script_of(rt, alloc, field(rt, row, 0));
+    let found = written(rt, alloc, &script, number(rt, row, 1));
+    if script.last().is_some_and(|byte| *byte != b'\n') {
+        script.push(b'\n').expect(rt, "memory");
+    }
+    same_bytes(rt, row, &found, &script);
 }
 
 #[test]
 fn what_was_read_is_written_in_its_one_spelling(rt: HostRuntime) {
     for row in SCRIPTS.trim_matches('\n').lines() {
-        let mut script = script_of(&rt, rt.alloc(), field(&rt, row, 0));
-        let requests = match Requests::read(
-            rt.alloc(),
-            &script,
-            field(&rt, row, 1).parse().expect(&rt, "a number"),
-        ) {
-            Ok(requests) => requests,
-            Err(_) => panic!(rt; "a script is refused"),
-        };
-        if script.last().is_some_and(|byte| *byte != b'\n') {
-            script.push(b'\n').expect(&rt, "memory");
-        }
-        let written = write_script(rt.alloc(), &requests).expect(&rt, "memory");
-        same_bytes(&rt, row, &written, &script);
+        assert_written(&rt, rt.alloc(), row);
     }
 }

@@ -1,10 +1,10 @@
 //! Setups of two and of four shards, and where the counters end before each shard has one.
-use crate::rows::bytes_of;
-use crate::shards::push_all;
-use bundle_rows::log_of;
+use crate::rows::{bytes_of, same, same_bytes};
+use crate::shards::{bytes_logged, bytes_of_rows};
 use host_plan::{SetupFault, setup};
 use host_shard::Content;
-use lamport_clocks::{Header, Stamp};
+use lamport_clocks::Header;
+use std::process::Abort;
 use tree_keys::Path;
 
 // A header of one verifier whose counters end here.
@@ -41,15 +41,16 @@ evictBM /11 /1 0.4
 evictM /1 root
 ";
 
-// Whether a content is a shard without records at this frontier, evicted by verifier 0 with this counter.
-fn is_fresh(content: &Content, frontier: &Path, counter: u32) -> bool {
-    match content {
-        Content::Cold(shard) => {
-            shard.frontier == *frontier
-                && shard.evictor == 0
-                && shard.stamp == (Stamp { epoch: 0, counter })
+// A content is a shard without records at this frontier, evicted by verifier 0 with this counter.
+fn assert_fresh(rt: &impl Abort, contents: &[Content], place: usize, frontier: &Path) {
+    match contents.get(place) {
+        Some(Content::Cold(shard)) => {
+            same(rt, "frontier", &shard.frontier, frontier);
+            same(rt, "evictor", &shard.evictor, &0);
+            same(rt, "epoch", &shard.stamp.epoch, &0);
+            same(rt, "counter", &(shard.stamp.counter as usize), &(place + 1));
         }
-        _ => false,
+        _ => panic!(rt; "a shard is missing"),
     }
 }
 
@@ -58,13 +59,12 @@ fn two_shards_are_set_up(rt: HostRuntime) {
     let Ok((commands, contents)) = setup(rt.alloc(), 2, &header(2)) else {
         panic!(rt; "no setup");
     };
-    let mut log = Vec::new(rt.alloc());
-    push_all(&rt, &mut log, commands.as_slice());
-    assert_eq!(rt; log, bytes_of(&rt, rt.alloc(), TWO_SHARDS));
-    assert_eq!(rt; contents.len(), 2);
-    let root = Path::root();
-    assert!(rt; is_fresh(&contents[0], &root.child(false), 1));
-    assert!(rt; is_fresh(&contents[1], &root.child(true), 2));
+    let log = bytes_logged(&rt, rt.alloc(), commands.as_slice());
+    let wanted = bytes_of(&rt, rt.alloc(), TWO_SHARDS);
+    same_bytes(&rt, "log", &log, &wanted);
+    same(&rt, "shards", &contents.len(), &2);
+    assert_fresh(&rt, &contents, 0, &Path::root().child(false));
+    assert_fresh(&rt, &contents, 1, &Path::root().child(true));
 }
 
 #[test]
@@ -72,23 +72,21 @@ fn four_shards_are_set_up_side_0_first(rt: HostRuntime) {
     let Ok((commands, contents)) = setup(rt.alloc(), 4, &header(16_777_215)) else {
         panic!(rt; "no setup");
     };
-    let mut log = Vec::new(rt.alloc());
-    push_all(&rt, &mut log, commands.as_slice());
-    let Ok(wanted) = log_of(rt.alloc(), FOUR_SHARDS.trim()) else {
-        panic!(rt; "a row that is no command");
-    };
-    assert_eq!(rt; log, wanted);
-    assert_eq!(rt; contents.len(), 4);
-    let sides = [(false, false), (false, true), (true, false), (true, true)];
-    for (index, (first, second)) in sides.into_iter().enumerate() {
-        let frontier = Path::root().child(first).child(second);
-        let content = contents.get(index).expect(&rt, "a shard is missing");
-        assert!(rt; is_fresh(content, &frontier, index as u32 + 1));
-    }
+    let log = bytes_logged(&rt, rt.alloc(), commands.as_slice());
+    let wanted = bytes_of_rows(&rt, rt.alloc(), FOUR_SHARDS);
+    same_bytes(&rt, "log", &log, &wanted);
+    same(&rt, "shards", &contents.len(), &4);
+    let (zero, one) = (Path::root().child(false), Path::root().child(true));
+    assert_fresh(&rt, &contents, 0, &zero.child(false));
+    assert_fresh(&rt, &contents, 1, &zero.child(true));
+    assert_fresh(&rt, &contents, 2, &one.child(false));
+    assert_fresh(&rt, &contents, 3, &one.child(true));
 }
 
 #[test]
 fn each_shard_takes_a_counter(rt: HostRuntime) {
-    let found = setup(rt.alloc(), 2, &header(1));
-    assert!(rt; matches!(&found, Err(SetupFault::ClockEnd)));
+    match setup(rt.alloc(), 2, &header(1)) {
+        Err(SetupFault::ClockEnd) => {}
+        _ => panic!(rt; "a setup in one counter"),
+    }
 }

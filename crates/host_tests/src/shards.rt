@@ -5,6 +5,7 @@ ghost use Rattle.host_shard.specs.Shown.{shown_content};
 ghost use Rattle.host_plan.specs.Plan.{Owns};
 ghost use Rattle.host_tests.specs.Owned.{OwnsBelow};
 
+use bundle_rows::log_of;
 use host_plan::plan;
 use host_shard::{Content, Link, Shard, chain};
 use lamport_clocks::{Clock, Stamp};
@@ -153,6 +154,21 @@ pub fn push_all(rt: &impl Abort, log: &mut Vec<u8>, commands: &[Command]) {
     for command in commands {
         log.extend_from_slice(write(command).as_slice())
             .expect(rt, "memory");
+    }
+}
+
+/// The bytes of these commands.
+pub fn bytes_logged(rt: &impl Abort, alloc: Global, commands: &[Command]) -> Vec<u8> {
+    let mut log = Vec::new(alloc);
+    push_all(rt, &mut log, commands);
+    log
+}
+
+/// The bytes of the commands in these rows.
+pub fn bytes_of_rows(rt: &impl Abort, alloc: Global, rows: &str) -> Vec<u8> {
+    match log_of(alloc, rows.trim()) {
+        Ok(bytes) => bytes,
+        Err(_) => panic!(rt; "a row that is no command"),
     }
 }
 

@@ -5,18 +5,18 @@ use std::sync::atomic::{AtomicU64, Ordering};
 // How often a gate looks whether the other is there, before it gives up.
 const MOST_TURNS: u64 = 1 << 30;
 
-// Whether somebody has come, for whom others wait.
+// Whether somebody has come, for whom others wait, and whether one who waited has seen that.
 #[derive(Drop)]
 struct Flag {
     come: AtomicU64,
-    given_up: AtomicU64,
+    met: AtomicU64,
 }
 
 impl Flag {
     fn new() -> Self {
         Flag {
             come: AtomicU64::new(0),
-            given_up: AtomicU64::new(0),
+            met: AtomicU64::new(0),
         }
     }
 
@@ -27,14 +27,15 @@ impl Flag {
     fn wait(&self) {
         for _ in 0..MOST_TURNS {
             if self.come.load(Ordering::SeqCst) != 0 {
+                self.met.store(1, Ordering::SeqCst);
                 return;
             }
         }
-        self.given_up.store(1, Ordering::SeqCst);
     }
 
-    fn has_given_up(&self) -> bool {
-        self.given_up.load(Ordering::SeqCst) != 0
+    // Not so where the one gave up waiting, nor where nobody passed the gate.
+    fn has_met(&self) -> bool {
+        self.met.load(Ordering::SeqCst) != 0
     }
 }
 
@@ -52,9 +53,9 @@ impl HoldingGate {
         }
     }
 
-    /// Whether worker 0 went on alone.
-    pub(crate) fn has_given_up(&self) -> bool {
-        self.second.has_given_up()
+    /// Whether both passed, and worker 0 went on behind worker 1.
+    pub(crate) fn has_held(&self) -> bool {
+        self.second.has_met()
     }
 }
 
@@ -85,9 +86,9 @@ impl FeedingGate {
         }
     }
 
-    /// Whether one of the two went on alone.
-    pub(crate) fn has_given_up(&self) -> bool {
-        self.request.has_given_up() || self.poll.has_given_up()
+    /// Whether both passed, and neither went on alone.
+    pub(crate) fn has_held(&self) -> bool {
+        self.request.has_met() && self.poll.has_met()
     }
 }
 

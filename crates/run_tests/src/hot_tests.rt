@@ -1,6 +1,5 @@
 //! Scripts with keys that become hot.
-use crate::serving::assert_served;
-use bundle_rows::cases_of;
+use crate::serving::assert_all_served;
 
 // Each case is a script behind the numbers of workers and shards and further words, with its status and report, as the slow
 // program has it: a key that becomes hot, and one that goes back; five keys that ask for four places; a key that takes the
@@ -151,9 +150,5 @@ done 2
 
 #[test]
 fn hot_keys_are_served(rt: HostRuntime) {
-    let cases = cases_of(rt.alloc(), HOT).expect(&rt, "memory");
-    assert_eq!(rt; cases.len(), 8);
-    for case in &cases {
-        assert_served(&rt, rt.alloc(), case);
-    }
+    assert_all_served(&rt, rt.alloc(), HOT, 8);
 }

@@ -1,4 +1,5 @@
-//! Tests of `fastver run`, over `fastver` of `fastver_top`: scripts, their reports, and what the vault then holds.
+//! Tests of `fastver run`, `gen` and `accept`, over `fastver` of `fastver_top`: scripts, their reports, what the vault then
+//! holds, and receipts as the program writes and takes them.
 //!
 //! What each script must come to was worked out by hand, or comes from the slow program. `script_tests.rt` has scripts that
 //! are served, scripts that are bad, and clocks that end; `worker_tests.rt` scripts of many workers, and `hot_tests.rt` such
@@ -7,8 +8,17 @@
 //! and objects that never do, of which `sure_objects.rt` proves that no fault comes of them; `round_fault_tests.rt` objects that
 //! fail in a later round or in a load; `run_word_tests.rt` has words that are refused. Begin with `serving.rt`, which runs a
 //! script.
+//!
+//! Of receipts, `receipt_tests.rt` has reports with them, `evidence_tests.rt` what a receipt and a certificate come to, whole or
+//! changed, `receipt_fault_tests.rt` objects that fail, and such that never do, and `receipt_word_tests.rt` words that are
+//! refused. `asking.rt` asks the program, and has the reports whose lines these files hand in. What is written comes from the
+//! slow program, `tools/slow_fastver.py`, as do the numbers of the bits that make a text none.
 #![tactic(auto)]
 
+#[cfg(test)]
+mod asking;
+#[cfg(test)]
+mod evidence_tests;
 #[cfg(test)]
 mod fault_tests;
 #[cfg(test)]
@@ -19,6 +29,12 @@ mod holding_gate;
 mod hot_tests;
 #[cfg(test)]
 mod load_tests;
+#[cfg(test)]
+mod receipt_fault_tests;
+#[cfg(test)]
+mod receipt_tests;
+#[cfg(test)]
+mod receipt_word_tests;
 #[cfg(test)]
 mod round_fault_tests;
 #[cfg(test)]

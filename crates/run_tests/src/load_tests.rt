@@ -1,6 +1,8 @@
 //! Loads that are made of a seed.
-use crate::serving::program;
-use bundle_rows::cases_of;
+use crate::serving::{
+    assert_ended, assert_written, cases_in, holds, joined, program, same, words_of,
+};
+use bundle_rows::Case;
 use fastver_top::{Status, fastver};
 use fv_outside::{FreeGate, SureSink, SureSource, SureVault};
 use std::alloc::Global;
@@ -34,33 +36,33 @@ worker 0 gets 0 none 0 puts 0 dels 0
 clock end worker 0 at 0.0
 ";
 
-// The source is never read: its first read would fail.
+// The words of a load, with a key, up to those behind it.
+const GEN: &str = "fastver gen --key 00000000000000000000000000000000 ";
+
+// A load has its summary and status. The source is never read: its first read would fail.
+fn assert_summed_up<R: Threads + Wait + Sync + Abort>(rt: &R, alloc: Global, case: &Case<'_>) {
+    let line = joined(rt, alloc, GEN, case.label);
+    let fails: (&[u64], &[u64], &[u64]) = (&[0], &[], &[]);
+    let (objects, status) = program(rt, alloc, &line, b"0 get 5\n", 1000, fails);
+    let report = case.report.as_bytes();
+    assert_written(rt, &line, 0, &objects, &status, report, case.status);
+    same(rt, &line, 0, &objects.source.faults(), &0);
+}
+
 #[test]
 fn loads_are_summed_up(rt: HostRuntime) {
-    let cases = cases_of(rt.alloc(), LOADS).expect(&rt, "memory");
-    assert_eq!(rt; cases.len(), 4);
-    for case in &cases {
-        let line = format!(in rt.alloc();
-            "fastver gen --key 00000000000000000000000000000000 {}",
-            case.label
-        )
-        .expect(&rt, "memory");
-        let fails: (&[u64], &[u64], &[u64]) = (&[0], &[], &[]);
-        let (objects, status) = program(&rt, rt.alloc(), &line, b"0 get 5\n", 1000, fails);
-        assert_eq!(rt; objects.out.bytes(), case.report.as_bytes(), "{line}");
-        assert_eq!(rt; status.number(), case.status, "{line}");
-        assert_eq!(rt; objects.source.faults(), 0, "{line}");
+    for case in &cases_in(&rt, rt.alloc(), LOADS, 4) {
+        assert_summed_up(&rt, rt.alloc(), case);
     }
 }
 
-// What a load of 20,000 requests writes, where no object can fail.
-fn large_load<R: Threads + Wait + Sync + Abort>(rt: &R, alloc: Global) -> (Status, SureSink) {
-    let line =
-        "fastver gen --key 00000000000000000000000000000000 --seed 7 --ops 20000 --verifiers 4 --shards 16 --every 3000 --hot 4";
-    let mut words = Vec::new(alloc);
-    for word in line.split_whitespace() {
-        words.push(word).expect(rt, "memory");
-    }
+// The words of a load of 20,000 requests, behind a key.
+const LARGE: &str = "--seed 7 --ops 20000 --verifiers 4 --shards 16 --every 3000 --hot 4";
+
+// What it writes, where no object can fail.
+fn large_load<R: Threads + Wait + Sync + Abort>(rt: &R, alloc: Global) -> SureSink {
+    let line = joined(rt, alloc, GEN, LARGE);
+    let words = words_of(rt, alloc, &line);
     let mut source = SureSource::new(alloc, b"", 1).expect(rt, "memory");
     let mut out = SureSink::new(alloc, 1000, 1000).expect(rt, "memory");
     let mut vault = SureVault::new(alloc, 0, 100_000).expect(rt, "memory");
@@ -73,17 +75,17 @@ fn large_load<R: Threads + Wait + Sync + Abort>(rt: &R, alloc: Global) -> (Statu
         &mut vault,
         &FreeGate,
     );
-    (status, out)
+    assert_ended(rt, "load", 0, &status, &Status::Done { epochs: 7 });
+    out
 }
 
 // No key is used by two workers, so the summary is the same at each run.
 #[test]
 fn a_large_load_is_summed_up_the_same_twice(rt: HostRuntime) {
-    let (status, first) = large_load(&rt, rt.alloc());
-    assert_eq!(rt; status, Status::Done { epochs: 7 });
-    let (status, second) = large_load(&rt, rt.alloc());
-    assert_eq!(rt; status, Status::Done { epochs: 7 });
+    let first = large_load(&rt, rt.alloc());
+    let second = large_load(&rt, rt.alloc());
     let text = first.bytes().expect(&rt, "a sink that tells no bytes");
-    assert!(rt; text.starts_with(b"gen seed 7 ops 20000\nepochs 7\nworker 0 gets "));
-    assert_eq!(rt; second.bytes(), Some(text));
+    let front = b"gen seed 7 ops 20000\nepochs 7\nworker 0 gets ";
+    holds(&rt, "load", 0, text.starts_with(front));
+    same(&rt, "load", 1, &second.bytes(), &Some(text));
 }

@@ -1,7 +1,10 @@
 //! Objects that fail, one call after the other, in a run of several rounds and in a load: what stands then in the sink and in
 //! the vault.
-use crate::serving::{Objects, assert_ended, host_line, program, served};
-use bundle_rows::{Case, cases_of};
+use crate::serving::{
+    Objects, assert_ended, assert_front, assert_written, cases_in, host_line, joined, one, program,
+    same, served,
+};
+use bundle_rows::Case;
 use fastver_top::Status;
 use std::alloc::Global;
 use std::process::Abort;
@@ -101,80 +104,142 @@ const MARKS: [Marks; 3] = [
 ];
 
 // The first bytes of a text are held, so many of them, and nothing else.
-fn assert_first<R: Abort>(rt: &R, label: &str, held: &[u8], text: &[u8], count: usize) {
-    assert_eq!(rt; held.len(), count, "{label}");
-    assert!(rt; text.starts_with(held), "{label}");
+fn assert_first(rt: &impl Abort, label: &str, held: &[u8], text: &[u8], count: usize) {
+    same(rt, label, count, &held.len(), &count);
+    assert_front(rt, label, held, text);
+}
+
+// A run, and what is there behind it where no object fails.
+#[derive(Drop)]
+struct Whole<'a> {
+    case: Case<'a>,
+    marks: Marks,
+    line: String,
+    all: Objects,
 }
 
 // What is there behind a case's run where no object fails: its report, and a vault of so many bytes.
-fn unfailing<R: Threads + Wait + Sync + Abort>(
+fn unfailing<'a, R: Threads + Wait + Sync + Abort>(
     rt: &R,
     alloc: Global,
-    line: &str,
-    case: &Case<'_>,
-    whole: usize,
-) -> Objects {
-    let (objects, status) = served(rt, alloc, line, case.rows, 1);
-    assert_eq!(rt; status.number(), case.status, "{line}");
-    assert_eq!(rt; objects.out.bytes(), case.report.as_bytes(), "{line}");
-    assert_eq!(rt; objects.vault.bytes().len(), whole, "{line}");
-    objects
+    case: &Case<'a>,
+    marks: Marks,
+) -> Whole<'a> {
+    let line = host_line(rt, alloc, case.label);
+    let (all, status) = served(rt, alloc, &line, case.rows, 1);
+    let report = case.report.as_bytes();
+    assert_written(rt, &line, 0, &all, &status, report, case.status);
+    same(rt, &line, 0, &all.vault.bytes().len(), &marks.whole);
+    Whole {
+        case: *case,
+        marks,
+        line,
+        all,
+    }
+}
+
+// The runs, each with what is there behind it where no object fails.
+fn unfailing_runs<R: Threads + Wait + Sync + Abort>(rt: &R, alloc: Global) -> Vec<Whole<'static>> {
+    let mut runs = Vec::new(alloc);
+    for (case, marks) in cases_in(rt, alloc, RUNS, 3).iter().zip(MARKS) {
+        runs.push(unfailing(rt, alloc, case, marks))
+            .expect(rt, "memory");
+    }
+    runs
+}
+
+// What is there behind the run where calls of these numbers fail, and its status.
+fn failing<R: Threads + Wait + Sync + Abort>(
+    rt: &R,
+    alloc: Global,
+    run: &Whole<'_>,
+    fails: (&[u64], &[u64], &[u64]),
+) -> (Objects, Status) {
+    program(rt, alloc, &run.line, run.case.rows.as_bytes(), 1, fails)
+}
+
+// The sink and the vault hold so many of the bytes that they hold where no object fails.
+fn assert_fronts(rt: &impl Abort, run: &Whole<'_>, objects: &Objects, written: usize, kept: usize) {
+    let all = &run.all;
+    assert_first(rt, &run.line, objects.out.bytes(), all.out.bytes(), written);
+    assert_first(
+        rt,
+        &run.line,
+        objects.vault.bytes(),
+        all.vault.bytes(),
+        kept,
+    );
+}
+
+// Where the vault's write of the byte of this number fails, those before it stand, and the lines of the rounds before.
+fn assert_vault_fails<R: Threads + Wait + Sync + Abort>(
+    rt: &R,
+    alloc: Global,
+    run: &Whole<'_>,
+    k: usize,
+) {
+    let (objects, status) = failing(rt, alloc, run, (&[], &[], &one(k)));
+    assert_ended(rt, &run.line, k, &status, &Status::VaultFault);
+    let marks = run.marks;
+    let lines = if k < marks.second { 0 } else { marks.lines };
+    assert_fronts(rt, run, &objects, lines, k);
 }
 
 #[test]
 fn where_the_vault_fails_the_lines_of_the_rounds_before_stand(rt: HostRuntime) {
-    let cases = cases_of(rt.alloc(), RUNS).expect(&rt, "memory");
-    assert_eq!(rt; cases.len(), 3);
-    for (case, marks) in cases.iter().zip(MARKS) {
-        let line = host_line(&rt, rt.alloc(), case.label);
-        let all = unfailing(&rt, rt.alloc(), &line, case, marks.whole);
-        for k in 0..marks.whole {
-            let fails: (&[u64], &[u64], &[u64]) = (&[], &[], &[k as u64]);
-            let script = case.rows.as_bytes();
-            let (objects, status) = program(&rt, rt.alloc(), &line, script, 1, fails);
-            assert_ended(&rt, k, &status, &Status::VaultFault);
-            assert_first(&rt, &line, objects.vault.bytes(), all.vault.bytes(), k);
-            let lines = if k < marks.second { 0 } else { marks.lines };
-            assert_first(&rt, &line, objects.out.bytes(), all.out.bytes(), lines);
+    for run in &unfailing_runs(&rt, rt.alloc()) {
+        for k in 0..run.marks.whole {
+            assert_vault_fails(&rt, rt.alloc(), run, k);
         }
     }
+}
+
+// Where the write of the byte of this number fails, those before it stand, and the vault has the rounds up to it.
+fn assert_write_fails<R: Threads + Wait + Sync + Abort>(
+    rt: &R,
+    alloc: Global,
+    run: &Whole<'_>,
+    k: usize,
+) {
+    let (objects, status) = failing(rt, alloc, run, (&[], &one(k), &[]));
+    assert_ended(rt, &run.line, k, &status, &Status::WriteFault);
+    let Marks {
+        second,
+        lines,
+        whole,
+    } = run.marks;
+    let kept = if k < lines { second } else { whole };
+    assert_fronts(rt, run, &objects, k, kept);
 }
 
 #[test]
 fn where_a_write_fails_the_vault_has_the_rounds_up_to_it(rt: HostRuntime) {
-    for (case, marks) in cases_of(rt.alloc(), RUNS)
-        .expect(&rt, "memory")
-        .iter()
-        .zip(MARKS)
-    {
-        let line = host_line(&rt, rt.alloc(), case.label);
-        let all = unfailing(&rt, rt.alloc(), &line, case, marks.whole);
-        for k in 0..case.report.len() {
-            let fails: (&[u64], &[u64], &[u64]) = (&[], &[k as u64], &[]);
-            let script = case.rows.as_bytes();
-            let (objects, status) = program(&rt, rt.alloc(), &line, script, 1, fails);
-            assert_ended(&rt, k, &status, &Status::WriteFault);
-            assert_first(&rt, &line, objects.out.bytes(), all.out.bytes(), k);
-            let kept = if k < marks.lines {
-                marks.second
-            } else {
-                marks.whole
-            };
-            assert_first(&rt, &line, objects.vault.bytes(), all.vault.bytes(), kept);
+    for run in &unfailing_runs(&rt, rt.alloc()) {
+        for k in 0..run.case.report.len() {
+            assert_write_fails(&rt, rt.alloc(), run, k);
         }
     }
 }
 
+// Where the read of this number fails, no round is begun.
+fn assert_read_fails<R: Threads + Wait + Sync + Abort>(
+    rt: &R,
+    alloc: Global,
+    case: &Case<'_>,
+    k: usize,
+) {
+    let line = host_line(rt, alloc, case.label);
+    let fails: (&[u64], &[u64], &[u64]) = (&one(k), &[], &[]);
+    let (objects, status) = program(rt, alloc, &line, case.rows.as_bytes(), 1, fails);
+    assert_ended(rt, &line, k, &status, &Status::ReadFault);
+    objects.assert_hold(rt, k, &[], &[], None);
+}
+
 #[test]
 fn where_a_read_fails_no_round_is_begun(rt: HostRuntime) {
-    for case in &cases_of(rt.alloc(), RUNS).expect(&rt, "the cases") {
-        let line = host_line(&rt, rt.alloc(), case.label);
+    for case in &cases_in(&rt, rt.alloc(), RUNS, 3) {
         for k in 0..case.rows.len() + 1 {
-            let fails: (&[u64], &[u64], &[u64]) = (&[k as u64], &[], &[]);
-            let script = case.rows.as_bytes();
-            let (objects, status) = program(&rt, rt.alloc(), &line, script, 1, fails);
-            assert_ended(&rt, k, &status, &Status::ReadFault);
-            objects.assert_hold(&rt, k, &[], &[], None);
+            assert_read_fails(&rt, rt.alloc(), case, k);
         }
     }
 }
@@ -190,28 +255,65 @@ worker 0 gets 1 none 1 puts 0 dels 0
 worker 1 gets 1 none 1 puts 0 dels 0
 ";
 
+// Where calls of these numbers fail, a load ends so, and the sink and the vault hold this.
+fn assert_load<R: Threads + Wait + Sync + Abort>(
+    rt: &R,
+    alloc: Global,
+    line: &str,
+    fails: (&[u64], &[u64], &[u64]),
+    held: (&[u8], &[u8]),
+    status: &Status,
+) {
+    let (objects, found) = program(rt, alloc, line, b"", 1, fails);
+    let (out, vault) = held;
+    assert_ended(rt, line, vault.len(), &found, status);
+    objects.assert_hold(rt, out.len(), out, vault, None);
+}
+
+// What is there behind the load where no object fails.
+fn whole_load<R: Threads + Wait + Sync + Abort>(rt: &R, alloc: Global) -> Objects {
+    let (all, status) = served(rt, alloc, LOAD, "", 1);
+    assert_ended(rt, "load", 0, &status, &Status::Done { epochs: 2 });
+    all.assert_hold(rt, 0, SUMMARY.as_bytes(), all.vault.bytes(), None);
+    same(rt, "bytes", 0, &all.vault.bytes().len(), &659);
+    all
+}
+
+// Where the vault can't be named, a load has neither summary nor bundle.
+fn assert_unnamed<R: Threads + Wait + Sync + Abort>(rt: &R, alloc: Global) {
+    let named = joined(rt, alloc, LOAD, " --logs x");
+    let fails: (&[u64], &[u64], &[u64]) = (&[], &[], &[0]);
+    assert_load(rt, alloc, &named, fails, (&[], &[]), &Status::VaultFault);
+}
+
+// Where the vault's write of the byte behind each front of the bundle fails, the front stands.
+fn assert_bundle_fronts<R: Threads + Wait + Sync + Abort>(rt: &R, alloc: Global, bundle: &[u8]) {
+    for k in 0..bundle.len() {
+        let held: (&[u8], &[u8]) = (&[], &bundle[..k]);
+        let fails: (&[u64], &[u64], &[u64]) = (&[], &[], &one(k));
+        assert_load(rt, alloc, LOAD, fails, held, &Status::VaultFault);
+    }
+}
+
+// Where the write of the byte behind each front of the summary fails, the front stands beside the bundle.
+fn assert_summary_fronts<R: Threads + Wait + Sync + Abort>(
+    rt: &R,
+    alloc: Global,
+    summary: &[u8],
+    bundle: &[u8],
+) {
+    for k in 0..summary.len() {
+        let fails: (&[u64], &[u64], &[u64]) = (&[], &one(k), &[]);
+        let held = (&summary[..k], bundle);
+        assert_load(rt, alloc, LOAD, fails, held, &Status::WriteFault);
+    }
+}
+
 #[test]
 fn where_an_object_of_a_load_fails_a_front_stands(rt: HostRuntime) {
-    let (all, status) = served(&rt, rt.alloc(), LOAD, "", 1);
-    assert_ended(&rt, 0, &status, &Status::Done { epochs: 2 });
-    let (summary, bundle) = (SUMMARY.as_bytes(), all.vault.bytes());
-    all.assert_hold(&rt, 0, summary, bundle, None);
-    assert!(rt; bundle.len() == 659);
-    for k in 0..659 {
-        let fails: (&[u64], &[u64], &[u64]) = (&[], &[], &[k as u64]);
-        let (objects, status) = program(&rt, rt.alloc(), LOAD, b"", 1, fails);
-        assert_ended(&rt, k, &status, &Status::VaultFault);
-        objects.assert_hold(&rt, k, &[], &bundle[..k], None);
-    }
-    for k in 0..summary.len() {
-        let fails: (&[u64], &[u64], &[u64]) = (&[], &[k as u64], &[]);
-        let (objects, status) = program(&rt, rt.alloc(), LOAD, b"", 1, fails);
-        assert_ended(&rt, k, &status, &Status::WriteFault);
-        objects.assert_hold(&rt, k, &summary[..k], bundle, None);
-    }
-    let named = format!(in rt.alloc(); "{LOAD} --logs x").expect(&rt, "memory");
-    let fails: (&[u64], &[u64], &[u64]) = (&[], &[], &[0]);
-    let (objects, status) = program(&rt, rt.alloc(), &named, b"", 1, fails);
-    assert_ended(&rt, 0, &status, &Status::VaultFault);
-    objects.assert_hold(&rt, 0, &[], &[], None);
+    let all = whole_load(&rt, rt.alloc());
+    let bundle = all.vault.bytes();
+    assert_bundle_fronts(&rt, rt.alloc(), bundle);
+    assert_summary_fronts(&rt, rt.alloc(), SUMMARY.as_bytes(), bundle);
+    assert_unnamed(&rt, rt.alloc());
 }

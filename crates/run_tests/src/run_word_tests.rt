@@ -1,6 +1,10 @@
 //! Words of a run that are refused: nothing is read, written or named.
-use crate::serving::{SCRIPT, served};
+use crate::serving::{SCRIPT, assert_ended, same, served};
 use fastver_top::Status;
+use std::alloc::Global;
+use std::process::Abort;
+use std::sync::Wait;
+use std::thread::Threads;
 
 // Words that ask for nothing, a line each.
 const REFUSED: &str = "\
@@ -14,16 +18,19 @@ fastver run --key 00000000000000000000000000000000 --verifiers 65 --shards 2 --l
 fastver run --key 00000000000000000000000000000000 --verifiers 1 --shards 2 --logs x --counter 16777216
 ";
 
+// The words of a line are refused.
+fn assert_refused<R: Threads + Wait + Sync + Abort>(rt: &R, alloc: Global, line: &str) {
+    let (objects, status) = served(rt, alloc, line, SCRIPT, 1);
+    assert_ended(rt, line, 0, &status, &Status::Usage);
+    same(rt, line, 0, &status.number(), &1);
+    same(rt, line, 0, &objects.source.left(), &SCRIPT.as_bytes());
+    objects.assert_hold(rt, 0, &[], &[], None);
+}
+
 #[test]
 fn words_are_refused_before_anything_is_read(rt: HostRuntime) {
-    assert_eq!(rt; REFUSED.lines().count(), 8);
+    same(&rt, "lines", 0, &REFUSED.lines().count(), &8);
     for line in REFUSED.lines() {
-        let (objects, status) = served(&rt, rt.alloc(), line, SCRIPT, 1);
-        assert_eq!(rt; status, Status::Usage, "{line}");
-        assert_eq!(rt; status.number(), 1, "{line}");
-        assert_eq!(rt; objects.source.left(), SCRIPT.as_bytes(), "{line}");
-        assert!(rt; objects.out.bytes().is_empty(), "{line}");
-        assert!(rt; objects.vault.bytes().is_empty(), "{line}");
-        assert!(rt; objects.vault.name_taken().is_none(), "{line}");
+        assert_refused(&rt, rt.alloc(), line);
     }
 }

@@ -1,9 +1,13 @@
 //! Scripts that are served, scripts that are bad, and clocks that end.
-use crate::serving::{assert_ended, assert_served, line_of, served};
-use bundle_rows::{bundle_of, cases_of};
+use crate::serving::{
+    assert_all_served, assert_ended, assert_written, cases_in, line_of, same, served,
+};
+use bundle_rows::{Case, bundle_of};
 use fastver_top::Status;
 use std::alloc::Global;
 use std::process::Abort;
+use std::sync::Wait;
+use std::thread::Threads;
 
 // Each case is a script behind the number of shards and further words, with its status and report.
 const SERVED: &str = "\
@@ -71,11 +75,7 @@ clock end worker 0 at 0.0
 
 #[test]
 fn scripts_are_served(rt: HostRuntime) {
-    let cases = cases_of(rt.alloc(), SERVED).expect(&rt, "memory");
-    assert_eq!(rt; cases.len(), 9);
-    for case in &cases {
-        assert_served(&rt, rt.alloc(), case);
-    }
+    assert_all_served(&rt, rt.alloc(), SERVED, 9);
 }
 
 // What the vault holds of an empty script.
@@ -94,26 +94,31 @@ evictB /1 1.4
 next
 ";
 
+// The bytes of a bundle, of which there are so many.
+fn bundle_in(rt: &impl Abort, alloc: Global, rows: &str, count: usize) -> Vec<u8> {
+    let bundle = bundle_of(alloc, rows).expect(rt, "memory");
+    same(rt, "bytes", 0, &bundle.len(), &count);
+    bundle
+}
+
 #[test]
 fn the_vault_holds_the_bundle_of_an_empty_script(rt: HostRuntime) {
-    let bundle = bundle_of(rt.alloc(), EMPTY).expect(&rt, "memory");
-    assert_eq!(rt; bundle.len(), 208);
+    let bundle = bundle_in(&rt, rt.alloc(), EMPTY, 208);
     let line = line_of(&rt, rt.alloc(), "2 --logs x");
     let (objects, status) = served(&rt, rt.alloc(), &line, "", 10);
     let report = b"epoch 0 certified 0\ndone 1\n";
     objects.assert_hold(&rt, 0, report, &bundle, Some("x"));
-    assert_ended(&rt, 0, &status, &Status::Done { epochs: 1 });
+    assert_ended(&rt, "empty", 0, &status, &Status::Done { epochs: 1 });
 }
 
 #[test]
 fn where_counters_do_not_suffice_for_the_setup_the_vault_holds_a_header(rt: HostRuntime) {
-    let header = bundle_of(rt.alloc(), "cache 128 end 1\n").expect(&rt, "memory");
-    assert_eq!(rt; header.len(), 18);
+    let header = bundle_in(&rt, rt.alloc(), "cache 128 end 1\n", 18);
     let line = line_of(&rt, rt.alloc(), "2 --counter 1 --logs x");
     let (objects, status) = served(&rt, rt.alloc(), &line, "0 get 5\n", 10);
     let report = b"clock end worker 0 at 0.0\n";
     objects.assert_hold(&rt, 0, report, &header, Some("x"));
-    assert_eq!(rt; status.number(), 10);
+    same(&rt, "counters", 0, &status.number(), &10);
 }
 
 // Bad scripts, each with what the program then says.
@@ -154,21 +159,24 @@ nothing
 bad script line 2 Key
 ";
 
+// A status has this line.
+fn assert_line(rt: &impl Abort, label: &str, status: &Status, line: &str) {
+    same(rt, label, 0, &status.line().as_slice(), &line.as_bytes());
+}
+
+// A bad script is told by its line, and nothing is written.
+fn assert_bad<R: Threads + Wait + Sync + Abort>(rt: &R, alloc: Global, case: &Case<'_>) {
+    let line = line_of(rt, alloc, "2 --logs x");
+    let (objects, status) = served(rt, alloc, &line, case.rows, 10);
+    assert_written(rt, case.label, 0, &objects, &status, b"", case.status);
+    assert_line(rt, case.label, &status, case.report.trim());
+    objects.assert_hold(rt, 0, &[], &[], None);
+}
+
 #[test]
 fn bad_scripts_are_refused_before_anything_is_written(rt: HostRuntime) {
-    let line = line_of(&rt, rt.alloc(), "2 --logs x");
-    let cases = cases_of(rt.alloc(), BAD).expect(&rt, "memory");
-    assert_eq!(rt; cases.len(), 7);
-    for case in &cases {
-        let label = case.label;
-        let (objects, status) = served(&rt, rt.alloc(), &line, case.rows, 10);
-        assert_eq!(rt; status.number(), case.status, "{label}");
-        assert_eq!(rt;
-            status.line().as_slice(),
-            case.report.trim().as_bytes(),
-            "{label}"
-        );
-        objects.assert_hold(&rt, 0, &[], &[], None);
+    for case in &cases_in(&rt, rt.alloc(), BAD, 7) {
+        assert_bad(&rt, rt.alloc(), case);
     }
 }
 
@@ -187,13 +195,11 @@ fn a_value_has_64_bytes_at_most(rt: HostRuntime) {
     let line = line_of(&rt, rt.alloc(), "2");
     let longest = long_put(&rt, rt.alloc(), 64);
     let (objects, status) = served(&rt, rt.alloc(), &line, &longest, 10);
-    assert_eq!(rt; status, Status::Done { epochs: 1 });
-    assert_eq!(rt; objects.out.bytes().len(), 20 + 13 + 128 + 1 + 7);
+    assert_ended(&rt, "64 bytes", 0, &status, &Status::Done { epochs: 1 });
+    let length = objects.out.bytes().len();
+    same(&rt, "64 bytes", 0, &length, &(20 + 13 + 128 + 1 + 7));
     let longer = long_put(&rt, rt.alloc(), 65);
     let (objects, status) = served(&rt, rt.alloc(), &line, &longer, 10);
-    assert_eq!(rt;
-        status.line().as_slice(),
-        b"bad script line 1 Hex".as_slice()
-    );
-    assert!(rt; objects.out.bytes().is_empty());
+    assert_line(&rt, "65 bytes", &status, "bad script line 1 Hex");
+    objects.assert_wrote(&rt, "65 bytes", 0, b"");
 }

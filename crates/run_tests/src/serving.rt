@@ -1,14 +1,20 @@
-//! Runs of a script between objects in memory.
-use bundle_rows::Case;
+//! Runs of a script between objects in memory, and what they must leave.
+//!
+//! What must be is said by a call: a comparison that stands in a test costs far more to prove, the more is alive there.
+use bundle_rows::{Case, cases_of};
 use fastver_top::{Status, fastver};
 use fv_outside::{FreeGate, Gate, MemorySink, MemorySource, MemoryVault};
 use std::alloc::Global;
+use std::fmt::Debug;
 use std::process::Abort;
 use std::sync::Wait;
 use std::thread::Threads;
 
-/// The words of a run, with a key, up to the number of its workers.
-pub(crate) const RUN: &str = "fastver run --key 00000000000000000000000000000000 --verifiers";
+// The words of a run, with a key, up to the number of its workers, and up to the number of the shards of one worker.
+const RUN: &str = "fastver run --key 00000000000000000000000000000000 --verifiers ";
+
+const RUN_ALONE: &str =
+    "fastver run --key 00000000000000000000000000000000 --verifiers 1 --shards ";
 
 // The bytes that a sink and a vault have room for.
 const ROOM: usize = 200_000;
@@ -42,15 +48,54 @@ impl Objects {
         vault: &[u8],
         name: Option<&str>,
     ) {
-        assert_eq!(rt; self.out.bytes(), out, "{turn}");
-        assert_eq!(rt; self.vault.bytes(), vault, "{turn}");
-        assert_eq!(rt; self.vault.name_taken(), name, "{turn}");
+        same(rt, "the sink", turn, &self.out.bytes(), &out);
+        same(rt, "the vault", turn, &self.vault.bytes(), &vault);
+        same(rt, "its name", turn, &self.vault.name_taken(), &name);
+    }
+
+    /// The sink holds these bytes.
+    pub(crate) fn assert_wrote(&self, rt: &impl Abort, label: &str, turn: usize, out: &[u8]) {
+        same(rt, label, turn, &self.out.bytes(), &out);
     }
 }
 
-/// A run ended so. Else the test ends, and tells which turn it was.
-pub(crate) fn assert_ended(rt: &impl Abort, turn: usize, status: &Status, wanted: &Status) {
-    assert_eq!(rt; status, wanted, "{turn}");
+/// Two values are the same. Where they aren't, the test ends, and tells what was tried and which turn it was.
+pub(crate) fn same<T: PartialEq + Debug>(
+    rt: &impl Abort,
+    label: &str,
+    turn: usize,
+    found: &T,
+    wanted: &T,
+) {
+    assert_eq!(rt; found, wanted, "{label} {turn}");
+}
+
+/// A run ended so.
+pub(crate) fn assert_ended(
+    rt: &impl Abort,
+    label: &str,
+    turn: usize,
+    status: &Status,
+    wanted: &Status,
+) {
+    same(rt, label, turn, status, wanted);
+}
+
+/// It is so. Else the test ends, and tells the same.
+pub(crate) fn holds(rt: &impl Abort, label: &str, turn: usize, is_so: bool) {
+    same(rt, label, turn, &is_so, &true);
+}
+
+/// The cases of a table, of which there are so many.
+pub(crate) fn cases_in<'a>(
+    rt: &impl Abort,
+    alloc: Global,
+    table: &'a str,
+    count: usize,
+) -> Vec<Case<'a>> {
+    let cases = cases_of(alloc, table).expect(rt, "memory");
+    same(rt, "cases", 0, &cases.len(), &count);
+    cases
 }
 
 /// What is there behind the program with the words of a line, over these bytes, all by pieces of so many and with calls
@@ -66,6 +111,15 @@ pub(crate) fn program<R: Threads + Wait + Sync + Abort>(
     program_at(rt, alloc, line, bytes, piece, fails, &FreeGate)
 }
 
+/// The words of a line.
+pub(crate) fn words_of<'a>(rt: &impl Abort, alloc: Global, line: &'a str) -> Vec<&'a str> {
+    let mut words = Vec::new(alloc);
+    for word in line.split_whitespace() {
+        words.push(word).expect(rt, "memory");
+    }
+    words
+}
+
 /// The same where its workers pass a gate.
 pub(crate) fn program_at<R: Threads + Wait + Sync + Abort, G: Gate + Sync>(
     rt: &R,
@@ -76,10 +130,7 @@ pub(crate) fn program_at<R: Threads + Wait + Sync + Abort, G: Gate + Sync>(
     fails: (&[u64], &[u64], &[u64]),
     gate: &G,
 ) -> (Objects, Status) {
-    let mut words = Vec::new(alloc);
-    for word in line.split_whitespace() {
-        words.push(word).expect(rt, "memory");
-    }
+    let words = words_of(rt, alloc, line);
     let piece = piece.max(1);
     let mut source = MemorySource::new(alloc, bytes, piece, fails.0).expect(rt, "memory");
     let mut out = MemorySink::new(alloc, ROOM, piece, fails.1).expect(rt, "memory");
@@ -109,40 +160,88 @@ pub(crate) fn checked<R: Threads + Wait + Sync + Abort>(
     program(rt, alloc, line, bytes, 1000, (&[], &[], &[]))
 }
 
+/// A text behind another.
+pub(crate) fn joined(rt: &impl Abort, alloc: Global, front: &str, more: &str) -> String {
+    let mut text = String::from_str(alloc, front).expect(rt, "memory");
+    text.push_str(more).expect(rt, "memory");
+    text
+}
+
 /// The words of a run, with the number of its workers and those behind it.
 pub(crate) fn host_line(rt: &impl Abort, alloc: Global, more: &str) -> String {
-    format!(in alloc; "{RUN} {more}").expect(rt, "memory")
+    joined(rt, alloc, RUN, more)
 }
 
 /// The words of a run of one worker, with the number of its shards and those behind it.
 pub(crate) fn line_of(rt: &impl Abort, alloc: Global, more: &str) -> String {
-    format!(in alloc; "{RUN} 1 --shards {more}").expect(rt, "memory")
+    joined(rt, alloc, RUN_ALONE, more)
 }
 
-/// The report of a script, and its status, whether all goes by bytes or as a whole. Where all is done, a check of what the
-/// vault holds writes the same.
-pub(crate) fn assert_served<R: Threads + Wait + Sync + Abort>(
+/// The number of one call.
+pub(crate) fn one(k: usize) -> [u64; 1] {
+    [k as u64]
+}
+
+/// Each case of a table, of which there are so many, has its report and status, whether all goes by bytes or as a whole.
+/// Where all is done, a check of what the vault holds writes the same.
+pub(crate) fn assert_all_served<R: Threads + Wait + Sync + Abort>(
     rt: &R,
     alloc: Global,
-    case: &Case<'_>,
+    table: &str,
+    count: usize,
 ) {
-    let line = host_line(rt, alloc, case.label);
-    for piece in [1, 100_000] {
-        let (objects, status) = served(rt, alloc, &line, case.rows, piece);
-        assert_eq!(rt; objects.out.bytes(), case.report.as_bytes(), "{line}");
-        assert_eq!(rt; status.number(), case.status, "{line}");
-        assert!(rt; objects.vault.name_taken().is_none(), "{line}");
-        if case.status == 0 {
-            let (again, status) = checked(rt, alloc, objects.vault.bytes());
-            assert_eq!(rt; again.out.bytes(), case.report.as_bytes(), "{line}");
-            assert_eq!(rt; status.number(), 0, "{line}");
-        }
+    for case in &cases_in(rt, alloc, table, count) {
+        assert_served(rt, alloc, case, 1);
+        assert_served(rt, alloc, case, 100_000);
     }
 }
 
+// So it is of one case, by pieces of so many bytes.
+fn assert_served<R: Threads + Wait + Sync + Abort>(
+    rt: &R,
+    alloc: Global,
+    case: &Case<'_>,
+    piece: usize,
+) {
+    let line = host_line(rt, alloc, case.label);
+    let (objects, status) = served(rt, alloc, &line, case.rows, piece);
+    let report = case.report.as_bytes();
+    assert_written(rt, &line, piece, &objects, &status, report, case.status);
+    same(rt, &line, piece, &objects.vault.name_taken(), &None);
+    if case.status == 0 {
+        assert_vault(rt, alloc, &line, objects.vault.bytes(), report);
+    }
+}
+
+/// This was written, and the status has this number.
+pub(crate) fn assert_written(
+    rt: &impl Abort,
+    label: &str,
+    turn: usize,
+    objects: &Objects,
+    status: &Status,
+    report: &[u8],
+    number: u8,
+) {
+    same(rt, label, turn, &objects.out.bytes(), &report);
+    same(rt, label, turn, &status.number(), &number);
+}
+
+// A check of these bytes writes this.
+fn assert_vault<R: Threads + Wait + Sync + Abort>(
+    rt: &R,
+    alloc: Global,
+    line: &str,
+    bytes: &[u8],
+    report: &[u8],
+) {
+    let (again, status) = checked(rt, alloc, bytes);
+    assert_written(rt, line, 0, &again, &status, report, 0);
+}
+
 /// What was written is a front of this text.
-pub(crate) fn assert_front<R: Abort>(rt: &R, label: &str, written: &[u8], text: &[u8]) {
-    assert!(rt; text.starts_with(written), "{label}");
+pub(crate) fn assert_front(rt: &impl Abort, label: &str, written: &[u8], text: &[u8]) {
+    holds(rt, label, written.len(), text.starts_with(written));
 }
 
 /// So many workers ask for these keys in turn, so often in each of so many phases.
@@ -166,7 +265,16 @@ pub(crate) fn contending(
     script
 }
 
-// Each worker asks for a key: every third one puts its number there.
+// What a worker asks for: every third one puts its number there.
+fn ask_for(rt: &impl Abort, alloc: Global, worker: u16, key: u64, round: usize) -> String {
+    if (usize::from(worker) % 3 + round % 3) % 3 == 0 {
+        format!(in alloc; "{worker} put {key} {worker:04x}\n").expect(rt, "memory")
+    } else {
+        format!(in alloc; "{worker} get {key}\n").expect(rt, "memory")
+    }
+}
+
+// Each worker asks for a key.
 fn add_round(
     rt: &impl Abort,
     alloc: Global,
@@ -179,17 +287,13 @@ fn add_round(
         let Some(key) = keys.get(round % keys.len().max(1)) else {
             return ();
         };
-        let ask = if (usize::from(worker) % 3 + round % 3) % 3 == 0 {
-            format!(in alloc; "{worker} put {key} {worker:04x}\n").expect(rt, "memory")
-        } else {
-            format!(in alloc; "{worker} get {key}\n").expect(rt, "memory")
-        };
+        let ask = ask_for(rt, alloc, worker, *key, round);
         script.push_str(&ask).expect(rt, "memory");
     }
 }
 
-/// All is done, and a check of the vault writes the same: nothing was refused, and no alarm was false.
-pub(crate) fn assert_checked<R: Threads + Wait + Sync + Abort>(
+// All is done, and a check of the vault writes the same: nothing was refused, and no alarm was false.
+fn assert_checked<R: Threads + Wait + Sync + Abort>(
     rt: &R,
     alloc: Global,
     objects: &Objects,
@@ -197,14 +301,34 @@ pub(crate) fn assert_checked<R: Threads + Wait + Sync + Abort>(
     epochs: u64,
     turn: usize,
 ) {
-    assert_eq!(rt; status, Status::Done { epochs }, "{turn}");
+    assert_ended(rt, "run", turn, &status, &Status::Done { epochs });
     let (again, status) = checked(rt, alloc, objects.vault.bytes());
-    assert_eq!(rt; again.out.bytes(), objects.out.bytes(), "{turn}");
-    assert_eq!(rt; status, Status::Done { epochs }, "{turn}");
+    again.assert_wrote(rt, "check", turn, objects.out.bytes());
+    assert_ended(rt, "check", turn, &status, &Status::Done { epochs });
 }
 
-/// Lines of answers, of which there is one for each request.
-pub(crate) fn answers_in(report: &[u8]) -> usize {
+/// A run of a script in two phases has so many answers, and a check of its vault writes the same.
+pub(crate) fn assert_all_answered<R: Threads + Wait + Sync + Abort>(
+    rt: &R,
+    alloc: Global,
+    line: &str,
+    script: &str,
+    count: usize,
+    turn: usize,
+) {
+    let (objects, status) = served(rt, alloc, line, script, 100_000);
+    same(
+        rt,
+        "answers",
+        turn,
+        &answers_in(objects.out.bytes()),
+        &count,
+    );
+    assert_checked(rt, alloc, &objects, status, 2, turn);
+}
+
+// Lines of answers, of which there is one for each request.
+fn answers_in(report: &[u8]) -> usize {
     report
         .split(|byte| *byte == b'\n')
         .filter(|line| line.starts_with(b"0.") || line.starts_with(b"1."))

@@ -1,10 +1,14 @@
 //! Scripts that many workers serve, each in a thread of its own.
 use crate::holding_gate::HoldingGate;
 use crate::serving::{
-    answers_in, assert_checked, assert_served, contending, host_line, program_at, served,
+    assert_all_answered, assert_all_served, assert_ended, contending, holds, host_line, program_at,
+    same, served,
 };
-use bundle_rows::cases_of;
 use fastver_top::Status;
+use std::alloc::Global;
+use std::process::Abort;
+use std::sync::Wait;
+use std::thread::Threads;
 
 // Each case is a script behind the numbers of workers and shards and further words, with its status and report, as the slow
 // program has it. In each phase a shard is used by one worker alone, so they are the same under every schedule. Equal clocks
@@ -148,11 +152,7 @@ done 2
 
 #[test]
 fn workers_apart_are_served(rt: HostRuntime) {
-    let cases = cases_of(rt.alloc(), APART).expect(&rt, "memory");
-    assert_eq!(rt; cases.len(), 7);
-    for case in &cases {
-        assert_served(&rt, rt.alloc(), case);
-    }
+    assert_all_served(&rt, rt.alloc(), APART, 7);
 }
 
 // Two workers at one key: the report is one of these, as the one or the other comes first, or between.
@@ -162,20 +162,40 @@ const ORDERS: [&str; 3] = [
     "epoch 0 certified 3\n0.3 v0 put 5 61\n0.5 v0 get 5 61\n0.7 v1 put 5 62\ndone 1\n",
 ];
 
+// One of these is what was written.
+fn is_some_order(written: &[u8]) -> bool {
+    ORDERS.iter().any(|order| order.as_bytes() == written)
+}
+
+// The two workers are served.
+fn assert_in_some_order<R: Threads + Wait + Sync + Abort>(
+    rt: &R,
+    alloc: Global,
+    line: &str,
+    turn: usize,
+) {
+    let script = "0 put 5 61\n1 put 5 62\n0 get 5\n";
+    let (objects, status) = served(rt, alloc, line, script, 100_000);
+    assert_ended(rt, "turn", turn, &status, &Status::Done { epochs: 1 });
+    holds(rt, "turn", turn, is_some_order(objects.out.bytes()));
+}
+
 #[test]
 fn workers_at_one_key_are_served_in_some_order(rt: HostRuntime) {
     let line = host_line(&rt, rt.alloc(), "2 --shards 2");
     for turn in 0..50 {
-        let script = "0 put 5 61\n1 put 5 62\n0 get 5\n";
-        let (objects, status) = served(&rt, rt.alloc(), &line, script, 100_000);
-        assert_eq!(rt; status, Status::Done { epochs: 1 }, "{turn}");
-        let written = objects.out.bytes();
-        assert!(rt;
-            ORDERS.iter().any(|order| order.as_bytes() == written),
-            "{turn}"
-        );
+        assert_in_some_order(&rt, rt.alloc(), &line, turn);
     }
 }
+
+// What workers apart write.
+const BESIDE: &str = "\
+epoch 0 certified 3
+0.3 v0 put 5 61
+0.3 v1 put 9223372036854775808 62
+0.5 v1 get 9223372036854775808 62
+done 1
+";
 
 // Worker 0 is held at its first request until worker 1 is at its second: whoever serves workers one after the other fails.
 #[test]
@@ -193,16 +213,9 @@ fn workers_serve_beside_each_other(rt: HostRuntime) {
         none,
         &gate,
     );
-    assert!(rt; !gate.has_given_up());
-    assert_eq!(rt; status, Status::Done { epochs: 1 });
-    let report = "\
-epoch 0 certified 3
-0.3 v0 put 5 61
-0.3 v1 put 9223372036854775808 62
-0.5 v1 get 9223372036854775808 62
-done 1
-";
-    assert_eq!(rt; objects.out.bytes(), report.as_bytes());
+    same(&rt, "held", 0, &gate.has_held(), &true);
+    assert_ended(&rt, "run", 0, &status, &Status::Done { epochs: 1 });
+    objects.assert_wrote(&rt, "run", 0, BESIDE.as_bytes());
 }
 
 #[test]
@@ -210,9 +223,7 @@ fn a_script_that_contends_is_served_a_hundred_times(rt: HostRuntime) {
     let line = host_line(&rt, rt.alloc(), "4 --shards 2 --hot 3");
     let script = contending(&rt, rt.alloc(), 4, &[5, 9223372036854775808, 5, 6], 8, 2);
     for turn in 0..100 {
-        let (objects, status) = served(&rt, rt.alloc(), &line, &script, 100_000);
-        assert_eq!(rt; answers_in(objects.out.bytes()), 64, "{turn}");
-        assert_checked(&rt, rt.alloc(), &objects, status, 2, turn);
+        assert_all_answered(&rt, rt.alloc(), &line, &script, 64, turn);
     }
 }
 
@@ -220,7 +231,5 @@ fn a_script_that_contends_is_served_a_hundred_times(rt: HostRuntime) {
 fn all_of_64_workers_ask_for_one_hot_key(rt: HostRuntime) {
     let line = host_line(&rt, rt.alloc(), "64 --shards 2 --hot 1");
     let script = contending(&rt, rt.alloc(), 64, &[5], 2, 2);
-    let (objects, status) = served(&rt, rt.alloc(), &line, &script, 100_000);
-    assert_eq!(rt; answers_in(objects.out.bytes()), 256);
-    assert_checked(&rt, rt.alloc(), &objects, status, 2, 0)
+    assert_all_answered(&rt, rt.alloc(), &line, &script, 256, 0);
 }

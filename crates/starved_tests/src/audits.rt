@@ -33,15 +33,19 @@ pub fn exhibit(alloc: Global) -> Result<Outcome, Fault> {
     let bundle = bundle_of(alloc, CLASH)?;
     let (text, status) = audited(alloc, &bundle)?;
     if status == MEMORY {
-        if !text.bytes().is_empty() {
-            return Err(Fault::Amiss("a text where memory was wanting"));
-        }
-        let (text, status) = audited(alloc, &bundle)?;
-        look(&text, status)?;
-        return Ok(Outcome::MadeAgain);
+        exhibit_again(alloc, &bundle, &text)
+    } else {
+        look(&text, status, Outcome::Made)
     }
-    look(&text, status)?;
-    Ok(Outcome::Made)
+}
+
+// The same audit, for which memory was wanting, where nothing was written.
+fn exhibit_again(alloc: Global, bundle: &[u8], text: &MemorySink) -> Result<Outcome, Fault> {
+    if !text.bytes().is_empty() {
+        return Err(Fault::Amiss("a text where memory was wanting"));
+    }
+    let (text, status) = audited(alloc, bundle)?;
+    look(&text, status, Outcome::MadeAgain)
 }
 
 // What an audit of a bundle writes, and its exit status.
@@ -52,10 +56,10 @@ fn audited(alloc: Global, bundle: &[u8]) -> Result<(MemorySink, u8), Fault> {
     Ok((out, status.number()))
 }
 
-// The strings are shown, and the status says so.
-fn look(text: &MemorySink, status: u8) -> Result<(), Fault> {
+// How it was made, where the strings are shown, and the status says so.
+fn look(text: &MemorySink, status: u8, outcome: Outcome) -> Result<Outcome, Fault> {
     if text.bytes() == SHOWN.as_bytes() && status == EXHIBIT {
-        Ok(())
+        Ok(outcome)
     } else {
         Err(Fault::Amiss("another audit"))
     }

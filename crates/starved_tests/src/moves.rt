@@ -49,11 +49,11 @@ evictB /0 2.5
 
 /// Two keys become hot.
 pub fn away(alloc: Global) -> Result<Outcome, Fault> {
-    let seat = two_put(alloc)?;
+    let mut seat = two_put(alloc)?;
     let twin = two_put(alloc)?;
     moved(
         alloc,
-        seat,
+        &mut seat,
         &twin,
         AWAY,
         Stamp {
@@ -65,11 +65,11 @@ pub fn away(alloc: Global) -> Result<Outcome, Fault> {
 
 /// They come back, and another key becomes hot.
 pub fn back(alloc: Global) -> Result<Outcome, Fault> {
-    let seat = two_away(alloc)?;
+    let mut seat = two_away(alloc)?;
     let twin = two_away(alloc)?;
     moved(
         alloc,
-        seat,
+        &mut seat,
         &twin,
         BACK,
         Stamp {
@@ -93,45 +93,72 @@ fn two_away(alloc: Global) -> Result<Seat, Fault>
     ensures fit { IfOk result (λ seat. IsFit (shown_content seat.cold)) }
 {
     let mut seat = two_put(alloc)?;
-    seat.close(alloc)?;
-    seat.go_to(1, 6)?;
-    seat.put(alloc, 6, b'c')?;
-    seat.next_epoch()?;
-    Ok(seat)
-}
-
-// A move, which is logged in these rows and leaves the clock at this stamp.
-fn moved(alloc: Global, seat: Seat, twin: &Seat, rows: &str, stamp: Stamp) -> Result<Outcome, Fault>
-    requires fit { IsFit (shown_content seat.cold) }
-{
-    let wanted = log_of(alloc, rows.trim())?;
-    let mut seat = seat;
-    match seat.close(alloc) {
-        Ok(commands) => {
-            look(&commands, &seat, &wanted, stamp)?;
-            Ok(Outcome::Made)
-        }
-        Err(Fault::Memory) => {
-            if !seat.is_same(twin) {
-                return Err(Fault::Amiss("another shard, hot place or clock than before"));
-            }
-            match seat.close(alloc) {
-                Ok(commands) => look(&commands, &seat, &wanted, stamp)?,
-                Err(_) => return Err(Fault::Amiss("no move when asked again")),
-            }
-            Ok(Outcome::MadeAgain)
-        }
+    match go_away(alloc, &mut seat) {
+        Ok(()) => Ok(seat),
         Err(fault) => Err(fault),
     }
 }
 
-// The move is this one, and the shard waits with the clock's stamp.
-fn look(commands: &Commands, seat: &Seat, wanted: &[u8], stamp: Stamp) -> Result<(), Fault> {
+fn go_away(alloc: Global, seat: &mut Seat) -> Result<(), Fault>
+    requires fit { IsFit (shown_content seat.old.cold) }
+    ensures fit { IsFit (shown_content seat.new.cold) }
+{
+    let _ = seat.close(alloc)?;
+    seat.go_to(1, 6)?;
+    let _ = seat.put(alloc, 6, b'c')?;
+    seat.next_epoch()
+}
+
+// A move, which is logged in these rows and leaves the clock at this stamp.
+fn moved(
+    alloc: Global,
+    seat: &mut Seat,
+    twin: &Seat,
+    rows: &str,
+    stamp: Stamp,
+) -> Result<Outcome, Fault>
+    requires fit { IsFit (shown_content seat.old.cold) }
+{
+    let wanted = log_of(alloc, rows.trim())?;
+    match seat.close(alloc) {
+        Ok(commands) => look(&commands, seat, &wanted, stamp, Outcome::Made),
+        Err(Fault::Memory) => moved_again(alloc, seat, twin, &wanted, stamp),
+        Err(fault) => Err(fault),
+    }
+}
+
+// The same move, for which memory was wanting, where all is as before.
+fn moved_again(
+    alloc: Global,
+    seat: &mut Seat,
+    twin: &Seat,
+    wanted: &[u8],
+    stamp: Stamp,
+) -> Result<Outcome, Fault>
+    requires fit { IsFit (shown_content seat.old.cold) }
+{
+    if !seat.is_same(twin) {
+        return Err(Fault::Amiss("another shard, hot place or clock than before"));
+    }
+    match seat.close(alloc) {
+        Ok(commands) => look(&commands, seat, wanted, stamp, Outcome::MadeAgain),
+        Err(_) => Err(Fault::Amiss("no move when asked again")),
+    }
+}
+
+// How it was made, where the move is this one, and the shard waits with the clock's stamp.
+fn look(
+    commands: &Commands,
+    seat: &Seat,
+    wanted: &[u8],
+    stamp: Stamp,
+    outcome: Outcome,
+) -> Result<Outcome, Fault> {
     if !are_written_as(commands.as_slice(), wanted) {
         return Err(Fault::Amiss("another move"));
     }
     match seat.cold.pending() {
-        Some(element) if element.stamp == stamp && seat.clock.at() == stamp => Ok(()),
+        Some(element) if element.stamp == stamp && seat.clock.at() == stamp => Ok(outcome),
         _ => Err(Fault::Amiss("another stamp")),
     }
 }

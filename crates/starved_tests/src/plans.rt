@@ -1,4 +1,7 @@
 //! A put that makes a fork, and one for whose last record the tree that keeps them has no room.
+ghost use Rattle.host_shard.specs.Shown.{shown_content};
+ghost use Rattle.starved_tests.specs.Fit.{IsFit};
+
 use crate::outcome::{Fault, Outcome};
 use crate::same::are_written_as;
 use crate::seat::Seat;
@@ -67,28 +70,54 @@ fn put_behind(
 ) -> Result<Outcome, Fault> {
     let mut seat = Seat::after(alloc, puts)?;
     let twin = Seat::after(alloc, puts)?;
+    put_once(alloc, &mut seat, &twin, rows, counter)
+}
+
+// The put, once or twice.
+fn put_once(
+    alloc: Global,
+    seat: &mut Seat,
+    twin: &Seat,
+    rows: &str,
+    counter: u32,
+) -> Result<Outcome, Fault>
+    requires fit { IsFit (shown_content seat.old.cold) }
+{
     let wanted = log_of(alloc, rows.trim())?;
     match seat.put(alloc, 1, b'b') {
-        Ok(plan) => {
-            look(&plan, &seat, &wanted, counter)?;
-            Ok(Outcome::Made)
-        }
-        Err(Fault::Memory) => {
-            if !seat.is_same(&twin) {
-                return Err(Fault::Amiss("another shard or clock than before"));
-            }
-            match seat.put(alloc, 1, b'b') {
-                Ok(plan) => look(&plan, &seat, &wanted, counter)?,
-                Err(_) => return Err(Fault::Amiss("no plan when asked again")),
-            }
-            Ok(Outcome::MadeAgain)
-        }
+        Ok(plan) => look(&plan, seat, &wanted, counter, Outcome::Made),
+        Err(Fault::Memory) => put_again(alloc, seat, twin, &wanted, counter),
         Err(fault) => Err(fault),
     }
 }
 
-// The plan is this one, and the shard waits with the clock's stamp.
-fn look(plan: &Plan, seat: &Seat, wanted: &[u8], counter: u32) -> Result<(), Fault> {
+// The same put, for which memory was wanting, where all is as before.
+fn put_again(
+    alloc: Global,
+    seat: &mut Seat,
+    twin: &Seat,
+    wanted: &[u8],
+    counter: u32,
+) -> Result<Outcome, Fault>
+    requires fit { IsFit (shown_content seat.old.cold) }
+{
+    if !seat.is_same(twin) {
+        return Err(Fault::Amiss("another shard or clock than before"));
+    }
+    match seat.put(alloc, 1, b'b') {
+        Ok(plan) => look(&plan, seat, wanted, counter, Outcome::MadeAgain),
+        Err(_) => Err(Fault::Amiss("no plan when asked again")),
+    }
+}
+
+// How it was made, where the plan is this one, and the shard waits with the clock's stamp.
+fn look(
+    plan: &Plan,
+    seat: &Seat,
+    wanted: &[u8],
+    counter: u32,
+    outcome: Outcome,
+) -> Result<Outcome, Fault> {
     let stamp = Stamp { epoch: 0, counter };
     if !are_written_as(plan.commands.as_slice(), wanted)
         || Some(plan.answer.copy()) != Blob::of_bytes(b"b")
@@ -96,7 +125,7 @@ fn look(plan: &Plan, seat: &Seat, wanted: &[u8], counter: u32) -> Result<(), Fau
         return Err(Fault::Amiss("another plan"));
     }
     match seat.cold.pending() {
-        Some(element) if element.stamp == stamp && seat.clock.at() == stamp => Ok(()),
+        Some(element) if element.stamp == stamp && seat.clock.at() == stamp => Ok(outcome),
         _ => Err(Fault::Amiss("another stamp")),
     }
 }

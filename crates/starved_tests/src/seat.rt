@@ -47,12 +47,23 @@ impl Seat {
             ],
             clock: Clock::new(0, END),
         };
-        seat.go_to(0, 2)?;
+        match seat.put_all(alloc, puts) {
+            Ok(()) => Ok(seat),
+            Err(fault) => Err(fault),
+        }
+    }
+
+    // These puts, behind the setup.
+    fn put_all(&mut self, alloc: Global, puts: &[(u64, u8)]) -> Result<(), Fault>
+        requires fit { IsFit (shown_content self.old.cold) }
+        ensures fit { IsFit (shown_content self.new.cold) }
+    {
+        self.go_to(0, 2)?;
         for put in puts {
             let (key, byte) = *put;
-            seat.put(alloc, key, byte)?;
+            let _ = self.put(alloc, key, byte)?;
         }
-        Ok(seat)
+        Ok(())
     }
 
     /// Puts a key. After a fault all is as before.

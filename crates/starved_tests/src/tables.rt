@@ -25,7 +25,8 @@ pub fn make(alloc: Global) -> Result<Outcome, Fault> {
 
 /// The key beside the only one is put in a table.
 pub fn attempt(alloc: Global) -> Result<Outcome, Fault> {
-    attempt_once(alloc, &ToyDigests)
+    let wanted = log_of(alloc, FORK.trim())?;
+    attempt_once(alloc, &ToyDigests, &wanted)
 }
 
 // The numbers of the table's bundle.
@@ -70,44 +71,38 @@ fn make_once<D: Digests>(alloc: Global, d: &D) -> Result<Outcome, Fault> {
     let twin = one_put(alloc)?;
     let contents = one_put(alloc)?;
     match Records::make(alloc, d, &header(), contents, 1) {
-        Ok((records, hands)) => {
-            look_at(&records.close(hands), &twin)?;
-            Ok(Outcome::Made)
-        }
-        Err(Refused { contents }) => {
-            look_at(&contents, &twin)?;
-            make_again(alloc, d, contents, &twin)?;
-            Ok(Outcome::MadeAgain)
-        }
+        Ok((records, hands)) => look_at(&records.close(hands), &twin, Outcome::Made),
+        Err(Refused { contents }) => make_again(alloc, d, contents, &twin),
     }
 }
 
+// The same table, for which memory was wanting, where the contents are as before.
 fn make_again<D: Digests>(
     alloc: Global,
     d: &D,
     contents: Vec<Content>,
     twin: &[Content],
-) -> Result<(), Fault>
+) -> Result<Outcome, Fault>
     requires start { IsStart contents.items }
 {
+    look_at(&contents, twin, Outcome::MadeAgain)?;
     match Records::make(alloc, d, &header(), contents, 1) {
-        Ok((records, hands)) => look_at(&records.close(hands), twin),
+        Ok((records, hands)) => look_at(&records.close(hands), twin, Outcome::MadeAgain),
         Err(_) => Err(Fault::Amiss("no table when asked again")),
     }
 }
 
-// Both are the same content.
-fn look_at(contents: &[Content], twin: &[Content]) -> Result<(), Fault> {
+// How it was made, where both are the same content.
+fn look_at(contents: &[Content], twin: &[Content], outcome: Outcome) -> Result<Outcome, Fault> {
     if contents.len() != 1 || twin.len() != 1 || !are_same(&contents[0], &twin[0]) {
         return Err(Fault::Amiss("other contents than before"));
     }
-    Ok(())
+    Ok(outcome)
 }
 
 // Makes a table, and attempts to put key 1 once, or twice where the first time memory was wanting.
-fn attempt_once<D: Digests>(alloc: Global, d: &D) -> Result<Outcome, Fault> {
+fn attempt_once<D: Digests>(alloc: Global, d: &D, wanted: &[u8]) -> Result<Outcome, Fault> {
     let request = put_of(1, b'b')?;
-    let wanted = log_of(alloc, FORK.trim())?;
     let contents = one_put(alloc)?;
     let Ok((records, hands)) = Records::make(alloc, d, &header(), contents, 1) else {
         return Err(Fault::Memory);
@@ -116,7 +111,7 @@ fn attempt_once<D: Digests>(alloc: Global, d: &D) -> Result<Outcome, Fault> {
     let Some(hand) = hands.pop() else {
         return Err(Fault::Amiss("no hand"));
     };
-    attempt_with(alloc, d, &records, hand, &request, &wanted)
+    attempt_with(alloc, d, &records, hand, &request, wanted)
 }
 
 fn attempt_with<D: Digests>(
@@ -133,26 +128,22 @@ fn attempt_with<D: Digests>(
     let mut hand = hand;
     let mut clock = Clock::new(0, END);
     match records.attempt(alloc, d, &mut hand, 0, request, &mut clock) {
-        Attempt::Served(plan) => {
-            look(&plan, &clock, wanted)?;
-            Ok(Outcome::Made)
-        }
+        Attempt::Served(plan) => look(&plan, &clock, wanted, Outcome::Made),
         Attempt::Memory => {
             if clock != Clock::new(0, END) {
                 return Err(Fault::Amiss("another clock than before"));
             }
             match records.attempt(alloc, d, &mut hand, 0, request, &mut clock) {
-                Attempt::Served(plan) => look(&plan, &clock, wanted)?,
-                _ => return Err(Fault::Amiss("not served when asked again")),
+                Attempt::Served(plan) => look(&plan, &clock, wanted, Outcome::MadeAgain),
+                _ => Err(Fault::Amiss("not served when asked again")),
             }
-            Ok(Outcome::MadeAgain)
         }
         _ => Err(Fault::Amiss("neither served nor out of memory")),
     }
 }
 
-// The plan is this one, and the clock went to its stamp.
-fn look(plan: &Plan, clock: &Clock, wanted: &[u8]) -> Result<(), Fault> {
+// How it was made, where the plan is this one, and the clock went to its stamp.
+fn look(plan: &Plan, clock: &Clock, wanted: &[u8], outcome: Outcome) -> Result<Outcome, Fault> {
     let stamp = Stamp {
         epoch: 0,
         counter: 6,
@@ -160,5 +151,5 @@ fn look(plan: &Plan, clock: &Clock, wanted: &[u8]) -> Result<(), Fault> {
     if !are_written_as(plan.commands.as_slice(), wanted) || clock.at() != stamp {
         return Err(Fault::Amiss("another plan"));
     }
-    Ok(())
+    Ok(outcome)
 }

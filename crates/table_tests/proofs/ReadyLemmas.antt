@@ -1,15 +1,14 @@
 -- Shards that are added, and the places of keys.
-use Rattle.std.proofs.Common.{◌≡◌, ℕ, suc, ◌+◌, ◌<◌, ◌≤◌, ◌⊎◌, inl, inr, Bool, List, [], ◌∷◌, ◌++◌, length, get_or, length-append, refl, sym, ap, ◌∙◌, subst, ⊎_elim, arith}
+use Rattle.std.proofs.Common.{◌≡◌, ℕ, ◌<◌, ◌≤◌, Bool, List, [], ◌∷◌, ◌++◌, length, get_or, length-append, sym, ap, ◌∙◌, subst, ⊎_elim, arith}
 use Rattle.std.proofs.lemmas.Bool.{cases_lt}
 use Rattle.std.proofs.lemmas.List.{get_or_append_left, get_or_past}
 use Rattle.std.proofs.Math.Seq.{get_or-append_seam}
-use Rattle.tree_keys.specs.Path.{IsBelow}
 use Rattle.host_shard.specs.declared.content.Content.{Content}
 use Rattle.host_shard.specs.declared.content.Content.TheVariants.{Cold, Hot, Vacant}
 use Rattle.host_shard.specs.declared.content.HotRecord.{HotRecord}
 use Rattle.host_shard.specs.declared.shard.Shard.{Shard}
 use Rattle.host_shard.specs.Shown.{shown_content}
-use Rattle.host_table.specs.Terms.{Terms, IsMaking, IsPlaceOf, IsStampOf, IsStamped, epoch_in, first_at, place_count}
+use Rattle.host_table.specs.Terms.{Terms, IsMaking, IsStampOf, IsStamped, epoch_in, first_at, place_count}
 use Rattle.std.proofs.lemmas.Option.{same_Some}
 use Rattle.lamport_clocks.specs.declared.header.Header.{Header}
 use Rattle.record_text.specs.declared.element.Element.{Element}

@@ -1,14 +1,14 @@
 -- Workers and their hands.
-use Rattle.std.proofs.Common.{◌≡◌, ℕ, zero, suc, ◌<◌, List, [], ◌∷◌, length, get_or, map, All, false, refl, sym, ap, ◌∙◌, subst, None, arith}
+use Rattle.std.proofs.Common.{◌≡◌, ℕ, zero, suc, ◌<◌, List, [], ◌∷◌, length, get_or, map, All, refl, sym, ap, ◌∙◌, subst, arith}
 use Rattle.lamport_clocks.specs.Reading.{Reading}
 use Rattle.atomic_table.specs.Seated.{TableId}
 use Rattle.host_table.specs.declared.hand.Hand.{Hand}
 use Rattle.host_table.specs.Calls.{AreAll, IsNew}
-use Rattle.host_table.specs.Hands.{worker_of, entries, IsFree}
+use Rattle.host_table.specs.Hands.{worker_of, IsFree}
 use Rattle.host_table.specs.Terms.{Terms, IsClockOf}
 use Rattle.host_table.specs.Told.{TakesUp}
 use Rattle.table_tests.specs.declared.turns.Turn.{Turn}
-use Rattle.table_tests.specs.Turns.{AreTurns, IsAtStart, IsTurn, hand_of}
+use Rattle.table_tests.specs.Turns.{AreTurns, IsAtStart, hand_of}
 
 hand_at : (turns : List Turn) (i : ℕ) (d : Turn) → get_or (map hand_of turns) i (hand_of d) ≡ hand_of (get_or turns i d)
 hand_at [] i d = refl

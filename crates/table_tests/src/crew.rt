@@ -12,12 +12,11 @@ use crate::turns::Turn;
 use host_table::{Hand, Records};
 use lamport_clocks::{Clock, Header};
 use record_hash::Digests;
-use std::alloc::Global;
-use std::test::Fail;
+use std::alloc::{AllocError, Global};
 use std::thread::{Threads, for_each_mut};
 use tree_keys::Path;
 
-/// A table of so many shards, their frontiers, and so many workers at its places.
+/// A table of so many shards, their frontiers, and so many workers at its places, or for what memory was wanting.
 pub fn set_up<D: Digests>(
     alloc: Global,
     d: &D,
@@ -25,7 +24,7 @@ pub fn set_up<D: Digests>(
     bits: u8,
     places: usize,
     end: u32,
-) -> Result<(Records<D>, Vec<Path>, Vec<Turn>), Fail>
+) -> Result<(Records<D>, Vec<Path>, Vec<Turn>), &'static str>
     requires workers { (0 < workers) × (workers ≤ 64) }
     requires places { (0 < places) × (places ≤ 64) }
     requires bits { (0 < bits) × (bits ≤ 6) }
@@ -36,12 +35,15 @@ pub fn set_up<D: Digests>(
     ensures turns { IfOk result (λ made. AreTurns (terms D.functions made.0) (table made.0) made.2.items
         × (length made.2.items ≡ (terms D.functions made.0).workers)) }
 {
-    let (frontiers, contents) = shards(alloc, places, bits)?;
-    let (records, hands) = match Records::make(alloc, d, &header(end), contents, workers) {
-        Ok(made) => made,
-        Err(_) => return Err("no table")?,
+    let Ok((frontiers, contents)) = shards(alloc, places, bits) else {
+        return Err("no shards");
     };
-    let turns = turns_of(alloc, &records, hands, end)?;
+    let Ok((records, hands)) = Records::make(alloc, d, &header(end), contents, workers) else {
+        return Err("no table");
+    };
+    let Ok(turns) = turns_of(alloc, &records, hands, end) else {
+        return Err("no workers");
+    };
     Ok((records, frontiers, turns))
 }
 
@@ -63,7 +65,7 @@ fn turns_of<D: Digests>(
     records: &Records<D>,
     hands: Vec<Hand>,
     end: u32,
-) -> Result<Vec<Turn>, Fail>
+) -> Result<Vec<Turn>, AllocError>
     requires hands { AreAll (table records.now) (terms D.functions records.now).workers hands.items }
     requires new { All IsNew hands.items }
     requires clock { IsClockOf (terms D.functions records.now) (opening_reading 1 end) }
@@ -74,7 +76,7 @@ fn turns_of<D: Digests>(
     Ok(turns)
 }
 
-fn seated(alloc: Global, hands: Vec<Hand>, end: u32) -> Result<Vec<Turn>, Fail>
+fn seated(alloc: Global, hands: Vec<Hand>, end: u32) -> Result<Vec<Turn>, AllocError>
     ensures hands { IfOk result (λ turns. map hand_of turns.items ≡ hands.items) }
     ensures start { IfOk result (λ turns. All (IsAtStart (opening_reading 1 end)) turns.items) }
 {

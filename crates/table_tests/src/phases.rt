@@ -1,5 +1,5 @@
 //! Phases in which many workers serve at the same places.
-ghost use Rattle.std.specs.Prelude.{◌≡◌, ◌<◌, ◌≤◌, IfOk, map};
+ghost use Rattle.std.specs.Prelude.{◌≡◌, ◌<◌, ◌≤◌, map};
 ghost use Rattle.table_tests.specs.Turns.{hand_of};
 
 use crate::crew::{set_up, toiled};
@@ -11,7 +11,6 @@ use host_table::Hand;
 use record_hash::{Digests, ToyDigests};
 use std::alloc::Global;
 use std::process::Abort;
-use std::test::Fail;
 use std::thread::Threads;
 
 /// What workers came to: how many attempts were served, how many found a place held, and how many clocks ended.
@@ -24,7 +23,7 @@ struct Tally {
 
 // So many workers, each in a thread, try so often at so many shards. What they served is then served again in one order, and
 // compared.
-fn phase<R: Threads + Sync, D: Digests + Sync>(
+fn phase<R: Threads + Abort + Sync, D: Digests + Sync>(
     rt: &R,
     alloc: Global,
     d: &D,
@@ -33,14 +32,15 @@ fn phase<R: Threads + Sync, D: Digests + Sync>(
     places: usize,
     rounds: u64,
     end: u32,
-) -> Result<Tally, Fail>
+) -> Tally
     requires workers { (0 < workers) × (workers ≤ 64) }
     requires places { (0 < places) × (places ≤ 64) }
     requires bits { (0 < bits) × (bits ≤ 6) }
     requires end { 64 ≤ end }
 {
-    let (records, frontiers, turns) = set_up(alloc, d, workers, bits, places, end)?;
-    let (same_frontiers, mut again) = shards(alloc, places, bits)?;
+    let Ok((records, frontiers, turns)) = set_up(alloc, d, workers, bits, places, end) else {
+        panic!(rt; "no table");
+    };
     let turns = toiled(
         rt,
         alloc,
@@ -53,22 +53,20 @@ fn phase<R: Threads + Sync, D: Digests + Sync>(
         turns,
     );
     let mut entries = Entries::new(alloc);
-    let (tally, hands) = tell(alloc, turns, &mut entries)?;
+    let (tally, hands) = tell(rt, alloc, turns, &mut entries);
     let closed = records.close(hands);
-    replay(
-        alloc,
-        d,
-        same_frontiers.as_slice(),
-        again.as_mut_slice(),
-        &entries,
-    )?;
-    compare(closed.as_slice(), again.as_slice())?;
-    Ok(tally)
+    compare(rt, alloc, d, bits, places, &closed, &entries);
+    tally
 }
 
 // What the workers tell, and their hands again.
-fn tell(alloc: Global, turns: Vec<Turn>, entries: &mut Entries) -> Result<(Tally, Vec<Hand>), Fail>
-    ensures hands { IfOk result (λ told. told.1.items ≡ map hand_of turns.items) }
+fn tell(
+    rt: &impl Abort,
+    alloc: Global,
+    turns: Vec<Turn>,
+    entries: &mut Entries,
+) -> (Tally, Vec<Hand>)
+    ensures hands { result.1.items ≡ map hand_of turns.items }
 {
     let mut tally = Tally {
         served: 0,
@@ -77,44 +75,73 @@ fn tell(alloc: Global, turns: Vec<Turn>, entries: &mut Entries) -> Result<(Tally
     };
     let mut hands = Vec::new(alloc);
     for turn in turns {
-        let Turn {
-            hand,
-            clock: _,
-            ended,
-            log,
-            busy,
-            wanting,
-        } = turn;
-        if wanting != 0 {
-            return Err("want of memory")?;
-        }
-        tally.busy = tally.busy.saturating_add(busy);
-        tally.ended = tally.ended.saturating_add(u64::from(ended));
-        tally.served = tally.served.saturating_add(log.len() as u64);
-        enter(entries, log)?;
-        hands.push(hand)?;
+        let hand = tell_one(rt, turn, &mut tally, entries);
+        hands.push(hand).expect(rt, "memory");
     }
-    Ok((tally, hands))
+    (tally, hands)
 }
 
-fn enter(entries: &mut Entries, log: Vec<Served>) -> Result<(), Fail> {
+// Counts what a worker tells, and gives its hand.
+fn tell_one(rt: &impl Abort, turn: Turn, tally: &mut Tally, entries: &mut Entries) -> Hand
+    ensures hand { result ≡ hand_of turn }
+{
+    let Turn {
+        hand,
+        clock: _,
+        ended,
+        log,
+        busy,
+        wanting,
+    } = turn;
+    assert_eq!(rt; wanting, 0, "want of memory");
+    tally.busy = tally.busy.saturating_add(busy);
+    tally.ended = tally.ended.saturating_add(u64::from(ended));
+    tally.served = tally.served.saturating_add(log.len() as u64);
+    enter(rt, entries, log);
+    hand
+}
+
+fn enter(rt: &impl Abort, entries: &mut Entries, log: Vec<Served>) {
     for served in log {
-        entries.insert(number_of(&served), served)?;
-    }
-    Ok(())
-}
-
-// Both have the same elements waiting: so their records have the same digests.
-fn compare(contents: &[Content], others: &[Content]) -> Result<(), Fail> {
-    if contents.len() != others.len() {
-        return Err("as many contents")?;
-    }
-    for (content, other) in contents.iter().zip(others.iter()) {
-        if content.pending() != other.pending() {
-            return Err("another content")?;
+        let entered: Result<_, _> = entries.insert(number_of(&served), served);
+        if entered.is_err() {
+            panic!(rt; "no memory");
         }
     }
-    Ok(())
+}
+
+// Served again in new shards, the entries leave the same elements waiting: so their records have the same digests.
+fn compare<D: Digests>(
+    rt: &impl Abort,
+    alloc: Global,
+    d: &D,
+    bits: u8,
+    places: usize,
+    closed: &[Content],
+    entries: &Entries,
+)
+    requires few { (0 < bits) × (bits ≤ 6) × (places ≤ 64) }
+{
+    let Ok((frontiers, mut again)) = shards(alloc, places, bits) else {
+        panic!(rt; "no memory");
+    };
+    replay(
+        rt,
+        alloc,
+        d,
+        frontiers.as_slice(),
+        again.as_mut_slice(),
+        entries,
+    );
+    assert_same(rt, closed, again.as_slice());
+}
+
+// Both have the same elements waiting.
+fn assert_same(rt: &impl Abort, contents: &[Content], others: &[Content]) {
+    assert_eq!(rt; contents.len(), others.len());
+    for (content, other) in contents.iter().zip(others.iter()) {
+        assert!(rt; content.pending() == other.pending(), "another content");
+    }
 }
 
 // Where no counter ends, each attempt is served or finds its place held, and what was served is served again.
@@ -125,50 +152,45 @@ fn run<R: Threads + Abort + Sync, D: Digests + Sync>(
     workers: u16,
     bits: u8,
     places: usize,
-    rounds: u64,
-) -> Result<(), Fail>
+)
     requires workers { (0 < workers) × (workers ≤ 64) }
     requires places { (0 < places) × (places ≤ 64) }
     requires bits { (0 < bits) × (bits ≤ 6) }
 {
-    let tally = phase(rt, alloc, d, workers, bits, places, rounds, 16_000_000)?;
-    assert_eq!(rt; tally.ended, 0, "{workers} workers at {places} places");
-    let attempts = tally.served.saturating_add(tally.busy);
-    assert_eq!(rt;
-        attempts,
-        u64::from(workers).saturating_mul(rounds),
-        "{workers} workers at {places} places"
-    );
-    Ok(())
+    let tally = phase(rt, alloc, d, workers, bits, places, 2_000, 16_000_000);
+    assert_tally(rt, tally, u64::from(workers).saturating_mul(2_000));
+}
+
+// No clock ended, and there were so many attempts.
+fn assert_tally(rt: &impl Abort, tally: Tally, attempts: u64) {
+    assert_eq!(rt; tally.ended, 0, "{attempts} attempts");
+    let found = tally.served.saturating_add(tally.busy);
+    assert_eq!(rt; found, attempts);
 }
 
 #[test]
-fn workers_at_one_place(rt: HostRuntime) -> Result<(), Fail> {
+fn workers_at_one_place(rt: HostRuntime) {
     for workers in [1u16, 2, 8, 64] {
-        run(&rt, rt.alloc(), &ToyDigests, workers, 1, 1, 2_000)?;
+        run(&rt, rt.alloc(), &ToyDigests, workers, 1, 1);
     }
-    Ok(())
 }
 
 #[test]
-fn workers_at_two_places(rt: HostRuntime) -> Result<(), Fail> {
+fn workers_at_two_places(rt: HostRuntime) {
     for workers in [2u16, 8, 64] {
-        run(&rt, rt.alloc(), &ToyDigests, workers, 1, 2, 2_000)?;
+        run(&rt, rt.alloc(), &ToyDigests, workers, 1, 2);
     }
-    Ok(())
 }
 
 #[test]
-fn workers_at_many_places(rt: HostRuntime) -> Result<(), Fail> {
+fn workers_at_many_places(rt: HostRuntime) {
     for workers in [2u16, 8, 64] {
-        run(&rt, rt.alloc(), &ToyDigests, workers, 6, 64, 2_000)?;
+        run(&rt, rt.alloc(), &ToyDigests, workers, 6, 64);
     }
-    Ok(())
 }
 
 #[test]
-fn clocks_end_one_after_another(rt: HostRuntime) -> Result<(), Fail> {
-    let tally = phase(&rt, rt.alloc(), &ToyDigests, 8, 1, 2, 2_000, 100)?;
+fn clocks_end_one_after_another(rt: HostRuntime) {
+    let tally = phase(&rt, rt.alloc(), &ToyDigests, 8, 1, 2, 2_000, 100);
     assert_eq!(rt; tally.ended, 8);
-    Ok(())
 }

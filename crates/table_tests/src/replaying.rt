@@ -1,16 +1,18 @@
 //! What workers served, served again one after another.
-ghost use Rattle.std.specs.Prelude.{◌≡◌, ◌<◌, length};
+ghost use Rattle.std.specs.Prelude.{◌≡◌, ◌<◌, IsTrue, length};
 ghost use Rattle.host_shard.specs.Shown.{shown_content};
+ghost use Rattle.host_plan.specs.Plan.{IsOpenAt};
 ghost use Rattle.table_tests.specs.Ready.{AreOwners, OwnsBelow};
 
 use crate::turns::Served;
-use host_plan::{Commands, plan};
+use host_plan::{Commands, Plan, plan};
 use host_shard::Content;
+use lamport_clocks::Clock;
 use log_codec::write;
 use record_hash::Digests;
 use std::alloc::Global;
 use std::collections::BTreeMap;
-use std::test::Fail;
+use std::process::Abort;
 use tree_keys::Path;
 
 /// What was served, by the stamps of the evicts and then by worker.
@@ -21,62 +23,67 @@ pub(crate) fn number_of(served: &Served) -> u64 {
     u64::from(served.later.at().counter) << 16 | u64::from(served.worker)
 }
 
-/// Serves all entries again, in their order, and looks that each has the plan that it had.
+/// Serves all entries again, in their order, and looks that each has the plan that it had. Else the test ends.
 pub(crate) fn replay<D: Digests>(
+    rt: &impl Abort,
     alloc: Global,
     d: &D,
     frontiers: &[Path],
     contents: &mut [Content],
     entries: &Entries,
-) -> Result<(), Fail>
+)
     requires owners { AreOwners frontiers.now contents.old }
     ensures owners { AreOwners frontiers.now contents.new }
 {
     for (_, served) in entries {
-        replay_one(alloc, d, frontiers, contents, served)?;
+        replay_one(rt, alloc, d, frontiers, contents, served);
     }
-    Ok(())
 }
 
 fn replay_one<D: Digests>(
+    rt: &impl Abort,
     alloc: Global,
     d: &D,
     frontiers: &[Path],
     contents: &mut [Content],
     served: &Served,
-) -> Result<(), Fail>
+)
     requires owners { AreOwners frontiers.now contents.old }
     ensures owners { AreOwners frontiers.now contents.new }
 {
     let place = served.place;
     if place >= contents.len() {
-        return Err("no such place")?;
+        panic!(rt; "no such place");
     }
-    serve_again(alloc, d, &frontiers[place], &mut contents[place], served)
+    serve_again(
+        rt,
+        alloc,
+        d,
+        &frontiers[place],
+        &mut contents[place],
+        served,
+    )
 }
 
 fn serve_again<D: Digests>(
+    rt: &impl Abort,
     alloc: Global,
     d: &D,
     frontier: &Path,
     content: &mut Content,
     served: &Served,
-) -> Result<(), Fail>
+)
     requires owns { OwnsBelow frontier.now (shown_content content.old) }
     ensures owns { OwnsBelow frontier.now (shown_content content.new) }
 {
-    if !Path::of_key(served.request.key).is_below(frontier) {
-        return Err("a key of another shard")?;
-    }
-    let epoch = match content.pending() {
-        Some(element) => element.stamp.epoch,
-        None => return Err("a vacant place")?,
-    };
     let mut clock = served.clock;
-    if epoch != clock.at().epoch {
-        return Err("another epoch")?;
+    if !Path::of_key(served.request.key).is_below(frontier) {
+        panic!(rt; "a key of another shard");
     }
-    let again = match plan(
+    if !is_in_epoch(content, &clock) {
+        panic!(rt; "another epoch");
+    }
+    match plan(
         alloc,
         d,
         content,
@@ -84,16 +91,29 @@ fn serve_again<D: Digests>(
         served.worker,
         &mut clock,
     ) {
-        Ok(plan) => plan,
-        Err(_) => return Err("no plan")?,
-    };
-    if !are_same(&again.commands, &served.plan.commands) {
-        return Err("another plan")?;
+        Ok(plan) => assert_again(rt, &plan, &clock, served),
+        Err(_) => panic!(rt; "no plan"),
+    }
+}
+
+// Whether the clock is of the epoch with which a content waits.
+fn is_in_epoch(content: &Content, clock: &Clock) -> bool
+    ensures open { IsTrue result → IsOpenAt clock.now (shown_content content.now) }
+{
+    match content.pending() {
+        Some(element) => element.stamp.epoch == clock.at().epoch,
+        None => false,
+    }
+}
+
+// The plan and the clock are those that it had.
+fn assert_again(rt: &impl Abort, plan: &Plan, clock: &Clock, served: &Served) {
+    if !are_same(&plan.commands, &served.plan.commands) {
+        panic!(rt; "another plan");
     }
     if clock.at() != served.later.at() {
-        return Err("another clock")?;
+        panic!(rt; "another clock");
     }
-    Ok(())
 }
 
 fn are_same(commands: &Commands, others: &Commands) -> bool {

@@ -1,7 +1,7 @@
 //! Bundles that are read from a source, header and frame by frame.
 ghost use Rattle.std.specs.Prelude.{◌≡◌, ◌≢◌, true};
 
-use crate::rows::{bytes_of, field, same, same_bytes};
+use crate::rows::{bytes_of, field, number, same, same_bytes};
 use bundle_frames::{BundleReader, FrameBuffer, Next, SourceStop};
 use fv_outside::MemorySource;
 use std::alloc::Global;
@@ -78,42 +78,29 @@ const SOURCES: &str = "
 35 | 35 | 1 | 1000 | head 2, 1:010203, 0:0808, fault | 0 | 1
 ";
 
+// The source of a row, which gives a front of the bundle.
+fn source_of(rt: &impl Abort, alloc: Global, row: &str) -> MemorySource {
+    let bundle = bytes_of(rt, alloc, TWO_FRAMES);
+    let kept: usize = number(rt, row, 0);
+    let piece: usize = number(rt, row, 1);
+    let fails: u64 = number(rt, row, 2);
+    let bytes = bundle.get(..kept).expect(rt, "a short bundle");
+    MemorySource::new(alloc, bytes, piece.max(1), &[fails]).expect(rt, "memory")
+}
+
+// What a row says comes of its source, and is left of it.
+fn assert_source(rt: &impl Abort, alloc: Global, row: &str) {
+    let mut source = source_of(rt, alloc, row);
+    let words = words_of(rt, alloc, number(rt, row, 3), &mut source);
+    same(rt, row, &words.as_str(), &field(rt, row, 4));
+    same(rt, row, &source.left().len(), &number(rt, row, 5));
+    same(rt, row, &source.faults(), &number(rt, row, 6));
+}
+
 #[test]
 fn a_source_is_read_up_to_its_end_or_to_a_stop(rt: HostRuntime) {
-    let bundle = bytes_of(&rt, rt.alloc(), TWO_FRAMES);
     for row in SOURCES.trim().lines() {
-        let kept = field(&rt, row, 0);
-        let piece = field(&rt, row, 1);
-        let fails = field(&rt, row, 2);
-        let limit = field(&rt, row, 3);
-        let wanted = field(&rt, row, 4);
-        let left = field(&rt, row, 5);
-        let faults = field(&rt, row, 6);
-        let bytes = bundle
-            .get(..kept.parse::<usize>().expect(&rt, "a number"))
-            .expect(&rt, "a short bundle");
-        let piece = piece.parse::<usize>().expect(&rt, "a number").max(1);
-        let fails = [fails.parse::<u64>().expect(&rt, "a number")];
-        let mut source = MemorySource::new(rt.alloc(), bytes, piece, &fails).expect(&rt, "memory");
-        let words = words_of(
-            &rt,
-            rt.alloc(),
-            limit.parse().expect(&rt, "a number"),
-            &mut source,
-        );
-        same(&rt, row, &words.as_str(), &wanted);
-        same(
-            &rt,
-            row,
-            &source.left().len(),
-            &left.parse::<usize>().expect(&rt, "a number"),
-        );
-        same(
-            &rt,
-            row,
-            &source.faults(),
-            &faults.parse::<u64>().expect(&rt, "a number"),
-        );
+        assert_source(&rt, rt.alloc(), row);
     }
 }
 
@@ -124,26 +111,28 @@ const BAD: &str = "
 0000 00010001 01 | head 2, 1:010203, bad 27
 ";
 
+// What a row says comes of the first frame and these bytes, in whatever pieces they are read.
+fn assert_bad(rt: &impl Abort, alloc: Global, row: &str, bytes: &[u8]) {
+    for piece in [1, 10, 1000] {
+        let mut source = MemorySource::new(alloc, bytes, piece, &[]).expect(rt, "memory");
+        let words = words_of(rt, alloc, 1000, &mut source);
+        same(rt, row, &words.as_str(), &field(rt, row, 1));
+    }
+}
+
+// The bundle up to its first frame, and the bytes of a row.
+fn bad_bytes(rt: &impl Abort, alloc: Global, row: &str) -> Vec<u8> {
+    let mut bytes = bytes_of(rt, alloc, TWO_FRAMES);
+    bytes.truncate(27);
+    let bad = bytes_of(rt, alloc, field(rt, row, 0));
+    bytes.extend_from_slice(&bad).expect(rt, "memory");
+    bytes
+}
+
 #[test]
 fn nothing_comes_behind_what_is_bad(rt: HostRuntime) {
-    let bundle = bytes_of(&rt, rt.alloc(), TWO_FRAMES);
     for row in BAD.trim().lines() {
-        let bad = field(&rt, row, 0);
-        let wanted = field(&rt, row, 1);
-        let mut bytes = Vec::new(rt.alloc());
-        bytes
-            .extend_from_slice(bundle.get(..27).expect(&rt, "a short bundle"))
-            .expect(&rt, "memory");
-        bytes
-            .extend_from_slice(&bytes_of(&rt, rt.alloc(), bad))
-            .expect(&rt, "memory");
-        for piece in [1, 10, 1000] {
-            let mut source = MemorySource::new(rt.alloc(), &bytes, piece, &[]).expect(
-                &rt, "memory",
-            );
-            let words = words_of(&rt, rt.alloc(), 1000, &mut source);
-            same(&rt, row, &words.as_str(), &wanted);
-        }
+        assert_bad(&rt, rt.alloc(), row, &bad_bytes(&rt, rt.alloc(), row));
     }
 }
 
@@ -174,18 +163,22 @@ fn frames_of(
     panic!(rt; "more came")
 }
 
+// Both frames are handed over, where the bundle is read in pieces of this size.
+fn assert_handed(rt: &impl Abort, alloc: Global, piece: usize, frames: &mut [FrameBuffer; 2]) {
+    let bytes = bytes_of(rt, alloc, TWO_FRAMES);
+    let mut source = MemorySource::new(alloc, &bytes, piece.max(1), &[]).expect(rt, "memory");
+    let count = frames_of(rt, alloc, &mut source, frames);
+    same(rt, "count", &count, &2);
+    same_bytes(rt, "first", frames[0].body(), b"\x01\x02\x03");
+    same_bytes(rt, "second", frames[1].body(), b"\x08\x08");
+}
+
 #[test]
 fn frames_are_handed_over(rt: HostRuntime) {
-    let bytes = bytes_of(&rt, rt.alloc(), TWO_FRAMES);
     let mut frames = [
         FrameBuffer::new(rt.alloc()).expect(&rt, "memory"),
         FrameBuffer::new(rt.alloc()).expect(&rt, "memory"),
     ];
-    for piece in [1000, 1] {
-        let mut source = MemorySource::new(rt.alloc(), &bytes, piece, &[]).expect(&rt, "memory");
-        let count = frames_of(&rt, rt.alloc(), &mut source, &mut frames);
-        same(&rt, "count", &count, &2);
-        same_bytes(&rt, "first", frames[0].body(), b"\x01\x02\x03");
-        same_bytes(&rt, "second", frames[1].body(), b"\x08\x08");
-    }
+    assert_handed(&rt, rt.alloc(), 1000, &mut frames);
+    assert_handed(&rt, rt.alloc(), 1, &mut frames);
 }

@@ -1,8 +1,9 @@
 //! Bundles that were written out by hand, as a whole and in pieces.
-ghost use Rattle.std.specs.Prelude.{◌≡◌, ◌<◌, ◌+◌, length, IfOk};
+ghost use Rattle.std.specs.Prelude.{◌≡◌, ◌<◌, ◌≤◌, ◌+◌, length, IfOk};
 ghost use Rattle.std.specs.List.{flat_map};
+ghost use Rattle.bundle_frames.specs.Progress.{position};
 
-use crate::rows::{bytes_of, field, same, same_bytes};
+use crate::rows::{bytes_of, field, number, same, same_bytes};
 use bundle_frames::{Fed, Found, Splitter, WholeBundle, read_pieces, write_frame, write_header};
 use fv_outside::{Failed, MemorySink};
 use lamport_clocks::Header;
@@ -82,45 +83,62 @@ fn part<'a>(rt: &impl Abort, bytes: &'a [u8], from: usize, to: usize) -> &'a [u8
     bytes.get(from..to).expect(rt, "a short text")
 }
 
+// A frame of verifier 0 has this body.
+fn assert_frame(rt: &impl Abort, bundle: &WholeBundle, place: usize, body: &[u8]) {
+    let frame = bundle.frames.get(place).expect(rt, "no frame");
+    same(rt, "frame.verifier", &frame.verifier, &0);
+    same_bytes(rt, "frame.body", &frame.body, body);
+}
+
+// The bundle is read in pieces of this size with this header, and so many frames.
+fn assert_read(rt: &impl Abort, bundle: &WholeBundle, header: Header, frames: usize) {
+    same(rt, "bundle.header", &bundle.header, &Some(header));
+    same(rt, "bundle.bad", &bundle.bad, &None);
+    same(rt, "bundle.frames.len()", &bundle.frames.len(), &frames);
+}
+
+const SETUP_HEADER: Header = Header {
+    verifiers: 1,
+    cache: 128,
+    first: 0,
+    end: 16_777_215,
+};
+
+// The bundle of the setup in pieces of a size.
+fn assert_setup(rt: &impl Abort, alloc: Global, bytes: &[u8], size: usize)
+    requires some { 0 < size }
+{
+    let setup = read(rt, alloc, bytes, size);
+    assert_read(rt, &setup, SETUP_HEADER, 2);
+    assert_frame(rt, &setup, 0, part(rt, bytes, 24, 120));
+    assert_frame(rt, &setup, 1, part(rt, bytes, 126, 208));
+}
+
 #[test]
 fn bundles_are_read_however_they_are_cut(rt: HostRuntime) {
     let bytes = bytes_of(&rt, rt.alloc(), SETUP);
     same(&rt, "bytes.len()", &bytes.len(), &208);
-    let setup_header = Header {
-        cache: 128,
-        ..ONE_KEY_HEADER
-    };
-    for size in [208, 7, 1] {
-        let setup = read(&rt, rt.alloc(), &bytes, size);
-        same(&rt, "setup.header", &setup.header, &Some(setup_header));
-        same(&rt, "setup.bad", &setup.bad, &None);
-        same(&rt, "setup.frames.len()", &setup.frames.len(), &2);
-        let first = setup.frames.first().expect(&rt, "no first frame");
-        same(&rt, "first.verifier", &first.verifier, &0);
-        same_bytes(&rt, "first.body", &first.body, part(&rt, &bytes, 24, 120));
-        let second = setup.frames.last().expect(&rt, "no last frame");
-        same(&rt, "second.verifier", &second.verifier, &0);
-        same_bytes(
-            &rt,
-            "second.body",
-            &second.body,
-            part(&rt, &bytes, 126, 208),
-        );
-    }
+    assert_setup(&rt, rt.alloc(), &bytes, 208);
+    assert_setup(&rt, rt.alloc(), &bytes, 7);
+    assert_setup(&rt, rt.alloc(), &bytes, 1);
+}
+
+// The bundle of one key in pieces of a size.
+fn assert_one_key(rt: &impl Abort, alloc: Global, bytes: &[u8], size: usize)
+    requires some { 0 < size }
+{
+    let bundle = read(rt, alloc, bytes, size);
+    assert_read(rt, &bundle, ONE_KEY_HEADER, 1);
+    assert_frame(rt, &bundle, 0, part(rt, bytes, 24, 116));
 }
 
 #[test]
 fn a_bundle_of_one_frame_is_read_however_it_is_cut(rt: HostRuntime) {
     let bytes = bytes_of(&rt, rt.alloc(), ONE_KEY);
     same(&rt, "bytes.len()", &bytes.len(), &116);
-    for size in [208, 7, 1] {
-        let bundle = read(&rt, rt.alloc(), &bytes, size);
-        same(&rt, "bundle.header", &bundle.header, &Some(ONE_KEY_HEADER));
-        same(&rt, "bundle.bad", &bundle.bad, &None);
-        same(&rt, "bundle.frames.len()", &bundle.frames.len(), &1);
-        let frame = bundle.frames.first().expect(&rt, "no frame");
-        same_bytes(&rt, "frame.body", &frame.body, part(&rt, &bytes, 24, 116));
-    }
+    assert_one_key(&rt, rt.alloc(), &bytes, 208);
+    assert_one_key(&rt, rt.alloc(), &bytes, 7);
+    assert_one_key(&rt, rt.alloc(), &bytes, 1);
 }
 
 // Feeds the bytes up to the first answer, and then the rest.
@@ -159,30 +177,28 @@ const BAD_HEADERS: &str = "
 46564232 0001 00000004 00000000 00000001 | another magic
 ";
 
+// An answer that is bad at this offset, once so many bytes were taken.
+fn bad(taken: usize, offset: u64) -> Fed {
+    Fed {
+        taken,
+        found: Found::Bad(offset),
+    }
+}
+
+// The bundle with the header of a row is bad.
+fn assert_bad_header(rt: &impl Abort, alloc: Global, row: &str) {
+    let mut bundle = bytes_of(rt, alloc, field(rt, row, 0));
+    let bytes = bytes_of(rt, alloc, ONE_KEY);
+    let rest = part(rt, &bytes, 18, 116);
+    bundle.extend_from_slice(rest).expect(rt, "memory");
+    let found = answers(rt, alloc, &bundle);
+    same(rt, row, &found, &(bad(18, 0), bad(0, 0), Some(0)));
+}
+
 #[test]
 fn headers_out_of_range_are_bad(rt: HostRuntime) {
-    let at_once = Fed {
-        taken: 18,
-        found: Found::Bad(0),
-    };
-    let for_good = Fed {
-        taken: 0,
-        found: Found::Bad(0),
-    };
-    let bytes = bytes_of(&rt, rt.alloc(), ONE_KEY);
     for row in BAD_HEADERS.trim().lines() {
-        let header = field(&rt, row, 0);
-        let why = field(&rt, row, 1);
-        let mut bundle = bytes_of(&rt, rt.alloc(), header);
-        bundle
-            .extend_from_slice(part(&rt, &bytes, 18, 116))
-            .expect(&rt, "memory");
-        same(
-            &rt,
-            why,
-            &answers(&rt, rt.alloc(), &bundle),
-            &(at_once, for_good, Some(0)),
-        );
+        assert_bad_header(&rt, rt.alloc(), row);
     }
 }
 
@@ -192,101 +208,85 @@ const GOOD_HEADERS: &str = "
 46564231 0040 00010000 ffffffff 00ffffff | 64 | 65536 | 4294967295 | 16777215
 ";
 
+// The header of a row.
+fn header_of(rt: &impl Abort, row: &str) -> Header {
+    Header {
+        verifiers: number(rt, row, 1),
+        cache: number(rt, row, 2),
+        first: number(rt, row, 3),
+        end: number(rt, row, 4),
+    }
+}
+
 #[test]
 fn headers_at_the_ends_of_the_ranges_are_good(rt: HostRuntime) {
     for row in GOOD_HEADERS.trim().lines() {
-        let text = field(&rt, row, 0);
-        let verifiers = field(&rt, row, 1);
-        let cache = field(&rt, row, 2);
-        let first = field(&rt, row, 3);
-        let end = field(&rt, row, 4);
-        let header = Header {
-            verifiers: verifiers.parse().expect(&rt, "a number"),
-            cache: cache.parse().expect(&rt, "a number"),
-            first: first.parse().expect(&rt, "a number"),
-            end: end.parse().expect(&rt, "a number"),
-        };
-        let (fed, _, bad) = answers(&rt, rt.alloc(), &bytes_of(&rt, rt.alloc(), text));
+        let text = bytes_of(&rt, rt.alloc(), field(&rt, row, 0));
+        let (fed, _, bad) = answers(&rt, rt.alloc(), &text);
+        let header = header_of(&rt, row);
         same(&rt, row, &fed.found, &Found::Head(header));
         same(&rt, row, &bad, &None);
     }
 }
 
+// A splitter that was fed the header of the bundle of one key.
+fn behind_header(rt: &impl Abort, alloc: Global) -> Splitter
+    ensures position { position result ≤ 18 }
+{
+    let bytes = bytes_of(rt, alloc, ONE_KEY);
+    let mut splitter = Splitter::new(alloc).expect(rt, "memory");
+    let _ = splitter.feed(part(rt, &bytes, 0, 18));
+    splitter
+}
+
+// The head of a frame behind a first one is bad.
+fn assert_bad_frame(rt: &impl Abort, alloc: Global, head: &[u8; 6], why: &str) {
+    let mut splitter = behind_header(rt, alloc);
+    let frame = splitter.feed(b"\x00\x00\x00\x00\x00\x01\x08");
+    same(rt, "frame.found", &frame.found, &Found::Frame(0));
+    same(rt, why, &splitter.feed(head), &bad(6, 25));
+    same(rt, why, &splitter.feed(head), &bad(0, 25));
+    same(rt, "splitter.end()", &splitter.end(), &Some(25));
+}
+
 #[test]
 fn frames_out_of_range_are_bad(rt: HostRuntime) {
-    let heads = [
-        (b"\x00\x01\x00\x00\x00\x01", "verifier 1 of 1"),
-        (b"\x00\x00\x00\x00\x00\x00", "no bytes"),
-        (b"\x00\x00\x00\x01\x00\x01", "65,537 bytes"),
-    ];
-    let at_once = Fed {
-        taken: 6,
-        found: Found::Bad(25),
-    };
-    let for_good = Fed {
-        taken: 0,
-        found: Found::Bad(25),
-    };
-    let bytes = bytes_of(&rt, rt.alloc(), ONE_KEY);
-    for (head, why) in heads {
-        let mut splitter = Splitter::new(rt.alloc()).expect(&rt, "memory");
-        let _ = splitter.feed(part(&rt, &bytes, 0, 18));
-        let frame = splitter.feed(b"\x00\x00\x00\x00\x00\x01\x08");
-        same(&rt, "frame.found", &frame.found, &Found::Frame(0));
-        same(&rt, why, &splitter.feed(head), &at_once);
-        same(&rt, why, &splitter.feed(head), &for_good);
-        same(&rt, "splitter.end()", &splitter.end(), &Some(25));
-    }
+    let (other, none, long) = (
+        b"\x00\x01\x00\x00\x00\x01",
+        b"\x00\x00\x00\x00\x00\x00",
+        b"\x00\x00\x00\x01\x00\x01",
+    );
+    assert_bad_frame(&rt, rt.alloc(), other, "verifier 1 of 1");
+    assert_bad_frame(&rt, rt.alloc(), none, "no bytes");
+    assert_bad_frame(&rt, rt.alloc(), long, "65,537 bytes");
 }
 
 #[test]
 fn the_longest_frame_is_good(rt: HostRuntime) {
-    let header = bytes_of(&rt, rt.alloc(), ONE_KEY);
     let body = vec![in rt.alloc(); 7u8; 65_536].expect(&rt, "memory");
-    let mut splitter = Splitter::new(rt.alloc()).expect(&rt, "memory");
-    let _ = splitter.feed(part(&rt, &header, 0, 18));
+    let mut splitter = behind_header(&rt, rt.alloc());
     let _ = splitter.feed(b"\x00\x00\x00\x01\x00\x00");
     let fed = splitter.feed(&body);
     same(&rt, "fed.found", &fed.found, &Found::Frame(0));
     same_bytes(&rt, "splitter.body()", splitter.body(), body.as_slice());
 }
 
+// What a sink with this room holds behind the header and the frame of one key, where the frame's write has this answer.
+fn written(rt: &impl Abort, alloc: Global, room: usize, answer: Result<(), Failed>) -> MemorySink {
+    let bytes = bytes_of(rt, alloc, ONE_KEY);
+    let mut sink = MemorySink::new(alloc, room, 10, &[]).expect(rt, "memory");
+    let header = write_header(&ONE_KEY_HEADER, &mut sink);
+    same(rt, "write_header", &header, &Ok(()));
+    let frame = write_frame(0, part(rt, &bytes, 24, 116), &mut sink);
+    same(rt, "write_frame", &frame, &answer);
+    sink
+}
+
 #[test]
 fn bundles_are_written(rt: HostRuntime) {
     let bytes = bytes_of(&rt, rt.alloc(), ONE_KEY);
-    let body = part(&rt, &bytes, 24, 116);
-    let mut sink = MemorySink::new(rt.alloc(), 200, 10, &[]).expect(&rt, "memory");
-    same(
-        &rt,
-        "write_header(&ONE_KEY_HEADER, &mut sink)",
-        &write_header(&ONE_KEY_HEADER, &mut sink),
-        &Ok(()),
-    );
-    same(
-        &rt,
-        "write_frame(0, body, &mut sink)",
-        &write_frame(0, body, &mut sink),
-        &Ok(()),
-    );
-    same_bytes(&rt, "sink.bytes()", sink.bytes(), bytes.as_slice());
-
-    let mut small = MemorySink::new(rt.alloc(), 30, 10, &[]).expect(&rt, "memory");
-    same(
-        &rt,
-        "write_header(&ONE_KEY_HEADER, &mut small)",
-        &write_header(&ONE_KEY_HEADER, &mut small),
-        &Ok(()),
-    );
-    same(
-        &rt,
-        "write_frame(0, body, &mut small)",
-        &write_frame(0, body, &mut small),
-        &Err(Failed),
-    );
-    same(
-        &rt,
-        "small.bytes()",
-        &small.bytes(),
-        &part(&rt, &bytes, 0, 30),
-    );
+    let whole = written(&rt, rt.alloc(), 200, Ok(()));
+    same_bytes(&rt, "whole", whole.bytes(), &bytes);
+    let small = written(&rt, rt.alloc(), 30, Err(Failed));
+    same_bytes(&rt, "small", small.bytes(), part(&rt, &bytes, 0, 30));
 }

@@ -1,5 +1,8 @@
 //! Rows of each form, and the bytes that they must be.
+use crate::rows::{bytes_of, same, same_bytes};
 use bundle_rows::{Case, RowFault, bundle_of, cases_of, log_of};
+use std::alloc::Global;
+use std::process::Abort;
 
 // Rows of each form of a bundle, with their bytes.
 const BUNDLE: &str = "\
@@ -15,30 +18,26 @@ next
 ";
 
 // Each line is a header or a frame, or bytes that are neither.
-const BUNDLE_BYTES: [&str; 12] = [
-    "465642310002000000080000000700000009",
-    "000000000003014000",
-    "000000000003000000",
-    "000000000003000000",
-    "000000000003050102",
-    "000000000003616200",
-    "000000000003000000",
-    "000000000003000000",
-    "0000000000020000",
-    "00ff",
-    "0001000000020102",
-    "00000000000108",
-];
+const BUNDLE_BYTES: &str = "\
+465642310002000000080000000700000009
+000000000003014000
+000000000003000000
+000000000003000000
+000000000003050102
+000000000003616200
+000000000003000000
+000000000003000000
+0000000000020000
+00ff
+0001000000020102
+00000000000108
+";
 
 #[test]
 fn bundles_are_written(rt: HostRuntime) {
     let bytes = bundle_of(rt.alloc(), BUNDLE).expect(&rt, "memory");
-    let mut wanted = String::new(rt.alloc());
-    for line in BUNDLE_BYTES {
-        wanted.push_str(line).expect(&rt, "memory");
-    }
-    let digits = hex::encode(rt.alloc(), bytes.as_slice()).expect(&rt, "memory");
-    assert_eq!(rt; digits, wanted);
+    let wanted = bytes_of(&rt, rt.alloc(), BUNDLE_BYTES);
+    same_bytes(&rt, "bundle", &bytes, &wanted);
 }
 
 // Each form of a row of a log, with its bytes.
@@ -56,18 +55,18 @@ next: 08
 bytes 0aff: 0a ff
 ";
 
+// A row has its bytes.
+fn assert_row(rt: &impl Abort, alloc: Global, line: &str) {
+    let (row, digits) = line.split_once(": ").expect(rt, "no bytes");
+    let log = log_of(alloc, row).expect(rt, "memory");
+    same_bytes(rt, row, &log, &bytes_of(rt, alloc, digits));
+}
+
 #[test]
 fn rows_have_their_bytes(rt: HostRuntime) {
-    assert_eq!(rt; COMMANDS.lines().count(), 11);
+    same(&rt, "rows", &COMMANDS.lines().count(), &11);
     for line in COMMANDS.lines() {
-        let (row, bytes) = line.split_once(": ").expect(&rt, "no bytes");
-        let mut wanted = String::new(rt.alloc());
-        for digits in bytes.split_whitespace() {
-            wanted.push_str(digits).expect(&rt, "memory");
-        }
-        let log = log_of(rt.alloc(), row).expect(&rt, "memory");
-        let digits = hex::encode(rt.alloc(), log.as_slice()).expect(&rt, "memory");
-        assert_eq!(rt; digits, wanted, "{row}");
+        assert_row(&rt, rt.alloc(), line);
     }
 }
 
@@ -82,7 +81,7 @@ fn a_node_has_two_sides(rt: HostRuntime) {
     wanted[13] = 128;
     wanted[51] = 1;
     wanted[52] = 198;
-    assert_eq!(rt; log.as_slice(), wanted.as_slice());
+    same_bytes(&rt, "node", &log, &wanted);
 }
 
 // Rows that are none.
@@ -113,20 +112,26 @@ bytes 0
 raw 0g
 ";
 
-#[test]
-fn bad_rows_are_named(rt: HostRuntime) {
-    for row in BAD_ROWS.lines() {
-        match bundle_of(rt.alloc(), row) {
-            Err(fault) => assert_eq!(rt; fault, RowFault::BadRow(row)),
-            Ok(_) => panic!(rt; "{row}"),
-        }
+// A row that is none is named.
+fn assert_bad(rt: &impl Abort, alloc: Global, row: &str) {
+    match bundle_of(alloc, row) {
+        Err(fault) => same(rt, row, &fault, &RowFault::BadRow(row)),
+        Ok(_) => panic!(rt; "{row}"),
     }
 }
 
 #[test]
+fn bad_rows_are_named(rt: HostRuntime) {
+    for row in BAD_ROWS.lines() {
+        assert_bad(&rt, rt.alloc(), row);
+    }
+}
+
+const TABLE: &str = "== one\nnext\n-> 7\nab\ncd\n== two\n-> 0\n";
+
+#[test]
 fn tables_are_read(rt: HostRuntime) {
-    let table = "== one\nnext\n-> 7\nab\ncd\n== two\n-> 0\n";
-    let cases = cases_of(rt.alloc(), table).expect(&rt, "memory");
+    let cases = cases_of(rt.alloc(), TABLE).expect(&rt, "memory");
     let one = Case {
         label: "one",
         rows: "next\n",
@@ -139,6 +144,7 @@ fn tables_are_read(rt: HostRuntime) {
         status: 0,
         report: "",
     };
-    assert_eq!(rt; cases.as_slice(), [one, two].as_slice());
-    assert!(rt; cases_of(rt.alloc(), "== one\nnext\n").is_err());
+    same(&rt, "cases", &cases.as_slice(), &[one, two].as_slice());
+    let is_refused = cases_of(rt.alloc(), "== one\nnext\n").is_err();
+    same(&rt, "a case without a status", &is_refused, &true);
 }

@@ -5,6 +5,7 @@ use record_text::{
     Blob, Element, Node, Pointer, TextFault, Value, element_text, initial, push_path, read_element,
     read_path, read_value, value_text,
 };
+use std::alloc::Global;
 use std::process::Abort;
 use tree_keys::Path;
 
@@ -28,20 +29,23 @@ root | 00 0000000000000000
 #258 | 40 0000000000000102
 ";
 
+// A path has this text, and is read from it, also where a byte follows, and from no front of it.
+fn assert_path(rt: &impl Abort, path: Path, mut text: Vec<u8>, row: &str) {
+    same_bytes(rt, row, path_text(&path).as_slice(), text.as_slice());
+    same(rt, row, &read_path(&text), &Ok((path, 9)));
+    for len in 0..text.len() {
+        same(rt, row, &read_path(&text[..len]), &Err(TRUNCATED));
+    }
+    text.push(7).expect(rt, "memory");
+    same(rt, row, &read_path(&text), &Ok((path, 9)));
+}
+
 #[test]
 fn paths_have_nine_bytes(rt: HostRuntime) {
     for row in PATHS.trim().lines() {
-        let path = field(&rt, row, 0);
-        let text = field(&rt, row, 1);
-        let path = path_of(&rt, path);
-        let mut text = bytes_of(&rt, rt.alloc(), text);
-        same_bytes(&rt, row, path_text(&path).as_slice(), text.as_slice());
-        same(&rt, row, &read_path(&text), &Ok((path, 9)));
-        for len in 0..text.len() {
-            same(&rt, row, &read_path(&text[..len]), &Err(TRUNCATED));
-        }
-        text.push(7).expect(&rt, "memory");
-        same(&rt, row, &read_path(&text), &Ok((path, 9)));
+        let path = path_of(&rt, field(&rt, row, 0));
+        let text = bytes_of(&rt, rt.alloc(), field(&rt, row, 1));
+        assert_path(&rt, path, text, row);
     }
 }
 
@@ -54,13 +58,18 @@ const NO_PATHS: &str = "
 ff 0000000000000000
 ";
 
+// The bytes of a row are no path.
+fn assert_no_path(rt: &impl Abort, alloc: Global, row: &str) {
+    let text = bytes_of(rt, alloc, row);
+    same(rt, row, &read_path(&text), &Err(MALFORMED));
+    let front = text.get(..8).expect(rt, "a short row");
+    same(rt, row, &read_path(front), &Err(TRUNCATED));
+}
+
 #[test]
 fn bytes_outside_are_no_path(rt: HostRuntime) {
     for row in NO_PATHS.trim().lines() {
-        let text = bytes_of(&rt, rt.alloc(), row);
-        same(&rt, row, &read_path(&text), &Err(MALFORMED));
-        let front = text.get(..8).expect(&rt, "a short row");
-        same(&rt, row, &read_path(front), &Err(TRUNCATED));
+        assert_no_path(&rt, rt.alloc(), row);
     }
 }
 
@@ -83,40 +92,32 @@ const DATA_VALUES: &str = "
 07070707070707070707070707070707 07070707070707070707070707070707 07070707070707070707070707070707 07070707070707070707070707070707 | 01 40 07070707070707070707070707070707 07070707070707070707070707070707 07070707070707070707070707070707 07070707070707070707070707070707
 ";
 
+// No value is read of this path from these bytes.
+fn assert_no_value(rt: &impl Abort, path: &Path, text: &[u8], fault: TextFault) {
+    match read_value(path, text) {
+        Err(found) => assert_eq!(rt; found, fault, "{text:?}"),
+        Ok(_) => panic!(rt; "{text:?}"),
+    }
+}
+
+// The data value of a row has its text.
+fn assert_data_value(rt: &impl Abort, alloc: Global, row: &str) {
+    let value = data_value(rt, &bytes_of(rt, alloc, field(rt, row, 0)));
+    let text = bytes_of(rt, alloc, field(rt, row, 1));
+    assert_value(rt, &Path::of_key(5), &value, text, row);
+}
+
 #[test]
 fn data_values_have_a_flag_and_a_count(rt: HostRuntime) {
-    let key = Path::of_key(5);
     for row in DATA_VALUES.trim().lines() {
-        let bytes = field(&rt, row, 0);
-        let text = field(&rt, row, 1);
-        let value = data_value(&rt, &bytes_of(&rt, rt.alloc(), bytes));
-        assert_value(&rt, &key, &value, bytes_of(&rt, rt.alloc(), text), row);
+        assert_data_value(&rt, rt.alloc(), row);
     }
-    assert_value(
-        &rt,
-        &key,
-        &initial(&key),
-        bytes_of(&rt, rt.alloc(), "00"),
-        "none",
-    );
-    same(
-        &rt,
-        "Blob::of_bytes(&[7; 65])",
-        &Blob::of_bytes(&[7; 65]),
-        &None,
-    );
-    same(
-        &rt,
-        "read_value(&key, &[2])",
-        &read_value(&key, &[2]),
-        &Err(MALFORMED),
-    );
-    same(
-        &rt,
-        "read_value(&key, &[1, 65])",
-        &read_value(&key, &[1, 65]),
-        &Err(MALFORMED),
-    );
+    let key = Path::of_key(5);
+    let none = bytes_of(&rt, rt.alloc(), "00");
+    assert_value(&rt, &key, &initial(&key), none, "none");
+    same(&rt, "too long", &Blob::of_bytes(&[7; 65]), &None);
+    assert_no_value(&rt, &key, &[2], MALFORMED);
+    assert_no_value(&rt, &key, &[1, 65], MALFORMED);
 }
 
 // A node of the path 0, whose pointers lead to 00 and 011, by the sides on which it has one.
@@ -147,30 +148,26 @@ both | 01 02 0000000000000000 11111111111111111111111111111111111111111111111111
 right | 00 02 03 6000000000000000 2222222222222222222222222222222222222222222222222222222222222222
 ";
 
+// The node of a row has its text.
+fn assert_node(rt: &impl Abort, alloc: Global, row: &str) {
+    let path = path_of(rt, "0");
+    let value = Value::Node(node_of(rt, field(rt, row, 0)));
+    let text = bytes_of(rt, alloc, field(rt, row, 1));
+    assert_value(rt, &path, &value, text, row);
+    same(rt, row, &value.is_same(&initial(&path)), &false);
+}
+
 #[test]
 fn nodes_have_two_pointers(rt: HostRuntime) {
-    let path = path_of(&rt, "0");
     for row in NODES.trim().lines() {
-        let sides = field(&rt, row, 0);
-        let text = field(&rt, row, 1);
-        let value = Value::Node(node_of(&rt, sides));
-        assert_value(&rt, &path, &value, bytes_of(&rt, rt.alloc(), text), row);
-        same(&rt, row, &value.is_same(&initial(&path)), &false);
+        assert_node(&rt, rt.alloc(), row);
     }
+    let path = path_of(&rt, "0");
     let empty = initial(&path);
-    assert_value(
-        &rt,
-        &path,
-        &empty,
-        bytes_of(&rt, rt.alloc(), "0000"),
-        "empty",
-    );
-    same(
-        &rt,
-        "empty.is_same(&initial(&path))",
-        &empty.is_same(&initial(&path)),
-        &true,
-    );
+    let text = bytes_of(&rt, rt.alloc(), "0000");
+    assert_value(&rt, &path, &empty, text, "empty");
+    let is_same = empty.is_same(&initial(&path));
+    same(&rt, "empty", &is_same, &true);
 }
 
 // Behind the tag stand the paths 01, 0 and 1, none of which begins with 00, and no digest.
@@ -181,27 +178,23 @@ const ELSEWHERE: &str = "
 01 02 2000000000000000
 ";
 
+// The bytes of a row are no node.
+fn assert_elsewhere(rt: &impl Abort, alloc: Global, row: &str) {
+    let text = bytes_of(rt, alloc, row);
+    let node = path_of(rt, "0");
+    assert_no_value(rt, &node, &text, MALFORMED);
+    let front = text.get(..9).expect(rt, "a short row");
+    assert_no_value(rt, &node, front, TRUNCATED);
+}
+
 #[test]
 fn pointers_lead_below_their_side(rt: HostRuntime) {
-    let node = path_of(&rt, "0");
     for row in ELSEWHERE.trim().lines() {
-        let text = bytes_of(&rt, rt.alloc(), row);
-        same(&rt, row, &read_value(&node, &text), &Err(MALFORMED));
-        let front = text.get(..9).expect(&rt, "a short row");
-        same(&rt, row, &read_value(&node, front), &Err(TRUNCATED));
+        assert_elsewhere(&rt, rt.alloc(), row);
     }
-    same(
-        &rt,
-        "read_value(&node, &[3])",
-        &read_value(&node, &[3]),
-        &Err(MALFORMED),
-    );
-    same(
-        &rt,
-        "read_value(&node, &[0, 3])",
-        &read_value(&node, &[0, 3]),
-        &Err(MALFORMED),
-    );
+    let node = path_of(&rt, "0");
+    assert_no_value(&rt, &node, &[3], MALFORMED);
+    assert_no_value(&rt, &node, &[0, 3], MALFORMED);
 }
 
 // An element of the path 0, by this verifier.
@@ -215,34 +208,32 @@ fn element_by(verifier: u16) -> Element {
     }
 }
 
+// An element has this text, and is read from it, also where a byte follows, and from no front of it.
+fn assert_element(rt: &impl Abort, element: &Element, mut text: Vec<u8>) {
+    let len = text.len();
+    let found = element_text(element);
+    same_bytes(rt, "element_text", found.as_slice(), &text);
+    for cut in 0..len {
+        let front = read_element(&text[..cut]);
+        same(rt, "a front", &front, &Err(TRUNCATED));
+    }
+    text.push(7).expect(rt, "memory");
+    match read_element(&text) {
+        Ok((read, taken)) => {
+            same(rt, "read_element", &read, element);
+            same(rt, "taken", &taken, &len);
+        }
+        Err(_) => panic!(rt; "no element"),
+    }
+}
+
 #[test]
 fn elements_have_four_parts(rt: HostRuntime) {
     let element = element_by(0x0405);
-    let mut text = bytes_of(
-        &rt,
-        rt.alloc(),
-        "01 0000000000000000 00 00 00000001 00000203 0405",
-    );
-    same_bytes(
-        &rt,
-        "element_text(&element).as_slice()",
-        element_text(&element).as_slice(),
-        text.as_slice(),
-    );
-    for cut in 0..text.len() {
-        same(
-            &rt,
-            "read_element(&text[..cut])",
-            &read_element(&text[..cut]),
-            &Err(TRUNCATED),
-        );
-    }
-    text.push(7).expect(&rt, "memory");
-    same(
-        &rt,
-        "read_element(&text)",
-        &read_element(&text),
-        &Ok((element_by(0x0405), 21)),
-    );
-    same(&rt, "element_by(3)", &(element_by(3) == element), &false);
+    let digits = "01 0000000000000000 00 00 00000001 00000203 0405";
+    let text = bytes_of(&rt, rt.alloc(), digits);
+    same(&rt, "bytes", &text.len(), &21);
+    assert_element(&rt, &element, text);
+    let is_same = element_by(3) == element;
+    same(&rt, "element_by(3)", &is_same, &false);
 }

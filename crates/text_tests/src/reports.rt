@@ -1,5 +1,5 @@
 //! Lines that were worked out by hand, and sinks that fail.
-use crate::rows::{data_value, field, path_of, same, same_bytes, stamp};
+use crate::rows::{data_value, field, number, path_of, same, same_bytes, stamp};
 use fv_outside::MemorySink;
 use multiset_sum::Sum;
 use record_text::{
@@ -84,16 +84,9 @@ InputLimit | 14 | input limit
 #[test]
 fn each_status_has_its_number_and_text(rt: HostRuntime) {
     for row in STATUSES.trim().lines() {
-        let name = field(&rt, row, 0);
-        let number = field(&rt, row, 1);
+        let status = status_of(&rt, field(&rt, row, 0));
+        same(&rt, row, &status.number(), &number(&rt, row, 1));
         let text = field(&rt, row, 2);
-        let status = status_of(&rt, name);
-        same(
-            &rt,
-            row,
-            &status.number(),
-            &number.parse::<u8>().expect(&rt, "a number"),
-        );
         same_bytes(&rt, row, status.line().as_slice(), text.as_bytes());
     }
 }
@@ -105,30 +98,39 @@ const OPERATIONS: &str = "
 1 | 2 | 3 | true | 0 |
 ";
 
-// The operation of a row.
-fn operation_of(rt: &impl Abort, row: &str) -> Operation {
-    let epoch = field(rt, row, 0);
-    let counter = field(rt, row, 1);
-    let verifier = field(rt, row, 2);
-    let put = field(rt, row, 3);
-    let key = field(rt, row, 4);
-    let value = field(rt, row, 5);
-    let value = match value {
+// The value of a row.
+fn value_of(rt: &impl Abort, row: &str) -> Blob {
+    match field(rt, row, 5) {
         "none" => Blob::none(),
-        _ => Blob::of_bytes(value.as_bytes()).expect(rt, "long"),
-    };
-    Operation {
-        stamp: stamp(
-            epoch.parse().expect(rt, "a number"),
-            counter.parse().expect(rt, "a number"),
-        ),
-        verifier: verifier.parse().expect(rt, "a number"),
-        index: 9,
-        put: put.parse().expect(rt, "a number"),
-        key: key.parse().expect(rt, "a number"),
-        value,
+        value => Blob::of_bytes(value.as_bytes()).expect(rt, "long"),
     }
 }
+
+// The operation of a row.
+fn operation_of(rt: &impl Abort, row: &str) -> Operation {
+    Operation {
+        stamp: stamp(number(rt, row, 0), number(rt, row, 1)),
+        verifier: number(rt, row, 2),
+        index: 9,
+        put: number(rt, row, 3),
+        key: number(rt, row, 4),
+        value: value_of(rt, row),
+    }
+}
+
+// Writes the last line, and answers whether it could.
+fn is_last_written(sink: &mut MemorySink) -> bool {
+    write_last(&Status::Done { epochs: 1 }, sink).is_ok()
+}
+
+// The report of the operations.
+const REPORT: &str = "\
+epoch 0 certified 2
+0.0 v0 put 5 6162
+4294967295.16777215 v63 get 18446744073709551615 none
+1.2 v3 put 0 .
+done 1
+";
 
 #[test]
 fn lines_are_written_whole(rt: HostRuntime) {
@@ -138,23 +140,14 @@ fn lines_are_written_whole(rt: HostRuntime) {
         let op = operation_of(&rt, row);
         write_operation(&op, &mut sink).ok().expect(&rt, "line");
     }
-    write_last(&Status::Done { epochs: 1 }, &mut sink)
-        .ok()
-        .expect(&rt, "last");
-    let text =
-        "epoch 0 certified 2\n0.0 v0 put 5 6162\n4294967295.16777215 v63 get 18446744073709551615 none\n1.2 v3 put 0 .\ndone 1\n";
-    same_bytes(&rt, "sink.bytes()", sink.bytes(), text.as_bytes());
+    same(&rt, "last", &is_last_written(&mut sink), &true);
+    same_bytes(&rt, "sink.bytes()", sink.bytes(), REPORT.as_bytes());
 }
 
 #[test]
 fn a_sink_that_fails_holds_a_front(rt: HostRuntime) {
     let mut sink = MemorySink::new(rt.alloc(), 1000, 1, &[3]).expect(&rt, "memory");
-    same(
-        &rt,
-        "write_last(&Status::Done { epochs: 1 }, &mut sink).is_err()",
-        &write_last(&Status::Done { epochs: 1 }, &mut sink).is_err(),
-        &true,
-    );
+    same(&rt, "last", &is_last_written(&mut sink), &false);
     same_bytes(&rt, "sink.bytes()", sink.bytes(), b"don".as_slice());
     same(&rt, "sink.faults()", &sink.faults(), &1);
 }
@@ -163,32 +156,35 @@ fn a_sink_that_fails_holds_a_front(rt: HostRuntime) {
 fn pages_are_written_when_full(rt: HostRuntime) {
     let mut sink = MemorySink::new(rt.alloc(), 20000, 5000, &[]).expect(&rt, "memory");
     let mut page = Page::new();
-    let line = [b'x'; 100];
-    for _ in 0..100 {
-        page.write(&line, &mut sink).ok().expect(&rt, "write");
-    }
-    same(
-        &rt,
-        "sink.bytes().len()",
-        &sink.bytes().len(),
-        &(PAGE_ROOM / 100 * 100),
-    );
+    write_lines(&rt, &mut page, &mut sink);
+    let full = PAGE_ROOM / 100 * 100;
+    same(&rt, "full", &sink.bytes().len(), &full);
     page.flush(&mut sink).ok().expect(&rt, "flush");
-    same(&rt, "sink.bytes().len()", &sink.bytes().len(), &10000);
+    same(&rt, "flushed", &sink.bytes().len(), &10000);
 }
 
-// The element of key 5 with this data value so many times.
+// Writes a hundred lines of a hundred bytes.
+fn write_lines(rt: &impl Abort, page: &mut Page, sink: &mut MemorySink) {
+    for _ in 0..100 {
+        page.write(&[b'x'; 100], sink).ok().expect(rt, "write");
+    }
+}
+
+// The element of key 5 with this data value.
+fn element_of(rt: &impl Abort, bytes: &[u8]) -> Element {
+    Element {
+        path: path_of(rt, "#5"),
+        value: data_value(rt, bytes),
+        stamp: stamp(0, 1),
+        verifier: 0,
+    }
+}
+
+// It so many times.
 fn elements_of(rt: &impl Abort, alloc: Global, bytes: &[u8], count: usize) -> Elements {
     let mut items = Vec::new(alloc);
     for _ in 0..count {
-        items
-            .push(Element {
-                path: path_of(rt, "#5"),
-                value: data_value(rt, bytes),
-                stamp: stamp(0, 1),
-                verifier: 0,
-            })
-            .expect(rt, "memory");
+        items.push(element_of(rt, bytes)).expect(rt, "memory");
     }
     Elements::of(items)
 }
@@ -291,49 +287,39 @@ fn multisets_have_their_text(rt: HostRuntime) {
     assert_shown(&rt, rt.alloc(), &longest, 7, THE_LONGEST)
 }
 
-// Each line is that of the element that was added many times.
-fn assert_added(rt: &impl Abort, lines: &[u8]) {
+// The line of the element that was added many times.
+const ADDED: &str = "added 4000000000000000050102626100000000000000010000\n";
+
+// The sink has the head line and so many lines of that element.
+fn assert_added(rt: &impl Abort, sink: &MemorySink, count: usize) {
+    let lines = sink.bytes().strip_prefix(b"multisets 3\n");
+    let lines = lines.expect(rt, "head");
+    same(rt, "lines", &lines.chunks(53).len(), &count);
     for line in lines.chunks(53) {
-        same_bytes(
-            rt,
-            "line",
-            line,
-            b"added 4000000000000000050102626100000000000000010000\n".as_slice(),
-        );
+        same_bytes(rt, "line", line, ADDED.as_bytes());
     }
+}
+
+// Writes the exhibit of many elements, and answers whether it could.
+fn is_shown_whole(rt: &impl Abort, alloc: Global, sink: &mut MemorySink) -> bool {
+    let exhibit = multisets_of(rt, alloc, "many added");
+    write_exhibit(&exhibit, 7, sink).is_ok()
 }
 
 #[test]
 fn long_exhibits_are_written_by_pages(rt: HostRuntime) {
-    let exhibit = multisets_of(&rt, rt.alloc(), "many added");
     let mut sink = MemorySink::new(rt.alloc(), 20000, 20000, &[]).expect(&rt, "memory");
-    write_exhibit(&exhibit, 7, &mut sink)
-        .ok()
-        .expect(&rt, "write");
-    let lines = sink
-        .bytes()
-        .strip_prefix(b"multisets 3\n")
-        .expect(&rt, "head");
-    same(&rt, "lines.len()", &lines.len(), &(200 * 53));
-    assert_added(&rt, lines);
+    let is_whole = is_shown_whole(&rt, rt.alloc(), &mut sink);
+    same(&rt, "written", &is_whole, &true);
+    assert_added(&rt, &sink, 200);
 }
 
 #[test]
 fn a_sink_that_fails_at_its_second_write_holds_a_page(rt: HostRuntime) {
-    let exhibit = multisets_of(&rt, rt.alloc(), "many added");
     let mut sink = MemorySink::new(rt.alloc(), 20000, 20000, &[1]).expect(&rt, "memory");
-    same(
-        &rt,
-        "write_exhibit(&exhibit, 7, &mut sink).is_err()",
-        &write_exhibit(&exhibit, 7, &mut sink).is_err(),
-        &true,
-    );
+    let is_whole = is_shown_whole(&rt, rt.alloc(), &mut sink);
+    same(&rt, "written", &is_whole, &false);
     same(&rt, "sink.faults()", &sink.faults(), &1);
     // the head line and 154 lines of 53 bytes are on the first page
-    let lines = sink
-        .bytes()
-        .strip_prefix(b"multisets 3\n")
-        .expect(&rt, "head");
-    same(&rt, "lines.len()", &lines.len(), &(154 * 53));
-    assert_added(&rt, lines);
+    assert_added(&rt, &sink, 154);
 }

@@ -4,12 +4,21 @@ use record_text::{Blob, Value};
 use std::alloc::Global;
 use std::fmt::Debug;
 use std::process::Abort;
+use std::str::FromStr;
 use tree_keys::Path;
 
 /// The field of a row at this place, counted from 0.
 pub fn field<'a>(rt: &impl Abort, row: &'a str, place: usize) -> &'a str {
     let text = row.split('|').nth(place);
     text.expect(rt, "a row with too few fields").trim()
+}
+
+/// The number in the field at this place.
+pub fn number<T: FromStr>(rt: &impl Abort, row: &str, place: usize) -> T
+where
+    T::Err: Debug,
+{
+    field(rt, row, place).parse().expect(rt, "a number")
 }
 
 /// The bytes that these digits spell, between which blanks may stand. `..` are no bytes.

@@ -2,7 +2,9 @@
 use crate::rows::{bytes_of, field, same, same_bytes};
 use program_words::{Asked, HostNumbers, LoadNumbers, PathWord, WordsFault, read_words};
 use std::alloc::Global;
+use std::fmt::Debug;
 use std::process::Abort;
+use std::str::FromStr;
 
 // What the words of a line ask for.
 fn asked_by(rt: &impl Abort, alloc: Global, line: &str) -> Result<Asked, WordsFault> {
@@ -54,20 +56,26 @@ fastver accept --key 303132333435363738393a3b3c3d3e3f404142434445464748494a4b4c4
 
 const MOST_BYTES: &str = "0123456789:;<=>?@ABCDEFGHIJKLMNOPQRSTUVWXYZ[\\]^_`abcdefghijklmno";
 
+// The bytes of the key of a row.
+fn key_of(rt: &impl Abort, alloc: Global, row: &str) -> Vec<u8> {
+    match field(rt, row, 2) {
+        "most" => Vec::from_slice(alloc, MOST_BYTES.as_bytes()).expect(rt, "memory"),
+        digits => bytes_of(rt, alloc, digits),
+    }
+}
+
+// A row's words ask for what it says.
+fn assert_asked(rt: &impl Abort, alloc: Global, row: &str) {
+    let answer = asked_by(rt, alloc, field(rt, row, 0));
+    let (found, bytes) = told(&answer);
+    same(rt, row, &found, &field(rt, row, 1));
+    same_bytes(rt, row, bytes, &key_of(rt, alloc, row));
+}
+
 #[test]
 fn words_that_ask(rt: HostRuntime) {
     for row in ASKING.trim().lines() {
-        let line = field(&rt, row, 0);
-        let command = field(&rt, row, 1);
-        let key = field(&rt, row, 2);
-        let answer = asked_by(&rt, rt.alloc(), line);
-        let (found, bytes) = told(&answer);
-        same(&rt, row, &found, &command);
-        if key == "most" {
-            same_bytes(&rt, row, bytes, MOST_BYTES.as_bytes());
-        } else {
-            same_bytes(&rt, row, bytes, bytes_of(&rt, rt.alloc(), key).as_slice());
-        }
+        assert_asked(&rt, rt.alloc(), row);
     }
 }
 
@@ -140,13 +148,17 @@ fastver gen --key 00112233445566778899aabbccddee --seed 0 --ops 0 --verifiers 1 
 fastver gen --key 00112233445566778899aabbccddeeff | a load with nothing else
 ";
 
+// A line asks for nothing.
+fn assert_refused(rt: &impl Abort, alloc: Global, line: &str, why: &str) {
+    let answer = asked_by(rt, alloc, line);
+    same(rt, why, &told(&answer), &("usage", b"".as_slice()));
+}
+
 #[test]
 fn words_that_are_refused(rt: HostRuntime) {
     for row in REFUSED.trim().lines() {
-        let line = field(&rt, row, 0);
-        let why = field(&rt, row, 1);
-        let answer = asked_by(&rt, rt.alloc(), line);
-        same(&rt, why, &told(&answer), &("usage", b"".as_slice()));
+        let (line, why) = (field(&rt, row, 0), field(&rt, row, 1));
+        assert_refused(&rt, rt.alloc(), line, why);
     }
 }
 
@@ -161,36 +173,33 @@ const RUNNING: &str = "
 --hot 1 --verifiers 64 --shards 1024 | 64 1024 0 16777215 | 1 | none
 ";
 
+// The number at this place of a text, counted from 0.
+fn number_in<T: FromStr>(rt: &impl Abort, text: &str, place: usize) -> T
+where
+    T::Err: Debug,
+{
+    let word = text.split_whitespace().nth(place);
+    let word = word.expect(rt, "a text with too few numbers");
+    word.parse().expect(rt, "a number")
+}
+
+// The threshold of a row, if it has one.
+fn hot_in(rt: &impl Abort, row: &str) -> Option<u32> {
+    match field(rt, row, 2) {
+        "none" => None,
+        text => Some(number_in(rt, text, 0)),
+    }
+}
+
 // The numbers of a row.
 fn numbers_in(rt: &impl Abort, row: &str) -> HostNumbers {
-    let mut words = field(rt, row, 1).split_whitespace();
-    let hot = field(rt, row, 2);
+    let text = field(rt, row, 1);
     HostNumbers {
-        verifiers: words
-            .next()
-            .expect(rt, "no verifiers")
-            .parse()
-            .expect(rt, "a number"),
-        shards: words
-            .next()
-            .expect(rt, "no shards")
-            .parse()
-            .expect(rt, "a number"),
-        first: words
-            .next()
-            .expect(rt, "no first epoch")
-            .parse()
-            .expect(rt, "a number"),
-        counter: words
-            .next()
-            .expect(rt, "no last counter")
-            .parse()
-            .expect(rt, "a number"),
-        hot: if hot == "none" {
-            None
-        } else {
-            Some(hot.parse().expect(rt, "a number"))
-        },
+        verifiers: number_in(rt, text, 0),
+        shards: number_in(rt, text, 1),
+        first: number_in(rt, text, 2),
+        counter: number_in(rt, text, 3),
+        hot: hot_in(rt, row),
     }
 }
 
@@ -212,15 +221,22 @@ fn line_of(rt: &impl Abort, alloc: Global, command: &str, words: &str) -> String
     line
 }
 
+// A row's words of a run ask for its numbers.
+fn assert_run(rt: &impl Abort, alloc: Global, row: &str) {
+    let line = line_of(rt, alloc, "run", field(rt, row, 0));
+    match asked_by(rt, alloc, &line) {
+        Ok(Asked::Run(run)) => {
+            same(rt, row, &run.numbers, &numbers_in(rt, row));
+            same(rt, row, &path_in(&run.logs), &field(rt, row, 3));
+        }
+        _ => panic!(rt; "no run is asked for"),
+    }
+}
+
 #[test]
 fn what_a_run_asks_for(rt: HostRuntime) {
     for row in RUNNING.trim().lines() {
-        let line = line_of(&rt, rt.alloc(), "run", field(&rt, row, 0));
-        let Ok(Asked::Run(run)) = asked_by(&rt, rt.alloc(), &line) else {
-            panic!(rt; "no run is asked for");
-        };
-        same(&rt, row, &run.numbers, &numbers_in(&rt, row));
-        same(&rt, row, &path_in(&run.logs), &field(&rt, row, 3));
+        assert_run(&rt, rt.alloc(), row);
     }
 }
 
@@ -235,41 +251,32 @@ const LOADING: &str = "
 
 // The numbers of a row's load.
 fn load_in(rt: &impl Abort, row: &str) -> LoadNumbers {
-    let mut words = field(rt, row, 4).split_whitespace();
+    let text = field(rt, row, 4);
     LoadNumbers {
-        seed: words
-            .next()
-            .expect(rt, "no seed")
-            .parse()
-            .expect(rt, "a number"),
-        ops: words
-            .next()
-            .expect(rt, "no requests")
-            .parse()
-            .expect(rt, "a number"),
-        keys: words
-            .next()
-            .expect(rt, "no keys")
-            .parse()
-            .expect(rt, "a number"),
-        every: words
-            .next()
-            .expect(rt, "no requests of an epoch")
-            .parse()
-            .expect(rt, "a number"),
+        seed: number_in(rt, text, 0),
+        ops: number_in(rt, text, 1),
+        keys: number_in(rt, text, 2),
+        every: number_in(rt, text, 3),
+    }
+}
+
+// A row's words of a load ask for its numbers.
+fn assert_load(rt: &impl Abort, alloc: Global, row: &str) {
+    let line = line_of(rt, alloc, "gen", field(rt, row, 0));
+    match asked_by(rt, alloc, &line) {
+        Ok(Asked::Gen(load)) => {
+            same(rt, row, &load.load, &load_in(rt, row));
+            same(rt, row, &load.numbers, &numbers_in(rt, row));
+            same(rt, row, &path_in(&load.logs), &field(rt, row, 3));
+        }
+        _ => panic!(rt; "no load is asked for"),
     }
 }
 
 #[test]
 fn what_a_load_asks_for(rt: HostRuntime) {
     for row in LOADING.trim().lines() {
-        let line = line_of(&rt, rt.alloc(), "gen", field(&rt, row, 0));
-        let Ok(Asked::Gen(load)) = asked_by(&rt, rt.alloc(), &line) else {
-            panic!(rt; "no load is asked for");
-        };
-        same(&rt, row, &load.load, &load_in(&rt, row));
-        same(&rt, row, &load.numbers, &numbers_in(&rt, row));
-        same(&rt, row, &path_in(&load.logs), &field(&rt, row, 3));
+        assert_load(&rt, rt.alloc(), row);
     }
 }
 
@@ -313,9 +320,8 @@ const REFUSED_LOADS: &str = "
 #[test]
 fn loads_that_are_refused(rt: HostRuntime) {
     for row in REFUSED_LOADS.trim().lines() {
-        let line = line_of(&rt, rt.alloc(), "gen", field(&rt, row, 0));
-        let why = field(&rt, row, 1);
-        let answer = asked_by(&rt, rt.alloc(), &line);
-        same(&rt, why, &told(&answer), &("usage", b"".as_slice()));
+        let (words, why) = (field(&rt, row, 0), field(&rt, row, 1));
+        let line = line_of(&rt, rt.alloc(), "gen", words);
+        assert_refused(&rt, rt.alloc(), &line, why);
     }
 }

@@ -1,29 +1,40 @@
 //! Audits of bundles that were written out by hand, under digests that collide at will. What each must show was
 //! worked out by hand, and the slow program finds the same.
-use crate::running::bytes_of;
-use bundle_rows::{Case, bundle_of, cases_of};
+use crate::running::{
+    Ended, Way, assert_ends, assert_stops, by, bytes_in, bytes_of, cases_in, failing, objects,
+};
+use bundle_rows::Case;
 use fastver_top::{Status, audit_text};
-use fv_outside::{MemorySink, MemorySource};
 use record_hash::ToyDigests;
 use std::alloc::Global;
 use std::process::Abort;
 
-// What an audit of these bytes writes, and its status, where reads and writes go by so many bytes.
-fn audited(rt: &impl Abort, alloc: Global, bundle: &[u8], piece: usize) -> (MemorySink, Status) {
-    let mut source = MemorySource::new(alloc, bundle, piece.max(1), &[]).expect(rt, "memory");
-    let mut out = MemorySink::new(alloc, 10_000, piece.max(1), &[]).expect(rt, "memory");
-    let status = audit_text(alloc, &ToyDigests, 1 << 20, &mut source, &mut out);
-    (out, status)
+// What an audit of no more than so many of these bytes leaves, and of no more than 2^20.
+fn audited(rt: &impl Abort, alloc: Global, limit: u64, bytes: &[u8], way: Way<'_>) -> Ended {
+    let (mut source, mut out) = objects(rt, alloc, bytes, way);
+    let limit = limit.min(1 << 20);
+    let status = audit_text(alloc, &ToyDigests, limit, &mut source, &mut out);
+    Ended {
+        source,
+        out,
+        status,
+    }
 }
 
-// The bundle has this audit and status, whether it is read and written by bytes or as a whole.
-fn assert_audit<R: Abort>(rt: &R, alloc: Global, case: &Case<'_>) {
-    let label = case.label;
-    let bytes = bytes_of(rt, alloc, case);
-    for piece in [1, 100_000] {
-        let (out, status) = audited(rt, alloc, &bytes, piece);
-        assert_eq!(rt; out.bytes(), case.report.as_bytes(), "{label}");
-        assert_eq!(rt; status.number(), case.status, "{label}");
+// The bytes have this audit and status, where reads and writes go by so many.
+fn assert_audit(rt: &impl Abort, alloc: Global, case: &Case<'_>, bytes: &[u8], piece: usize) {
+    let ended = audited(rt, alloc, 1 << 20, bytes, by(piece));
+    let report = case.report.as_bytes();
+    assert_ends(rt, case.label, piece, &ended, report, case.status);
+}
+
+// Each case of a table, of which there are so many, has its audit and status, whether it is read and written by bytes or as a
+// whole.
+fn assert_audits(rt: &impl Abort, alloc: Global, table: &str, count: usize) {
+    for case in &cases_in(rt, alloc, table, count) {
+        let bytes = bytes_of(rt, alloc, case);
+        assert_audit(rt, alloc, case, &bytes, 1);
+        assert_audit(rt, alloc, case, &bytes, 100_000);
     }
 }
 
@@ -199,11 +210,7 @@ done 2
 
 #[test]
 fn multisets_are_exhibited(rt: HostRuntime) {
-    let cases = cases_of(rt.alloc(), MULTISETS).expect(&rt, "memory");
-    assert_eq!(rt; cases.len(), 10);
-    for case in &cases {
-        assert_audit(&rt, rt.alloc(), case);
-    }
+    assert_audits(&rt, rt.alloc(), MULTISETS, 10);
 }
 
 // Audits of which most show two strings with one digest.
@@ -374,11 +381,7 @@ done 1
 
 #[test]
 fn strings_are_exhibited(rt: HostRuntime) {
-    let cases = cases_of(rt.alloc(), STRINGS).expect(&rt, "memory");
-    assert_eq!(rt; cases.len(), 10);
-    for case in &cases {
-        assert_audit(&rt, rt.alloc(), case);
-    }
+    assert_audits(&rt, rt.alloc(), STRINGS, 10);
 }
 
 // Audits whose last line is the last of the report of a check.
@@ -499,11 +502,7 @@ bad bundle at byte 0
 
 #[test]
 fn the_last_line_is_the_checks(rt: HostRuntime) {
-    let cases = cases_of(rt.alloc(), LAST_LINES).expect(&rt, "memory");
-    assert_eq!(rt; cases.len(), 8);
-    for case in &cases {
-        assert_audit(&rt, rt.alloc(), case);
-    }
+    assert_audits(&rt, rt.alloc(), LAST_LINES, 8);
 }
 
 // Another element with the same lanes comes back: 125 bytes.
@@ -525,31 +524,34 @@ evicted 4000000000000000050102616200000000000000010000
 done 1
 ";
 
+// Where the read of this number fails, nothing is written.
+fn assert_read_fails(rt: &impl Abort, alloc: Global, bytes: &[u8], k: usize) {
+    let ended = audited(rt, alloc, 1 << 20, bytes, failing(1, &[k as u64], &[]));
+    assert_ends(rt, "read", k, &ended, b"", 3);
+}
+
+// Where the write of the byte behind this front fails, the front stands.
+fn assert_write_fails(rt: &impl Abort, alloc: Global, bytes: &[u8], front: &[u8]) {
+    let k = front.len();
+    let ended = audited(rt, alloc, 1 << 20, bytes, failing(1, &[], &[k as u64]));
+    assert_ends(rt, "write", k, &ended, front, 4);
+}
+
 #[test]
 fn objects_that_fail_leave_a_front_of_an_audit(rt: HostRuntime) {
-    let bytes = bundle_of(rt.alloc(), UNEVEN).expect(&rt, "memory");
-    for k in 0..bytes.len() as u64 + 1 {
-        let mut source = MemorySource::new(rt.alloc(), &bytes, 1, &[k]).expect(&rt, "memory");
-        let mut out = MemorySink::new(rt.alloc(), 1000, 1, &[]).expect(&rt, "memory");
-        let status = audit_text(rt.alloc(), &ToyDigests, 1 << 20, &mut source, &mut out);
-        assert_eq!(rt; status.number(), 3, "{k}");
-        assert!(rt; out.bytes().is_empty(), "{k}");
+    let bytes = bytes_in(&rt, rt.alloc(), "rows", UNEVEN);
+    for k in 0..bytes.len() + 1 {
+        assert_read_fails(&rt, rt.alloc(), &bytes, k);
     }
     for k in 0..SHOWN.len() {
-        let mut source = MemorySource::new(rt.alloc(), &bytes, 1, &[]).expect(&rt, "memory");
-        let mut out = MemorySink::new(rt.alloc(), 1000, 1, &[k as u64]).expect(&rt, "memory");
-        let status = audit_text(rt.alloc(), &ToyDigests, 1 << 20, &mut source, &mut out);
-        assert_eq!(rt; status.number(), 4, "{k}");
-        assert_eq!(rt; out.bytes(), &SHOWN.as_bytes()[..k], "{k}");
+        assert_write_fails(&rt, rt.alloc(), &bytes, &SHOWN.as_bytes()[..k]);
     }
 }
 
 #[test]
 fn no_more_of_an_audit_is_read_than_the_limit(rt: HostRuntime) {
-    let bytes = bundle_of(rt.alloc(), UNEVEN).expect(&rt, "memory");
-    let mut source = MemorySource::new(rt.alloc(), &bytes, 10, &[]).expect(&rt, "memory");
-    let mut out = MemorySink::new(rt.alloc(), 1000, 10, &[]).expect(&rt, "memory");
-    let status = audit_text(rt.alloc(), &ToyDigests, 50, &mut source, &mut out);
-    assert_eq!(rt; status, Status::InputLimit { taken: 50 });
-    assert!(rt; out.bytes().is_empty());
+    let bytes = bytes_in(&rt, rt.alloc(), "rows", UNEVEN);
+    let ended = audited(&rt, rt.alloc(), 50, &bytes, by(10));
+    let status = Status::InputLimit { taken: 50 };
+    assert_stops(&rt, "limit", 50, &ended, b"", status);
 }

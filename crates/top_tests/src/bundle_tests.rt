@@ -1,6 +1,5 @@
 //! Bundles that were written out by hand, with the report and the status that each must have.
-use crate::running::assert_case;
-use bundle_rows::cases_of;
+use crate::running::assert_cases;
 
 // Bundles of one verifier.
 const WHOLE_BUNDLES: &str = "\
@@ -90,11 +89,7 @@ done 1
 
 #[test]
 fn whole_bundles_have_their_reports(rt: HostRuntime) {
-    let cases = cases_of(rt.alloc(), WHOLE_BUNDLES).expect(&rt, "memory");
-    assert_eq!(rt; cases.len(), 9);
-    for case in &cases {
-        assert_case(&rt, rt.alloc(), case);
-    }
+    assert_cases(&rt, rt.alloc(), WHOLE_BUNDLES, 9);
 }
 
 // Bundles of two verifiers.
@@ -168,11 +163,7 @@ done 0
 
 #[test]
 fn many_verifiers_have_one_report(rt: HostRuntime) {
-    let cases = cases_of(rt.alloc(), MANY_VERIFIERS).expect(&rt, "memory");
-    assert_eq!(rt; cases.len(), 6);
-    for case in &cases {
-        assert_case(&rt, rt.alloc(), case);
-    }
+    assert_cases(&rt, rt.alloc(), MANY_VERIFIERS, 6);
 }
 
 // Refusals beside those of the lying logs.
@@ -215,9 +206,5 @@ refused v0 command 4 WrongValue
 
 #[test]
 fn other_commands_are_refused(rt: HostRuntime) {
-    let cases = cases_of(rt.alloc(), REFUSED_COMMANDS).expect(&rt, "memory");
-    assert_eq!(rt; cases.len(), 5);
-    for case in &cases {
-        assert_case(&rt, rt.alloc(), case);
-    }
+    assert_cases(&rt, rt.alloc(), REFUSED_COMMANDS, 5);
 }

@@ -1,9 +1,10 @@
 //! Checks under digests that collide at will.
-use crate::running::bytes_of;
-use bundle_rows::cases_of;
-use check_core::check;
-use fv_outside::{MemorySink, MemorySource};
+use crate::running::{assert_ends, by, bytes_of, cases_in, checked};
+use bundle_rows::Case;
 use record_hash::ToyDigests;
+use std::alloc::Global;
+use std::process::Abort;
+use std::thread::Threads;
 
 // What is certified is not serial where digests or sums collide; a wrong number of elements still tells.
 const COLLISIONS: &str = "\
@@ -46,25 +47,17 @@ next
 epoch 0 unbalanced added 2 evicted 2
 ";
 
+// The case has its report and status.
+fn assert_collides<R: Threads + Sync + Abort>(rt: &R, alloc: Global, case: &Case<'_>) {
+    let bytes = bytes_of(rt, alloc, case);
+    let ended = checked(rt, alloc, &ToyDigests, 1 << 40, &bytes, by(7));
+    let report = case.report.as_bytes();
+    assert_ends(rt, case.label, 7, &ended, report, case.status);
+}
+
 #[test]
 fn digests_that_collide_certify_what_is_not_serial(rt: HostRuntime) {
-    let cases = cases_of(rt.alloc(), COLLISIONS).expect(&rt, "memory");
-    assert_eq!(rt; cases.len(), 3);
-    for case in &cases {
-        let bytes = bytes_of(&rt, rt.alloc(), case);
-        let mut source = MemorySource::new(rt.alloc(), &bytes, 7, &[]).expect(&rt, "memory");
-        let mut out = MemorySink::new(rt.alloc(), 10_000, 7, &[]).expect(&rt, "memory");
-        let status = check(
-            &rt,
-            rt.alloc(),
-            &ToyDigests,
-            1 << 40,
-            &mut source,
-            &mut out,
-            false,
-        );
-        let label = case.label;
-        assert_eq!(rt; out.bytes(), case.report.as_bytes(), "{label}");
-        assert_eq!(rt; status.number(), case.status, "{label}");
+    for case in &cases_in(&rt, rt.alloc(), COLLISIONS, 3) {
+        assert_collides(&rt, rt.alloc(), case);
     }
 }

@@ -1,4 +1,5 @@
 //! What is exhibited of a log, under digests that collide at will.
+use crate::running::same;
 use bundle_rows::log_of;
 use collision_exhibit::{Exhibit, audit};
 use lamport_clocks::Header;
@@ -51,25 +52,40 @@ fn audited(rt: &impl Abort, alloc: Global, rows: &str, epochs: u64) -> Exhibit {
     audit(alloc, &ToyDigests, &header, &logs, epochs).expect(rt, "memory")
 }
 
-#[test]
-fn logs_are_audited(rt: HostRuntime) {
-    let clean = audited(&rt, rt.alloc(), CLEAN, 1);
-    assert!(rt; matches!(clean, Exhibit::Clean));
-    let none = audited(&rt, rt.alloc(), CLASH, 0);
-    assert!(rt; matches!(none, Exhibit::Clean));
-    match audited(&rt, rt.alloc(), CLASH, 1) {
-        Exhibit::Strings(evicted, added) => {
-            assert_eq!(rt; evicted.as_slice(), b"\x01\x02ab".as_slice());
-            assert_eq!(rt; added.as_slice(), b"\x01\x02ba".as_slice());
+// The audit shows nothing.
+fn assert_clean(rt: &impl Abort, shown: &Exhibit) {
+    assert!(rt; matches!(shown, Exhibit::Clean));
+}
+
+// The audit shows these two strings.
+fn assert_strings(rt: &impl Abort, shown: &Exhibit, evicted: &[u8], added: &[u8]) {
+    match shown {
+        Exhibit::Strings(first, second) => {
+            same(rt, "evicted", 0, &first.as_slice(), &evicted);
+            same(rt, "added", 0, &second.as_slice(), &added);
         }
         _ => panic!(rt; "no strings"),
     }
-    match audited(&rt, rt.alloc(), UNEVEN, 1) {
-        Exhibit::Multisets(epoch, added, evicted) => {
-            assert_eq!(rt; epoch, 0);
-            assert_eq!(rt; added.as_slice().len(), 1);
-            assert_eq!(rt; evicted.as_slice().len(), 1);
+}
+
+// The audit shows the two multisets of an epoch, of one element each.
+fn assert_multisets(rt: &impl Abort, shown: &Exhibit, epoch: u32) {
+    match shown {
+        Exhibit::Multisets(uneven, added, evicted) => {
+            same(rt, "epoch", 0, uneven, &epoch);
+            same(rt, "added", 0, &added.as_slice().len(), &1);
+            same(rt, "evicted", 0, &evicted.as_slice().len(), &1);
         }
         _ => panic!(rt; "no multisets"),
     }
+}
+
+#[test]
+fn logs_are_audited(rt: HostRuntime) {
+    assert_clean(&rt, &audited(&rt, rt.alloc(), CLEAN, 1));
+    assert_clean(&rt, &audited(&rt, rt.alloc(), CLASH, 0));
+    let clash = audited(&rt, rt.alloc(), CLASH, 1);
+    assert_strings(&rt, &clash, b"\x01\x02ab", b"\x01\x02ba");
+    let uneven = audited(&rt, rt.alloc(), UNEVEN, 1);
+    assert_multisets(&rt, &uneven, 0);
 }

@@ -1,8 +1,9 @@
 //! Objects that fail, one call after the other, and sinks that are too small: what was written is a front of the text.
-use crate::running::{bytes_of, run_between};
-use bundle_rows::{Case, cases_of};
+use crate::running::{
+    Way, assert_ends, assert_read_faults, assert_stops, bytes_of, cases_in, failing, run, same,
+};
+use bundle_rows::Case;
 use fastver_top::Status;
-use fv_outside::{MemorySink, MemorySource};
 use std::alloc::Global;
 use std::process::Abort;
 use std::sync::Wait;
@@ -62,79 +63,90 @@ clean 0
 refused v0 command 0 NotCached
 ";
 
-// Where a read fails nothing is written, and else the bytes are answered.
-fn assert_reads<R: Threads + Wait + Sync + Abort>(
+// Where the read of this number fails nothing is written.
+fn assert_read_fails<R: Threads + Wait + Sync + Abort>(
     rt: &R,
     alloc: Global,
-    case: &Case<'_>,
+    words: &str,
     bytes: &[u8],
+    k: usize,
 ) {
-    for k in 0..bytes.len() as u64 {
-        let mut source = MemorySource::new(alloc, bytes, 1, &[k]).expect(rt, "memory");
-        let mut out = MemorySink::new(alloc, 1000, 1, &[]).expect(rt, "memory");
-        let status = run_between(rt, alloc, case.label, &mut source, &mut out);
-        assert_eq!(rt; status, Status::ReadFault, "{} {k}", case.label);
-        assert_eq!(rt; source.faults(), 1, "{} {k}", case.label);
-        assert!(rt; out.bytes().is_empty(), "{} {k}", case.label);
+    let ended = run(rt, alloc, words, bytes, failing(1, &[k as u64], &[]));
+    assert_stops(rt, words, k, &ended, b"", Status::ReadFault);
+    assert_read_faults(rt, words, k, &ended, 1);
+}
+
+// Where the write of the byte behind this front fails, the front stands.
+fn assert_write_fails<R: Threads + Wait + Sync + Abort>(
+    rt: &R,
+    alloc: Global,
+    words: &str,
+    bytes: &[u8],
+    front: &[u8],
+) {
+    let k = front.len();
+    let ended = run(rt, alloc, words, bytes, failing(1, &[], &[k as u64]));
+    assert_stops(rt, words, k, &ended, front, Status::WriteFault);
+    same(rt, words, k, &ended.out.faults(), &1);
+}
+
+// A sink with room for so many bytes, which are written by whatever pieces.
+fn cramped(room: usize) -> Way<'static> {
+    Way {
+        read: 1000,
+        write: 7,
+        room,
+        fails: (&[], &[]),
     }
 }
 
-// Where a write of one byte fails, those before it stand.
-fn assert_writes<R: Threads + Wait + Sync + Abort>(
+// A sink with room for this front alone is filled.
+fn assert_filled<R: Threads + Wait + Sync + Abort>(
     rt: &R,
     alloc: Global,
-    case: &Case<'_>,
+    words: &str,
     bytes: &[u8],
+    front: &[u8],
 ) {
-    for k in 0..case.report.len() {
-        let mut source = MemorySource::new(alloc, bytes, 1, &[]).expect(rt, "memory");
-        let mut out = MemorySink::new(alloc, 1000, 1, &[k as u64]).expect(rt, "memory");
-        let status = run_between(rt, alloc, case.label, &mut source, &mut out);
-        assert_eq!(rt; status, Status::WriteFault, "{} {k}", case.label);
-        assert_eq!(rt; out.faults(), 1, "{} {k}", case.label);
-        assert_eq!(rt;
-            out.bytes(),
-            &case.report.as_bytes()[..k],
-            "{} {k}",
-            case.label
-        );
-    }
+    let ended = run(rt, alloc, words, bytes, cramped(front.len()));
+    let status = Status::WriteFault;
+    assert_stops(rt, words, front.len(), &ended, front, status);
 }
 
-// A sink with too little room is filled, by whatever pieces.
-fn assert_small_sinks<R: Threads + Wait + Sync + Abort>(
+// A sink with room for all takes it.
+fn assert_suffices<R: Threads + Wait + Sync + Abort>(
     rt: &R,
     alloc: Global,
     case: &Case<'_>,
     bytes: &[u8],
 ) {
-    for room in 0..case.report.len() {
-        let mut source = MemorySource::new(alloc, bytes, 1000, &[]).expect(rt, "memory");
-        let mut out = MemorySink::new(alloc, room, 7, &[]).expect(rt, "memory");
-        let status = run_between(rt, alloc, case.label, &mut source, &mut out);
-        assert_eq!(rt; status, Status::WriteFault, "{} {room}", case.label);
-        assert_eq!(rt;
-            out.bytes(),
-            &case.report.as_bytes()[..room],
-            "{} {room}",
-            case.label
-        );
+    let report = case.report.as_bytes();
+    let ended = run(rt, alloc, case.label, bytes, cramped(report.len()));
+    assert_ends(rt, case.label, report.len(), &ended, report, case.status);
+}
+
+// A front of the case's report stands where its objects fail or are too small.
+fn assert_fronts<R: Threads + Wait + Sync + Abort>(
+    rt: &R,
+    alloc: Global,
+    case: &Case<'_>,
+    bytes: &[u8],
+) {
+    for k in 0..bytes.len() {
+        assert_read_fails(rt, alloc, case.label, bytes, k);
     }
-    let mut source = MemorySource::new(alloc, bytes, 1000, &[]).expect(rt, "memory");
-    let mut out = MemorySink::new(alloc, case.report.len(), 7, &[]).expect(rt, "memory");
-    let status = run_between(rt, alloc, case.label, &mut source, &mut out);
-    assert_eq!(rt; status.number(), case.status, "{}", case.label);
-    assert_eq!(rt; out.bytes(), case.report.as_bytes(), "{}", case.label);
+    let report = case.report.as_bytes();
+    for k in 0..report.len() {
+        assert_write_fails(rt, alloc, case.label, bytes, &report[..k]);
+        assert_filled(rt, alloc, case.label, bytes, &report[..k]);
+    }
+    assert_suffices(rt, alloc, case, bytes);
 }
 
 #[test]
 fn a_front_of_each_answer_stands(rt: HostRuntime) {
-    let cases = cases_of(rt.alloc(), ANSWERS).expect(&rt, "memory");
-    assert_eq!(rt; cases.len(), 5);
-    for case in &cases {
+    for case in &cases_in(&rt, rt.alloc(), ANSWERS, 5) {
         let bytes = bytes_of(&rt, rt.alloc(), case);
-        assert_reads(&rt, rt.alloc(), case, &bytes);
-        assert_writes(&rt, rt.alloc(), case, &bytes);
-        assert_small_sinks(&rt, rt.alloc(), case, &bytes);
+        assert_fronts(&rt, rt.alloc(), case, &bytes);
     }
 }

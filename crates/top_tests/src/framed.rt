@@ -46,11 +46,11 @@ impl<'a> Framed<'a> {
 
     /// How many bytes of a log the longest frame has.
     pub(crate) fn longest(&self) -> usize {
-        self.frames
-            .iter()
-            .map(|frame| frame.body.len())
-            .max()
-            .unwrap_or(0)
+        let mut longest = 0;
+        for frame in &self.frames {
+            longest = frame.body.len().max(longest);
+        }
+        longest
     }
 
     /// The bundle where each frame is cut in two behind so many bytes, if it has more.
@@ -76,20 +76,39 @@ impl<'a> Framed<'a> {
     /// The bundles of these frames where those of the verifiers 0 and 1 come in any order, but those of each as they do here.
     /// There are at most eight frames.
     pub(crate) fn in_any_order(&self, rt: &impl Abort, alloc: Global) -> Vec<Vec<u8>> {
+        let first = self.frames_of(rt, alloc, 0);
+        let second = self.frames_of(rt, alloc, 1);
         let mut bundles = Vec::new(alloc);
         for choice in 0..1 << 8 {
-            if let Some(bundle) = self.in_order(rt, alloc, choice) {
+            if let Some(bundle) = self.in_order(rt, alloc, &first, &second, choice) {
                 bundles.push(bundle).expect(rt, "memory");
             }
         }
         bundles
     }
 
+    // The frames of a verifier.
+    fn frames_of(&self, rt: &impl Abort, alloc: Global, verifier: u8) -> Vec<Frame<'a>> {
+        let mut frames = Vec::new(alloc);
+        for frame in &self.frames {
+            if frame.verifier == verifier {
+                frames.push(*frame).expect(rt, "memory");
+            }
+        }
+        frames
+    }
+
     // The bundle where a number's bits say, the lowest first, whose frame comes next, if no bit and no frame is left then.
-    fn in_order(&self, rt: &impl Abort, alloc: Global, choice: u32) -> Option<Vec<u8>> {
+    fn in_order(
+        &self,
+        rt: &impl Abort,
+        alloc: Global,
+        first: &[Frame<'_>],
+        second: &[Frame<'_>],
+        choice: u32,
+    ) -> Option<Vec<u8>> {
         let mut bundle = Vec::from_slice(alloc, self.header).expect(rt, "memory");
-        let mut first = self.frames.iter().filter(|frame| frame.verifier == 0);
-        let mut second = self.frames.iter().filter(|frame| frame.verifier == 1);
+        let (mut first, mut second) = (first.iter(), second.iter());
         let mut choice = choice;
         for _ in 0..self.frames.len() {
             let next = if choice % 2 == 0 {

@@ -1,7 +1,11 @@
 //! Logs by which a host lies to a verifier: the report of a check, and the status, however the logs come in frames.
 use crate::framed::Framed;
-use crate::running::{assert_bundle, assert_case, bytes_of};
-use bundle_rows::cases_of;
+use crate::running::{assert_bundle, assert_cases, bytes_of, cases_in, same};
+use bundle_rows::Case;
+use std::alloc::Global;
+use std::process::Abort;
+use std::sync::Wait;
+use std::thread::Threads;
 
 // Each report is this one line; an audit shows nothing, and then the same line.
 const LYING_LOGS: &str = "\
@@ -133,24 +137,24 @@ refused v0 command 0 NotCached
 
 #[test]
 fn lying_logs_are_told(rt: HostRuntime) {
-    let cases = cases_of(rt.alloc(), LYING_LOGS).expect(&rt, "memory");
-    assert_eq!(rt; cases.len(), 22);
-    for case in &cases {
-        assert_case(&rt, rt.alloc(), case);
+    assert_cases(&rt, rt.alloc(), LYING_LOGS, 22);
+}
+
+// The case's report stands wherever its frames are cut in two, and where they are cut in bytes.
+fn assert_cut<R: Threads + Wait + Sync + Abort>(rt: &R, alloc: Global, case: &Case<'_>) {
+    let bytes = bytes_of(rt, alloc, case);
+    let framed = Framed::of(rt, alloc, &bytes);
+    for at in 1..framed.longest() {
+        assert_bundle(rt, alloc, case, &framed.cut_at(rt, alloc, at));
     }
+    let cut = framed.cut_in(rt, alloc, framed.longest());
+    assert_bundle(rt, alloc, case, &cut);
 }
 
 #[test]
 fn lying_logs_are_told_however_they_are_cut(rt: HostRuntime) {
-    for case in &cases_of(rt.alloc(), LYING_LOGS).expect(&rt, "memory") {
-        let bytes = bytes_of(&rt, rt.alloc(), case);
-        let framed = Framed::of(&rt, rt.alloc(), &bytes);
-        for at in 1..framed.longest() {
-            let cut = framed.cut_at(&rt, rt.alloc(), at);
-            assert_bundle(&rt, rt.alloc(), case, &cut);
-        }
-        let cut = framed.cut_in(&rt, rt.alloc(), framed.longest());
-        assert_bundle(&rt, rt.alloc(), case, &cut);
+    for case in &cases_in(&rt, rt.alloc(), LYING_LOGS, 22) {
+        assert_cut(&rt, rt.alloc(), case);
     }
 }
 
@@ -245,18 +249,26 @@ get 5 none
 refused v1 command 1 NotCached
 ";
 
+// The bundles of a case whose frames are cut in four pieces each, which come in any order.
+fn in_any_order(rt: &impl Abort, alloc: Global, case: &Case<'_>) -> Vec<Vec<u8>> {
+    let bytes = bytes_of(rt, alloc, case);
+    let pieces = Framed::of(rt, alloc, &bytes).cut_in(rt, alloc, 4);
+    Framed::of(rt, alloc, &pieces).in_any_order(rt, alloc)
+}
+
+// The case's report stands in whatever order its frames come.
+fn assert_any_order<R: Threads + Wait + Sync + Abort>(rt: &R, alloc: Global, case: &Case<'_>) {
+    let bundles = in_any_order(rt, alloc, case);
+    // Four pieces out of eight are those of verifier 0.
+    same(rt, case.label, 0, &bundles.len(), &70);
+    for bundle in &bundles {
+        assert_bundle(rt, alloc, case, bundle);
+    }
+}
+
 #[test]
 fn two_logs_are_told_in_whatever_order_their_frames_come(rt: HostRuntime) {
-    let cases = cases_of(rt.alloc(), TWO_LOGS).expect(&rt, "memory");
-    assert_eq!(rt; cases.len(), 8);
-    for case in &cases {
-        let bytes = bytes_of(&rt, rt.alloc(), case);
-        let pieces = Framed::of(&rt, rt.alloc(), &bytes).cut_in(&rt, rt.alloc(), 4);
-        let bundles = Framed::of(&rt, rt.alloc(), &pieces).in_any_order(&rt, rt.alloc());
-        // Four pieces out of eight are those of verifier 0.
-        assert_eq!(rt; bundles.len(), 70, "{}", case.label);
-        for bundle in &bundles {
-            assert_bundle(&rt, rt.alloc(), case, bundle);
-        }
+    for case in &cases_in(&rt, rt.alloc(), TWO_LOGS, 8) {
+        assert_any_order(&rt, rt.alloc(), case);
     }
 }

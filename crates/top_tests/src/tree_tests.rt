@@ -1,6 +1,5 @@
 //! Logs with nodes and splits, and the reports that the slow program finds for them.
-use crate::running::assert_case;
-use bundle_rows::cases_of;
+use crate::running::assert_cases;
 
 // Keys below nodes of 1, 2, 60 and 61 bits.
 const TREES: &str = "\
@@ -350,9 +349,5 @@ refused v0 command 8 Foreign
 
 #[test]
 fn nodes_and_splits_have_their_reports(rt: HostRuntime) {
-    let cases = cases_of(rt.alloc(), TREES).expect(&rt, "memory");
-    assert_eq!(rt; cases.len(), 22);
-    for case in &cases {
-        assert_case(&rt, rt.alloc(), case);
-    }
+    assert_cases(&rt, rt.alloc(), TREES, 22);
 }

@@ -1,8 +1,6 @@
 //! The program's words.
-use crate::running::{KEY, PUT_AND_GET, REPORT};
-use bundle_rows::bundle_of;
-use fastver_top::{Status, fastver};
-use fv_outside::{FreeGate, MemorySink, MemorySource, MemoryVault};
+use crate::running::{PUT_AND_GET, REPORT, ask, assert_stops, by, bytes_in, run, same};
+use fastver_top::Status;
 use std::alloc::Global;
 use std::process::Abort;
 use std::sync::Wait;
@@ -27,63 +25,31 @@ fastver help
 
 // These words are refused: nothing is read, written or named.
 fn assert_refused<R: Threads + Wait + Sync + Abort>(rt: &R, alloc: Global, line: &str) {
-    let mut words = Vec::new(alloc);
-    for word in line.split_whitespace() {
-        words.push(word).expect(rt, "memory");
-    }
-    let mut source = MemorySource::new(alloc, b"FVB1", 1, &[]).expect(rt, "memory");
-    let mut out = MemorySink::new(alloc, 100, 1, &[]).expect(rt, "memory");
-    let mut vault = MemoryVault::new(alloc, 100, 1, &[]).expect(rt, "memory");
-    let status = fastver(
-        rt,
-        alloc,
-        &words,
-        &mut source,
-        &mut out,
-        &mut vault,
-        &FreeGate,
-    );
-    assert_eq!(rt; status, Status::Usage, "{line}");
-    assert_eq!(rt; status.number(), 1);
-    assert!(rt; out.bytes().is_empty());
-    assert_eq!(rt; source.left(), b"FVB1".as_slice());
-    assert!(rt; vault.bytes().is_empty());
-    assert!(rt; vault.name_taken().is_none());
+    let ended = ask(rt, alloc, line, b"FVB1", by(1));
+    assert_stops(rt, line, 0, &ended, b"", Status::Usage);
+    same(rt, line, 0, &ended.status.number(), &1);
+    same(rt, line, 0, &ended.source.left(), &b"FVB1".as_slice());
 }
 
 #[test]
 fn words_that_ask_for_nothing_are_refused(rt: HostRuntime) {
-    assert_eq!(rt; REFUSED.lines().count(), 13);
+    same(&rt, "lines", 0, &REFUSED.lines().count(), &13);
     for line in REFUSED.lines() {
         assert_refused(&rt, rt.alloc(), line);
     }
 }
 
-// What this command writes of a put and a get, and leaves of the vault.
+// What this command writes of a put and a get.
 fn assert_command<R: Threads + Wait + Sync + Abort>(
     rt: &R,
     alloc: Global,
     command: &str,
     shown: &str,
 ) {
-    let bytes = bundle_of(alloc, PUT_AND_GET).expect(rt, "memory");
-    let words = ["fastver", command, "--key", KEY];
-    let mut source = MemorySource::new(alloc, &bytes, 10, &[]).expect(rt, "memory");
-    let mut out = MemorySink::new(alloc, 1000, 10, &[]).expect(rt, "memory");
-    let mut vault = MemoryVault::new(alloc, 100, 1, &[]).expect(rt, "memory");
-    let status = fastver(
-        rt,
-        alloc,
-        &words,
-        &mut source,
-        &mut out,
-        &mut vault,
-        &FreeGate,
-    );
-    assert_eq!(rt; status, Status::Done { epochs: 1 }, "{command}");
-    assert_eq!(rt; out.bytes(), shown.as_bytes(), "{command}");
-    assert!(rt; vault.bytes().is_empty(), "{command}");
-    assert!(rt; vault.name_taken().is_none(), "{command}");
+    let bytes = bytes_in(rt, alloc, "rows", PUT_AND_GET);
+    let ended = run(rt, alloc, command, &bytes, by(10));
+    let status = Status::Done { epochs: 1 };
+    assert_stops(rt, command, 0, &ended, shown.as_bytes(), status);
 }
 
 #[test]

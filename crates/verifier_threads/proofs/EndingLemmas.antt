@@ -1,15 +1,13 @@
 -- Where a run ends: what is served, and what its report says.
-use Rattle.std.proofs.Common.{◌≡◌, Bool, ◌^◌, ◌-◌, ℕ, zero, suc, ◌<◌, ◌≤◌, false, List, [], ◌∷◌, ◌++◌, length, map, get_or, replicate, Option, Some, None, inl, inr, refl, sym, ◌∙◌, ap, subst, arith}
+use Rattle.std.proofs.Common.{◌≡◌, Bool, ◌-◌, ℕ, zero, suc, ◌<◌, ◌≤◌, false, List, [], ◌∷◌, length, map, get_or, replicate, Option, None, inr, refl, sym, ◌∙◌, ap, subst, arith}
 use Rattle.std.specs.List.{AllByRecursion}
 use Rattle.std.proofs.lemmas.List.{length-map, length-replicate}
 use Rattle.fv_outside.specs.Written.{Grows, GrowsByFront}
-use Rattle.fv_outside.proofs.WrittenLaws.{Grows-nil, Grows-then, GrowsByFront-none, GrowsByFront-then}
+use Rattle.fv_outside.proofs.WrittenLaws.{Grows-nil, Grows-then, GrowsByFront-then}
 use Rattle.record_hash.specs.Functions.{DigestFunctions}
 use Rattle.record_text.specs.declared.request.Request.{Request}
-use Rattle.record_text.specs.Format.{short_keys}
 use Rattle.lamport_clocks.specs.declared.header.Header.{Header}
 use Rattle.log_codec.specs.declared.command.Command.{Command}
-use Rattle.log_codec.specs.Log.{log_text}
 use Rattle.merkle_records.specs.Merkle.{GivesDigests}
 use Rattle.report_text.specs.declared.ending.BundleEnd.{BundleEnd}
 use Rattle.report_text.specs.declared.ending.BundleEnd.TheVariants.{Done}
@@ -18,10 +16,9 @@ use Rattle.report_text.specs.Status.{last_line}
 use Rattle.merkle_records.specs.Scheme.{scheme_of}
 use Rattle.bundle_report.specs.Logs.{empty_logs}
 use Rattle.bundle_report.specs.Report.{told_by}
-use Rattle.bundle_report.specs.Answer.{check_answer}
 use Rattle.bundle_report.proofs.DueLaws.{lines-due}
 use Rattle.host_core.specs.Host.{Host}
-use Rattle.host_core.specs.World.{Worker, World, logs_of, set_up, idle, fresh, worker_at}
+use Rattle.host_core.specs.World.{Worker, World, logs_of, set_up, fresh, worker_at}
 use Rattle.host_core.specs.WorldEvent.{WorldEvent, AreEnabled, HasAdvanced, run_events}
 use Rattle.host_shard.specs.Content.{Content}
 use Rattle.script_text.specs.declared.task.Task.{Task}
@@ -32,19 +29,18 @@ use Rattle.host_world.specs.declared.world.World as code
 use Rattle.host_world.specs.Shown.{shown_world, requests_of}
 use Rattle.host_world.specs.ShippedHost.{shipped_host, turn_of}
 use Rattle.host_world.specs.Settings.{IsSettings}
-use Rattle.host_world.specs.Behind.{AreInRange, AreOfOneHost, before_each, with_logs}
+use Rattle.host_world.specs.Behind.{AreInRange, AreOfOneHost, with_logs}
 use Rattle.host_world.proofs.FrontLaws.{before_each-none}
 use Rattle.host_fits.specs.Promise.{CanRun}
-use Rattle.host_serving.specs.Leading.{Leads, CanDoNoMore}
-use Rattle.host_serving.specs.Standing.{HasServedUpTo, IsServedUpTo, NoneStopped, IsAllServed, turns_of, asked_by}
+use Rattle.host_serving.specs.Leading.{Leads}
+use Rattle.host_serving.specs.Standing.{HasServedUpTo}
 use Rattle.host_serving.proofs.LeadingLaws.{leads-none}
 use Rattle.load_summary.specs.Summary.{summary_with_end}
-use Rattle.host_rounds.specs.SoFar.{RunsSoFar, Keeps, AllCounted, lines_counted, lines_due, summary_due, end_due}
+use Rattle.host_rounds.specs.SoFar.{RunsSoFar, Keeps, AllCounted, lines_due, summary_due, end_due}
 use Rattle.host_rounds.proofs.RoundLaws.{counted-none, summary-is}
 use Rattle.verifier_threads.specs.declared.ending.RunEnd.{RunEnd}
 use Rattle.verifier_threads.specs.declared.runner.Runner.{Runner}
-use Rattle.verifier_threads.specs.declared.ending.RunEnd.TheVariants as ends
-use Rattle.verifier_threads.specs.Serving.{Outputs, AreServed, AreOfRun, IsServed, IsCutOff, IsCutAtEnd, end_by, status_at, report_of, texts_of}
+use Rattle.verifier_threads.specs.Serving.{Outputs, AreOfRun, IsServed, IsCutAtEnd, end_by, status_at, texts_of}
 use Rattle.verifier_threads.specs.declared.loads.Load.{Load}
 use Rattle.verifier_threads.specs.Summing.{IsSummed, IsCutInSummary}
 use Rattle.verifier_threads.specs.Running.{IsRunning, Runs, IsAtPhase, IsAtEnd}
@@ -54,7 +50,7 @@ use Rattle.verifier_threads.proofs.StandingLemmas.{all_with, rests_with, lowest_
 
 -- ---- the setup
 
-texts-none : (count : ℕ) → texts_of (replicate count []) ≡ empty_logs count
+pub texts-none : (count : ℕ) → texts_of (replicate count []) ≡ empty_logs count
 texts-none zero = refl
 texts-none (suc count) = ap (λ (rest : List (List ℕ)). [] ∷ rest) (texts-none count)
 
@@ -246,16 +242,7 @@ module _ (receipts : Bool) (functions : DigestFunctions) (settings : Settings) (
           written;
     }
 
--- ---- before the first phase
-
--- a front of something is in the vault, and nothing is written
-pub opening-cut : (receipts : Bool) (functions : DigestFunctions) (vault vault_after out : Option (List ℕ)) (text : List ℕ) → GrowsByFront vault vault_after text
-    → IsCutOff receipts functions (record { vault = vault; vault_after = vault_after; out = out; out_after = out })
-opening-cut receipts functions vault vault_after out text grown = record {
-  bytes = grown.front;
-  vault = grown.grown;
-  out = GrowsByFront-none out (check_answer receipts functions grown.front).due;
-}
+-- ---- how many workers there are
 
 -- as many workers as verifiers
 pub set_up-count : (settings : Settings) (host : Host Content Request) (world : World Content) → IsSettings settings → host.header ≡ settings.header → world ≡ set_up host

@@ -7,5 +7,6 @@ mod RunningLemmas
 mod PassingLemmas
 mod PhaseLemmas
 mod EndingLemmas
+mod CutLemmas
 mod NothingLemmas
 mod SummingLemmas

@@ -1,23 +1,19 @@
 -- A run whose counters don't suffice for the setup: nothing is logged.
-use Rattle.std.proofs.Common.{◌≡◌, Bool, ℕ, zero, suc, ◌<◌, ◌≤◌, List, [], ◌∷◌, ◌++◌, length, replicate, Option, Some, None, Err, inr, refl, sym, ◌∙◌, ap, subst, arith}
+use Rattle.std.proofs.Common.{◌≡◌, Bool, ℕ, zero, suc, ◌<◌, List, [], ◌∷◌, ◌++◌, replicate, Option, Some, refl, sym, ◌∙◌, ap, subst, arith}
 use Rattle.fv_outside.specs.Written.{Grows, GrowsByFront}
-use Rattle.fv_outside.proofs.WrittenLaws.{GrowsByFront-none}
 use Rattle.record_hash.specs.Functions.{DigestFunctions}
 use Rattle.lamport_clocks.specs.declared.header.Header.{Header}
 use Rattle.log_codec.specs.declared.command.Command.{Command}
 use Rattle.report_text.specs.Status.{last_line}
 use Rattle.bundle_report.specs.Logs.{empty_logs}
 use Rattle.bundle_report.specs.Report.{EpochText, told_by}
-use Rattle.bundle_report.specs.Answer.{check_answer}
 use Rattle.script_text.specs.declared.task.Task.{Task}
 use Rattle.host_world.specs.declared.fault.ClockEnd.{ClockEnd}
 use Rattle.host_world.specs.declared.settings.Settings.{Settings}
-use Rattle.host_rounds.specs.declared.stops.RoundStop.{RoundStop}
 use Rattle.host_rounds.specs.Bundle.{HasBundle}
-use Rattle.host_rounds.specs.SoFar.{RunsSoFar, Keeps, lines_due}
+use Rattle.host_rounds.specs.SoFar.{lines_due}
 use Rattle.verifier_threads.specs.declared.ending.RunEnd.{RunEnd}
-use Rattle.verifier_threads.specs.Serving.{Outputs, IsServed, IsCutOff, IsCutAtEnd, ServesTo, AreOfRun, end_by, status_at, setup_end, texts_of, report_of}
-use Rattle.verifier_threads.proofs.RunningLemmas.{stops-so}
+use Rattle.verifier_threads.specs.Serving.{IsServed, IsCutAtEnd, AreOfRun, end_by, status_at, setup_end, texts_of, report_of}
 
 abbrev pub NothingIsDue : Type 0
 NothingIsDue = (tell : EpochText) (functions : DigestFunctions) (header : Header) → lines_due tell functions header (replicate header.verifiers []) ≡ []
@@ -28,17 +24,6 @@ NoTexts = (count : ℕ) → texts_of (replicate count []) ≡ replicate count []
 pub empty-are : (count : ℕ) → empty_logs count ≡ replicate count []
 empty-are zero = refl
 empty-are (suc count) = ap (λ (rest : List (List ℕ)). [] ∷ rest) (empty-are count)
-
--- the vault has a front of the header, and nothing is written
-pub header-cut : (receipts : Bool) (functions : DigestFunctions) (settings : Settings) (script : List (List Task)) (stop : RoundStop) (vault vault_after out : Option (List ℕ)) (text : List ℕ)
-    → GrowsByFront vault vault_after text
-    → ServesTo receipts functions settings script (Err stop) (record { vault = vault; vault_after = vault_after; out = out; out_after = out })
-header-cut receipts functions settings script stop vault vault_after out text grown =
-    stops-so receipts functions settings script stop _ (record {
-      bytes = grown.front;
-      vault = grown.grown;
-      out = GrowsByFront-none out (check_answer receipts functions grown.front).due;
-    })
 
 module _ (none_due : NothingIsDue) (no_texts : NoTexts) (receipts : Bool) (functions : DigestFunctions) (settings : Settings) (script : List (List Task))
     (short : settings.header.end < settings.shards) where

@@ -1,8 +1,7 @@
 -- What all workers logged is passed on to the vault and to the runs.
-use Rattle.std.proofs.Common.{◌≡◌, Bool, ℕ, suc, ◌≤◌, List, [], ◌∷◌, length, map, Option, Result, Ok, Err, OnOk, OnErr, refl, sym, ◌∙◌, ap, subst, arith}
+use Rattle.std.proofs.Common.{◌≡◌, Bool, ℕ, suc, List, [], ◌∷◌, length, Option, Result, Ok, Err, OnOk, OnErr, refl, sym, ◌∙◌, ap, subst}
 use Rattle.std.proofs.lemmas.List.{length-map}
-use Rattle.fv_outside.specs.Written.{Grows, GrowsByFront}
-use Rattle.fv_outside.proofs.WrittenLaws.{GrowsByFront-none}
+use Rattle.fv_outside.specs.Written.{Grows}
 use Rattle.record_hash.specs.Functions.{DigestFunctions}
 use Rattle.lamport_clocks.specs.declared.header.Header.{Header}
 use Rattle.merkle_records.specs.Scheme.{Scheme, scheme_of}
@@ -24,9 +23,9 @@ use Rattle.host_rounds.specs.Feeding.{AllTake}
 use Rattle.host_rounds.specs.Round.{logs_with}
 use Rattle.host_rounds.specs.SoFar.{RunsSoFar, Keeps, HaveRun, AllCounted, lines_counted, lines_due, with_runs}
 use Rattle.verifier_threads.specs.declared.runner.Runner.{Runner}
-use Rattle.verifier_threads.specs.Serving.{Outputs, IsCutOff, texts_of}
+use Rattle.verifier_threads.specs.Serving.{Outputs, texts_of}
 use Rattle.verifier_threads.specs.Running.{IsRunning, Runs, RunsWhole, all_handed_out, with_runs_of}
-use Rattle.verifier_threads.proofs.RunningLemmas.{of_one_host, leads-length, running-behind, running-led, running-handed, StaysDue, cut-due, counted-due}
+use Rattle.verifier_threads.proofs.RunningLemmas.{of_one_host, leads-length, running-behind, running-led, running-handed}
 
 -- ---- answers
 
@@ -82,14 +81,6 @@ module _ (receipts : Bool) (functions : DigestFunctions) (settings : Settings) (
       (subst (λ (all : List (List ℕ)). Keeps functions settings.header (logs_with (texts_of running.logs) all) rounds' outputs.vault vault') round_is keeps)
       (subst (λ (all : List (List ℕ)). Grows outputs.out outputs.out_after (lines_counted (told_by receipts functions settings.header) functions settings.header (logs_with (texts_of running.logs) all) rounds')) round_is
       (subst (Grows outputs.out outputs.out_after) (sym lines) running.written)))
-
-  -- or the vault takes a front of something and there it stops
-  pub running-cut : StaysDue → (vault' : Option (List ℕ)) (text : List ℕ) → GrowsByFront outputs.vault_after vault' text
-      → IsCutOff receipts functions (record outputs { vault_after = vault' })
-  running-cut stays vault' text grown =
-      cut-due stays receipts functions settings.header (texts_of running.logs) outputs.vault outputs.vault_after vault' outputs.out outputs.out_after text
-      running.keeps.vault grown
-      (counted-due stays receipts functions settings.header (texts_of running.logs) rounds outputs.out outputs.out_after running.keeps.runs running.written)
 
 -- ---- runs that are lent
 
@@ -151,14 +142,6 @@ module _ (receipts : Bool) {D : Type 0} (functions : D → DigestFunctions) (old
       subst (λ (rounds : RunsSoFar). Runs receipts functions (record old { world = world; end = end; rounds = rounds }) outputs) (sym rounds_are)
       (runs-led world next end same way is)
 
-  -- it stops with nothing written since
-  pub runs-cut : StaysDue → (vault out : Option (List ℕ)) → outputs.vault_after ≡ vault → outputs.out_after ≡ out
-      → IsCutOff receipts (functions (digests_of old.world)) (record outputs { vault_after = vault; out_after = out })
-  runs-cut stays vault out vault_is out_is =
-      subst (λ (o : Option (List ℕ)). IsCutOff receipts (functions (digests_of old.world)) (record outputs { vault_after = vault; out_after = o })) out_is
-      (running-cut _ _ _ _ (shown_world old.world) old.rounds old.end outputs runs.running stays vault []
-      (subst (λ (v : Option (List ℕ)). GrowsByFront outputs.vault_after v []) vault_is (GrowsByFront-none outputs.vault_after [])))
-
   -- what its logs certify is counted and written
   pub runs-certified : (rounds' : RunsSoFar) (out : Option (List ℕ))
       → HaveRun (functions (digests_of old.world)) old.world.settings.header (texts_of runs.running.logs) rounds'
@@ -183,11 +166,3 @@ module _ (receipts : Bool) {D : Type 0} (functions : D → DigestFunctions) (old
     };
     all = all;
   }
-
-  -- or a front of it is written
-  pub runs-cut_lines : StaysDue → (out : Option (List ℕ))
-      → GrowsByFront outputs.out out (lines_due (told_by receipts (functions (digests_of old.world)) old.world.settings.header) (functions (digests_of old.world)) old.world.settings.header (texts_of runs.running.logs))
-      → IsCutOff receipts (functions (digests_of old.world)) (record outputs { out_after = out })
-  runs-cut_lines stays out written =
-      cut-due stays receipts (functions (digests_of old.world)) old.world.settings.header (texts_of runs.running.logs) outputs.vault outputs.vault_after outputs.vault_after
-      outputs.out out [] runs.running.keeps.vault (GrowsByFront-none outputs.vault_after []) written

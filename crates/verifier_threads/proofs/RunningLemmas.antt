@@ -1,18 +1,14 @@
 -- A run goes on: events lead on, logs are handed out, and where it stops it is cut off.
-use Rattle.std.proofs.Common.{◌≡◌, Bool, ◌⊎◌, inl, inr, ℕ, suc, ◌<◌, ◌≤◌, List, [], ◌∷◌, ◌++◌, length, map, Option, Some, None, Result, Ok, Err, IfOk, OnErr, refl, sym, ◌∙◌, ap, subst, arith}
-use Rattle.std.proofs.lemmas.List.{length-map, append-nil}
-use Rattle.fv_outside.specs.Written.{Grows, GrowsByFront}
-use Rattle.fv_outside.proofs.WrittenLaws.{Grows-then, GrowsByFront-whole, GrowsByFront-more, GrowsByFront-none}
+use Rattle.std.proofs.Common.{◌≡◌, Bool, inl, inr, ℕ, List, [], ◌∷◌, length, Option, Result, Ok, Err, IfOk, OnErr, refl, sym, ◌∙◌, ap, subst}
+use Rattle.std.proofs.lemmas.List.{length-map}
+use Rattle.fv_outside.specs.Written.{Grows}
 use Rattle.record_hash.specs.Functions.{DigestFunctions}
 use Rattle.record_text.specs.declared.request.Request.{Request}
 use Rattle.record_text.specs.Format.{short_keys}
-use Rattle.lamport_clocks.specs.declared.header.Header.{Header}
-use Rattle.log_codec.specs.declared.command.Command.{Command}
 use Rattle.log_codec.specs.Log.{log_text}
 use Rattle.bundle_report.specs.Report.{told_by}
-use Rattle.bundle_report.specs.Answer.{check_answer}
 use Rattle.host_core.specs.Host.{Host}
-use Rattle.host_core.specs.World.{Worker, World, logs_of, set_up}
+use Rattle.host_core.specs.World.{World, logs_of, set_up}
 use Rattle.host_core.specs.WorldEvent.{WorldEvent, step, run_events}
 use Rattle.host_shard.specs.Content.{Content}
 use Rattle.script_text.specs.declared.task.Task.{Task}
@@ -20,17 +16,15 @@ use Rattle.host_world.specs.declared.fault.ClockEnd.{ClockEnd}
 use Rattle.host_world.specs.declared.settings.Settings.{Settings}
 use Rattle.host_world.specs.declared.world.World as code
 use Rattle.host_world.specs.ShippedHost.{shipped_host}
-use Rattle.host_world.specs.Shown.{shown_world, digests_of, requests_of}
-use Rattle.host_world.specs.Behind.{IsBehindSetup, StandsBehind, AreOfOneHost, host_of, with_logs}
-use Rattle.host_world.proofs.FrontLaws.{length-step, length-before_each}
+use Rattle.host_world.specs.Shown.{digests_of, requests_of}
+use Rattle.host_world.specs.Behind.{IsBehindSetup, AreOfOneHost, host_of, with_logs}
+use Rattle.host_world.proofs.FrontLaws.{length-step}
 use Rattle.host_serving.specs.Leading.{Leads, first_of}
 use Rattle.host_serving.proofs.LeadingLaws.{leads-then, leads-with}
 use Rattle.host_rounds.specs.declared.stops.RoundStop.{RoundStop}
 use Rattle.host_rounds.specs.declared.stops.RoundStop.TheVariants as stops
 use Rattle.host_rounds.specs.Round.{logs_with}
-use Rattle.host_rounds.specs.Bundle.{IsBundle, HasBundle}
-use Rattle.host_rounds.specs.SoFar.{RunsSoFar, Keeps, HaveRun, HaveRunSome, lines_counted, lines_due}
-use Rattle.host_rounds.proofs.RoundLaws.{counted-front, logs_with-none}
+use Rattle.host_rounds.specs.SoFar.{RunsSoFar, Keeps, lines_counted}
 use Rattle.verifier_threads.specs.declared.ending.RunEnd.{RunEnd}
 use Rattle.verifier_threads.specs.Serving.{Outputs, IsServed, IsCutOff, IsCutAtEnd, ServesTo, texts_of}
 use Rattle.verifier_threads.specs.Running.{IsRunning, all_handed_out, logged_with, with_no_log}
@@ -130,34 +124,9 @@ module _ (receipts : Bool) (functions : DigestFunctions) (settings : Settings) (
 
 -- ---- where it stops
 
--- what the vault's bytes certify, whatever follows them
-abbrev pub StaysDue : Type 0
-StaysDue = (receipts : Bool) (functions : DigestFunctions) (header : Header) (logs : List (List ℕ)) (bytes more : List ℕ) → IsBundle header logs bytes
-    → (rest : List ℕ) × ((check_answer receipts functions (bytes ++ more)).due ≡ lines_due (told_by receipts functions header) functions header logs ++ rest)
-
-module _ (stays : StaysDue) (receipts : Bool) (functions : DigestFunctions) (header : Header) (logs : List (List ℕ)) where
-  -- a front of what is due was written, and the vault has the bundle and a front of something more
-  pub cut-due : (vault vault_now vault_after out out_after : Option (List ℕ)) (text : List ℕ) → HasBundle header logs vault vault_now
-      → GrowsByFront vault_now vault_after text → GrowsByFront out out_after (lines_due (told_by receipts functions header) functions header logs)
-      → IsCutOff receipts functions (record { vault = vault; vault_after = vault_after; out = out; out_after = out_after })
-  cut-due vault vault_now vault_after out out_after text has grown written =
-      let due = stays receipts functions header logs has.bytes grown.front has.is_bundle in
-      record {
-        bytes = has.bytes ++ grown.front;
-        vault = Grows-then vault vault_now vault_after has.bytes grown.front has.grown grown.grown;
-        out = subst (GrowsByFront out out_after) (sym due.1) (GrowsByFront-more out out_after (lines_due (told_by receipts functions header) functions header logs) due.0 written);
-      }
-
-  -- the lines of what is counted were
-  pub counted-due : (so_far : RunsSoFar) (out out_after : Option (List ℕ)) → HaveRun functions header logs so_far
-      → Grows out out_after (lines_counted (told_by receipts functions header) functions header logs so_far) → GrowsByFront out out_after (lines_due (told_by receipts functions header) functions header logs)
-  counted-due so_far out out_after have written =
-      subst (λ (all : List (List ℕ)). GrowsByFront out out_after (lines_due (told_by receipts functions header) functions header all)) (logs_with-none logs)
-      (counted-front (told_by receipts functions header) functions header logs so_far have [] out out_after written)
-
 -- a run that was cut off stops so, whatever the reason
 pub stops-so : (receipts : Bool) (functions : DigestFunctions) (settings : Settings) (script : List (List Task)) (stop : RoundStop) (outputs : Outputs)
-    → IsCutOff receipts functions outputs → ServesTo receipts functions settings script (Err stop) outputs
+    → IsCutOff receipts functions settings script outputs → ServesTo receipts functions settings script (Err stop) outputs
 stops-so receipts functions settings script stops.Memory outputs cut = cut
 stops-so receipts functions settings script stops.VaultFault outputs cut = cut
 stops-so receipts functions settings script stops.WriteFault outputs cut = inl cut

@@ -1,8 +1,7 @@
 -- Where a load stops before its summary, and the summary of one whose counters don't suffice for the setup.
-use Rattle.std.proofs.Common.{◌≡◌, ℕ, zero, suc, ◌<◌, ◌≤◌, List, [], ◌∷◌, ◌++◌, length, replicate, Option, Some, None, Result, Ok, Err, OnErr, IfOk, inl, inr, refl, sym, ◌∙◌, ap, subst, arith}
+use Rattle.std.proofs.Common.{◌≡◌, ℕ, ◌<◌, List, [], replicate, Option, Some, Result, Ok, Err, OnErr, IfOk, inl, inr, refl, sym, ◌∙◌, ap, subst, arith}
 use Rattle.fv_outside.specs.Faults.{Rose}
 use Rattle.fv_outside.specs.Written.{Grows, GrowsByFront}
-use Rattle.fv_outside.proofs.WrittenLaws.{Grows-nil}
 use Rattle.record_hash.specs.Functions.{DigestFunctions}
 use Rattle.record_text.specs.declared.operation.Operation.{Operation}
 use Rattle.lamport_clocks.specs.declared.header.Header.{Header}
@@ -23,7 +22,7 @@ use Rattle.host_rounds.specs.SoFar.{RunsSoFar, HaveRun, operations_due, epochs_d
 use Rattle.host_rounds.proofs.RoundLaws.{counted-none}
 use Rattle.verifier_threads.specs.declared.ending.RunEnd.{RunEnd}
 use Rattle.verifier_threads.specs.declared.loads.Load.{Load}
-use Rattle.verifier_threads.specs.Serving.{Outputs, AreOfRun, IsCutOff, end_by, status_at, setup_end, texts_of}
+use Rattle.verifier_threads.specs.Serving.{Outputs, AreOfRun, end_by, status_at, setup_end, texts_of}
 use Rattle.verifier_threads.specs.Summing.{IsSummed, IsCutInSummary, IsCutBefore, SumsTo, summary_of}
 use Rattle.verifier_threads.proofs.NothingLemmas.{NoTexts, empty-are}
 
@@ -31,7 +30,7 @@ use Rattle.verifier_threads.proofs.NothingLemmas.{NoTexts, empty-are}
 
 -- before anything is written
 pub stops-before : (functions : DigestFunctions) (settings : Settings) (script : List (List Task)) (load : Load) (stop : RoundStop) (outputs : Outputs)
-    → (stop ≡ stops.WriteFault → ⊥) → IsCutBefore outputs → SumsTo functions settings script load (Err stop) outputs
+    → (stop ≡ stops.WriteFault → ⊥) → IsCutBefore functions settings script outputs → SumsTo functions settings script load (Err stop) outputs
 stops-before functions settings script load stops.Memory outputs other cut = cut
 stops-before functions settings script load stops.VaultFault outputs other cut = cut
 stops-before functions settings script load stops.WriteFault outputs other cut = absurd (other refl)
@@ -46,18 +45,6 @@ never-rose rose = elim rose [ inl less ↦ absurd (omega (arith, less)) | inr la
 
 pub memory-other : (stop : RoundStop) → stop ≡ stops.Memory → stop ≡ stops.WriteFault → ⊥
 memory-other stop is fault = cc
-
--- the vault has what it had, or a front of something more
-pub before-front : (vault vault_after out : Option (List ℕ)) (text : List ℕ) → GrowsByFront vault vault_after text
-    → IsCutBefore (record { vault = vault; vault_after = vault_after; out = out; out_after = out })
-before-front vault vault_after out text grown = record { bytes = grown.front; vault = grown.grown; out = refl }
-
-pub before-any : (vault out : Option (List ℕ)) → IsCutBefore (record { vault = vault; vault_after = vault; out = out; out_after = out })
-before-any vault out = record { bytes = []; vault = Grows-nil vault; out = refl }
-
-pub before-cut : (receipts : _) (functions : DigestFunctions) (outputs : Outputs) (out : Option (List ℕ)) → IsCutOff receipts functions outputs
-    → IsCutBefore (record outputs { out = out; out_after = out })
-before-cut receipts functions outputs out cut = record { bytes = cut.bytes; vault = cut.vault; out = refl }
 
 -- in the summary, because the sink failed
 pub stops-inside : (functions : DigestFunctions) (settings : Settings) (script : List (List Task)) (load : Load) (stop : RoundStop) (outputs : Outputs)

@@ -17,11 +17,11 @@ use Rattle.script_text.specs.declared.task.Task.{Task}
 use Rattle.host_world.specs.declared.fault.ClockEnd.{ClockEnd}
 use Rattle.host_world.specs.declared.settings.Settings.{Settings}
 use Rattle.host_world.specs.ShippedHost.{shipped_host}
-use Rattle.host_serving.specs.Leading.{Leads, CanDoNoMore}
+use Rattle.host_serving.specs.Leading.{Leads, LeadsTo, CanDoNoMore}
 use Rattle.host_serving.specs.Standing.{IsLowest, IsAllServed}
 use Rattle.host_rounds.specs.declared.stops.RoundStop.{RoundStop}
 use Rattle.host_rounds.specs.declared.stops.RoundStop.TheVariants as stops
-use Rattle.host_rounds.specs.Bundle.{HasBundle}
+use Rattle.host_rounds.specs.Bundle.{HasBundle, HasFront}
 use Rattle.host_rounds.specs.SoFar.{lines_due}
 use Rattle.verifier_threads.specs.declared.ending.RunEnd.{RunEnd}
 use Rattle.verifier_threads.specs.declared.ending.RunEnd.TheVariants as ends
@@ -66,6 +66,18 @@ module _ (functions : DigestFunctions) (settings : Settings) (script : List (Lis
     pub unserved : settings.header.end < settings.shards
         → (logs ≡ replicate settings.header.verifiers []) × (end ≡ Some (setup_end settings))
 
+module _ (functions : DigestFunctions) (settings : Settings) (script : List (List Task)) (logs : List (List Command)) where
+  -- The logs of a world to which enabled events lead from the setup, however far.
+  pub record AreOnTheWay : Type 0 where
+    pub world : World Content
+    pub way : LeadsTo (shipped_host functions settings script) (set_up (shipped_host functions settings script)) world
+    pub logs_are : logs ≡ logs_of world
+
+  -- The same where the counters suffice for the setup; else nothing is logged.
+  pub record AreOfRunSoFar : Type 0 where
+    pub served : settings.shards ≤ settings.header.end → AreOnTheWay
+    pub unserved : settings.header.end < settings.shards → logs ≡ replicate settings.header.verifiers []
+
 -- ---- vault and report
 
 -- the report: the lines that the logs certify, with receipts or without, and how the run ends
@@ -88,11 +100,13 @@ pub record IsServed (receipts : Bool) (functions : DigestFunctions) (settings : 
   pub vault : HasBundle settings.header (texts_of logs) outputs.vault outputs.vault_after
   pub out : Grows outputs.out outputs.out_after (report_of receipts functions settings.header logs result)
 
--- It stopped before: the sink took a front of the lines that the bytes in the vault certify.
-pub record IsCutOff (receipts : Bool) (functions : DigestFunctions) (outputs : Outputs) : Type 0 where
-  pub bytes : List ℕ
-  pub vault : Grows outputs.vault outputs.vault_after bytes
-  pub out : GrowsByFront outputs.out outputs.out_after (check_answer receipts functions bytes).due
+-- It stopped before: the vault took a front of the bundle of the logs so far, and the sink a front of the lines that the bytes
+-- of that front certify.
+pub record IsCutOff (receipts : Bool) (functions : DigestFunctions) (settings : Settings) (script : List (List Task)) (outputs : Outputs) : Type 0 where
+  pub logs : List (List Command)
+  pub run : AreOfRunSoFar functions settings script logs
+  pub vault : HasFront settings.header (texts_of logs) outputs.vault outputs.vault_after
+  pub out : GrowsByFront outputs.out outputs.out_after (check_answer receipts functions vault.grown.front).due
 
 -- It stopped at the last line: all is served, and the sink took a front of the report.
 pub record IsCutAtEnd (receipts : Bool) (functions : DigestFunctions) (settings : Settings) (script : List (List Task)) (outputs : Outputs) : Type 0 where
@@ -105,6 +119,6 @@ pub record IsCutAtEnd (receipts : Bool) (functions : DigestFunctions) (settings 
 -- What stands where a run ends, and where it stops.
 abbrev pub ServesTo : Bool → DigestFunctions → Settings → List (List Task) → Result RunEnd RoundStop → Outputs → Type 0
 ServesTo receipts functions settings script (Ok result) outputs = IsServed receipts functions settings script result outputs
-ServesTo receipts functions settings script (Err stops.Memory) outputs = IsCutOff receipts functions outputs
-ServesTo receipts functions settings script (Err stops.VaultFault) outputs = IsCutOff receipts functions outputs
-ServesTo receipts functions settings script (Err stops.WriteFault) outputs = IsCutOff receipts functions outputs ⊎ IsCutAtEnd receipts functions settings script outputs
+ServesTo receipts functions settings script (Err stops.Memory) outputs = IsCutOff receipts functions settings script outputs
+ServesTo receipts functions settings script (Err stops.VaultFault) outputs = IsCutOff receipts functions settings script outputs
+ServesTo receipts functions settings script (Err stops.WriteFault) outputs = IsCutOff receipts functions settings script outputs ⊎ IsCutAtEnd receipts functions settings script outputs

@@ -9,11 +9,11 @@ use Rattle.host_world.specs.declared.fault.ClockEnd.{ClockEnd}
 use Rattle.host_world.specs.declared.settings.Settings.{Settings}
 use Rattle.host_rounds.specs.declared.stops.RoundStop.{RoundStop}
 use Rattle.host_rounds.specs.declared.stops.RoundStop.TheVariants as stops
-use Rattle.host_rounds.specs.Bundle.{HasBundle}
+use Rattle.host_rounds.specs.Bundle.{HasBundle, HasFront}
 use Rattle.host_rounds.specs.SoFar.{summary_due}
 use Rattle.verifier_threads.specs.declared.ending.RunEnd.{RunEnd}
 use Rattle.verifier_threads.specs.declared.loads.Load.{Load}
-use Rattle.verifier_threads.specs.Serving.{Outputs, AreOfRun, end_by, status_at, texts_of}
+use Rattle.verifier_threads.specs.Serving.{Outputs, AreOfRun, AreOfRunSoFar, end_by, status_at, texts_of}
 
 -- the summary of a load with these logs: how many epochs they certify, what each worker did in these, and how the run ended
 abbrev pub summary_of : DigestFunctions → Header → Load → List (List Command) → RunEnd → List ℕ
@@ -37,15 +37,16 @@ module _ (functions : DigestFunctions) (settings : Settings) (script : List (Lis
     pub vault : HasBundle settings.header (texts_of logs) outputs.vault outputs.vault_after
     pub out : GrowsByFront outputs.out outputs.out_after (summary_of functions settings.header load logs (end_by (length script) end))
 
--- It stopped before: the vault only grew, and the sink took nothing.
-pub record IsCutBefore (outputs : Outputs) : Type 0 where
-  pub bytes : List ℕ
-  pub vault : Grows outputs.vault outputs.vault_after bytes
+-- It stopped before: the vault took a front of the bundle of the logs so far, and the sink nothing.
+pub record IsCutBefore (functions : DigestFunctions) (settings : Settings) (script : List (List Task)) (outputs : Outputs) : Type 0 where
+  pub logs : List (List Command)
+  pub run : AreOfRunSoFar functions settings script logs
+  pub vault : HasFront settings.header (texts_of logs) outputs.vault outputs.vault_after
   pub out : outputs.out_after ≡ outputs.out
 
 -- What stands where a load ends, and where it stops.
 abbrev pub SumsTo : DigestFunctions → Settings → List (List Task) → Load → Result RunEnd RoundStop → Outputs → Type 0
 SumsTo functions settings script load (Ok result) outputs = IsSummed functions settings script load result outputs
-SumsTo functions settings script load (Err stops.Memory) outputs = IsCutBefore outputs
-SumsTo functions settings script load (Err stops.VaultFault) outputs = IsCutBefore outputs
+SumsTo functions settings script load (Err stops.Memory) outputs = IsCutBefore functions settings script outputs
+SumsTo functions settings script load (Err stops.VaultFault) outputs = IsCutBefore functions settings script outputs
 SumsTo functions settings script load (Err stops.WriteFault) outputs = IsCutInSummary functions settings script load outputs

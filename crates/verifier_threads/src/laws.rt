@@ -1,14 +1,22 @@
 //! What follows from the definitions of bundles. The functions do nothing: their contracts are the laws.
-ghost use Rattle.std.specs.Prelude.{◌≡◌, Bool, ℕ, List, ◌++◌};
+ghost use Rattle.std.specs.Prelude.{◌≡◌, ◌<◌, ◌^◌, Bool, ℕ, List, ◌++◌, Option};
+ghost use Rattle.fv_outside.specs.Written.{GrowsByFront};
 ghost use Rattle.record_hash.specs.Functions.{DigestFunctions};
 ghost use Rattle.lamport_clocks.specs.declared.header.Header.{Header};
+ghost use Rattle.bundle_frames.specs.Bundle.{header_text};
 ghost use Rattle.bundle_report.specs.Report.{told_by};
 ghost use Rattle.bundle_report.specs.Answer.{check_answer};
 ghost use Rattle.host_rounds.specs.Bundle.{IsBundle};
 ghost use Rattle.host_rounds.specs.SoFar.{lines_due};
+ghost use Rattle.script_text.specs.declared.task.Task.{Task};
+ghost use Rattle.host_world.specs.Settings.{IsSettings};
+ghost use Rattle.verifier_threads.specs.Serving.{IsCutOff};
+ghost use Rattle.verifier_threads.specs.Summing.{IsCutBefore};
 
 use bundle_frames::{bytes_bound_the_frames, frames_are_read_back, headers_are_read_back};
 use host_log::{bundles_hold_the_logs, frames_join_to_the_bytes};
+use host_rounds::rounds_make_a_bundle;
+use host_world::Settings;
 
 /// What the bundle of logs certifies is due whatever bytes follow it, and more may be due behind.
 pub fn what_is_due_stays_due()
@@ -21,3 +29,23 @@ pub fn what_is_due_stays_due()
     frames_join_to_the_bytes();
     bundles_hold_the_logs();
 }
+
+/// A run or a load of which the vault took a front of the header, or nothing, and the sink nothing was cut off: the bundle of what
+/// the setup logs begins with the header.
+pub fn a_header_begins_the_bundle(settings: &Settings)
+    requires settings { IsSettings settings.now }
+    ensures cut { (receipts : Bool) (functions : DigestFunctions) (script : List (List Task)) (vault vault_after out : Option (List ℕ))
+        → GrowsByFront vault vault_after (header_text settings.now.header)
+        → IsCutOff receipts functions settings.now script (record { vault = vault; vault_after = vault_after; out = out; out_after = out }) }
+    ensures before { (functions : DigestFunctions) (script : List (List Task)) (vault vault_after out : Option (List ℕ))
+        → GrowsByFront vault vault_after (header_text settings.now.header)
+        → IsCutBefore functions settings.now script (record { vault = vault; vault_after = vault_after; out = out; out_after = out }) }
+{
+    rounds_make_a_bundle();
+    fits_32_bits(settings.header.first);
+}
+
+// A first epoch fits the bytes in which a header spells it. It does nothing, and its contract is the fact.
+fn fits_32_bits(first: u32)
+    ensures below { first < 2 ^ 32 }
+{}

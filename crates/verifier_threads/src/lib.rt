@@ -15,6 +15,7 @@ mod runner;
 mod serving;
 
 pub use ending::RunEnd;
+pub use laws::a_header_begins_the_bundle;
 pub use loading::serve_load;
 pub use loads::Load;
 pub use serving::serve_script;

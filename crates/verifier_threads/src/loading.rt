@@ -12,6 +12,7 @@ ghost use Rattle.verifier_threads.specs.Serving.{setup_end};
 ghost use Rattle.verifier_threads.specs.Summing.{SumsTo};
 
 use crate::ending::RunEnd;
+use crate::laws::a_header_begins_the_bundle;
 use crate::loads::Load;
 use crate::runner::Runner;
 use crate::serving::{has_a_phase, serve_phases};
@@ -29,8 +30,9 @@ use std::thread::Threads;
 /// Serves the script of a load to its end, or up to where a clock ends, as `serve_script` does. In place of the report the
 /// sink takes the summary: how many epochs are certified, and how often each worker got, put and deleted in them.
 ///
-/// At `Ok` the whole summary is written, and the answer says how the run ends. At want of memory or where the vault failed
-/// nothing is written, and where the sink failed it has a front of the summary.
+/// At `Ok` the whole summary is written, and the answer says how the run ends. At want of memory or where the vault failed the
+/// vault has a front of the bundle of the load's logs, as far as it was served, and the sink took nothing. Where the sink failed
+/// it has a front of the summary.
 pub fn serve_load<R: Threads + Wait + Sync, D: Digests + Sync, V: Sink, O: Sink, G: Gate + Sync>(
     rt: &R,
     alloc: Global,
@@ -53,6 +55,7 @@ pub fn serve_load<R: Threads + Wait + Sync, D: Digests + Sync, V: Sink, O: Sink,
     ensures name { V.name vault.new ≡ V.name vault.old }
 {
     scripts_ask_for_keys_in_range();
+    a_header_begins_the_bundle(settings);
     match World::new(alloc, d, settings, requests) {
         Ok(world) => sum_up_world(rt, alloc, world, load, gate, vault, out),
         Err(WorldFault::ClockEnd(end)) => sum_up_nothing(alloc, settings, load, end, vault, out),
@@ -83,6 +86,8 @@ fn sum_up_world<R: Threads + Wait + Sync, D: Digests + Sync, V: Sink, O: Sink, G
     ensures name { V.name vault.new ≡ V.name vault.old }
 {
     scripts_ask_for_keys_in_range();
+    let settings = world.settings();
+    a_header_begins_the_bundle(&settings);
     has_a_phase(world.requests());
     let mut dropped = SureSink::new(alloc, 0, usize::MAX)?;
     let mut runner = Runner::new(alloc, world, vault)?;
@@ -111,6 +116,7 @@ fn sum_up_nothing<V: Sink, O: Sink>(
     ensures name { V.name vault.new ≡ V.name vault.old }
 {
     logs_of_no_bytes_certify_nothing();
+    a_header_begins_the_bundle(settings);
     let ended = RunEnd::ClockEnd(end);
     let rounds = Rounds::new(alloc, &settings.header, vault)?;
     rounds.write_summary(load.seed, load.ops, &ended.status(), out)?;

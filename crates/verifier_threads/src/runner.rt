@@ -19,13 +19,13 @@ ghost use Rattle.verifier_threads.specs.Running.{Runs, RunsWhole, IsUnderWay, Is
 
 use crate::ending::RunEnd;
 use crate::handing::hand_out_all;
-use crate::laws::what_is_due_stays_due;
+use crate::laws::{a_header_begins_the_bundle, what_is_due_stays_due};
 use crate::loads::Load;
 use certified_epochs::Telling;
 use epoch_gather::Verdict;
 use fv_outside::{Gate, Sink};
 use host_log::LogBuffer;
-use host_rounds::{RoundStop, Rounds, write_end};
+use host_rounds::{RoundStop, Rounds, rounds_make_a_bundle, write_end};
 use host_serving::close_phase;
 use host_world::{ClockEnd, World};
 use record_hash::Digests;
@@ -68,13 +68,15 @@ impl<'a, D: Digests> Runner<'a, D> {
         ensures begins { IfOk result (λ runner. IsAtPhase (host_of (D.functions (digests_of world.entry)) world.entry)
             (shown_world world.entry) runner.end) }
         ensures cut { (receipts : Bool) (held : Option (List ℕ)) → OnErr result (IsCutOff receipts (D.functions (digests_of world.entry))
-            (record { vault = V.held vault.old; vault_after = V.held vault.new; out = held; out_after = held })) }
+            (settings_of world.entry) (requests_of world.entry) (record { vault = V.held vault.old; vault_after = V.held vault.new; out = held; out_after = held })) }
         ensures stop { result ≢ Err RoundStop.WriteFault }
         ensures vault_fault { result ≡ Err RoundStop.VaultFault → Rose (V.faults vault.old) (V.faults vault.new) }
         ensures never_falls { V.faults vault.old ≤ V.faults vault.new }
         ensures name { V.name vault.new ≡ V.name vault.old }
     {
-        let header = world.settings().header;
+        let settings = world.settings();
+        a_header_begins_the_bundle(&settings);
+        let header = settings.header;
         let buffers = buffers_for(alloc, header.verifiers)?;
         let rounds = Rounds::new(alloc, &header, vault)?;
         Ok(Runner {
@@ -164,7 +166,8 @@ impl<'a, D: Digests> Runner<'a, D> {
         ensures end { self.new.end ≡ self.old.end }
         ensures cut { (receipts : Bool) (outputs : Outputs) (before : List FedRun) → Runs receipts D.functions (with_runs_of before self.old) outputs
             → outputs.vault_after ≡ V.held vault.old
-            → OnErr result (IsCutOff receipts (D.functions (digests_of self.old.world)) (record outputs { vault_after = V.held vault.new })) }
+            → OnErr result (IsCutOff receipts (D.functions (digests_of self.old.world)) (settings_of self.old.world) (requests_of self.old.world)
+            (record outputs { vault_after = V.held vault.new })) }
         ensures host { AreOfOneHost self.old.world self.new.world }
         ensures stop { result ≢ Err RoundStop.WriteFault }
         ensures vault_fault { result ≡ Err RoundStop.VaultFault → Rose (V.faults vault.old) (V.faults vault.new) }
@@ -172,6 +175,7 @@ impl<'a, D: Digests> Runner<'a, D> {
         ensures name { V.name vault.new ≡ V.name vault.old }
     {
         what_is_due_stays_due();
+        rounds_make_a_bundle();
         hand_out_all(&mut self.world, self.buffers.as_mut_slice())?;
         self.rounds.write(self.buffers.as_slice(), vault)
     }
@@ -204,7 +208,7 @@ impl<'a, D: Digests + Sync> Runner<'a, D> {
             × ((shown_world self.new.world).phase ≡ suc (shown_world self.old.world).phase)) }
         ensures cut { (outputs : Outputs) → Runs receipts D.functions self.old outputs → outputs.vault_after ≡ V.held vault.old
             → outputs.out_after ≡ O.held out.old
-            → OnErr result (IsCutOff receipts (D.functions (digests_of self.old.world))
+            → OnErr result (IsCutOff receipts (D.functions (digests_of self.old.world)) (settings_of self.old.world) (requests_of self.old.world)
             (record outputs { vault_after = V.held vault.new; out_after = O.held out.new })) }
         ensures host { AreOfOneHost self.old.world self.new.world }
         ensures vault_fault { result ≡ Err RoundStop.VaultFault → Rose (V.faults vault.old) (V.faults vault.new) }
@@ -214,6 +218,7 @@ impl<'a, D: Digests + Sync> Runner<'a, D> {
         ensures name { V.name vault.new ≡ V.name vault.old }
     {
         what_is_due_stays_due();
+        rounds_make_a_bundle();
         let end = close_phase(&mut self.world, last)?;
         self.end = earlier_end(self.end, end);
         let settled = self.pass_to_seal(rt, last, vault)?;
@@ -236,7 +241,8 @@ impl<'a, D: Digests + Sync> Runner<'a, D> {
         ensures settled { IfOk result (λ settled. AreVerdictsOn self.new.rounds.judged (map (λ fed. fed.run) self.new.rounds.runs) settled.items) }
         ensures end { self.new.end ≡ self.old.end }
         ensures cut { (receipts : Bool) (outputs : Outputs) → Runs receipts D.functions self.old outputs → outputs.vault_after ≡ V.held vault.old
-            → OnErr result (IsCutOff receipts (D.functions (digests_of self.old.world)) (record outputs { vault_after = V.held vault.new })) }
+            → OnErr result (IsCutOff receipts (D.functions (digests_of self.old.world)) (settings_of self.old.world) (requests_of self.old.world)
+            (record outputs { vault_after = V.held vault.new })) }
         ensures host { AreOfOneHost self.old.world self.new.world }
         ensures stop { result ≢ Err RoundStop.WriteFault }
         ensures vault_fault { result ≡ Err RoundStop.VaultFault → Rose (V.faults vault.old) (V.faults vault.new) }
@@ -244,6 +250,7 @@ impl<'a, D: Digests + Sync> Runner<'a, D> {
         ensures name { V.name vault.new ≡ V.name vault.old }
     {
         what_is_due_stays_due();
+        rounds_make_a_bundle();
         hand_out_all(&mut self.world, self.buffers.as_mut_slice())?;
         let d = self.world.digests();
         self.rounds
@@ -269,7 +276,8 @@ impl<'a, D: Digests + Sync> Runner<'a, D> {
             (shown_world self.new.world) self.new.end) }
         ensures same_phase { OnOk result ((shown_world self.new.world).phase ≡ (shown_world self.old.world).phase) }
         ensures cut { (receipts : Bool) (outputs : Outputs) → Runs receipts D.functions self.old outputs → outputs.vault_after ≡ V.held vault.old
-            → OnErr result (IsCutOff receipts (D.functions (digests_of self.old.world)) (record outputs { vault_after = V.held vault.new })) }
+            → OnErr result (IsCutOff receipts (D.functions (digests_of self.old.world)) (settings_of self.old.world) (requests_of self.old.world)
+            (record outputs { vault_after = V.held vault.new })) }
         ensures host { AreOfOneHost self.old.world self.new.world }
         ensures stop { result ≢ Err RoundStop.WriteFault }
         ensures vault_fault { result ≡ Err RoundStop.VaultFault → Rose (V.faults vault.old) (V.faults vault.new) }
@@ -277,6 +285,7 @@ impl<'a, D: Digests + Sync> Runner<'a, D> {
         ensures name { V.name vault.new ≡ V.name vault.old }
     {
         what_is_due_stays_due();
+        rounds_make_a_bundle();
         let bytes = self.rounds.bytes();
         let mut runs = self.rounds.lend_runs();
         self.end = serve_phase_at_once(rt, self.alloc, &mut self.world, gate, &mut runs, bytes)?;
@@ -310,7 +319,7 @@ impl<'a, D: Digests + Sync> Runner<'a, D> {
             × ((shown_world self.new.world).phase ≡ suc (shown_world self.old.world).phase)) }
         ensures cut { (outputs : Outputs) → Runs receipts D.functions self.old outputs → outputs.vault_after ≡ V.held vault.old
             → outputs.out_after ≡ O.held out.old
-            → OnErr result (IsCutOff receipts (D.functions (digests_of self.old.world))
+            → OnErr result (IsCutOff receipts (D.functions (digests_of self.old.world)) (settings_of self.old.world) (requests_of self.old.world)
             (record outputs { vault_after = V.held vault.new; out_after = O.held out.new })) }
         ensures host { AreOfOneHost self.old.world self.new.world }
         ensures vault_fault { result ≡ Err RoundStop.VaultFault → Rose (V.faults vault.old) (V.faults vault.new) }

@@ -12,6 +12,7 @@ ghost use Rattle.verifier_threads.specs.Serving.{Outputs, ServesTo, IsCutOff, se
 ghost use Rattle.verifier_threads.specs.Running.{Runs, RunsWhole, IsUnderWayWith, IsAtPhase, IsAtClose, IsAtEnd};
 
 use crate::ending::RunEnd;
+use crate::laws::a_header_begins_the_bundle;
 use crate::runner::Runner;
 use fv_outside::{Gate, Sink};
 use host_fits::scripts_ask_for_keys_in_range;
@@ -29,8 +30,8 @@ use std::thread::Threads;
 /// request.
 ///
 /// At `Ok` the whole report is written, and the answer says how it ends: where no clock ended the script is served and each
-/// of its phases certified. At an error the sink has a front of the lines that the bytes in the vault certify, or, where it
-/// failed at the last line, of the report.
+/// of its phases certified. At an error the vault has a front of the bundle of the script's logs, as far as it was served, and
+/// the sink a front of the lines that these bytes certify, or, where it failed at the last line, of the report.
 pub fn serve_script<R: Threads + Wait + Sync, D: Digests + Sync, V: Sink, O: Sink, G: Gate + Sync>(
     rt: &R,
     alloc: Global,
@@ -53,6 +54,7 @@ pub fn serve_script<R: Threads + Wait + Sync, D: Digests + Sync, V: Sink, O: Sin
     ensures name { V.name vault.new ≡ V.name vault.old }
 {
     scripts_ask_for_keys_in_range();
+    a_header_begins_the_bundle(settings);
     match World::new(alloc, d, settings, requests) {
         Ok(world) => serve_world(rt, alloc, world, receipts, gate, vault, out),
         Err(WorldFault::ClockEnd(end)) => serve_nothing(alloc, settings, end, vault, out),
@@ -116,7 +118,7 @@ pub(crate) fn serve_phases<
         (shown_world runner.new.world) runner.new.end) }
     ensures cut { (outputs : Outputs) → Runs receipts D.functions runner.old outputs → outputs.vault_after ≡ V.held vault.old
         → outputs.out_after ≡ O.held out.old
-        → OnErr result (IsCutOff receipts (D.functions (digests_of runner.old.world))
+        → OnErr result (IsCutOff receipts (D.functions (digests_of runner.old.world)) (settings_of runner.old.world) (requests_of runner.old.world)
         (record outputs { vault_after = V.held vault.new; out_after = O.held out.new })) }
     ensures host { AreOfOneHost runner.old.world runner.new.world }
     ensures vault_fault { result ≡ Err RoundStop.VaultFault → Rose (V.faults vault.old) (V.faults vault.new) }
@@ -155,6 +157,7 @@ fn serve_nothing<V: Sink, O: Sink>(
     ensures name { V.name vault.new ≡ V.name vault.old }
 {
     logs_of_no_bytes_certify_nothing();
+    a_header_begins_the_bundle(settings);
     let ended = RunEnd::ClockEnd(end);
     let _rounds = Rounds::new(alloc, &settings.header, vault)?;
     write_end(&ended.status(), out)?;

@@ -1,8 +1,8 @@
-use Rattle.std.proofs.Common.{refl, sym, subst}
+use Rattle.std.proofs.Common.{Err, refl, sym, ap, subst}
 use Rattle.report_text.specs.declared.status.Status.{Status}
 use Rattle.report_text.specs.Answer.{Reading, Writing}
 use Rattle.fastver_top.specs.Running.{Keeping, RunsTo, settings_for}
-use Rattle.fastver_top.proofs.RunLemmas.{runs-unread, runs-served}
+use Rattle.fastver_top.proofs.RunLemmas.{runs-unread, runs-stopped, runs-served}
 use Rattle.fastver_top.proofs.ServedLemmas.{run-end}
 use Rattle.fastver_top.proofs.SettingLemmas.{settings_in_range}
 use Rattle.fastver_top.proofs.running.run_script.Goals as goal
@@ -61,3 +61,36 @@ returns-in-Ok-serve-clause-runs g c =
     (settings_in_range numbers c.requires.numbers) (c.scripts_ask_for_keys_in_range.ensures.keys numbers.verifiers c.in-Ok.requests c.in-Ok.ensures.tasks)
     (λ text. (c.digests_have_32_bytes.ensures.digests text).size) c.requires.numbers.first c.in-Ok.ensures.some)
     c.in-Ok-serve.end c.in-Ok-serve.ensures.serves (c.in-Ok-serve.ensures.named (λ is. cc)))
+
+pub returns-clause-runs : goal.returns-clause-runs
+returns-clause-runs g c =
+    let functions = g.D.Digests.functions c.args.d.now in
+    let run = c.args.run.now in
+    let read : Reading = record {
+      left = g.S.Source.left c.args.source.now;
+      left_after = g.S.Source.left c.read_script.new.source;
+      faults = g.S.Source.faults c.args.source.now;
+      faults_after = g.S.Source.faults c.read_script.new.source;
+    } in
+    let wrote : Writing = record {
+      held = g.O.Sink.held c.args.out.now;
+      held_after = g.O.Sink.held c.serve.new.out;
+      faults = g.O.Sink.faults c.args.out.now;
+      faults_after = g.O.Sink.faults c.serve.new.out;
+    } in
+    let kept : Keeping = record {
+      held = g.V.Sink.held c.args.vault.now;
+      held_after = g.V.Sink.held c.serve.new.vault;
+      name = g.V.Sink.name c.args.vault.now;
+      name_after = g.V.Sink.name c.serve.new.vault;
+      faults = g.V.Sink.faults c.args.vault.now;
+      faults_after = g.V.Sink.faults c.serve.new.vault;
+    } in
+    let stop = c.in-Err-serve.stop in
+    let says = c.in-Err-serve.ensures in
+    subst (λ (status : Status). RunsTo functions run c.args.limit status read wrote kept) (sym c.status_of.ensures.value)
+    (runs-stopped functions run c.args.limit read wrote kept c.in-Ok.requests c.in-Ok.ensures.reads stop says.serves
+    (λ other. says.named (λ is. other (cc)))
+    says.named_first
+    (λ is. says.vault_fault (ap (λ (s : _). Err s) is))
+    (λ is. says.write_fault (ap (λ (s : _). Err s) is)))

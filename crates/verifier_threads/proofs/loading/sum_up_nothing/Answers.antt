@@ -1,10 +1,10 @@
-use Rattle.std.proofs.Common.{◌≡◌, ℕ, List, Some, Err, sym, ap, subst}
+use Rattle.std.proofs.Common.{◌≡◌, Err, sym, subst}
 use Rattle.std.proofs.lemmas.Result.{err_from_is_err_and}
 use Rattle.fv_outside.specs.Written.{Grows, GrowsByFront}
 use Rattle.report_text.specs.declared.status.Status.{Status}
 use Rattle.load_summary.specs.Summary.{summary_with_end}
 use Rattle.host_rounds.specs.declared.stops.RoundStop.TheVariants as stops
-use Rattle.verifier_threads.proofs.SummingLemmas.{stops-before, stops-inside, other-stop, write-fault, before-front, nothing-summed, nothing-cut_summary}
+use Rattle.verifier_threads.proofs.SummingLemmas.{stops-before, stops-inside, other-stop, write-fault, nothing-summed, nothing-cut_summary}
 use Rattle.verifier_threads.proofs.loading.sum_up_nothing.Goals as goal
 
 pub returns-in_err-rounds-clause-sums : goal.returns-in_err-rounds-clause-sums
@@ -12,7 +12,7 @@ returns-in_err-rounds-clause-sums g c = λ functions script.
     let p = err_from_is_err_and c.from_residual.result c.from_residual.ensures.1 in
     rw p.1
     (stops-before functions c.args.settings.now script c.args.load.now p.0 _ (other-stop _ _ stops.WriteFault p.2 c.in_err-rounds.ensures.stop)
-    (before-front _ _ _ _ c.in_err-rounds.ensures.front))
+    (c.a_header_begins_the_bundle.ensures.before functions script _ _ (g.O.Sink.held c.args.out.now) c.in_err-rounds.ensures.front))
 
 pub returns-in_err-write_summary-clause-sums : goal.returns-in_err-write_summary-clause-sums
 returns-in_err-write_summary-clause-sums g c = λ functions script.

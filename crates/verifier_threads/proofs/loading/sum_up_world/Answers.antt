@@ -1,5 +1,6 @@
-use Rattle.std.proofs.Common.{◌≡◌, ℕ, false, List, Option, Err, length, refl, sym, ◌∙◌, ap, subst, arith}
+use Rattle.std.proofs.Common.{false, List, length, refl, sym, ◌∙◌, ap, subst, arith}
 use Rattle.std.proofs.lemmas.Result.{err_from_is_err_and}
+use Rattle.fv_outside.proofs.WrittenLaws.{GrowsByFront-none}
 use Rattle.record_hash.specs.Functions.{DigestFunctions}
 use Rattle.script_text.specs.declared.task.Task.{Task}
 use Rattle.script_text.specs.Text.{AreTasks}
@@ -8,13 +9,14 @@ use Rattle.host_shard.specs.Content.{Content}
 use Rattle.host_world.specs.declared.settings.Settings.{Settings}
 use Rattle.host_world.specs.declared.world.World as code
 use Rattle.host_world.specs.Shown.{shown_world, digests_of, requests_of}
-use Rattle.host_world.specs.Behind.{AreOfOneHost, host_of}
+use Rattle.host_world.specs.Behind.{host_of}
 use Rattle.host_rounds.specs.declared.stops.RoundStop.TheVariants as stops
 use Rattle.verifier_threads.specs.Serving.{Outputs, IsCutOff}
-use Rattle.verifier_threads.specs.Summing.{SumsTo}
+use Rattle.verifier_threads.specs.Summing.{IsCutBefore, SumsTo}
 use Rattle.verifier_threads.specs.Running.{IsAtPhase}
 use Rattle.verifier_threads.proofs.RunningLemmas.{of_one_host, host-back}
-use Rattle.verifier_threads.proofs.SummingLemmas.{stops-before, other-stop, never-rose, memory-other, before-any, before-front, before-cut, sums-so}
+use Rattle.verifier_threads.proofs.SummingLemmas.{stops-before, other-stop, never-rose, memory-other, sums-so}
+use Rattle.verifier_threads.proofs.CutLemmas.{cut-before}
 use Rattle.verifier_threads.proofs.loading.sum_up_world.Goals as goal
 
 pub new-requires-2 : goal.new-requires-2
@@ -51,11 +53,16 @@ sum_up-requires g c = record {
 
 pub returns-in_err-dropped-clause-sums : goal.returns-in_err-dropped-clause-sums
 returns-in_err-dropped-clause-sums g c =
+    let functions = g.D.Digests.functions (digests_of c.args.world) in
+    let vault = g.V.Sink.held c.args.vault.now in
+    let out = g.O.Sink.held c.args.out.now in
     let p = err_from_is_err_and c.from_residual.result c.from_residual.ensures.1 in
     rw p.1
     (stops-before (g.D.Digests.functions (digests_of c.args.world)) c.args.world.settings (requests_of c.args.world) c.args.load.now p.0 _
     (memory-other p.0 p.2)
-    (before-any _ _))
+    (subst (λ (settings : Settings). IsCutBefore functions settings (requests_of c.args.world) (record { vault = vault; vault_after = vault; out = out; out_after = out }))
+    c.settings-settings.ensures.value
+    (c.a_header_begins_the_bundle.ensures.before functions (requests_of c.args.world) vault vault out (GrowsByFront-none vault _))))
 
 pub returns-in_err-runner-clause-sums : goal.returns-in_err-runner-clause-sums
 returns-in_err-runner-clause-sums g c =
@@ -64,7 +71,7 @@ returns-in_err-runner-clause-sums g c =
     rw p.1
     (stops-before (g.D.Digests.functions (digests_of c.args.world)) c.args.world.settings (requests_of c.args.world) c.args.load.now p.0 _
     (other-stop _ _ stops.WriteFault p.2 c.in_err-runner.ensures.stop)
-    (before-cut false _ _ (g.O.Sink.held c.args.out.now) cut))
+    (cut-before false _ _ _ _ (g.O.Sink.held c.args.out.now) cut))
 
 pub returns-in_err-serve_phases-clause-sums : goal.returns-in_err-serve_phases-clause-sums
 returns-in_err-serve_phases-clause-sums g c =
@@ -73,7 +80,10 @@ returns-in_err-serve_phases-clause-sums g c =
     rw p.1
     (stops-before (g.D.Digests.functions (digests_of c.args.world)) c.args.world.settings (requests_of c.args.world) c.args.load.now p.0 _
     (other-stop _ _ stops.WriteFault p.2 (λ is. never-rose (c.in_err-serve_phases.ensures.write_fault is)))
-    (before-cut false _ _ (g.O.Sink.held c.args.out.now) cut))
+    (cut-before false _ _ _ _ (g.O.Sink.held c.args.out.now)
+    (subst (λ (w : code.World _). IsCutOff false (g.D.Digests.functions (digests_of w)) w.settings (requests_of w)
+    (record { vault = g.V.Sink.held c.args.vault.now; vault_after = g.V.Sink.held c.serve_phases.new.vault; out = c.in_ok-dropped.dropped.held; out_after = c.serve_phases.new.out.held }))
+    c.in_ok-runner.ensures.world cut)))
 
 pub returns-clause-sums : goal.returns-clause-sums
 returns-clause-sums g c =

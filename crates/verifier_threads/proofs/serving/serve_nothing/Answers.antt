@@ -1,18 +1,20 @@
-use Rattle.std.proofs.Common.{◌≡◌, List, ◌++◌, Result, Ok, Err, refl, sym, ◌∙◌, ap, subst}
+use Rattle.std.proofs.Common.{Err, sym, ap, subst}
 use Rattle.std.proofs.lemmas.Result.{err_from_is_err_and}
 use Rattle.fv_outside.specs.Written.{Grows, GrowsByFront}
 use Rattle.report_text.specs.declared.status.Status.{Status}
 use Rattle.report_text.specs.Status.{last_line}
 use Rattle.host_rounds.specs.declared.stops.RoundStop.{RoundStop}
 use Rattle.verifier_threads.specs.declared.ending.RunEnd.{RunEnd}
-use Rattle.verifier_threads.proofs.RunningLemmas.{ends-so, stop-is, err-of}
-use Rattle.verifier_threads.proofs.NothingLemmas.{nothing-served, nothing-cut, header-cut}
+use Rattle.verifier_threads.proofs.RunningLemmas.{stops-so, ends-so, stop-is, err-of}
+use Rattle.verifier_threads.proofs.NothingLemmas.{nothing-served, nothing-cut}
 use Rattle.verifier_threads.proofs.serving.serve_nothing.Goals as goal
 
 pub returns-in_err-_rounds-clause-serves : goal.returns-in_err-_rounds-clause-serves
 returns-in_err-_rounds-clause-serves g c = λ receipts functions script.
     let p = err_from_is_err_and c.from_residual.result c.from_residual.ensures.1 in
-    rw p.1 (header-cut receipts functions c.args.settings.now script p.0 _ _ _ _ c.in_err-_rounds.ensures.front)
+    rw p.1
+    (stops-so receipts functions c.args.settings.now script p.0 _
+    (c.a_header_begins_the_bundle.ensures.cut receipts functions script _ _ (g.O.Sink.held c.args.out.now) c.in_err-_rounds.ensures.front))
 
 pub returns-in_err-write_end-clause-serves : goal.returns-in_err-write_end-clause-serves
 returns-in_err-write_end-clause-serves g c = λ receipts functions script.

@@ -1,11 +1,13 @@
-use Rattle.std.proofs.Common.{◌≡◌, inl, inr, ℕ, suc, ◌+◌, ◌<◌, ◌≤◌, true, false, List, [], Option, Some, None, length, OnOk, OnErr, refl, sym, ◌∙◌, ap, subst, arith}
+use Rattle.std.proofs.Common.{◌≡◌, suc, ◌+◌, true, false, List, Option, Some, None, length, OnErr, refl, sym, ◌∙◌, ap, arith}
 use Rattle.std.specs.Option.{is_some}
 use Rattle.std.proofs.lemmas.Bool.{false≢true}
+use Rattle.record_hash.specs.Functions.{DigestFunctions}
 use Rattle.script_text.specs.declared.task.Task.{Task}
 use Rattle.host_world.specs.declared.fault.ClockEnd.{ClockEnd}
-use Rattle.host_world.specs.Shown.{shown_world, digests_of, requests_of}
-use Rattle.verifier_threads.specs.Serving.{Outputs, IsCutOff}
-use Rattle.verifier_threads.proofs.RunningLemmas.{one_host}
+use Rattle.host_world.specs.declared.settings.Settings.{Settings}
+use Rattle.host_world.specs.Shown.{shown_world, requests_of}
+use Rattle.verifier_threads.specs.Serving.{IsCutOff}
+use Rattle.verifier_threads.proofs.RunningLemmas.{one_host, of_one_host, host-back}
 use Rattle.verifier_threads.proofs.PassingLemmas.{err_any, runs-at}
 use Rattle.verifier_threads.proofs.EndingLemmas.{turns-now, runs-workers}
 use Rattle.verifier_threads.proofs.serving.serve_phases.Goals as goal
@@ -76,8 +78,12 @@ pub returns-in_err-epoch-clause-cut : goal.returns-in_err-epoch-clause-cut
 returns-in_err-epoch-clause-cut g c = λ outputs runs held written.
     let functions = g.D.Digests.functions in
     let inv = c.loop-number.invariant in
+    let old = c.args.runner.now.world in
+    let now = c.loop-number.runner.world in
     err_any c.from_residual.result
-    (subst (λ d. IsCutOff c.args.receipts (functions d) (record outputs { vault_after = g.V.Sink.held c.epoch.new.vault; out_after = g.O.Sink.held c.epoch.new.out })) inv.host.digests
+    (of_one_host functions now old (host-back old now inv.host)
+    (λ (f : DigestFunctions) (settings : Settings) (script : List (List Task)). IsCutOff c.args.receipts f settings script
+    (record outputs { vault_after = g.V.Sink.held c.epoch.new.vault; out_after = g.O.Sink.held c.epoch.new.out }))
     (c.in_err-epoch.ensures.cut (record outputs { vault_after = g.V.Sink.held c.loop-number.vault; out_after = g.O.Sink.held c.loop-number.out })
     (inv.runs outputs runs held written) refl refl))
 
@@ -102,7 +108,10 @@ pub returns-clause-cut : goal.returns-clause-cut
 returns-clause-cut g c = λ outputs runs held written.
     let functions = g.D.Digests.functions in
     let inv = c.loop-number.invariant in
-    subst (λ d. OnErr c.epoch-2.result (IsCutOff c.args.receipts (functions d) (record outputs { vault_after = g.V.Sink.held c.epoch-2.new.vault; out_after = g.O.Sink.held c.epoch-2.new.out })))
-    inv.host.digests
+    let old = c.args.runner.now.world in
+    let now = c.loop-number.runner.world in
+    of_one_host functions now old (host-back old now inv.host)
+    (λ (f : DigestFunctions) (settings : Settings) (script : List (List Task)). OnErr c.epoch-2.result (IsCutOff c.args.receipts f settings script
+    (record outputs { vault_after = g.V.Sink.held c.epoch-2.new.vault; out_after = g.O.Sink.held c.epoch-2.new.out })))
     (c.epoch-2.ensures.cut (record outputs { vault_after = g.V.Sink.held c.loop-number.vault; out_after = g.O.Sink.held c.loop-number.out })
     (inv.runs outputs runs held written) refl refl)

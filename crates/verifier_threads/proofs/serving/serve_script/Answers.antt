@@ -1,18 +1,14 @@
-use Rattle.std.proofs.Common.{◌≡◌, ℕ, ◌<◌, ◌≤◌, List, [], Option, Result, Ok, Err, inl, inr, refl, sym, ◌∙◌, ap, subst, arith}
+use Rattle.std.proofs.Common.{◌≤◌, Err, inl, inr, refl, sym, ◌∙◌, ap, subst}
 use Rattle.std.proofs.lemmas.Bool.{cases_lt}
-use Rattle.fv_outside.proofs.WrittenLaws.{GrowsByFront-none}
 use Rattle.record_text.specs.declared.request.Request.{Request}
 use Rattle.host_core.specs.Host.{Host}
 use Rattle.host_core.specs.World.{set_up}
 use Rattle.host_shard.specs.Content.{Content}
-use Rattle.script_text.specs.declared.task.Task.{Task}
 use Rattle.script_text.specs.Text.{AreTasks}
-use Rattle.host_world.specs.declared.fault.ClockEnd.{ClockEnd}
 use Rattle.host_world.specs.declared.settings.Settings.{Settings}
 use Rattle.host_world.specs.Settings.{IsSettings}
-use Rattle.host_world.specs.Shown.{digests_of, requests_of, settings_of}
-use Rattle.verifier_threads.specs.Serving.{Outputs, ServesTo, setup_end}
-use Rattle.verifier_threads.proofs.EndingLemmas.{opening-cut}
+use Rattle.host_world.specs.Shown.{requests_of}
+use Rattle.verifier_threads.specs.Serving.{setup_end}
 use Rattle.verifier_threads.proofs.serving.serve_script.Goals as goal
 
 pub serve_world-requires-clause-setup : goal.serve_world-requires-clause-setup

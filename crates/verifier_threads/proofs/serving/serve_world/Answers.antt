@@ -1,4 +1,4 @@
-use Rattle.std.proofs.Common.{◌≡◌, ℕ, List, Option, None, length, refl, sym, ◌∙◌, ap, subst, arith}
+use Rattle.std.proofs.Common.{List, length, refl, sym, ◌∙◌, ap, subst, arith}
 use Rattle.std.proofs.lemmas.Result.{err_from_is_err_and}
 use Rattle.record_hash.specs.Functions.{DigestFunctions}
 use Rattle.script_text.specs.declared.task.Task.{Task}
@@ -8,7 +8,7 @@ use Rattle.host_shard.specs.Content.{Content}
 use Rattle.host_world.specs.declared.settings.Settings.{Settings}
 use Rattle.host_world.specs.declared.world.World as code
 use Rattle.host_world.specs.Shown.{shown_world, digests_of, requests_of}
-use Rattle.host_world.specs.Behind.{AreOfOneHost, host_of}
+use Rattle.host_world.specs.Behind.{host_of}
 use Rattle.verifier_threads.specs.Serving.{Outputs, IsCutOff, ServesTo}
 use Rattle.verifier_threads.specs.Running.{IsAtPhase}
 use Rattle.verifier_threads.proofs.RunningLemmas.{of_one_host, host-back, stops-so, finishes-so}
@@ -59,7 +59,7 @@ returns-in_err-serve_phases-clause-serves g c =
     let p = err_from_is_err_and c.from_residual-in_err-serve_phases.result c.from_residual-in_err-serve_phases.ensures.1 in
     rw p.1
     (stops-so c.args.receipts (g.D.Digests.functions (digests_of c.args.world)) c.args.world.settings (requests_of c.args.world) p.0 _
-    (subst (λ (w : code.World _). IsCutOff c.args.receipts (g.D.Digests.functions (digests_of w))
+    (subst (λ (w : code.World _). IsCutOff c.args.receipts (g.D.Digests.functions (digests_of w)) w.settings (requests_of w)
     (record { vault = g.V.Sink.held c.args.vault.now; vault_after = g.V.Sink.held c.serve_phases.new.vault; out = g.O.Sink.held c.args.out.now; out_after = g.O.Sink.held c.serve_phases.new.out }))
     c.in_ok-runner.ensures.world
     (c.in_err-serve_phases.ensures.cut _ (c.in_ok-runner.ensures.runs c.args.receipts (g.O.Sink.held c.args.out.now)) refl refl)))

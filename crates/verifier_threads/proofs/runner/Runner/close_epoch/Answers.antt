@@ -1,20 +1,22 @@
-use Rattle.std.proofs.Common.{◌≡◌, ◌⊎◌, ℕ, List, map, Option, Some, None, Ok, OnOk, OnErr, refl, sym, ◌∙◌, ap, subst}
-use Rattle.std.proofs.lemmas.Result.{err_from_is_err_and}
+use Rattle.std.proofs.Common.{◌≡◌, ℕ, List, map, Option, Ok, sym, ◌∙◌, ap, subst}
 use Rattle.fv_outside.specs.Written.{Grows, GrowsByFront}
 use Rattle.record_hash.specs.Functions.{DigestFunctions}
 use Rattle.bundle_report.specs.Report.{EpochText, told_by}
 use Rattle.certified_epochs.specs.Turn.{AreVerdictsOn}
 use Rattle.host_core.specs.World.{World}
 use Rattle.host_shard.specs.Content.{Content}
+use Rattle.script_text.specs.declared.task.Task.{Task}
 use Rattle.host_world.specs.declared.fault.ClockEnd.{ClockEnd}
-use Rattle.host_world.specs.Shown.{shown_world, digests_of}
+use Rattle.host_world.specs.declared.settings.Settings.{Settings}
+use Rattle.host_world.specs.Shown.{shown_world, digests_of, requests_of}
 use Rattle.host_world.specs.Behind.{host_of}
 use Rattle.host_serving.specs.Leading.{first_of}
 use Rattle.host_rounds.specs.SoFar.{lines_counted, lines_due}
-use Rattle.verifier_threads.specs.Serving.{Outputs, IsCutOff, texts_of}
-use Rattle.verifier_threads.specs.Running.{Runs, RunsWhole, IsAtPhase, IsAtClose, IsAtEnd, all_handed_out}
-use Rattle.verifier_threads.proofs.RunningLemmas.{one_host, host_same}
-use Rattle.verifier_threads.proofs.PassingLemmas.{ok_any, ok_four, err_any, err_then, runs-behind, runs-led, runs-cut, runs-certified, runs-cut_lines}
+use Rattle.verifier_threads.specs.Serving.{IsCutOff, texts_of}
+use Rattle.verifier_threads.specs.Running.{IsAtPhase, IsAtEnd, all_handed_out}
+use Rattle.verifier_threads.proofs.RunningLemmas.{one_host, host_same, of_one_host, host-back}
+use Rattle.verifier_threads.proofs.PassingLemmas.{ok_any, ok_four, err_any, err_then, runs-behind, runs-led, runs-certified}
+use Rattle.verifier_threads.proofs.CutLemmas.{runs-cut, runs-cut_lines}
 use Rattle.verifier_threads.proofs.PhaseLemmas.{moved, at-end, at-phase, over_at, none-first}
 use Rattle.verifier_threads.proofs.runner.Runner.close_epoch.Goals as goal
 
@@ -49,15 +51,19 @@ certify-requires g c =
 pub returns-in_err-end-clause-cut : goal.returns-in_err-end-clause-cut
 returns-in_err-end-clause-cut g c = λ outputs runs held written.
     err_any c.from_residual.result
-    (runs-cut c.args.receipts g.D.Digests.functions c.args.self.now outputs runs c.what_is_due_stays_due.ensures.stays (g.V.Sink.held c.args.vault.now) (g.O.Sink.held c.args.out.now) held written)
+    (runs-cut c.what_is_due_stays_due.ensures.stays c.rounds_make_a_bundle.ensures.more c.args.receipts g.D.Digests.functions c.args.self.now outputs runs
+    (g.V.Sink.held c.args.vault.now) (g.O.Sink.held c.args.out.now) held written)
 
 pub returns-in_err-settled-clause-cut : goal.returns-in_err-settled-clause-cut
 returns-in_err-settled-clause-cut g c = λ outputs runs held written.
     let functions = g.D.Digests.functions in
+    let old = c.args.self.now.world in
+    let middle = c.close_phase.new.world in
     let vault' = g.V.Sink.held c.pass_to_seal.new.vault in
     err_any _
-    (subst (λ (o : Option (List ℕ)). IsCutOff c.args.receipts (functions (digests_of c.args.self.now.world)) (record outputs { vault_after = vault'; out_after = o })) written
-    (subst (λ d. IsCutOff c.args.receipts (functions d) (record outputs { vault_after = vault' })) c.close_phase.ensures.host.digests
+    (subst (λ (o : Option (List ℕ)). IsCutOff c.args.receipts (functions (digests_of old)) old.settings (requests_of old) (record outputs { vault_after = vault'; out_after = o })) written
+    (of_one_host functions middle old (host-back old middle c.close_phase.ensures.host)
+    (λ (f : DigestFunctions) (settings : Settings) (script : List (List Task)). IsCutOff c.args.receipts f settings script (record outputs { vault_after = vault' }))
     (c.in_err-settled.ensures.cut c.args.receipts outputs
     (runs-led c.args.receipts functions c.args.self.now outputs runs c.close_phase.new.world c.in_ok-end.end c.earlier_end-self.result
     c.close_phase.ensures.host c.in_ok-end.ensures.leads c.earlier_end-self.ensures.value)
@@ -124,6 +130,9 @@ returns-clause-opened g c = λ going none'.
 pub returns-clause-cut : goal.returns-clause-cut
 returns-clause-cut g c = λ outputs runs held written.
     let functions = g.D.Digests.functions in
+    let old = c.args.self.now.world in
+    let middle = c.close_phase.new.world in
+    let new = c.pass_to_seal.new.self.world in
     let vault' = g.V.Sink.held c.pass_to_seal.new.vault in
     let next =
     c.in_ok-settled.ensures.runs c.args.receipts outputs
@@ -139,9 +148,10 @@ returns-clause-cut g c = λ outputs runs held written.
     (subst (λ (o : Option (List ℕ)). Grows outputs.out o (lines_counted told f header texts c.pass_to_seal.new.self.rounds)) written next.running.written) in
     err_then c.certify.result (c.certify.ensures.front f header texts outputs.out have so_far)
     (λ front.
-    subst (λ d. IsCutOff c.args.receipts (functions d) (record outputs { vault_after = vault'; out_after = g.O.Sink.held c.certify.new.out }))
-    (c.pass_to_seal.ensures.host.digests ∙ c.close_phase.ensures.host.digests)
-    (runs-cut_lines c.args.receipts functions c.pass_to_seal.new.self (record outputs { vault_after = vault' }) next c.what_is_due_stays_due.ensures.stays (g.O.Sink.held c.certify.new.out)
+    of_one_host functions new old (host-back old new (one_host old middle new c.close_phase.ensures.host c.pass_to_seal.ensures.host))
+    (λ (f' : DigestFunctions) (settings : Settings) (script : List (List Task)). IsCutOff c.args.receipts f' settings script (record outputs { vault_after = vault'; out_after = g.O.Sink.held c.certify.new.out }))
+    (runs-cut_lines c.what_is_due_stays_due.ensures.stays c.rounds_make_a_bundle.ensures.more c.args.receipts functions c.pass_to_seal.new.self (record outputs { vault_after = vault' }) next
+    (g.O.Sink.held c.certify.new.out)
     (subst (λ (tell : EpochText). GrowsByFront outputs.out (g.O.Sink.held c.certify.new.out) (lines_due tell f header texts)) c.telling-telling.ensures.text front)))
 
 pub returns-clause-host : goal.returns-clause-host

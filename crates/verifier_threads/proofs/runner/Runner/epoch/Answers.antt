@@ -1,11 +1,13 @@
-use Rattle.std.proofs.Common.{◌≡◌, ◌⊎◌, inl, inr, ℕ, suc, ◌≤◌, true, false, List, Option, None, length, map, OnOk, OnErr, refl, sym, ◌∙◌, ap, subst, arith}
+use Rattle.std.proofs.Common.{◌≡◌, ℕ, suc, List, Option, length, map, OnErr, refl, ◌∙◌, ap, subst, arith}
 use Rattle.std.proofs.lemmas.List.{length-map}
+use Rattle.record_hash.specs.Functions.{DigestFunctions}
 use Rattle.script_text.specs.declared.task.Task.{Task}
+use Rattle.host_world.specs.declared.settings.Settings.{Settings}
 use Rattle.host_world.specs.ShippedHost.{turn_of}
 use Rattle.host_world.specs.Shown.{shown_world, digests_of, requests_of}
 use Rattle.host_world.specs.Behind.{host_of}
 use Rattle.verifier_threads.specs.Serving.{IsCutOff}
-use Rattle.verifier_threads.proofs.RunningLemmas.{one_host}
+use Rattle.verifier_threads.proofs.RunningLemmas.{one_host, of_one_host, host-back}
 use Rattle.verifier_threads.proofs.PassingLemmas.{ok_then, err_any}
 use Rattle.verifier_threads.proofs.PhaseLemmas.{closes-last, plus-both}
 use Rattle.verifier_threads.proofs.runner.Runner.epoch.Goals as goal
@@ -33,7 +35,8 @@ close_epoch-requires-clause-last g c κs within =
 pub returns-in_err-phase-clause-cut : goal.returns-in_err-phase-clause-cut
 returns-in_err-phase-clause-cut g c = λ outputs runs held written.
     err_any c.from_residual.result
-    (subst (λ (o : Option (List ℕ)). IsCutOff c.args.receipts (g.D.Digests.functions (digests_of c.args.self.now.world)) (record outputs { vault_after = g.V.Sink.held c.phase.new.vault; out_after = o }))
+    (subst (λ (o : Option (List ℕ)). IsCutOff c.args.receipts (g.D.Digests.functions (digests_of c.args.self.now.world)) c.args.self.now.world.settings (requests_of c.args.self.now.world)
+    (record outputs { vault_after = g.V.Sink.held c.phase.new.vault; out_after = o }))
     written (c.in_err-phase.ensures.cut c.args.receipts outputs runs held))
 
 pub returns-clause-runs : goal.returns-clause-runs
@@ -52,8 +55,11 @@ returns-clause-opened g c = λ going none'.
 pub returns-clause-cut : goal.returns-clause-cut
 returns-clause-cut g c = λ outputs runs held written.
     let functions = g.D.Digests.functions in
-    subst (λ d. OnErr c.close_epoch.result (IsCutOff c.args.receipts (functions d) (record outputs { vault_after = g.V.Sink.held c.close_epoch.new.vault; out_after = g.O.Sink.held c.close_epoch.new.out })))
-    c.phase.ensures.host.digests
+    let old = c.args.self.now.world in
+    let middle = c.phase.new.self.world in
+    of_one_host functions middle old (host-back old middle c.phase.ensures.host)
+    (λ (f : DigestFunctions) (settings : Settings) (script : List (List Task)). OnErr c.close_epoch.result (IsCutOff c.args.receipts f settings script
+    (record outputs { vault_after = g.V.Sink.held c.close_epoch.new.vault; out_after = g.O.Sink.held c.close_epoch.new.out })))
     (c.close_epoch.ensures.cut (record outputs { vault_after = g.V.Sink.held c.phase.new.vault }) (c.in_ok-phase.ensures.runs c.args.receipts outputs runs held) refl written)
 
 pub returns-clause-host : goal.returns-clause-host

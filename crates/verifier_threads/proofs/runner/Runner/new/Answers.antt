@@ -1,37 +1,42 @@
-use Rattle.std.proofs.Common.{◌≡◌, ℕ, suc, ◌-◌, ◌<◌, ◌≤◌, List, [], Option, None, length, map, refl, sym, ◌∙◌, ap, subst, arith}
+use Rattle.std.proofs.Common.{◌≡◌, None, map, refl, sym, ◌∙◌, ap, subst, arith}
 use Rattle.std.proofs.lemmas.List.{length-map}
 use Rattle.fv_outside.proofs.WrittenLaws.{GrowsByFront-none}
 use Rattle.lamport_clocks.specs.declared.header.Header.{Header}
 use Rattle.bundle_report.specs.Logs.{empty_logs}
-use Rattle.host_core.specs.World.{World, set_up}
+use Rattle.host_core.specs.World.{World}
 use Rattle.host_shard.specs.Content.{Content}
 use Rattle.host_world.specs.declared.settings.Settings.{Settings}
 use Rattle.host_world.specs.ShippedHost.{turn_of}
 use Rattle.host_world.specs.Shown.{shown_world, digests_of, requests_of}
 use Rattle.host_world.specs.Behind.{host_of}
 use Rattle.host_rounds.specs.SoFar.{Keeps}
+use Rattle.verifier_threads.specs.Serving.{IsCutOff}
 use Rattle.verifier_threads.specs.Running.{IsAtPhase}
 use Rattle.verifier_threads.proofs.PassingLemmas.{err_any}
-use Rattle.verifier_threads.proofs.EndingLemmas.{running-new, set_up-begins, set_up-count, opening-cut}
+use Rattle.verifier_threads.proofs.EndingLemmas.{running-new, set_up-begins, set_up-count}
 use Rattle.verifier_threads.proofs.runner.Runner.new.Goals as goal
 
 pub returns-in_err-buffers-clause-cut : goal.returns-in_err-buffers-clause-cut
 returns-in_err-buffers-clause-cut g c = λ receipts held.
+    let vault = g.V.Sink.held c.args.vault.now in
     err_any c.from_residual.result
-    (opening-cut receipts (g.D.Digests.functions (digests_of c.args.world)) (g.V.Sink.held c.args.vault.now) (g.V.Sink.held c.args.vault.now) held []
-    (GrowsByFront-none (g.V.Sink.held c.args.vault.now) []))
+    (subst (λ (settings : Settings). IsCutOff receipts (g.D.Digests.functions (digests_of c.args.world)) settings (requests_of c.args.world) (record { vault = vault; vault_after = vault; out = held; out_after = held }))
+    c.settings-settings.ensures.value
+    (c.a_header_begins_the_bundle.ensures.cut receipts (g.D.Digests.functions (digests_of c.args.world)) (requests_of c.args.world) vault vault held (GrowsByFront-none vault _)))
 
 pub returns-in_err-rounds-clause-cut : goal.returns-in_err-rounds-clause-cut
 returns-in_err-rounds-clause-cut g c = λ receipts held.
     err_any _
-    (opening-cut receipts (g.D.Digests.functions (digests_of c.args.world)) (g.V.Sink.held c.args.vault.now) (g.V.Sink.held c.new.new.vault) held _ c.in_err-rounds.ensures.front)
+    (subst (λ (settings : Settings). IsCutOff receipts (g.D.Digests.functions (digests_of c.args.world)) settings (requests_of c.args.world) (record { vault = g.V.Sink.held c.args.vault.now; vault_after = g.V.Sink.held c.new.new.vault; out = held; out_after = held }))
+    c.settings-settings.ensures.value
+    (c.a_header_begins_the_bundle.ensures.cut receipts (g.D.Digests.functions (digests_of c.args.world)) (requests_of c.args.world) _ _ held c.in_err-rounds.ensures.front))
 
 pub returns-clause-runs : goal.returns-clause-runs
 returns-clause-runs g c = λ receipts held.
     let world = c.args.world in
     let f = g.D.Digests.functions (digests_of world) in
     let host = host_of f world in
-    let header_is : c.settings.result.header ≡ world.settings.header = ap (λ (s : Settings). s.header) c.settings.ensures.value in
+    let header_is : c.settings-settings.result.header ≡ world.settings.header = ap (λ (s : Settings). s.header) c.settings-settings.ensures.value in
     let count = set_up-count world.settings host (shown_world world) c.requires.settings refl c.requires.setup in
     record {
       running =

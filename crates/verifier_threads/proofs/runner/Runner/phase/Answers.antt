@@ -1,21 +1,21 @@
-use Rattle.std.proofs.Common.{◌≡◌, ℕ, List, length, Option, Some, None, Ok, OnErr, refl, sym, ◌∙◌, ap, subst}
+use Rattle.std.proofs.Common.{List, length, Option, Ok, OnErr, refl, sym, ◌∙◌, ap}
 use Rattle.record_hash.specs.Functions.{DigestFunctions}
-use Rattle.host_core.specs.World.{World, logs_of}
+use Rattle.host_core.specs.World.{World}
 use Rattle.host_shard.specs.Content.{Content}
+use Rattle.script_text.specs.declared.task.Task.{Task}
 use Rattle.host_world.specs.declared.fault.ClockEnd.{ClockEnd}
+use Rattle.host_world.specs.declared.settings.Settings.{Settings}
 use Rattle.host_world.specs.Shown.{shown_world, digests_of}
 use Rattle.host_world.specs.Behind.{host_of}
 use Rattle.host_serving.specs.Leading.{first_of}
 use Rattle.certified_epochs.specs.declared.fed_run.FedRun.{FedRun}
-use Rattle.host_rounds.specs.Feeding.{AllTake}
-use Rattle.host_rounds.specs.SoFar.{RunsSoFar}
-use Rattle.verifier_threads.specs.declared.runner.Runner.{Runner}
-use Rattle.verifier_threads.specs.Serving.{Outputs, IsCutOff, texts_of}
-use Rattle.verifier_threads.specs.Running.{Runs, IsAtClose, all_handed_out, with_runs_of}
-use Rattle.verifier_threads.proofs.RunningLemmas.{one_host, host_same, running-workers}
+use Rattle.verifier_threads.specs.Serving.{IsCutOff}
+use Rattle.verifier_threads.specs.Running.{IsAtClose, all_handed_out}
+use Rattle.verifier_threads.proofs.RunningLemmas.{one_host, host_same, of_one_host, host-back, running-workers}
 use Rattle.verifier_threads.proofs.StandingLemmas.{close_handed}
-use Rattle.verifier_threads.proofs.PassingLemmas.{ok_any, err_any, ok_then, rounds-back, run-count, runs-behind, runs-cut, runs-fed, took-round}
+use Rattle.verifier_threads.proofs.PassingLemmas.{err_any, ok_then, rounds-back, run-count, runs-behind, runs-fed, took-round}
 use Rattle.verifier_threads.proofs.PhaseLemmas.{moved, at-close}
+use Rattle.verifier_threads.proofs.CutLemmas.{runs-cut}
 use Rattle.verifier_threads.proofs.runner.Runner.phase.Goals as goal
 
 pub serve_phase_at_once-requires-clause-behind : goal.serve_phase_at_once-requires-clause-behind
@@ -57,7 +57,8 @@ set_down-requires g c =
 pub returns-in_err-self-clause-cut : goal.returns-in_err-self-clause-cut
 returns-in_err-self-clause-cut g c = λ receipts outputs runs held.
     err_any c.from_residual.result
-    (runs-cut receipts g.D.Digests.functions c.args.self.now outputs runs c.what_is_due_stays_due.ensures.stays (g.V.Sink.held c.args.vault.now) outputs.out_after held refl)
+    (runs-cut c.what_is_due_stays_due.ensures.stays c.rounds_make_a_bundle.ensures.more receipts g.D.Digests.functions c.args.self.now outputs runs
+    (g.V.Sink.held c.args.vault.now) outputs.out_after held refl)
 
 pub returns-clause-runs : goal.returns-clause-runs
 returns-clause-runs g c = λ receipts outputs runs held.
@@ -95,7 +96,10 @@ pub returns-clause-cut : goal.returns-clause-cut
 returns-clause-cut g c = λ receipts outputs runs held.
     let functions = g.D.Digests.functions in
     let before = c.lend_runs-runs.result.items in
-    subst (λ d. OnErr c.set_down.result (IsCutOff receipts (functions d) (record outputs { vault_after = g.V.Sink.held c.set_down.new.vault }))) c.serve_phase_at_once.ensures.host.digests
+    let old = c.args.self.now.world in
+    let middle = c.serve_phase_at_once.new.world in
+    of_one_host functions middle old (host-back old middle c.serve_phase_at_once.ensures.host)
+    (λ (f : DigestFunctions) (settings : Settings) (script : List (List Task)). OnErr c.set_down.result (IsCutOff receipts f settings script (record outputs { vault_after = g.V.Sink.held c.set_down.new.vault })))
     (c.set_down.ensures.cut receipts outputs before
     (runs-fed receipts functions c.args.self.now outputs runs c.serve_phase_at_once.new.world c.in_ok-self.field-0 c.in_ok-self.field-0
     c.take_back.new.self before c.serve_phase_at_once.ensures.host c.in_ok-self.ensures.leads

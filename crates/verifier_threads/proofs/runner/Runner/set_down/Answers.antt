@@ -1,23 +1,20 @@
-use Rattle.std.proofs.Common.{◌≡◌, ℕ, ◌≤◌, List, [], length, Option, sym, ◌∙◌, ap, subst, arith}
+use Rattle.std.proofs.Common.{◌≡◌, ℕ, List, length, Option, refl, sym, ◌∙◌, ap, subst, arith}
 use Rattle.std.proofs.lemmas.List.{length-map, with_items_is}
-use Rattle.fv_outside.specs.Written.{GrowsByFront}
-use Rattle.fv_outside.proofs.WrittenLaws.{GrowsByFront-none}
 use Rattle.record_hash.specs.Functions.{DigestFunctions}
 use Rattle.host_core.specs.World.{World, logs_of}
 use Rattle.host_shard.specs.Content.{Content}
 use Rattle.script_text.specs.declared.task.Task.{Task}
 use Rattle.host_world.specs.declared.settings.Settings.{Settings}
-use Rattle.host_world.specs.Shown.{shown_world, digests_of, requests_of}
-use Rattle.host_log.specs.Frames.{pieces_text}
+use Rattle.host_world.specs.Shown.{shown_world, digests_of}
 use Rattle.host_rounds.specs.Feeding.{AllTake}
-use Rattle.host_rounds.specs.Round.{logs_with, pieces_of}
 use Rattle.host_rounds.specs.SoFar.{RunsSoFar, Keeps, with_runs}
 use Rattle.bundle_report.specs.Report.{told_by}
-use Rattle.verifier_threads.specs.Serving.{Outputs, texts_of}
-use Rattle.verifier_threads.specs.Running.{IsRunning, with_no_log}
+use Rattle.verifier_threads.specs.Serving.{texts_of}
+use Rattle.verifier_threads.specs.Running.{IsRunning, with_no_log, with_runs_of}
 use Rattle.verifier_threads.proofs.HandingLemmas.{texts-length}
 use Rattle.verifier_threads.proofs.RunningLemmas.{of_one_host, running-workers}
-use Rattle.verifier_threads.proofs.PassingLemmas.{ok_both, ok_any, err_any, running-taken, running-cut}
+use Rattle.verifier_threads.proofs.PassingLemmas.{ok_both, ok_any, err_any, running-taken}
+use Rattle.verifier_threads.proofs.CutLemmas.{runs-cut, runs-cut_round}
 use Rattle.verifier_threads.proofs.runner.Runner.set_down.Goals as goal
 
 pub hand_out_all-requires : goal.hand_out_all-requires
@@ -43,8 +40,8 @@ write-requires g c =
 pub returns-in_err-hand_out_all-clause-cut : goal.returns-in_err-hand_out_all-clause-cut
 returns-in_err-hand_out_all-clause-cut g c = λ receipts outputs before runs held.
     err_any c.from_residual.result
-    (running-cut _ _ _ _ _ _ _ outputs runs.running c.what_is_due_stays_due.ensures.stays (g.V.Sink.held c.args.vault.now) []
-    (subst (λ (h : Option (List ℕ)). GrowsByFront h (g.V.Sink.held c.args.vault.now) []) (sym held) (GrowsByFront-none (g.V.Sink.held c.args.vault.now) [])))
+    (runs-cut c.what_is_due_stays_due.ensures.stays c.rounds_make_a_bundle.ensures.more receipts g.D.Digests.functions (with_runs_of before c.args.self.now) outputs runs
+    (g.V.Sink.held c.args.vault.now) outputs.out_after held refl)
 
 pub returns-clause-runs : goal.returns-clause-runs
 returns-clause-runs g c = λ receipts outputs before runs took held.
@@ -81,6 +78,10 @@ returns-clause-handed g c = ok_any c.write.result c.in_ok-hand_out_all.ensures.f
 
 pub returns-clause-cut : goal.returns-clause-cut
 returns-clause-cut g c = λ receipts outputs before runs held.
+    let old = c.args.self.now in
+    let size : length c.hand_out_all.new.buffers ≡ length old.world.workers.items = ap length c.in_ok-hand_out_all.ensures.handed ∙ texts-length old.world.workers.items in
+    let items = with_items_is old.buffers c.hand_out_all.new.buffers (size ∙ sym runs.buffers ∙ sym old.buffers.ok.0) in
     err_any c.write.result
-    (running-cut _ _ _ _ _ _ _ outputs runs.running c.what_is_due_stays_due.ensures.stays (g.V.Sink.held c.write.new.vault) (pieces_text (pieces_of 0 c.as_slice.result.now))
-    (subst (λ (h : Option (List ℕ)). GrowsByFront h (g.V.Sink.held c.write.new.vault) (pieces_text (pieces_of 0 c.as_slice.result.now))) (sym held) c.write.ensures.grown))
+    (runs-cut_round c.what_is_due_stays_due.ensures.stays c.rounds_make_a_bundle.ensures.more receipts g.D.Digests.functions (with_runs_of before old) outputs runs
+    (g.V.Sink.held c.args.vault.now) (g.V.Sink.held c.write.new.vault) c.as_slice.result.now held
+    (c.as_slice.ensures.value ∙ items ∙ c.in_ok-hand_out_all.ensures.handed) c.write.ensures.grown)
