@@ -1,15 +1,20 @@
 -- Frames that were read, one more each time.
-use Rattle.std.proofs.Common.{◌≡◌, ℕ, ◌+◌, ◌<◌, ◌≤◌, List, [], ◌∷◌, ◌++◌, length, map, take, set, Option, Some, None, Ok, Result, sym, ◌∙◌, ap, subst, true≢false, append_assoc, arith}
+use Rattle.std.proofs.Common.{◌≡◌, ℕ, ◌+◌, ◌-◌, ◌<◌, ◌≤◌, List, [], ◌∷◌, ◌++◌, length, map, take, set, Option, Some, None, Ok, Result, sym, ◌∙◌, ap, subst, true≢false, append_assoc, length-append, arith}
 use Rattle.std.proofs.lemmas.List.{map-append, take_more_set}
 use Rattle.std.specs.Prelude.{IsSome, IsSomeAnd}
 use Rattle.std.specs.List.{AllByRecursion}
 use Rattle.lamport_clocks.specs.declared.header.Header.{Header}
 use Rattle.bundle_frames.specs.declared.coming.Next.{Next}
-use Rattle.bundle_frames.specs.declared.coming.Next.TheVariants.{Frame}
+use Rattle.bundle_frames.specs.declared.coming.Next.TheVariants.{Frame, End}
 use Rattle.bundle_frames.specs.declared.coming.SourceStop.{SourceStop}
 use Rattle.bundle_frames.specs.Bundle.{Bundle, IsFrame, with_frames, Frame as FrameOf}
-use Rattle.bundle_frames.specs.Reading.{Reading, ReadsAs, ahead, next_then}
+use Rattle.bundle_frames.specs.Extent.{IsDue}
+use Rattle.bundle_frames.specs.Progress.{position}
+use Rattle.bundle_frames.specs.Reading.{Reading, ReadsAs, ahead, end_ahead, next_then, header_then}
 use Rattle.bundle_frames.proofs.ReadingLaws.{ReadsAs-kept, ReadsAs-map}
+use Rattle.want_of_memory.specs.declared.memory.Memory.{Memory}
+use Rattle.check_core.specs.declared.batch.Filled.{Filled}
+use Rattle.check_core.specs.declared.batch.Filled.TheVariants.{Whole, End as Ended, Stopped}
 use Rattle.check_core.specs.declared.batch.Slot.{Slot}
 use Rattle.check_core.specs.Batch.{frame_in, bytes_of}
 
@@ -30,10 +35,24 @@ bytes_more (first ∷ frames) frame =
     let rest = bytes_more frames frame in
     omega (arith, rest)
 
+-- the same of the frames that there are then
+pub bytes_kept : (frames all : List FrameOf) (frame : FrameOf) → all ≡ frames ++ frame ∷ [] → bytes_of all ≡ bytes_of frames + length frame.body
+bytes_kept frames all frame is = ap bytes_of is ∙ bytes_more frames frame
+
+-- so there are more
+pub more_kept : (frames all : List FrameOf) (frame : FrameOf) → all ≡ frames ++ frame ∷ [] → length frames < 64 → 64 - length all < 64 - length frames
+more_kept frames all frame is room =
+    let count = ap length is in
+    let sum = length-append frames (frame ∷ []) in
+    omega (arith, count, sum, room)
+
 -- each is in its ranges
-pub all_more : (P : FrameOf → Type 0) (frames : List FrameOf) (frame : FrameOf) → AllByRecursion P frames → P frame → AllByRecursion P (frames ++ frame ∷ [])
+all_more : (P : FrameOf → Type 0) (frames : List FrameOf) (frame : FrameOf) → AllByRecursion P frames → P frame → AllByRecursion P (frames ++ frame ∷ [])
 all_more P [] frame all last = (last, tt)
 all_more P (first ∷ frames) frame all last = (all.0, all_more P frames frame all.1 last)
+
+pub all_kept : (P : FrameOf → Type 0) (frames all : List FrameOf) (frame : FrameOf) → all ≡ frames ++ frame ∷ [] → AllByRecursion P frames → P frame → AllByRecursion P all
+all_kept P frames all frame is before last = subst (AllByRecursion P) (sym is) (all_more P frames frame before last)
 
 -- a frame that came is one of the header that is known
 pub known_frame : (verifier : ℕ) (body : List ℕ) (known : Option Header) (header : Header) → known ≡ Some header
@@ -50,6 +69,67 @@ known_bounded verifier body (Some header) frame = frame.bounded
 -- where a header is known no other comes
 pub no_header : (known was : Option Header) → known ≡ was → IsSome was → known ≡ None → ⊥
 no_header known was same some none = true≢false (sym (subst IsSome (sym same ∙ none) some))
+
+-- with a frame no header comes, nor at the end
+pub frame_keeps : (next : Next) (verifier : ℕ) (known : Option Header) → next ≡ Frame verifier → header_then (Ok next) known ≡ known
+frame_keeps next verifier known is = ap (λ (n : Next). header_then (Ok n) known) is
+
+pub end_keeps : (next : Next) (known : Option Header) → next ≡ End → header_then (Ok next) known ≡ known
+end_keeps next known is = ap (λ (n : Next). header_then (Ok n) known) is
+
+-- at the end there is no frame before the rest
+pub end_adds_none : (next : Next) (body : List ℕ) → next ≡ End → (rest : Bundle) → next_then (Ok next) body rest ≡ rest
+end_adds_none next body is rest = ap (λ (n : Next). next_then (Ok n) body rest) is
+
+-- a frame is not the end
+abbrev next_is : Next → Result Next SourceStop
+next_is next = Ok next
+
+pub frame_not_end : (next : Next) (verifier : ℕ) → next ≡ Frame verifier → next_is next ≡ next_is End → ⊥
+frame_not_end next verifier is same = cc
+
+-- ---- how far a batch was read
+
+abbrev filled_is : Filled → Result Filled Memory
+filled_is filled = Ok filled
+
+pub whole_not_end : filled_is Ended ≡ filled_is Whole → ⊥
+whole_not_end same = cc
+
+pub stopped_not_end : (stop : SourceStop) → filled_is Ended ≡ filled_is (Stopped stop) → ⊥
+stopped_not_end stop same = cc
+
+pub stopped_not_whole : (stop : SourceStop) → filled_is (Stopped stop) ≡ filled_is Whole → ⊥
+stopped_not_whole stop same = cc
+
+pub end_not_stopped : (stop : SourceStop) → filled_is (Stopped stop) ≡ filled_is Ended → ⊥
+end_not_stopped stop same = cc
+
+pub stop_is : (stop other : SourceStop) → filled_is (Stopped stop) ≡ filled_is (Stopped other) → stop ≡ other
+stop_is stop other same = cc
+
+-- ---- a frame that was handed over
+
+-- what a reader then is as before
+pub record IsHandedOver (old new : Reading) : Type 0 where
+  pub due : IsDue old.progress → IsDue new.progress
+  pub header : new.progress.header ≡ old.progress.header
+  pub taken : new.taken ≡ old.taken
+  pub limit : new.limit ≡ old.limit
+  pub offset : new.progress.offset ≡ old.progress.offset
+  pub position : position new.progress ≡ position old.progress
+  pub extent : (more : List ℕ) → end_ahead old more ≡ end_ahead new more
+
+pub handed_over : (old new : Reading) → new ≡ record old { progress = record old.progress { body = [] } } → IsHandedOver old new
+handed_over old new is = record {
+  due = λ due. subst (λ (r : Reading). IsDue r.progress) (sym is) (record { partial = due.partial; at_start = due.at_start });
+  header = ap (λ (r : Reading). r.progress.header) is;
+  taken = ap (λ (r : Reading). r.taken) is;
+  limit = ap (λ (r : Reading). r.limit) is;
+  offset = ap (λ (r : Reading). r.progress.offset) is;
+  position = ap (λ (r : Reading). position r.progress) is;
+  extent = λ more. ap (λ (r : Reading). end_ahead r more) (sym is);
+}
 
 -- ---- what was read means
 

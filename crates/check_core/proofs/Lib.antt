@@ -2,6 +2,7 @@
 mod BatchLemmas
 mod ConcludingLemmas
 mod FeedingLemmas
+mod JudgingLemmas
 mod LogLemmas
 mod MeaningLemmas
 mod StreamLemmas

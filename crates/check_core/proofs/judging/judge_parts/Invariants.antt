@@ -1,11 +1,7 @@
-use Rattle.std.proofs.Common.{◌≡◌, ◌+◌, ℕ, length, map, drop}
-use Rattle.bundle_report.specs.declared.judged.Judged.{Judged}
+use Rattle.std.proofs.Common.{◌≡◌, length, map, drop}
 use Rattle.bundle_report.specs.Judged.{judged_from}
+use Rattle.check_core.proofs.JudgingLemmas.{behind}
 use Rattle.check_core.proofs.judging.judge_parts.Given as goal
-
--- so many certified epochs before
-abbrev behind : ℕ → Judged → Judged
-behind count more = record { count = count + more.count; unbalanced = more.unbalanced }
 
 -- the epochs so far are certified, and those that are left come behind them
 abbrev pub invariant-loop-count : goal.invariant-loop-count

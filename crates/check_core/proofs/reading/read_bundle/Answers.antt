@@ -1,4 +1,4 @@
-use Rattle.std.proofs.Common.{◌≡◌, ◌+◌, ◌-◌, ◌<◌, ◌≤◌, ℕ, List, IfSome, Ok, Err, is_ok, true≢false, map, refl, sym, ap, subst, ◌∙◌, arith}
+use Rattle.std.proofs.Common.{◌≡◌, ◌+◌, ◌-◌, ◌<◌, ◌≤◌, ℕ, List, IfSome, Result, Ok, Err, is_ok, true≢false, map, refl, sym, ap, subst, ◌∙◌, arith}
 use Rattle.bundle_frames.specs.declared.coming.Next.TheVariants.{End}
 use Rattle.bundle_frames.specs.declared.coming.SourceStop.TheVariants as sources
 use Rattle.bundle_frames.specs.declared.coming.SourceStop.{SourceStop}
@@ -18,6 +18,13 @@ use Rattle.check_core.proofs.reading.read_bundle.Goals as goal
 stop_input : (stop : SourceStop) (answer : ReadStop) → answer ≡ stop_of stop → answer ≡ InputLimit → stop ≡ sources.InputLimit
 stop_input sources.ReadFault answer is same = cc
 stop_input sources.InputLimit answer is same = refl
+
+-- what reading stopped with
+abbrev stopped_with : {A : Type 0} → ReadStop → Result A ReadStop
+stopped_with stop = Err stop
+
+stop_is : {A : Type 0} (stop other : ReadStop) → stopped_with {A = A} stop ≡ stopped_with other → stop ≡ other
+stop_is stop other same = cc
 
 pub frames-init : goal.frames-init
 frames-init g c =
@@ -84,7 +91,7 @@ pub returns-in-Err-clause-limit : goal.returns-in-Err-clause-limit
 returns-in-Err-clause-limit g c = λ is.
     let last = c.frames.invariant in
     let next = c.in-Err.ensures in
-    let full : c.from.result ≡ InputLimit = cc in
+    let full = stop_is c.from.result InputLimit is in
     let same = stop_input _ _ c.from.ensures full in
     let sum : c.args.limit + 1 ≡ c.frames.reader.taken + (c.next.new.self.limit + 1 - c.frames.reader.taken) = omega (arith, next.same_limit, last.limit, last.within) in
     TookJust-from_read _ _ _ (HasRead-then _ _ _ _ _ _ last.took (next.limit (ap Err same)) sum)
@@ -114,7 +121,7 @@ pub returns-in-Err-clause-beyond : goal.returns-in-Err-clause-beyond
 returns-in-Err-clause-beyond g c = λ is.
     let last = c.frames.invariant in
     let next = c.in-Err.ensures in
-    let full : c.from.result ≡ InputLimit = cc in
+    let full = stop_is c.from.result InputLimit is in
     let same = stop_input _ _ c.from.ensures full in
     ReadsAs-back (λ (end : ℕ). c.args.limit < end) _ _ _ _ _ last.took last.extent
     (subst (λ (limit : ℕ). IfSome (g.S.Source.left c.frames.source) (λ bytes. limit < end_ahead c.frames.reader bytes)) (next.same_limit ∙ last.limit) (next.beyond (ap Err same)))

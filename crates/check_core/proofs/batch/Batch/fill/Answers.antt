@@ -1,18 +1,13 @@
-use Rattle.std.proofs.Common.{◌≡◌, ◌<◌, ℕ, Result, Ok, Err, is_ok, true≢false, refl, sym, ap, subst, ◌∙◌, arith}
-use Rattle.std.specs.List.{AllByRecursion}
-use Rattle.bundle_frames.specs.declared.coming.Next.{Next}
+use Rattle.std.proofs.Common.{◌≡◌, ◌<◌, ℕ, Result, Ok, Err, is_ok, true≢false, refl, ap, ◌∙◌, arith}
 use Rattle.bundle_frames.specs.declared.coming.SourceStop.{SourceStop}
 use Rattle.bundle_frames.specs.declared.coming.SourceStop.TheVariants as sources
 use Rattle.bundle_frames.specs.Bundle.{IsFrame, Frame}
-use Rattle.bundle_frames.specs.Extent.{IsDue}
-use Rattle.bundle_frames.specs.Progress.{position}
-use Rattle.bundle_frames.specs.Reading.{Reading, end_ahead, next_then, header_then}
+use Rattle.bundle_frames.specs.Reading.{Reading}
 use Rattle.bundle_frames.proofs.ReadingLaws.{HasRead-then, ReadsAs-then, ReadsAs-kept, ReadsAs-back, near-then}
 use Rattle.want_of_memory.specs.declared.memory.Memory.{Memory}
 use Rattle.check_core.specs.declared.batch.Filled.{Filled}
 use Rattle.check_core.specs.declared.batch.Filled.TheVariants.{Stopped}
-use Rattle.check_core.specs.Batch.{bytes_of}
-use Rattle.check_core.proofs.BatchLemmas.{bytes_more, all_more, known_frame, known_bounded, no_header, reads_frame, reads_none}
+use Rattle.check_core.proofs.BatchLemmas.{bytes_kept, more_kept, all_kept, known_frame, known_bounded, no_header, frame_not_end, frame_keeps, end_keeps, end_adds_none, whole_not_end, stopped_not_end, stopped_not_whole, end_not_stopped, stop_is, handed_over, reads_frame, reads_none}
 use Rattle.check_core.proofs.batch.Batch.fill.Goals as goal
 
 -- a batch that was read up to where reading stopped
@@ -41,7 +36,7 @@ pub returns-in-Err-clause-limit : goal.returns-in-Err-clause-limit
 returns-in-Err-clause-limit g c = λ is.
     let last = c.frames.invariant in
     let next = c.in-Err.ensures in
-    let same : c.in-Err.stop ≡ sources.InputLimit = cc in
+    let same = stop_is c.in-Err.stop sources.InputLimit is in
     HasRead-then _ _ _ _ _ _ last.took (next.limit (ap Err same)) (omega (arith, next.rises, next.within, last.rises))
 
 pub returns-in-Err-clause-near : goal.returns-in-Err-clause-near
@@ -54,8 +49,38 @@ pub returns-in-Err-clause-beyond : goal.returns-in-Err-clause-beyond
 returns-in-Err-clause-beyond g c = λ is.
     let last = c.frames.invariant in
     let next = c.in-Err.ensures in
-    let same : c.in-Err.stop ≡ sources.InputLimit = cc in
+    let same = stop_is c.in-Err.stop sources.InputLimit is in
     ReadsAs-back (λ (end : ℕ). c.next.new.self.limit < end) _ _ _ _ _ last.took last.extent (next.beyond (ap Err same))
+
+pub returns-in-Err-clause-whole : goal.returns-in-Err-clause-whole
+returns-in-Err-clause-whole g c = λ is. absurd (stopped_not_whole _ is)
+
+pub returns-in-Err-clause-end : goal.returns-in-Err-clause-end
+returns-in-Err-clause-end g c = λ is. absurd (end_not_stopped _ is)
+
+pub returns-in-Err-clause-reached : goal.returns-in-Err-clause-reached
+returns-in-Err-clause-reached g c = λ is. absurd (end_not_stopped _ is)
+
+pub returns-in-End-clause-whole : goal.returns-in-End-clause-whole
+returns-in-End-clause-whole g c = λ is. absurd (whole_not_end is)
+
+pub returns-in-End-clause-full : goal.returns-in-End-clause-full
+returns-in-End-clause-full g c = λ is. absurd (stopped_not_end _ is)
+
+pub returns-in-End-clause-limit : goal.returns-in-End-clause-limit
+returns-in-End-clause-limit g c = λ is. absurd (stopped_not_end _ is)
+
+pub returns-in-End-clause-beyond : goal.returns-in-End-clause-beyond
+returns-in-End-clause-beyond g c = λ is. absurd (stopped_not_end _ is)
+
+pub returns-in-End-clause-fault : goal.returns-in-End-clause-fault
+returns-in-End-clause-fault g c = λ is. absurd (stopped_not_end _ is)
+
+pub returns-in-End-clause-end : goal.returns-in-End-clause-end
+returns-in-End-clause-end g c = λ is. c.in-Ok.ensures.end (ap Ok c.in-End.is)
+
+pub returns-in-End-clause-reached : goal.returns-in-End-clause-reached
+returns-in-End-clause-reached g c = λ is. c.in-Ok.ensures.reached (ap Ok c.in-End.is)
 
 pub keep-requires-clause-body : goal.keep-requires-clause-body
 keep-requires-clause-body g c = known_bounded c.in-Frame.verifier _ _ (c.in-Ok.ensures.frame c.in-Frame.verifier (ap Ok c.in-Frame.is))
@@ -64,36 +89,35 @@ pub frames-preserved : goal.frames-preserved
 frames-preserved g c =
     let last = c.frames.invariant in
     let next = c.in-Ok.ensures in
-    let due = next.due (λ is. cc) in
+    let due = next.due (λ is. frame_not_end _ _ c.in-Frame.is is) in
     let came = ap Ok c.in-Frame.is in
     let new : Reading = c.next.new.self in
     let kept = c.in_ok-keep-in-Frame.ensures.kept in
     let handed = c.in_ok-keep-in-Frame.ensures.handed in
-    let taken : c.keep.new.reader.taken ≡ new.taken = ap (λ (r : Reading). r.taken) handed in
-    let limit : c.keep.new.reader.limit ≡ new.limit = ap (λ (r : Reading). r.limit) handed in
+    let same = handed_over new c.keep.new.reader handed in
     let frame : Frame = record { verifier = c.in-Frame.verifier; body = new.progress.body } in
     record {
-      due = subst (λ (r : Reading). IsDue r.progress) (sym handed) (record { partial = due.partial; at_start = due.at_start });
-      header = ap (λ (r : Reading). r.progress.header) handed ∙ next.header ∙ ap (λ (n : Next). header_then (Ok n) c.frames.reader.progress.header) c.in-Frame.is ∙ last.header;
-      limit = limit ∙ next.same_limit ∙ last.limit;
-      rises = omega (arith, taken, next.rises, last.rises);
-      read = λ some. (omega (arith, taken, limit, next.within), omega (arith, taken, next.split, ap (λ (r : Reading). position r.progress) handed));
-      took = HasRead-then _ _ _ _ _ _ last.took (next.took (λ is. true≢false (ap is_ok is))) (omega (arith, taken, next.rises, last.rises));
+      due = same.due due;
+      header = same.header ∙ next.header ∙ frame_keeps _ _ _ c.in-Frame.is ∙ last.header;
+      limit = same.limit ∙ next.same_limit ∙ last.limit;
+      rises = omega (arith, same.taken, next.rises, last.rises);
+      read = λ some. (omega (arith, same.taken, same.limit, next.within), omega (arith, same.taken, next.split, same.position));
+      took = HasRead-then _ _ _ _ _ _ last.took (next.took (λ is. true≢false (ap is_ok is))) (omega (arith, same.taken, next.rises, last.rises));
       means = ReadsAs-then _ _ _ _ _ _ _ _ last.took last.means
           (reads_frame _ _ c.frames.self c.keep.new.self c.in-Frame.verifier c.frames.reader new c.keep.new.reader (Ok c.in-Ok.next) next.means came handed kept)
-          (omega (arith, taken, next.rises, last.rises));
-      extent = ReadsAs-kept _ _ _ _ _ (ReadsAs-then _ _ _ _ _ _ _ _ last.took last.extent next.extent (omega (arith, taken, next.rises, last.rises)))
-          (λ more. ap (λ (r : Reading). end_ahead r more) (sym handed));
-      near = near-then _ _ _ _ _ _ _ _ _ last.took last.extent next.rises taken last.near next.near;
+          (omega (arith, same.taken, next.rises, last.rises));
+      extent = ReadsAs-kept _ _ _ _ _ (ReadsAs-then _ _ _ _ _ _ _ _ last.took last.extent next.extent (omega (arith, same.taken, next.rises, last.rises))) same.extent;
+      near = near-then _ _ _ _ _ _ _ _ _ last.took last.extent next.rises same.taken last.near next.near;
       bytes =
-          let all = ap bytes_of kept in
-          let more = bytes_more c.frames.self frame in
-          omega (arith, all, more, last.bytes, next.bytes c.in-Frame.verifier came, ap (λ (r : Reading). r.progress.offset) handed);
-      frames = λ header known. subst (AllByRecursion (IsFrame header.verifiers)) (sym kept)
-          (all_more (IsFrame header.verifiers) c.frames.self frame (last.frames header known)
-          (known_frame c.in-Frame.verifier _ _ header (last.header ∙ known) (next.frame c.in-Frame.verifier came)));
+          let all = bytes_kept c.frames.self c.keep.new.self frame kept in
+          omega (arith, all, last.bytes, next.bytes c.in-Frame.verifier came, same.offset);
+      frames = λ header known. all_kept (IsFrame header.verifiers) c.frames.self c.keep.new.self frame kept (last.frames header known)
+          (known_frame c.in-Frame.verifier _ _ header (last.header ∙ known) (next.frame c.in-Frame.verifier came));
       faults = omega (arith, last.faults, next.never_falls);
     }
+
+pub frames-smaller : goal.frames-smaller
+frames-smaller g c = more_kept _ _ _ c.in_ok-keep-in-Frame.ensures.kept (c.frames-test.ensures.room refl)
 
 pub returns-in_err-keep-in-Frame-clause-took : goal.returns-in_err-keep-in-Frame-clause-took
 returns-in_err-keep-in-Frame-clause-took g c = λ other.
@@ -116,9 +140,9 @@ returns-in-End-clause-goes_on g c =
     record {
       means = ReadsAs-then _ _ _ _ _ _ _ _ last.took last.means
           (reads_none _ _ c.frames.self c.frames.reader c.next.new.self (Ok c.in-Ok.next) next.means
-          (λ rest. ap (λ (n : Next). next_then (Ok n) c.next.new.self.progress.body rest) c.in-End.is)) (omega (arith, next.rises, last.rises));
+          (end_adds_none _ _ c.in-End.is)) (omega (arith, next.rises, last.rises));
       extent = ReadsAs-then _ _ _ _ _ _ _ _ last.took last.extent next.extent (omega (arith, next.rises, last.rises));
-      header = next.header ∙ ap (λ (n : Next). header_then (Ok n) c.frames.reader.progress.header) c.in-End.is ∙ last.header;
+      header = next.header ∙ end_keeps _ _ c.in-End.is ∙ last.header;
       bytes = omega (arith, last.bytes, next.onward);
     }
 
