@@ -1,5 +1,5 @@
 -- Stations, their workers, their hands and their verifiers' runs.
-use Rattle.std.proofs.Common.{◌≡◌, ℕ, suc, ◌<◌, ◌≤◌, false, Result, Ok, Err, IfOk, OnOk, List, [], ◌∷◌, ◌++◌, map, length, get_or, refl, sym, ◌∙◌, ap, subst, append_assoc, All, arith}
+use Rattle.std.proofs.Common.{◌≡◌, ℕ, suc, ◌<◌, ◌≤◌, false, Result, Ok, Err, IfOk, OnOk, List, [], ◌∷◌, ◌++◌, map, length, get_or, refl, sym, ◌∙◌, ap, subst, append-nil, append_assoc, length-append, All, arith}
 use Rattle.std.proofs.Math.ListN.{get_or-map}
 use Rattle.std.proofs.lemmas.List as lists
 use Rattle.std.proofs.lemmas.List.{length-map, map_push, get_or_default}
@@ -27,31 +27,33 @@ use Rattle.worker_threads.specs.Posts.{worker_in, hand_in, AreToServe, HaveAll, 
 
 -- ---- posts that are manned
 
--- one hand more is at its post
-pub hand_posted : (posts after : List Station) (all rest left : List Hand) (post : Station) → map hand_in posts ++ rest ≡ all → rest ≡ post.post.hand ∷ left
-    → after ≡ posts ++ post ∷ [] → map hand_in after ++ left ≡ all
-hand_posted posts after all rest left post so_far is pushed =
-    ap (λ (ps : List Station). map hand_in ps ++ left) pushed
-    ∙ ap (λ (hs : List Hand). hs ++ left) (map_push hand_in posts post)
-    ∙ append_assoc (map hand_in posts) (post.post.hand ∷ []) left
-    ∙ ap (λ (hs : List Hand). map hand_in posts ++ hs) (sym is)
+-- One worker more is at its post,
+pub worker_posted : (posts after : List Station) (yielded : List Worker) (post : Station) (worker : Worker) → map worker_in posts ≡ yielded → worker_in post ≡ worker
+    → after ≡ posts ++ post ∷ [] → map worker_in after ≡ yielded ++ worker ∷ []
+worker_posted posts after yielded post worker so_far same pushed =
+    ap (map worker_in) pushed ∙ map_push worker_in posts post
+    ∙ ap (λ (ws : List Worker). ws ++ worker_in post ∷ []) so_far
+    ∙ ap (λ (w : Worker). yielded ++ w ∷ []) same
+
+-- and one hand or run more is there, of those that were left.
+pub part_posted : {X : Type 0} (part : Station → X) (posts after : List Station) (all rest left : List X) (post : Station) (x : X) → map part posts ++ rest ≡ all
+    → rest ≡ x ∷ left → part post ≡ x → after ≡ posts ++ post ∷ [] → map part after ++ left ≡ all
+part_posted {X} part posts after all rest left post x so_far is same pushed =
+    ap (λ (ps : List Station). map part ps ++ left) pushed
+    ∙ ap (λ (xs : List X). xs ++ left) (map_push part posts post)
+    ∙ append_assoc (map part posts) (part post ∷ []) left
+    ∙ ap (λ (y : X). map part posts ++ y ∷ left) same
+    ∙ ap (λ (xs : List X). map part posts ++ xs) (sym is)
     ∙ so_far
 
-pub worker_posted : (posts after : List Station) (yielded : List Worker) (post : Station) → map worker_in posts ≡ yielded → after ≡ posts ++ post ∷ []
-    → map worker_in after ≡ yielded ++ post.post.worker ∷ []
-worker_posted posts after yielded post so_far pushed =
-    ap (map worker_in) pushed ∙ map_push worker_in posts post ∙ ap (λ (ws : List Worker). ws ++ post.post.worker ∷ []) so_far
-
--- one run more has its feed
-pub run_posted : (posts after : List Station) (all rest left : List FedRun) (post : Station) (run : FedRun) → map run_in posts ++ rest ≡ all → rest ≡ run ∷ left
-    → run_in post ≡ run → after ≡ posts ++ post ∷ [] → map run_in after ++ left ≡ all
-run_posted posts after all rest left post run so_far is same pushed =
-    ap (λ (ps : List Station). map run_in ps ++ left) pushed
-    ∙ ap (λ (rs : List FedRun). rs ++ left) (map_push run_in posts post)
-    ∙ append_assoc (map run_in posts) (run_in post ∷ []) left
-    ∙ ap (λ (r : FedRun). map run_in posts ++ r ∷ left) same
-    ∙ ap (λ (rs : List FedRun). map run_in posts ++ rs) (sym is)
-    ∙ so_far
+-- Once all workers are, none is left.
+pub all_posted : {X : Type 0} (part : Station → X) (posts : List Station) (workers : List Worker) (all rest : List X) → map worker_in posts ≡ workers
+    → length all ≡ length workers → map part posts ++ rest ≡ all → map part posts ≡ all
+all_posted part posts workers all [] workers_are many so_far = sym (append-nil (map part posts)) ∙ so_far
+all_posted {X} part posts workers all (x ∷ rest) workers_are many so_far =
+    let there = ap (λ (ws : List Worker). length ws) (sym workers_are) ∙ length-map posts worker_in in
+    let parts = sym (length-append (map part posts) (x ∷ rest)) ∙ ap (λ (xs : List X). length xs) so_far in
+    absurd (omega (arith, there, many, length-map posts part, parts))
 
 -- of runs that were fed so many bytes at most
 pub few_left : (bytes : ℕ) (runs left : List FedRun) (run : FedRun) → All (λ fed. weight fed.run ≤ bytes) runs → runs ≡ run ∷ left

@@ -29,7 +29,31 @@ pub(crate) struct Crew {
     pub(crate) runs: Vec<FedRun>,
 }
 
-// Each worker at its post, with its hand, and the feed of its verifier's run, which was fed so many bytes at most.
+// A worker at its post, with its hand, and beside it the feed of its verifier's run, which was fed so many bytes at most.
+fn station_of(
+    alloc: Global,
+    worker: Worker,
+    hand: Hand,
+    run: FedRun,
+    bytes: u64,
+) -> Result<Station, Memory>
+    requires few { weight run.run ≤ bytes }
+    ensures worker { IfOk result (λ station. worker_in station ≡ worker) }
+    ensures hand { IfOk result (λ station. hand_in station ≡ hand) }
+    ensures run { IfOk result (λ station. run_in station ≡ run) }
+    ensures opened { IfOk result (λ station. IsOpened station) }
+{
+    let (outbox, inbox) = open(alloc, run, bytes)?;
+    let post = Post {
+        worker,
+        hand,
+        outbox,
+        wanting: false,
+    };
+    Ok(Station { post, inbox })
+}
+
+// The stations of all workers, in their order.
 fn man(alloc: Global, crew: Crew, bytes: u64) -> Result<Vec<Station>, Memory>
     requires hands { length crew.hands.items ≡ length crew.workers.items }
     requires runs { length crew.runs.items ≡ length crew.workers.items }
@@ -54,14 +78,8 @@ fn man(alloc: Global, crew: Crew, bytes: u64) -> Result<Vec<Station>, Memory>
         let Some(run) = runs.next() else {
             unreachable!()
         };
-        let (outbox, inbox) = open(alloc, run, bytes)?;
-        let post = Post {
-            worker,
-            hand,
-            outbox,
-            wanting: false,
-        };
-        stations.push(Station { post, inbox })?;
+        let station = station_of(alloc, worker, hand, run, bytes)?;
+        stations.push(station)?;
     }
     Ok(stations)
 }

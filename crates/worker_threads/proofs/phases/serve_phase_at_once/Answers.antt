@@ -18,7 +18,7 @@ use Rattle.host_world.specs.Shown.{shown_world, digests_of, requests_of}
 use Rattle.host_serving.specs.Leading.{Leads}
 use Rattle.worker_threads.specs.Parts.{ArePlaces}
 use Rattle.worker_threads.specs.Phase.{ArePlacesFor, first_stopped}
-use Rattle.worker_threads.specs.Posts.{AreToWatch, HaveTakenLogs}
+use Rattle.worker_threads.specs.Posts.{HaveTakenLogs}
 use Rattle.worker_threads.proofs.CallLemmas.{phase_places, lent_count, later_is, to_serve, served_at_once, goes_on, hosts_then, no_end}
 use Rattle.worker_threads.proofs.FeedLemmas.{all_take, few_all}
 use Rattle.worker_threads.proofs.ServedLemmas.{none_stopped, some_stopped}

@@ -1,12 +1,14 @@
-use Rattle.std.proofs.Common.{false, refl}
+use Rattle.std.proofs.Common.{◌∙◌, sym, map-id, rules}
+use Rattle.std.proofs.lemmas.Iterator.Adapters.{YieldsList-from_vec}
+use Rattle.std.proofs.lemmas.Iterator.Consumers.{YieldsList-end}
 use Rattle.std.specs.Vec.Iter.{into_iter_items}
-use Rattle.worker_threads.specs.declared.post.Post.{Post}
-use Rattle.worker_threads.specs.declared.station.Station.{Station}
-use Rattle.worker_threads.proofs.PostLemmas.{hand_posted, worker_posted, run_posted, few_left, few_first, opened_all}
+use Rattle.worker_threads.specs.Posts.{hand_in}
+use Rattle.worker_threads.specs.Stations.{run_in}
+use Rattle.worker_threads.proofs.PostLemmas.{all_posted, part_posted, worker_posted, few_left, few_first, opened_all}
 use Rattle.worker_threads.proofs.posting.man.Goals as goal
 
-pub open-requires : goal.open-requires
-open-requires c = record {
+pub station_of-requires : goal.station_of-requires
+station_of-requires c = record {
   few = few_first c.args.bytes (into_iter_items c.loop-worker.runs) (into_iter_items c.next-in-loop-worker-2.new.self) c.in-Some-next-2.run' c.loop-worker.invariant.few c.in-Some-next-2.ensures.items;
 }
 
@@ -15,16 +17,31 @@ loop-worker-preserved c =
     let so_far = c.loop-worker.invariant in
     let stations = c.loop-worker.stations.items in
     let after = c.push.new.self.items in
-    let post : Post = record { worker = c.in-Some.worker; hand = c.in-Some-next.hand; outbox = c.in_ok-outbox.outbox; wanting = false } in
-    let station : Station = record { post = post; inbox = c.in_ok-outbox.inbox } in
-    let feed = c.in_ok-outbox.ensures.open in
+    let station = c.in_ok-station.station in
+    let made = c.in_ok-station.ensures in
+    let pushed = c.in_ok-push.ensures.items in
     record {
-      workers = worker_posted stations after c.loop-worker.yielded station so_far.workers c.in_ok-push.ensures.items;
-      hands = hand_posted stations after c.args.crew.hands.items (into_iter_items c.loop-worker.hands) (into_iter_items c.next-in-loop-worker.new.self) station
-          so_far.hands c.in-Some-next.ensures.items c.in_ok-push.ensures.items;
-      runs = run_posted stations after c.args.crew.runs.items (into_iter_items c.loop-worker.runs) (into_iter_items c.next-in-loop-worker-2.new.self) station c.in-Some-next-2.run'
-          so_far.runs c.in-Some-next-2.ensures.items feed.run_is c.in_ok-push.ensures.items;
+      workers = worker_posted stations after c.loop-worker.yielded station c.in-Some.worker so_far.workers made.worker pushed;
+      hands = part_posted hand_in stations after c.args.crew.hands.items (into_iter_items c.loop-worker.hands) (into_iter_items c.next-in-loop-worker.new.self) station
+          c.in-Some-next.hand so_far.hands c.in-Some-next.ensures.items made.hand pushed;
+      runs = part_posted run_in stations after c.args.crew.runs.items (into_iter_items c.loop-worker.runs) (into_iter_items c.next-in-loop-worker-2.new.self) station
+          c.in-Some-next-2.run' so_far.runs c.in-Some-next-2.ensures.items made.run pushed;
       few = few_left c.args.bytes (into_iter_items c.loop-worker.runs) (into_iter_items c.next-in-loop-worker-2.new.self) c.in-Some-next-2.run' so_far.few c.in-Some-next-2.ensures.items;
-      opened = opened_all stations after station so_far.opened
-          (record { served = refl; empty = feed.empty; ends = feed.ends; fresh = feed.fresh; room = feed.room }) c.in_ok-push.ensures.items;
+      opened = opened_all stations after station so_far.opened made.opened pushed;
     }
+
+pub returns-clause-workers : goal.returns-clause-workers
+returns-clause-workers c =
+    let end = YieldsList-end (YieldsList-from_vec {s = c.into_iter-worker-iterator.result} c.args.crew.workers.items (search rules) (search rules))
+    c.loop-worker.yielded c.loop-worker.worker-iterator c.loop-worker.yielded_by c.next.result c.next.new.self c.in-None.is c.next.ensures.steps in
+    c.loop-worker.invariant.workers ∙ sym (map-id c.loop-worker.yielded) ∙ end.0
+
+pub returns-clause-hands : goal.returns-clause-hands
+returns-clause-hands c =
+    all_posted hand_in c.loop-worker.stations.items c.args.crew.workers.items c.args.crew.hands.items (into_iter_items c.loop-worker.hands)
+    (returns-clause-workers c) c.requires.hands c.loop-worker.invariant.hands
+
+pub returns-clause-runs : goal.returns-clause-runs
+returns-clause-runs c =
+    all_posted run_in c.loop-worker.stations.items c.args.crew.workers.items c.args.crew.runs.items (into_iter_items c.loop-worker.runs)
+    (returns-clause-workers c) c.requires.runs c.loop-worker.invariant.runs

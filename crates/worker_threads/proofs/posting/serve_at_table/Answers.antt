@@ -1,4 +1,4 @@
-use Rattle.std.proofs.Common.{◌≡◌, map, ◌∙◌, ap, subst, sym, All}
+use Rattle.std.proofs.Common.{map, ◌∙◌, ap, subst, sym, All}
 use Rattle.std.proofs.lemmas.List.{with_items_is}
 use Rattle.std.specs.Vec.{with_items}
 use Rattle.host_table.specs.Table.{table, terms}
