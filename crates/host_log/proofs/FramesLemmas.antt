@@ -11,6 +11,15 @@ use Rattle.fv_outside.proofs.WrittenLaws.{Grows-nil, Grows-then, GrowsByFront-mo
 use Rattle.bundle_frames.specs.Bundle.{Frame, IsFrame, frame_text, longest_body, body_for, log_of}
 use Rattle.host_log.specs.Frames.{bodies_up_to, bodies_of, frame_with, frames_of, texts_of, frames_text, frames_of_pieces, pieces_text}
 
+-- a body from the front of some bytes, of as many as it may have, is in its range, and leaves fewer
+front-range : (most byte : ℕ) (bytes : List ℕ) → 1 ≤ most → (1 ≤ length (take most (byte ∷ bytes))) × (length (take most (byte ∷ bytes)) ≤ most)
+front-range most byte bytes some =
+    let size = length-take most (byte ∷ bytes) in
+    (omega arith, omega arith)
+
+rest-shorter : (most byte : ℕ) (bytes : List ℕ) → 1 ≤ most → length (drop most (byte ∷ bytes)) ≤ length bytes
+rest-shorter most byte bytes some = omega (arith, length-drop most (byte ∷ bytes))
+
 -- more steps cut no further
 bodies-enough : (count more : ℕ) (bytes : List ℕ) → length bytes ≤ count → length bytes ≤ more → bodies_up_to count bytes ≡ bodies_up_to more bytes
 unfolding bodies_up_to
@@ -22,7 +31,7 @@ bodies-enough zero more (byte ∷ bytes) few some = absurd (omega arith)
 bodies-enough (suc count) zero (byte ∷ bytes) few some = absurd (omega arith)
 bodies-enough (suc count) (suc more) (byte ∷ bytes) few some =
     let rest = drop longest_body (byte ∷ bytes) in
-    let shorter : length rest ≤ length bytes = omega (arith, length-drop longest_body (byte ∷ bytes)) in
+    let shorter : length rest ≤ length bytes = rest-shorter longest_body byte bytes (omega arith) in
     ap (λ bodies. take longest_body (byte ∷ bytes) ∷ bodies) (bodies-enough count more rest (omega arith) (omega arith))
 
 -- one body and the rest
@@ -30,7 +39,7 @@ pub bodies-step : (byte : ℕ) (bytes : List ℕ) → bodies_of (byte ∷ bytes)
 unfolding bodies_up_to
 bodies-step byte bytes =
     let rest = drop longest_body (byte ∷ bytes) in
-    let shorter : length rest ≤ length bytes = omega (arith, length-drop longest_body (byte ∷ bytes)) in
+    let shorter : length rest ≤ length bytes = rest-shorter longest_body byte bytes (omega arith) in
     ap (λ bodies. take longest_body (byte ∷ bytes) ∷ bodies) (bodies-enough (length bytes) (length rest) rest shorter (omega arith))
 
 -- the front of bytes that fill a body, or are all
@@ -74,9 +83,7 @@ bodies-range : (count : ℕ) (bytes : List ℕ) → AllByRecursion (λ body. (1 
 unfolding bodies_up_to
 bodies-range zero bytes = tt
 bodies-range (suc count) [] = tt
-bodies-range (suc count) (byte ∷ bytes) =
-    let size = length-take longest_body (byte ∷ bytes) in
-    ((omega arith, omega arith), bodies-range count (drop longest_body (byte ∷ bytes)))
+bodies-range (suc count) (byte ∷ bytes) = (front-range longest_body byte bytes (omega arith), bodies-range count (drop longest_body (byte ∷ bytes)))
 
 frames-range : (verifiers verifier : ℕ) (bodies : List (List ℕ)) → verifier < verifiers
     → AllByRecursion (λ body. (1 ≤ length body) × (length body ≤ longest_body)) bodies → AllByRecursion (IsFrame verifiers) (map (frame_with verifier) bodies)
@@ -96,7 +103,7 @@ bodies-joined zero (byte ∷ bytes) enough = absurd (omega arith)
 bodies-joined (suc count) [] enough = refl
 bodies-joined (suc count) (byte ∷ bytes) enough =
     let rest = drop longest_body (byte ∷ bytes) in
-    let shorter : length rest ≤ length bytes = omega (arith, length-drop longest_body (byte ∷ bytes)) in
+    let shorter : length rest ≤ length bytes = rest-shorter longest_body byte bytes (omega arith) in
     ap (λ more. take longest_body (byte ∷ bytes) ++ more) (bodies-joined count rest (omega arith)) ∙ take-append-drop longest_body (byte ∷ bytes)
 
 log-own : (verifier : ℕ) (bodies : List (List ℕ)) → log_of verifier (map (frame_with verifier) bodies) ≡ flat_map (λ body. body) bodies
