@@ -12,13 +12,13 @@ use Rattle.bundle_frames.specs.declared.found.Found.TheVariants.{Nothing, Head, 
 use Rattle.bundle_frames.specs.Bundle.{Bundle, Frames, magic, header_bytes, header_in, head_bytes, head_length, is_head, frame_in, frame_bytes, frames_behind, frames_up_to, frames_from, bundle_of, bundle_behind}
 use Rattle.bundle_frames.specs.Bundle as bundle
 use Rattle.bundle_frames.specs.Progress.{Progress, meaning_at, rest_of, position, is_partial, is_bad, field_bytes}
-use Rattle.bundle_frames.specs.Finds.{FindsIn, progress_after}
+use Rattle.bundle_frames.specs.Finds.{FindsIn, FindsNothing, progress_after}
 use Rattle.bundle_frames.specs.Unfinished.{IsShort, IsUnfinished}
 use Rattle.bundle_frames.specs.Extent.{end_in, end_behind, IsDue}
 use Rattle.bundle_frames.proofs.FrontLaws.{head_length-front, is_head-front}
 use Rattle.bundle_frames.proofs.BundleLaws.{frames_from-first}
 use Rattle.bundle_frames.proofs.PartLaws.{held-rest, length-held}
-use Rattle.bundle_frames.proofs.FindsLaws.{IsFrameOf-from_frame_in, rest-end, rest-found, rest-bad, is_bad-front, is_bad-after}
+use Rattle.bundle_frames.proofs.FindsLaws.{IsFrameOf-from_frame_in, rest-end, rest-found, rest-bad, is_partial-bad, is_bad-front, is_bad-after}
 
 -- ---- where it ends
 
@@ -266,6 +266,10 @@ pub due_fed : (old new : Progress) (piece : List ℕ) (n : ℕ) (found : Found) 
 due_fed old new piece n found due finds after other =
     subst IsDue (sym after) (due-after old.header old.offset old.held old.body piece n found finds due.at_start other)
 
+-- and what is bad is read no further
+pub due_good : (p : Progress) → IsDue p → is_bad p.header p.held ≡ true → ⊥
+due_good p due bad = false≢true (sym (is_partial-bad p.header p.held bad) ∙ due.partial)
+
 -- ---- what is not whole
 
 some-same : {A : Type 0} (x y : A) → Some x ≡ Some y → x ≡ y
@@ -288,6 +292,11 @@ unfinished-partial (Some header) held partial =
           subst (λ (known : Header). IsShort known held) (some-same header h is)
           (record { head = λ more. (frame-part header held partial (omega arith)).0; body = λ more. (frame-part header held partial (omega arith)).1 });
     }
+
+-- nor is what was held with a piece that was taken whole
+pub unfinished-nothing : (header : Option Header) (held piece : List ℕ) (n : ℕ) → FindsNothing header held piece n → IsUnfinished header (held ++ take n piece)
+unfinished-nothing header held piece n finds =
+    subst (λ (front : List ℕ). IsUnfinished header (held ++ front)) (sym (take_all n piece (omega (arith, finds.all)))) (unfinished-partial header (held ++ piece) finds.partial)
 
 -- while reading has not ended, no header and no frame is left in the bytes that were taken
 pub no_header_due : (p : Progress) → IsDue p → (rest_of p []).header ≡ p.header

@@ -228,7 +228,7 @@ position-after header offset held body piece n (Head found) finds within start =
 position-after header offset held body piece n (Frame verifier) finds within start = let size = length-take-le n piece within in omega arith
 
 -- a header or frame is not partial where its fields are bad
-is_partial-bad : (header : Option Header) (bytes : List ℕ) → is_bad header bytes ≡ true → is_partial header bytes ≡ false
+pub is_partial-bad : (header : Option Header) (bytes : List ℕ) → is_bad header bytes ≡ true → is_partial header bytes ≡ false
 is_partial-bad None bytes bad = le-ltb _ _ (leb-true _ _ (and_parts _ _ bad).0)
 is_partial-bad (Some header) bytes bad =
     let parts = and_parts _ _ bad in

@@ -1,11 +1,14 @@
 -- The parts of a reader: what a read into the room and a split of what is unread come to.
-use Rattle.std.proofs.Common.{◌≡◌, ℕ, ◌+◌, ◌≤◌, ◌<◌, List, [], ◌++◌, length, take, drop, Option, Some, None, IfSome, slice_range, sym, ap, subst, ◌∙◌, arith, length-append}
+use Rattle.std.proofs.Common.{◌≡◌, ℕ, ◌+◌, ◌≤◌, ◌<◌, List, [], ◌++◌, length, take, drop, Option, Some, None, IfSome, slice_range, sym, ap, subst, ◌∙◌, arith, length-append, length-drop}
 use Rattle.std.proofs.Math.Seq.{drop-append-add}
 use Rattle.std.proofs.lemmas.List.{drop-drop, take-append-le, take_all}
-use Rattle.std.proofs.lemmas.List.Edits.{between_none}
+use Rattle.std.proofs.lemmas.List.Edits.{between_none, length-between}
 use Rattle.std.proofs.lemmas.Slice.{between_from_start, between_is}
 use Rattle.std.specs.Io.KnownBytes.{Consumes, IsAtEnd, Keeps}
+use Rattle.bundle_frames.specs.declared.coming.Next.TheVariants.{Frame}
+use Rattle.bundle_frames.specs.declared.found.Found.TheVariants.{Frame as FoundFrame}
 use Rattle.bundle_frames.specs.Progress.{Progress, position, rest_of}
+use Rattle.bundle_frames.specs.Finds.{progress_after}
 use Rattle.bundle_frames.specs.Extent.{end_behind, IsDue}
 use Rattle.bundle_frames.specs.Reading.{Reading, IsSpent, HasRead, ReadsAs}
 use Rattle.bundle_frames.proofs.ExtentLemmas.{due-before, end-all, no_header_due, no_frames_due}
@@ -22,6 +25,9 @@ unread_none room from until same = ap (slice_range room from) (sym same) ∙ bet
 
 pub unread_read : (room : List ℕ) (count : ℕ) → slice_range room 0 count ≡ take count room
 unread_read room count = between_from_start room count
+
+pub unread_some : (room : List ℕ) (from until : ℕ) → from < until → until ≤ length room → 0 < length (slice_range room from until)
+unread_some room from until some within = omega (arith, length-between room from until within)
 
 -- ---- a read
 
@@ -85,6 +91,18 @@ end_near p at now front old (Some bytes) None due read some none is piece = absu
 end_near p at now front old (Some bytes) (Some rest) due read some none is piece =
     let further = end_further p at front old (Some bytes) (Some rest) due read some none is in
     omega arith
+
+-- ---- what was found
+
+pub frame_same : (found came : ℕ) → Some (Frame found) ≡ Some (Frame came) → FoundFrame found ≡ FoundFrame came
+frame_same found came is = cc
+
+-- behind a frame lie the bytes of its body
+pub frame_further : (old new : Progress) (front : List ℕ) (verifier : ℕ) → new ≡ progress_after old front (FoundFrame verifier) → old.offset + length new.body ≤ new.offset
+frame_further old new front verifier after =
+    let body = ap (λ (p : Progress). length p.body) after in
+    let offset = ap (λ (p : Progress). p.offset) after in
+    omega (arith, length-drop 6 (old.held ++ front), length-append old.held front)
 
 -- ---- the end of a source
 

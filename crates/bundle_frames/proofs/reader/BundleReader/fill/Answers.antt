@@ -1,12 +1,12 @@
-use Rattle.std.proofs.Common.{◌≡◌, ◌+◌, take, sym, ap, subst, ◌∙◌, refl, arith, ⊎_elim}
-use Rattle.std.proofs.lemmas.Bool.{cases_lt}
+use Rattle.std.proofs.Common.{◌≡◌, ◌+◌, ◌<◌, ltb, true, length, take, drop, sym, ap, subst, ◌∙◌, refl, arith, ⊎_elim}
+use Rattle.std.proofs.lemmas.Bool.{cases_lt, ltb-true}
 use Rattle.std.proofs.lemmas.List.{length-take-le}
 use Rattle.std.specs.Vec.{with_items}
 use Rattle.bundle_frames.specs.Progress.{Progress, position, rest_of}
 use Rattle.bundle_frames.specs.Extent.{end_behind, IsDue}
 use Rattle.bundle_frames.specs.Reading.{Reading}
 use Rattle.bundle_frames.proofs.ReadingLaws.{ReadsAs-none}
-use Rattle.bundle_frames.proofs.ReaderLemmas.{unread_none, unread_read, read_take, reads_front, same_ahead, end_further, end_near}
+use Rattle.bundle_frames.proofs.ReaderLemmas.{unread_none, unread_some, unread_read, read_take, reads_front, same_ahead, end_further, end_near}
 use Rattle.bundle_frames.proofs.reader.BundleReader.fill.Goals as goal
 
 pub returns-then-self-clause-means : goal.returns-then-self-clause-means
@@ -97,3 +97,16 @@ returns-clause-extent g c =
     (sym (ap (λ (r : Reading). r.progress) c.self.view_is)) c.in-Ok.ensures.bytes.0 (omega arith)
     (sym (ap (λ (r : Reading). r.unread) c.self.view_is) ∙ unread_none s.room.items s.from s.until (omega arith))
     (unread_read (with_items s.room c.read_some.new.room).items c.in-Ok.count ∙ ap (take c.in-Ok.count) (read_take c.read_some.new.room _ s.room.len (omega (arith, c.in-Ok.ensures.length, c.deref_mut.ensures.len))))
+
+pub returns-then-self-clause-some : goal.returns-then-self-clause-some
+returns-then-self-clause-some g c = λ _.
+    let s = c.self.inside in
+    let Unread : Reading → Type 0 = λ r. 0 < length r.unread in
+    subst Unread c.self.view_is (unread_some s.room.items s.from s.until (omega arith) (omega arith))
+
+pub returns-clause-some : goal.returns-clause-some
+returns-clause-some g c = λ is.
+    let s = c.self.inside in
+    let counted : ltb 0 c.in-Ok.count ≡ true = cc in
+    let room = ap length (read_take c.read_some.new.room (drop (length c.read_some.new.room) s.room.items) s.room.len (omega (arith, c.in-Ok.ensures.length, c.deref_mut.ensures.len))) in
+    unread_some (with_items s.room c.read_some.new.room).items 0 c.in-Ok.count (ltb-true _ _ counted) (omega (arith, c.in-Ok.ensures.bound, c.in-Ok.ensures.length))
