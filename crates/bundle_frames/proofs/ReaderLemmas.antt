@@ -1,10 +1,13 @@
 -- The parts of a reader: what a read into the room and a split of what is unread come to.
-use Rattle.std.proofs.Common.{◌≡◌, ℕ, ◌+◌, ◌≤◌, ◌<◌, List, [], ◌++◌, length, take, drop, Option, Some, None, IfSome, slice_range, sym, ap, subst, ◌∙◌, arith, length-append, length-drop}
+use Rattle.std.proofs.Common.{◌≡◌, ℕ, ◌+◌, ◌≤◌, ◌<◌, ltb, Bool, true, List, [], ◌++◌, length, take, drop, Option, Some, None, IfSome, slice_range, sym, ap, subst, ◌∙◌, arith, length-append, length-drop}
+use Rattle.std.specs.Prelude.{Result, Ok}
 use Rattle.std.proofs.Math.Seq.{drop-append-add}
 use Rattle.std.proofs.lemmas.List.{drop-drop, take-append-le, take_all}
 use Rattle.std.proofs.lemmas.List.Edits.{between_none, length-between}
+use Rattle.std.proofs.lemmas.Bool.{ltb-true}
 use Rattle.std.proofs.lemmas.Slice.{between_from_start, between_is}
 use Rattle.std.specs.Io.KnownBytes.{Consumes, IsAtEnd, Keeps}
+use Rattle.bundle_frames.specs.declared.coming.SourceStop.{SourceStop}
 use Rattle.bundle_frames.specs.declared.coming.Next.TheVariants.{Frame}
 use Rattle.bundle_frames.specs.declared.found.Found.TheVariants.{Frame as FoundFrame}
 use Rattle.bundle_frames.specs.Progress.{Progress, position, rest_of}
@@ -33,6 +36,12 @@ unread_some room from until some within = omega (arith, length-between room from
 
 pub read_take : (front rest : List ℕ) (n : ℕ) → n ≡ length front → take n (front ++ rest) ≡ front
 read_take front rest n is = take-append-le n front rest (omega arith) ∙ take_all n front (omega arith)
+
+-- bytes were read, where that is answered
+pub count_some : (count : ℕ) → (let more : Result Bool SourceStop = Ok (ltb 0 count) in more ≡ Ok true) → 0 < count
+count_some count is =
+    let more : ltb 0 count ≡ true = cc in
+    ltb-true 0 count more
 
 read_drop : (front rest : List ℕ) (n : ℕ) → n ≡ length front → drop n (front ++ rest) ≡ rest
 read_drop front rest n is = ap (λ (k : ℕ). drop k (front ++ rest)) (let more : n ≡ length front + 0 = omega arith in more) ∙ drop-append-add front rest 0

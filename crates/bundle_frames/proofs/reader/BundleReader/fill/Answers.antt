@@ -1,12 +1,12 @@
-use Rattle.std.proofs.Common.{◌≡◌, ◌+◌, ◌<◌, ltb, true, length, take, drop, sym, ap, subst, ◌∙◌, refl, arith, ⊎_elim}
-use Rattle.std.proofs.lemmas.Bool.{cases_lt, ltb-true}
+use Rattle.std.proofs.Common.{◌≡◌, ◌+◌, ◌<◌, length, take, drop, sym, ap, subst, ◌∙◌, refl, arith, ⊎_elim}
+use Rattle.std.proofs.lemmas.Bool.{cases_lt}
 use Rattle.std.proofs.lemmas.List.{length-take-le}
 use Rattle.std.specs.Vec.{with_items}
 use Rattle.bundle_frames.specs.Progress.{Progress, position, rest_of}
 use Rattle.bundle_frames.specs.Extent.{end_behind, IsDue}
 use Rattle.bundle_frames.specs.Reading.{Reading}
 use Rattle.bundle_frames.proofs.ReadingLaws.{ReadsAs-none}
-use Rattle.bundle_frames.proofs.ReaderLemmas.{unread_none, unread_some, unread_read, read_take, reads_front, same_ahead, end_further, end_near}
+use Rattle.bundle_frames.proofs.ReaderLemmas.{unread_none, unread_some, unread_read, read_take, count_some, reads_front, same_ahead, end_further, end_near}
 use Rattle.bundle_frames.proofs.reader.BundleReader.fill.Goals as goal
 
 pub returns-then-self-clause-means : goal.returns-then-self-clause-means
@@ -107,6 +107,5 @@ returns-then-self-clause-some g c = λ _.
 pub returns-clause-some : goal.returns-clause-some
 returns-clause-some g c = λ is.
     let s = c.self.inside in
-    let counted : ltb 0 c.in-Ok.count ≡ true = cc in
     let room = ap length (read_take c.read_some.new.room (drop (length c.read_some.new.room) s.room.items) s.room.len (omega (arith, c.in-Ok.ensures.length, c.deref_mut.ensures.len))) in
-    unread_some (with_items s.room c.read_some.new.room).items 0 c.in-Ok.count (ltb-true _ _ counted) (omega (arith, c.in-Ok.ensures.bound, c.in-Ok.ensures.length))
+    unread_some (with_items s.room c.read_some.new.room).items 0 c.in-Ok.count (count_some c.in-Ok.count is) (omega (arith, c.in-Ok.ensures.bound, c.in-Ok.ensures.length))
