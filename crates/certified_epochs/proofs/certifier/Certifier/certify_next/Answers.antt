@@ -1,4 +1,5 @@
 use Rattle.std.proofs.Common.{ℕ, ◌++◌, List, Bor, add-one, sym, ◌∙◌, ap, subst, append-nil, arith}
+use Rattle.std.proofs.lemmas.Result.{IfOk-from_err}
 use Rattle.fv_outside.specs.Written.{GrowsByFront}
 use Rattle.fv_outside.proofs.WrittenLaws.{GrowsByFront-none}
 use Rattle.record_text.specs.declared.operation.Operation.{Operation}
@@ -10,12 +11,31 @@ use Rattle.bundle_report.specs.declared.judged.Judged.{Judged}
 use Rattle.bundle_report.specs.Report.{operations_told}
 use Rattle.certified_epochs.specs.Telling.{text_by}
 use Rattle.certified_epochs.specs.Turn.{Turned, IsVerdictAt, next_epoch}
-use Rattle.certified_epochs.proofs.TurnLemmas.{runs_of, fed-judged, handed-at, with_text, turn-other, turn-balanced, less-left, count-small, err_holds, ok_holds}
+use Rattle.certified_epochs.proofs.TurnLemmas.{runs_of, fed-judged, handed-at, with_text, turn-none, turn-other, turn-balanced, less-left, count-small, err_holds, ok_holds}
 use Rattle.certified_epochs.proofs.certifier.Certifier.certify_next.Goals as goal
 
 -- the text of a turn
 abbrev text_of : {A : Type 0} → Turned A → List A
 text_of turned = turned.text
+
+pub returns-in_default-clause-turned : goal.returns-in_default-clause-turned
+returns-in_default-clause-turned g c =
+    with_text _ _ _ _ _
+    (turn-none (text_by g.D.Digests.functions c.args.telling.now) c.args.self.now (runs_of c.args.runs.now) c.next_epoch.result c.in_default.is c.next_epoch.ensures.value)
+
+pub returns-in_default-clause-text : goal.returns-in_default-clause-text
+returns-in_default-clause-text g c =
+    subst (λ (text : List ℕ). Passes (g.O.Sink.held c.args.out.now) c.args.page.now text (g.O.Sink.held c.args.out.now) c.args.page.now)
+    (sym (ap text_of
+    (turn-none (text_by g.D.Digests.functions c.args.telling.now) c.args.self.now (runs_of c.args.runs.now) c.next_epoch.result c.in_default.is c.next_epoch.ensures.value)))
+    (Passes-start (g.O.Sink.held c.args.out.now) c.args.page.now)
+
+pub returns-in_default-clause-counted : goal.returns-in_default-clause-counted
+returns-in_default-clause-counted g c = λ workers before summary_is.
+    summary_is
+    ∙ ap (counted_of workers) (sym (append-nil before))
+    ∙ ap (λ (ops : List Operation). counted_of workers (before ++ ops))
+    (sym (ap text_of (turn-none operations_told c.args.self.now (runs_of c.args.runs.now) c.next_epoch.result c.in_default.is c.next_epoch.ensures.value)))
 
 pub verdict_on-requires : goal.verdict_on-requires
 verdict_on-requires g c = record {
@@ -123,3 +143,33 @@ returns-in_err-take-clause-front g c = on_err _ (GrowsByFront-none (g.O.Sink.hel
 
 pub returns-in_err-count-clause-front : goal.returns-in_err-count-clause-front
 returns-in_err-count-clause-front g c = on_err _ (GrowsByFront-none (g.O.Sink.held c.args.out.now) _)
+
+pub returns-in_err-verdict_on-clause-front : goal.returns-in_err-verdict_on-clause-front
+returns-in_err-verdict_on-clause-front g c = on_err _ (GrowsByFront-none (g.O.Sink.held c.args.out.now) _)
+
+pub returns-in_err-verdict_on-clause-turned : goal.returns-in_err-verdict_on-clause-turned
+returns-in_err-verdict_on-clause-turned g c = IfOk-from_err _ _ c.from_residual.ensures.0
+
+pub returns-in_err-verdict_on-clause-text : goal.returns-in_err-verdict_on-clause-text
+returns-in_err-verdict_on-clause-text g c = IfOk-from_err _ _ c.from_residual.ensures.0
+
+pub returns-in_err-verdict_on-clause-counted : goal.returns-in_err-verdict_on-clause-counted
+returns-in_err-verdict_on-clause-counted g c = λ workers before summary_is. IfOk-from_err _ _ c.from_residual.ensures.0
+
+pub returns-in_err-take-clause-turned : goal.returns-in_err-take-clause-turned
+returns-in_err-take-clause-turned g c = IfOk-from_err _ _ c.from_residual-in_err-take.ensures.0
+
+pub returns-in_err-take-clause-text : goal.returns-in_err-take-clause-text
+returns-in_err-take-clause-text g c = IfOk-from_err _ _ c.from_residual-in_err-take.ensures.0
+
+pub returns-in_err-take-clause-counted : goal.returns-in_err-take-clause-counted
+returns-in_err-take-clause-counted g c = λ workers before summary_is. IfOk-from_err _ _ c.from_residual-in_err-take.ensures.0
+
+pub returns-in_err-count-clause-turned : goal.returns-in_err-count-clause-turned
+returns-in_err-count-clause-turned g c = IfOk-from_err _ _ c.from_residual-in_err-count.ensures.0
+
+pub returns-in_err-count-clause-text : goal.returns-in_err-count-clause-text
+returns-in_err-count-clause-text g c = IfOk-from_err _ _ c.from_residual-in_err-count.ensures.0
+
+pub returns-in_err-count-clause-counted : goal.returns-in_err-count-clause-counted
+returns-in_err-count-clause-counted g c = λ workers before summary_is. IfOk-from_err _ _ c.from_residual-in_err-count.ensures.0
