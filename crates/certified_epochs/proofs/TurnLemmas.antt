@@ -429,6 +429,12 @@ pub same-judged : (scheme : Scheme) (header : Header) (logs : List (List ℕ)) (
 same-judged scheme header logs so_far runs now uneven taken same is =
     uneven-judged scheme header logs so_far runs uneven taken (sym (ap (λ (j : Judged). j.unbalanced) same) ∙ is)
 
+-- no lines, of no epochs
+pub no-lines : {A : Type 0} (tell : EpochTold A) (courses : List (Course Operation)) (epoch count : ℕ) → [] ≡ lines_from tell courses epoch (count - count)
+no-lines tell courses epoch count =
+    let none : 0 ≡ count - count = omega arith in
+    ap (lines_from tell courses epoch) none
+
 -- the lines of one epoch more
 pub lines-step : {A : Type 0} (tell : EpochTold A) (courses : List (Course Operation)) (first start count next : ℕ) (text line : List A) → start ≤ count → next ≡ suc count
     → text ≡ lines_from tell courses (first + start) (count - start) → line ≡ lines_told tell courses (first + count)

@@ -1,7 +1,9 @@
-use Rattle.std.proofs.Common.{◌≡◌, ℕ, ◌+◌, ◌-◌, ◌++◌, List, [], Option, None, Some, IfSome, Bor, slice_get, sym, ◌∙◌, ap, subst, append-nil, append_assoc, arith}
+use Rattle.std.proofs.Common.{◌≡◌, ℕ, ◌+◌, ◌-◌, ◌++◌, List, [], Option, None, Some, IfSome, Bor, slice_get, rules, refl, sym, ◌∙◌, ap, subst, append-nil, append_assoc, arith}
 use Rattle.std.specs.Slice.{IsItemAt}
 use Rattle.std.proofs.lemmas.Option.{slice_get-get_or}
+use Rattle.std.proofs.lemmas.Result.{IfOk-from_err}
 use Rattle.fv_outside.specs.Written.{Grows}
+use Rattle.fv_outside.proofs.WrittenLaws.{Grows-nil}
 use Rattle.record_text.specs.declared.operation.Operation.{Operation}
 use Rattle.load_summary.specs.Counting.{counted_of}
 use Rattle.report_text.proofs.PassLaws.{Passes-then, Passes-flush, Passes-front, Passes-stop, on_err}
@@ -12,7 +14,7 @@ use Rattle.bundle_report.specs.RunReport.{courses_of}
 use Rattle.bundle_report.specs.SoFar.{lines_from}
 use Rattle.certified_epochs.specs.Telling.{text_by}
 use Rattle.certified_epochs.specs.Turn.{turn, next_epoch, IsVerdictAt}
-use Rattle.certified_epochs.proofs.TurnLemmas.{runs_of, settled-next, certified-turn, done-turn, same-judged, lines-step, turn-front, turn-alike}
+use Rattle.certified_epochs.proofs.TurnLemmas.{runs_of, settled-next, certified-turn, done-turn, same-judged, no-lines, lines-step, turn-front, turn-alike}
 use Rattle.certified_epochs.proofs.certifier.Certifier.certify.Goals as goal
 
 pub returns-in-Some-clause-judged : goal.returns-in-Some-clause-judged
@@ -139,3 +141,70 @@ certify_next-requires-clause-handed g c =
     (λ verdict there epoch next.
     settled-next have.0 have.1 have.2 c.args.self.now now (runs_of c.args.runs.now) runs settled verdict epoch have.3
     (inv.taken have.0 have.1 have.2 have.3) inv.even inv.counted (c.requires.settled inv.fed_before) (ap (slice_get settled) place ∙ there) next)
+
+pub returns-in_err-certify_next-clause-judged : goal.returns-in_err-certify_next-clause-judged
+returns-in_err-certify_next-clause-judged g c = λ scheme header logs taken. IfOk-from_err _ _ c.from_residual.ensures.0
+
+pub returns-in_err-certify_next-clause-taken : goal.returns-in_err-certify_next-clause-taken
+returns-in_err-certify_next-clause-taken g c = λ scheme header logs taken. IfOk-from_err _ _ c.from_residual.ensures.0
+
+pub returns-in_err-certify_next-clause-lines : goal.returns-in_err-certify_next-clause-lines
+returns-in_err-certify_next-clause-lines g c = λ scheme header logs taken. IfOk-from_err _ _ c.from_residual.ensures.0
+
+pub returns-in_err-certify_next-clause-counted : goal.returns-in_err-certify_next-clause-counted
+returns-in_err-certify_next-clause-counted g c = λ scheme header logs workers before taken summary_is. IfOk-from_err _ _ c.from_residual.ensures.0
+
+pub returns-in_err-certify_next-clause-fed : goal.returns-in_err-certify_next-clause-fed
+returns-in_err-certify_next-clause-fed g c = IfOk-from_err _ _ c.from_residual.ensures.0
+
+pub returns-in_err-certify_next-clause-starved : goal.returns-in_err-certify_next-clause-starved
+returns-in_err-certify_next-clause-starved g c = λ starved. absurd (starved c.epochs.invariant.fed_before)
+
+pub returns-in-Ok-clause-starved : goal.returns-in-Ok-clause-starved
+returns-in-Ok-clause-starved g c = λ starved. absurd (starved c.epochs.invariant.fed_before)
+
+pub returns-in-Err-clause-starved : goal.returns-in-Err-clause-starved
+returns-in-Err-clause-starved g c = λ starved. absurd (starved c.epochs.invariant.fed_before)
+
+pub returns-in-Some-clause-starved : goal.returns-in-Some-clause-starved
+returns-in-Some-clause-starved g c = λ starved. absurd (starved (c.any_starved.ensures.none c.if-any_starved.false))
+
+pub returns-in-Some-clause-taken : goal.returns-in-Some-clause-taken
+returns-in-Some-clause-taken g c = λ scheme header logs taken. taken
+
+pub returns-in-Some-clause-lines : goal.returns-in-Some-clause-lines
+returns-in-Some-clause-lines g c = λ scheme header logs taken.
+    subst (Grows (g.O.Sink.held c.args.out.now) (g.O.Sink.held c.args.out.now))
+    (no-lines (text_by g.D.Digests.functions c.args.telling.now) (courses_of scheme header logs) (header.first + c.args.self.now.count) c.args.self.now.count)
+    (Grows-nil (g.O.Sink.held c.args.out.now))
+
+pub returns-in-Some-clause-counted : goal.returns-in-Some-clause-counted
+returns-in-Some-clause-counted g c = λ scheme header logs workers before taken summary_is.
+    summary_is
+    ∙ ap (counted_of workers)
+    (sym (append-nil before)
+    ∙ ap (λ (ops : List Operation). before ++ ops)
+    (no-lines operations_told (courses_of scheme header logs) (header.first + c.args.self.now.count) c.args.self.now.count))
+
+pub epochs-init : goal.epochs-init
+epochs-init g c =
+    let fed = c.any_starved.ensures.none c.if-any_starved.false in
+    record {
+      text = [];
+      passes = search rules;
+      even = search rules;
+      logs = c.requires.logs fed;
+      taken = λ scheme header logs taken. taken;
+      lines = λ scheme header logs taken.
+          no-lines (text_by g.D.Digests.functions c.args.telling.now) (courses_of scheme header logs) (header.first + c.args.self.now.count) c.args.self.now.count;
+      operations = [];
+      operations_are = λ scheme header logs taken.
+          no-lines operations_told (courses_of scheme header logs) (header.first + c.args.self.now.count) c.args.self.now.count;
+      summed = λ workers before summary_is. summary_is ∙ ap (counted_of workers) (sym (append-nil before));
+      counted = omega arith;
+      fed_before = fed;
+      fed = fed;
+      few = c.requires.few;
+      len = refl;
+      faults = omega arith;
+    }
