@@ -1,8 +1,10 @@
 -- The program's command line: its commands, and the options and flags of each.
-use Rattle.std.specs.Prelude.{Bool, true, false, Some, codes}
+use Rattle.std.specs.Prelude.{Bool, true, false, Result, Ok, Err, Some, codes}
 use Rattle.clap.specs.Walk.{Rule, Text}
+use Rattle.clap.specs.Words.{AddsSubcommand}
 use Rattle.clap.specs.Simple.{App, new_app, new_rule, on_top, with_rule, with_subcommand}
 use Rattle.clap.specs.declared.builder.action.ArgAction.TheVariants.{SetTrue}
+use Rattle.clap.specs.declared.builder.command.Command.{Command}
 
 -- an option of this name, which takes one value
 abbrev pub option_rule : Text → Bool → Rule
@@ -55,3 +57,8 @@ fastver_app =
     let judging = with_subcommand (with_subcommand bare_app check_app.top) (command_with_key (codes "audit")).top in
     let serving = with_subcommand (with_subcommand judging run_app.top) gen_app.top in
     with_subcommand serving (command_with_key (codes "accept")).top
+
+-- `new` is `old` with the command that was made, which there is
+abbrev pub AddsMade : {E : Type 0} → Command → Result Command E → Command → Type 0
+AddsMade old (Ok command) new = AddsSubcommand old command new
+AddsMade old (Err e) new = ⊥

@@ -2,7 +2,7 @@
 ghost use Rattle.std.specs.Prelude.{◌≡◌, IfOk, false};
 ghost use Rattle.clap.specs.Words.{app_of, rule_of};
 ghost use Rattle.clap.specs.declared.builder.command.Command.TheViews.{out-Command as fields_of};
-ghost use Rattle.program_words.specs.CommandLine.{check_app, command_with_key, fastver_app, flag_rule, gen_app, option_rule, run_app, with_flag, with_host_options, with_option};
+ghost use Rattle.program_words.specs.CommandLine.{AddsMade, check_app, command_with_key, fastver_app, flag_rule, gen_app, option_rule, run_app, with_flag, with_host_options, with_option};
 
 use clap::{Arg, ArgAction, Command};
 use std::alloc::{AllocError, Global};
@@ -11,18 +11,23 @@ use std::alloc::{AllocError, Global};
 pub(crate) fn fastver_command<'a>(alloc: Global) -> Result<Command<'a>, AllocError>
     ensures app { IfOk result (λ command. app_of command ≡ fastver_app) }
 {
-    let check = check_command(alloc)?;
-    let audit = command_with_key(alloc, "audit")?;
-    let run = run_command(alloc)?;
-    let load = gen_command(alloc)?;
-    let accept = command_with_key(alloc, "accept")?;
-    Command::new(alloc, "fastver")
-        .subcommand_required(true)
-        .subcommand(check)?
-        .subcommand(audit)?
-        .subcommand(run)?
-        .subcommand(load)?
-        .subcommand(accept)
+    let program = Command::new(alloc, "fastver").subcommand_required(true);
+    let program = with_command(program, check_command(alloc))?;
+    let program = with_command(program, command_with_key(alloc, "audit"))?;
+    let program = with_command(program, run_command(alloc))?;
+    let program = with_command(program, gen_command(alloc))?;
+    with_command(program, command_with_key(alloc, "accept"))
+}
+
+// The program with this command, where it could be made. No other command is alive where one is made: each that is would have
+// to be dropped on each way out, which costs much to prove.
+fn with_command<'a>(
+    program: Command<'a>,
+    command: Result<Command<'a>, AllocError>,
+) -> Result<Command<'a>, AllocError>
+    ensures adds { IfOk result (AddsMade program.entry command.entry) }
+{
+    program.subcommand(command?)
 }
 
 // The command `check`, with its flag for receipts.

@@ -1,16 +1,19 @@
-use Rattle.std.proofs.Common.{rules}
+use Rattle.std.proofs.Common.{◌≡◌, rules}
+use Rattle.std.specs.Prelude.{codes}
+use Rattle.clap.specs.Words.{app_of}
 use Rattle.program_words.proofs.CommandLemmas.{added, added_if_ok}
 use Rattle.program_words.specs.CommandLine.{bare_app, check_app, command_with_key, gen_app, run_app}
-use Rattle.std.specs.Prelude.{codes}
 use Rattle.program_words.proofs.command_line.fastver_command.Goals as goal
 
 pub returns : goal.returns
 returns c =
-    let check = added _ _ c.in_ok-check.check bare_app check_app c.in_ok-subcommand.ensures c.in_ok-check.ensures.local c.in_ok-check.ensures.app (search rules) in
-    let audit = added _ _ c.in_ok-audit.audit _ (command_with_key (codes "audit")) c.in_ok-subcommand-2.ensures c.in_ok-audit.ensures.local c.in_ok-audit.ensures.app check in
-    let run = added _ _ c.in_ok-run.run' _ run_app c.in_ok-subcommand-3.ensures c.in_ok-run.ensures.local c.in_ok-run.ensures.app audit in
-    let load = added _ _ c.in_ok-load.load _ gen_app c.in_ok-subcommand-4.ensures c.in_ok-load.ensures.local c.in_ok-load.ensures.app run in
+    let bare : app_of c.subcommand_required-program.result ≡ bare_app = (search rules) in
+    let check = added c.check_command.result _ _ _ check_app c.in_ok-program.ensures.adds c.check_command.ensures.local c.check_command.ensures.app bare in
+    let audit = added c.command_with_key.result _ _ _ (command_with_key (codes "audit")) c.in_ok-program-2.ensures.adds c.command_with_key.ensures.local
+    c.command_with_key.ensures.app check in
+    let run = added c.run_command.result _ _ _ run_app c.in_ok-program-3.ensures.adds c.run_command.ensures.local c.run_command.ensures.app audit in
+    let load = added c.gen_command.result _ _ _ gen_app c.in_ok-program-4.ensures.adds c.gen_command.ensures.local c.gen_command.ensures.app run in
     record {
-      app = added_if_ok c.subcommand-5.result _ c.in_ok-accept.accept _ (command_with_key (codes "accept")) c.subcommand-5.ensures c.in_ok-accept.ensures.local
-          c.in_ok-accept.ensures.app load;
+      app = added_if_ok c.with_command-5.result c.command_with_key-2.result _ _ (command_with_key (codes "accept")) c.with_command-5.ensures.adds
+          c.command_with_key-2.ensures.local c.command_with_key-2.ensures.app load;
     }
