@@ -1,6 +1,7 @@
 //! The program, asked between objects in memory, what it must leave, and reports whose lines it takes again.
 //!
 //! What must be is said by a call: a comparison that stands in a test costs far more to prove, the more is alive there.
+use crate::serving::words_of;
 use fastver_top::{Status, fastver};
 use fv_outside::{FreeGate, MemorySink, MemorySource, MemoryVault};
 use std::alloc::Global;
@@ -67,15 +68,6 @@ pub(crate) struct Way<'a> {
     pub vault_room: usize,
     /// The numbers of the reads and of the writes that fail.
     pub fails: (&'a [u64], &'a [u64]),
-}
-
-// The words of a line.
-fn words_of<'a>(rt: &impl Abort, alloc: Global, line: &'a str) -> Vec<&'a str> {
-    let mut words = Vec::new(alloc);
-    for word in line.split_whitespace() {
-        words.push(word).expect(rt, "memory");
-    }
-    words
 }
 
 // A source of these bytes, and a sink.
