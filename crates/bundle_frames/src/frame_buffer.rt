@@ -5,10 +5,10 @@ ghost use Rattle.bundle_frames.specs.Bundle.{head_bytes};
 
 use crate::fields::HEAD_BYTES;
 use crate::parts::MOST_BYTES;
+use base_words::Memory;
 use std::alloc::Global;
 use std::marker::Model;
 use std::mem;
-use want_of_memory::Memory;
 
 /// Holds one frame, with room for the longest. Contracts see it as the frame's body.
 #[derive(Drop)]

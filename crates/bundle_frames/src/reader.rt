@@ -8,11 +8,11 @@ use crate::coming::{Next, SourceStop};
 use crate::found::Found;
 use crate::frame_buffer::FrameBuffer;
 use crate::splitter::Splitter;
+use base_words::Memory;
 use fv_outside::{Failed, Source};
 use lamport_clocks::Header;
 use std::alloc::{AllocError, Global};
 use std::marker::Model;
-use want_of_memory::Memory;
 
 /// The most bytes that are read at a time.
 pub const PIECE_BYTES: usize = 65_536;

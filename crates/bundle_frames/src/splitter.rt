@@ -6,10 +6,10 @@ use crate::fields::{HEAD_BYTES, HEADER_BYTES};
 use crate::found::{Fed, Found};
 use crate::frame_buffer::FrameBuffer;
 use crate::parts::{MOST_BYTES, read_on};
+use base_words::Memory;
 use lamport_clocks::Header;
 use std::alloc::Global;
 use std::marker::Model;
-use want_of_memory::Memory;
 
 /// Reads a bundle that comes in pieces, however it is cut. Contracts see it as a `Progress`.
 ///

@@ -7,9 +7,9 @@ ghost use Rattle.bundle_frames.specs.WholeBundle.{bundle_in, frames_in};
 
 use crate::found::Found;
 use crate::splitter::Splitter;
+use base_words::Memory;
 use lamport_clocks::Header;
 use std::alloc::Global;
-use want_of_memory::Memory;
 
 /// A frame with its bytes.
 #[derive(Debug, PartialEq, Eq, Drop)]

@@ -19,7 +19,7 @@ use Rattle.bundle_report.specs.Report.{EpochTold}
 use Rattle.bundle_report.specs.BundleReport.{certified_lines, histories_at}
 use Rattle.bundle_report.specs.RunReport.{courses_of, parts_at}
 use Rattle.bundle_report.specs.Judged.{none_judged, judged_by, judged_from, judged}
-use Rattle.bundle_report.specs.SoFar.{lines_from, runs_from, runs_behind, opening_runs, verdict_at, HaveTaken}
+use Rattle.bundle_report.specs.SoFar.{lines_from, runs_from, runs_behind, opening_runs, verdict_at, HaveRead}
 use Rattle.bundle_report.proofs.CertifyLaws.{judged-count}
 use Rattle.bundle_report.proofs.LeftLaws.{run_of, whole_of, whole-parts, each_of}
 use Rattle.bundle_report.proofs.LinesLaws.{lines-are, lines-behind}
@@ -38,7 +38,7 @@ lines-certified tell scheme header logs good whole =
 
 -- Where all that is certified is counted, the lines of what is counted are due.
 pub lines-due : {A : Type 0} (tell : EpochTold A) (scheme : Scheme) (header : Header) (logs : List (List ℕ)) (so_far : Judged) (runs : List (Progress Operation))
-    → HaveTaken scheme header logs so_far runs → so_far ≡ judged header.verifiers (courses_of scheme header logs)
+    → HaveRead scheme header logs so_far runs → so_far ≡ judged header.verifiers (courses_of scheme header logs)
     → lines_from tell (courses_of scheme header logs) header.first so_far.count ≡ certified_lines tell scheme header (histories_at scheme header logs)
 lines-due tell scheme header logs so_far runs taken all =
     ap (λ (j : Judged). lines_from tell (courses_of scheme header logs) header.first j.count) all
@@ -46,7 +46,7 @@ lines-due tell scheme header logs so_far runs taken all =
 
 -- The lines of what is counted are a front of those that are due once the logs go on with frames.
 pub lines-front : {A : Type 0} (tell : EpochTold A) (scheme : Scheme) (header : Header) (logs : List (List ℕ)) (so_far : Judged) (runs : List (Progress Operation)) (frames : List Frame)
-    → HaveTaken scheme header logs so_far runs
+    → HaveRead scheme header logs so_far runs
     → (more : List A) × (lines_from tell (courses_of scheme header logs) header.first so_far.count ++ more
     ≡ certified_lines tell scheme header (histories_at scheme header (joined_from 0 logs frames)))
 lines-front {A} tell scheme header logs so_far runs frames taken =
@@ -98,7 +98,7 @@ module _ (scheme : Scheme) (header : Header) (logs : List (List ℕ)) where
 -- Runs with all that is certified taken out of them have taken the logs so far.
 taken_whole : (scheme : Scheme) (header : Header) (logs : List (List ℕ)) → IsHeader header → length logs ≡ header.verifiers
     → let count = (judged header.verifiers (courses_of scheme header logs)).count in
-    HaveTaken scheme header logs (record { count = count; unbalanced = None }) (runs_from scheme header count 0 logs)
+    HaveRead scheme header logs (record { count = count; unbalanced = None }) (runs_from scheme header count 0 logs)
 taken_whole scheme header [] good whole = absurd (omega (arith, whole, good.some_verifiers))
 taken_whole scheme header (log ∷ logs) good whole =
     let parts = whole-parts scheme header 0 log in
@@ -144,7 +144,7 @@ runs_opening scheme header number (suc count) =
 
 -- Runs that took nothing have taken logs of no bytes, and no epoch is counted.
 pub taken-none : (scheme : Scheme) (header : Header) → IsHeader header
-    → HaveTaken scheme header (empty_logs header.verifiers) none_judged (opening_runs header 0 header.verifiers)
+    → HaveRead scheme header (empty_logs header.verifiers) none_judged (opening_runs header 0 header.verifiers)
 taken-none scheme header good = record {
   header_good = good;
   whole = empty-length header.verifiers;

@@ -23,7 +23,7 @@ use Rattle.soundness.specs.Certified.{sealed_count, epochs_from}
 use Rattle.bundle_report.specs.Logs.{joined_from}
 use Rattle.bundle_report.specs.Report.{EpochTold}
 use Rattle.bundle_report.specs.RunReport.{courses_from, courses_of, parts_at, operations_among}
-use Rattle.bundle_report.specs.SoFar.{lines_told, lines_from, left_from, runs_from, took, runs_behind}
+use Rattle.bundle_report.specs.SoFar.{lines_told, lines_from, left_from, runs_from, having_read, runs_behind}
 use Rattle.bundle_report.proofs.PartLemmas.{part_of, log-parts}
 use Rattle.bundle_report.proofs.RunReportLemmas.{told_from}
 use Rattle.bundle_report.proofs.LeftLaws.{run_of, whole_of, whole-parts, whole-operations, get_front}
@@ -122,28 +122,28 @@ module _ (scheme : Scheme) (header : Header) (number : ℕ) (log piece : List �
       omega (arith, within, ap length goes_on.parts_behind, length-append old.course.parts goes_on.parts)
 
 -- A run without the first so many epochs takes frames as the run does.
-took-left : (scheme : Scheme) (header : Header) (number count : ℕ) (log : List ℕ) (frames : List Frame)
+having_read-left : (scheme : Scheme) (header : Header) (number count : ℕ) (log : List ℕ) (frames : List Frame)
     → count ≤ length (run_of scheme header number log).course.parts
-    → took scheme number (left_from header.first count (run_of scheme header number log)) frames
+    → having_read scheme number (left_from header.first count (run_of scheme header number log)) frames
     ≡ left_from header.first count (run_of scheme header number (log ++ log_of number frames))
-took-left scheme header number count log [] within =
+having_read-left scheme header number count log [] within =
     ap (λ (bytes : List ℕ). left_from header.first count (run_of scheme header number bytes)) (sym (append-nil log))
-took-left scheme header number count log (frame ∷ frames) within =
+having_read-left scheme header number count log (frame ∷ frames) within =
     go (frame.verifier == number) refl
-    (took-left scheme header number count (log ++ frame.body) frames (long_stays scheme header number log frame.body count within))
-    (took-left scheme header number count log frames within)
+    (having_read-left scheme header number count (log ++ frame.body) frames (long_stays scheme header number log frame.body count within))
+    (having_read-left scheme header number count log frames within)
   where
     run : Progress Operation
     run = left_from header.first count (run_of scheme header number log)
 
     go : (b : Bool) → (frame.verifier == number) ≡ b
-        → took scheme number (left_from header.first count (run_of scheme header number (log ++ frame.body))) frames
+        → having_read scheme number (left_from header.first count (run_of scheme header number (log ++ frame.body))) frames
         ≡ left_from header.first count (run_of scheme header number ((log ++ frame.body) ++ log_of number frames))
-        → took scheme number run frames ≡ left_from header.first count (run_of scheme header number (log ++ log_of number frames))
-        → took scheme number (if b then fed keeps_operations scheme run frame.body else run) frames
+        → having_read scheme number run frames ≡ left_from header.first count (run_of scheme header number (log ++ log_of number frames))
+        → having_read scheme number (if b then fed keeps_operations scheme run frame.body else run) frames
         ≡ left_from header.first count (run_of scheme header number (log ++ ((if frame.verifier == number then frame.body else []) ++ log_of number frames)))
     go true own mine others =
-        ap (λ (r : Progress Operation). took scheme number r frames) (left_stays scheme header number log frame.body count within)
+        ap (λ (r : Progress Operation). having_read scheme number r frames) (left_stays scheme header number log frame.body count within)
         ∙ mine
         ∙ ap (λ (bytes : List ℕ). left_from header.first count (run_of scheme header number bytes))
         (append_assoc log frame.body (log_of number frames))
@@ -194,7 +194,7 @@ module _ (scheme : Scheme) (header : Header) (frames : List Frame) where
   runs-stay count number [] long = refl
   runs-stay count number (log ∷ logs) long =
       ap (λ (run : Progress Operation). run ∷ runs_behind scheme (suc number) (runs_from scheme header count (suc number) logs) frames)
-      (took-left scheme header number count log frames long.0)
+      (having_read-left scheme header number count log frames long.0)
       ∙ ap (λ (runs : List (Progress Operation)). left_from header.first count (run_of scheme header number (log ++ log_of number frames)) ∷ runs)
       (runs-stay count (suc number) logs long.1)
 

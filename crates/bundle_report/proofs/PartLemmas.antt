@@ -1,7 +1,7 @@
 -- The parts that a verifier hands in are those of the epochs that its events seal, each with the sums of the elements
 -- of its epoch among all events.
 use Rattle.std.proofs.Common.{◌≡◌, ℕ, ◌+◌, ◌<◌, List, [], ◌∷◌, ◌++◌, map, Option, Some, None, Ok, Err, refl, sym, ◌∙◌, ap, subst, append-nil, append_assoc, arith}
-use Rattle.step_words.specs.Traced.{traced}
+use Rattle.base_words.specs.Traced.{traced}
 use Rattle.merkle_records.specs.Scheme.{Scheme}
 use Rattle.std.specs.List.{flat_map}
 use Rattle.std.proofs.lemmas.List.{map-append}

@@ -1,6 +1,6 @@
 -- The parts that a verifier hands in under a good header are small: each element that it counts raises its clock.
 use Rattle.std.proofs.Common.{◌≡◌, ℕ, zero, suc, ◌<◌, ◌^◌, ◌==◌, List, [], ◌∷◌, slice_get, Option, Some, None, Ok, Err, inl, inr, refl, sym, ap, subst, arith}
-use Rattle.step_words.specs.Traced.{traced}
+use Rattle.base_words.specs.Traced.{traced}
 use Rattle.merkle_records.specs.Scheme.{lanes_of, Scheme}
 use Rattle.std.specs.List.{AllByRecursion}
 use Rattle.std.specs.Option.{option_to_list}
@@ -59,15 +59,15 @@ module _ (scheme : Scheme) (old new : Reading) (sums : Sums) (bounded : AreBound
   bounded_received : (epoch : ℕ) (element : Element) → received old element.stamp ≡ Ok new
       → AreBounded (add_to scheme epoch sums element) new
   bounded_received epoch element is =
-      let took = received-ok old new element.stamp is in
+      let having_read = received-ok old new element.stamp is in
       let end = (received-bounds old new element.stamp is).end in
-      let counter = ap (λ (r : Reading). r.at.counter) took.2 in
+      let counter = ap (λ (r : Reading). r.at.counter) having_read.2 in
       bounded_add sums (add_to scheme epoch sums element) old new bounded (counts_add scheme epoch sums element) (
         end,
         counter_later old.at new.at (received-epoch old new element.stamp is)
             (received-later old new element.stamp is),
       )
-      (omega (arith, took.1, end, counter))
+      (omega (arith, having_read.1, end, counter))
 
   bounded_sent : (element : Element) → sent old element.stamp ≡ Ok new
       → AreBounded (evict_to scheme sums element) new

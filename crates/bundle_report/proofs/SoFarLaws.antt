@@ -23,7 +23,7 @@ use Rattle.bundle_report.specs.RunReport.{courses_from, courses_of, parts_at}
 use Rattle.bundle_report.specs.Report.{EpochTold}
 use Rattle.bundle_report.specs.BundleReport.{end_of, histories_in}
 use Rattle.bundle_report.specs.Judged.{judged_by, judged_from, judged, first_parts, refused_log_by, refused_log, end_by}
-use Rattle.bundle_report.specs.SoFar.{lines_from, left_from, runs_from, runs_behind, runs_ended, verdict_at, IsUneven, HaveTaken}
+use Rattle.bundle_report.specs.SoFar.{lines_from, left_from, runs_from, runs_behind, runs_ended, verdict_at, IsUneven, HaveRead}
 use Rattle.bundle_report.specs.declared.refused_log.RefusedLog.{RefusedLog}
 use Rattle.bundle_report.proofs.RunReportLemmas.{told_from}
 use Rattle.bundle_report.proofs.CertifyLaws.{judged-end}
@@ -102,7 +102,7 @@ module _ (scheme : Scheme) (header : Header) (logs : List (List ℕ)) where
 
 -- each log has handed in a part of each epoch that is counted
 pub taken-long : (scheme : Scheme) (header : Header) (logs : List (List ℕ)) (so_far : Judged) (runs : List (Progress Operation))
-    → HaveTaken scheme header logs so_far runs → AreLong scheme header so_far.count 0 logs
+    → HaveRead scheme header logs so_far runs → AreLong scheme header so_far.count 0 logs
 taken-long scheme header logs so_far runs taken = go so_far.count taken.balanced
   where
     go : (count : ℕ) → ((index : ℕ) → index < count → verdict_at scheme header logs index ≡ Balanced) → AreLong scheme header count 0 logs
@@ -113,7 +113,7 @@ taken-long scheme header logs so_far runs taken = go so_far.count taken.balanced
 
 -- What all logs come to stands behind the epochs that are counted.
 pub judged-taken : (scheme : Scheme) (header : Header) (log : List ℕ) (logs : List (List ℕ)) (so_far : Judged) (runs : List (Progress Operation))
-    → HaveTaken scheme header (log ∷ logs) so_far runs
+    → HaveRead scheme header (log ∷ logs) so_far runs
     → judged header.verifiers (courses_of scheme header (log ∷ logs))
     ≡ behind so_far.count (judged_from header.verifiers so_far.count (drop so_far.count (run_of scheme header 0 log).course.parts)
     (courses_of scheme header (log ∷ logs)))
@@ -134,7 +134,7 @@ judged-taken scheme header log logs so_far runs taken =
 
 -- No more are counted than are certified.
 pub counted-within : (scheme : Scheme) (header : Header) (logs : List (List ℕ)) (so_far : Judged) (runs : List (Progress Operation))
-    → HaveTaken scheme header logs so_far runs → so_far.count ≤ (judged header.verifiers (courses_of scheme header logs)).count
+    → HaveRead scheme header logs so_far runs → so_far.count ≤ (judged header.verifiers (courses_of scheme header logs)).count
 counted-within scheme header [] so_far runs taken = absurd (omega (arith, taken.whole, taken.header_good.some_verifiers))
 counted-within scheme header (log ∷ logs) so_far runs taken =
     omega (arith, ap (λ (j : Judged). j.count) (judged-taken scheme header log logs so_far runs taken))
@@ -151,7 +151,7 @@ NextTells scheme header logs count (part ∷ parts) =
     ≡ behind count (judged_by (header.first + count) (verdict_at scheme header logs count) more)))
 
 pub next-tells : (scheme : Scheme) (header : Header) (log : List ℕ) (logs : List (List ℕ)) (so_far : Judged) (runs : List (Progress Operation))
-    → HaveTaken scheme header (log ∷ logs) so_far runs → (parts : List Part)
+    → HaveRead scheme header (log ∷ logs) so_far runs → (parts : List Part)
     → drop so_far.count (run_of scheme header 0 log).course.parts ≡ parts
     → NextTells scheme header (log ∷ logs) so_far.count parts
 next-tells scheme header log logs so_far runs taken [] is =
@@ -175,7 +175,7 @@ next-tells scheme header log logs so_far runs taken (part ∷ parts) is =
 
 -- Where the next epoch is said to be unbalanced, that is what all logs come to.
 pub uneven-judged : (scheme : Scheme) (header : Header) (logs : List (List ℕ)) (so_far : Judged) (runs : List (Progress Operation)) (uneven : Uneven)
-    → HaveTaken scheme header logs so_far runs → so_far.unbalanced ≡ Some uneven
+    → HaveRead scheme header logs so_far runs → so_far.unbalanced ≡ Some uneven
     → so_far ≡ judged header.verifiers (courses_of scheme header logs)
 uneven-judged scheme header [] so_far runs uneven taken is = absurd (omega (arith, taken.whole, taken.header_good.some_verifiers))
 uneven-judged scheme header (log ∷ logs) so_far runs uneven taken is =
@@ -219,8 +219,8 @@ joined-length number (log ∷ logs) frames = ap suc (joined-length (suc number) 
 
 -- Runs that take frames have taken the logs with what these add.
 pub taken-more : (scheme : Scheme) (header : Header) (logs : List (List ℕ)) (so_far : Judged) (runs : List (Progress Operation)) (frames : List Frame)
-    → HaveTaken scheme header logs so_far runs
-    → HaveTaken scheme header (joined_from 0 logs frames) so_far (runs_behind scheme 0 runs frames)
+    → HaveRead scheme header logs so_far runs
+    → HaveRead scheme header (joined_from 0 logs frames) so_far (runs_behind scheme 0 runs frames)
 taken-more scheme header logs so_far runs frames taken =
     let long = taken-long scheme header logs so_far runs taken in
     record {
@@ -249,7 +249,7 @@ taken-more scheme header logs so_far runs frames taken =
 
 -- The lines of the epochs that are counted stay.
 pub lines-taken : {A : Type 0} (tell : EpochTold A) (scheme : Scheme) (header : Header) (logs : List (List ℕ)) (so_far : Judged) (runs : List (Progress Operation)) (frames : List Frame)
-    → HaveTaken scheme header logs so_far runs
+    → HaveRead scheme header logs so_far runs
     → lines_from tell (courses_of scheme header (joined_from 0 logs frames)) header.first so_far.count
     ≡ lines_from tell (courses_of scheme header logs) header.first so_far.count
 lines-taken tell scheme header logs so_far runs frames taken =
@@ -278,7 +278,7 @@ refused_from scheme header count number (log ∷ logs) =
 
 -- How the report ends, by the runs at the ends of their logs.
 pub end-taken : (scheme : Scheme) (header : Header) (logs : List (List ℕ)) (so_far : Judged) (runs : List (Progress Operation)) (bad : Option ℕ)
-    → HaveTaken scheme header logs so_far runs → so_far ≡ judged header.verifiers (courses_of scheme header logs)
+    → HaveRead scheme header logs so_far runs → so_far ≡ judged header.verifiers (courses_of scheme header logs)
     → end_by so_far.count so_far.unbalanced (refused_log 0 (map (λ run. run.course) (runs_ended runs))) bad
     ≡ end_of scheme header (map (read_log scheme.format) logs) (histories_in scheme header (map (read_log scheme.format) logs)) bad
 end-taken scheme header logs so_far runs bad taken all =

@@ -65,7 +65,7 @@ IsUneven scheme header logs index uneven =
 
 -- The runs have taken these logs so far. The epochs that are counted are balanced, and taken out of the runs; and where
 -- the next is said to be unbalanced, it is.
-pub record HaveTaken (scheme : Scheme) (header : Header) (logs : List (List ℕ)) (so_far : Judged) (runs : List (Progress Operation)) : Type 0 where
+pub record HaveRead (scheme : Scheme) (header : Header) (logs : List (List ℕ)) (so_far : Judged) (runs : List (Progress Operation)) : Type 0 where
   pub header_good : IsHeader header
   pub whole : length logs ≡ header.verifiers
   pub runs_are : runs ≡ runs_from scheme header so_far.count 0 logs
@@ -75,23 +75,23 @@ pub record HaveTaken (scheme : Scheme) (header : Header) (logs : List (List ℕ)
 -- there are logs that the runs have taken so far
 abbrev pub HaveLogs : Judged → List (Progress Operation) → Type 0
 HaveLogs so_far runs =
-    (scheme : Scheme) × (header : Header) × (logs : List (List ℕ)) × HaveTaken scheme header logs so_far runs
+    (scheme : Scheme) × (header : Header) × (logs : List (List ℕ)) × HaveRead scheme header logs so_far runs
 
 -- ---- more of the logs
 
 -- the run of a verifier once it took a frame: one of another verifier is passed by
-abbrev pub took_one : Scheme → ℕ → Progress Operation → Frame → Progress Operation
-took_one scheme number run frame = if frame.verifier == number then fed keeps_operations scheme run frame.body else run
+abbrev pub having_read_one : Scheme → ℕ → Progress Operation → Frame → Progress Operation
+having_read_one scheme number run frame = if frame.verifier == number then fed keeps_operations scheme run frame.body else run
 
 -- and once it took these frames
-abbrev pub took : Scheme → ℕ → Progress Operation → List Frame → Progress Operation
-took scheme number run [] = run
-took scheme number run (frame ∷ frames) = took scheme number (took_one scheme number run frame) frames
+abbrev pub having_read : Scheme → ℕ → Progress Operation → List Frame → Progress Operation
+having_read scheme number run [] = run
+having_read scheme number run (frame ∷ frames) = having_read scheme number (having_read_one scheme number run frame) frames
 
 -- the runs of verifiers, the first of which has this number, once they took frames
 abbrev pub runs_behind : Scheme → ℕ → List (Progress Operation) → List Frame → List (Progress Operation)
 runs_behind scheme number [] frames = []
-runs_behind scheme number (run ∷ runs) frames = took scheme number run frames ∷ runs_behind scheme (suc number) runs frames
+runs_behind scheme number (run ∷ runs) frames = having_read scheme number run frames ∷ runs_behind scheme (suc number) runs frames
 
 -- the runs at the ends of their logs
 abbrev pub runs_ended : List (Progress Operation) → List (Progress Operation)

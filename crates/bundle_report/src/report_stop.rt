@@ -2,9 +2,9 @@
 ghost use Rattle.std.specs.Prelude.{◌≡◌};
 ghost use Rattle.bundle_report.specs.Stops.{writing_stopped};
 
+use base_words::Memory;
 use report_text::Status;
 use std::alloc::AllocError;
-use want_of_memory::Memory;
 
 /// Why what was read was not reported to its end.
 #[derive(Clone, Copy, Debug, PartialEq, Eq)]

@@ -1,7 +1,7 @@
 //! Why rows are no bundle.
+use base_words::Memory;
 use fv_outside::Failed;
 use std::alloc::{AllocError, AllocFailed};
-use want_of_memory::Memory;
 
 /// Why rows are no bundle.
 #[derive(Debug, PartialEq, Eq, Drop)]

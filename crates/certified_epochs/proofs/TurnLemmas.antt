@@ -25,7 +25,7 @@ use Rattle.log_codec.specs.Log.{read_log}
 use Rattle.report_text.specs.declared.ending.BundleEnd.{BundleEnd}
 use Rattle.bundle_report.specs.declared.refused_log.RefusedLog.{RefusedLog}
 use Rattle.bundle_report.specs.BundleReport.{end_of, histories_at}
-use Rattle.bundle_report.specs.SoFar.{runs_ended, lines_told, lines_from, runs_from, verdict_at, IsUneven, HaveTaken, HaveLogs}
+use Rattle.bundle_report.specs.SoFar.{runs_ended, lines_told, lines_from, runs_from, verdict_at, IsUneven, HaveRead, HaveLogs}
 use Rattle.bundle_report.proofs.CertifyLaws.{can_be_judged, courses-length}
 use Rattle.bundle_report.proofs.LeftLaws.{run_of, left-parts, next-parts, next-operations, runs-length, runs-more}
 use Rattle.bundle_report.proofs.PartLaws.{later-parts}
@@ -38,14 +38,14 @@ use Rattle.certified_epochs.specs.Turn.{courses_in, IsVerdictAt, AreVerdictsOn, 
 
 -- the next epoch is certified: it is counted, and its lines are written
 pub record IsCertified {A : Type 0} (tell : EpochTold A) (scheme : Scheme) (header : Header) (logs : List (List ℕ)) (so_far : Judged) (turned : Turned A) : Type 0 where
-  pub taken : HaveTaken scheme header logs turned.judged turned.runs
+  pub taken : HaveRead scheme header logs turned.judged turned.runs
   pub count : turned.judged.count ≡ suc so_far.count
   pub even : turned.judged.unbalanced ≡ None
   pub text : turned.text ≡ lines_told tell (courses_of scheme header logs) (header.first + so_far.count)
 
 -- it isn't: all that is certified is counted
 pub record IsDone {A : Type 0} (scheme : Scheme) (header : Header) (logs : List (List ℕ)) (so_far : Judged) (turned : Turned A) : Type 0 where
-  pub taken : HaveTaken scheme header logs turned.judged turned.runs
+  pub taken : HaveRead scheme header logs turned.judged turned.runs
   pub count : turned.judged.count ≡ so_far.count
   pub all : turned.judged ≡ judged header.verifiers (courses_of scheme header logs)
   pub text : turned.text ≡ []
@@ -58,7 +58,7 @@ abbrev pub Tells : {A : Type 0} → EpochTold A → Scheme → Header → List (
 Tells tell scheme header logs so_far turned = TellsBy tell turned.more scheme header logs so_far turned
 
 module _ (scheme : Scheme) (header : Header) (log : List ℕ) (logs : List (List ℕ)) (so_far : Judged) (runs : List (Progress Operation))
-    (taken : HaveTaken scheme header (log ∷ logs) so_far runs) (even : so_far.unbalanced ≡ None) where
+    (taken : HaveRead scheme header (log ∷ logs) so_far runs) (even : so_far.unbalanced ≡ None) where
   abbrev all : List (List ℕ)
   all = log ∷ logs
 
@@ -131,7 +131,7 @@ module _ (scheme : Scheme) (header : Header) (log : List ℕ) (logs : List (List
   by_verdict tell more next (Unbalanced added evicted) is =
       let uneven : Uneven = record { epoch = epoch; added = added; evicted = evicted } in
       let now : Judged = record so_far { unbalanced = Some uneven } in
-      let still : HaveTaken scheme header all now runs = record {
+      let still : HaveRead scheme header all now runs = record {
         header_good = taken.header_good;
         whole = taken.whole;
         runs_are = taken.runs_are;
@@ -164,7 +164,7 @@ module _ (scheme : Scheme) (header : Header) (log : List ℕ) (logs : List (List
 
 -- One turn: the next epoch is certified, or all that is certified is counted.
 pub turn-tells : {A : Type 0} (tell : EpochTold A) (scheme : Scheme) (header : Header) (logs : List (List ℕ)) (so_far : Judged) (runs : List (Progress Operation))
-    → HaveTaken scheme header logs so_far runs → so_far.unbalanced ≡ None
+    → HaveRead scheme header logs so_far runs → so_far.unbalanced ≡ None
     → Tells tell scheme header logs so_far (turn tell so_far runs)
 turn-tells tell scheme header [] so_far runs taken even = absurd (omega (arith, taken.whole, taken.header_good.some_verifiers))
 turn-tells tell scheme header (log ∷ logs) so_far runs taken even =
@@ -227,7 +227,7 @@ gathered-verdict runs epoch parts verdict gathered is =
 
 -- The epoch of the next part is as many behind the first as are counted.
 next_is : (scheme : Scheme) (header : Header) (logs : List (List ℕ)) (so_far : Judged) (runs : List (Progress Operation)) (epoch : ℕ)
-    → HaveTaken scheme header logs so_far runs → so_far.unbalanced ≡ None → next_epoch runs ≡ Some epoch → epoch ≡ header.first + so_far.count
+    → HaveRead scheme header logs so_far runs → so_far.unbalanced ≡ None → next_epoch runs ≡ Some epoch → epoch ≡ header.first + so_far.count
 next_is scheme header [] so_far runs epoch taken even is = absurd (omega (arith, taken.whole, taken.header_good.some_verifiers))
 next_is scheme header (log ∷ logs) so_far runs epoch taken even is =
     go (drop so_far.count (run_of scheme header 0 log).course.parts) refl
@@ -253,7 +253,7 @@ handed-at P e found (Some verdict) is known = known e is
 
 -- A verdict by the runs is what the logs tell that they have taken.
 verdict_told : (scheme : Scheme) (header : Header) (logs : List (List ℕ)) (so_far : Judged) (runs : List (Progress Operation)) (index : ℕ)
-    → HaveTaken scheme header logs so_far runs
+    → HaveRead scheme header logs so_far runs
     → verdict_of (length runs) (header.first + so_far.count + index) (parts_at index (courses_in runs)) ≡ verdict_at scheme header logs (so_far.count + index)
 verdict_told scheme header logs so_far runs index taken =
     let same : header.first + so_far.count + index ≡ header.first + (so_far.count + index) = omega arith in
@@ -266,7 +266,7 @@ verdict_told scheme header logs so_far runs index taken =
 
 -- Of verdicts on the next epochs, the one at the place up to which certifying has come is that on the next.
 pub settled-next : (scheme : Scheme) (header : Header) (logs : List (List ℕ)) (start now : Judged) (first runs : List (Progress Operation)) (settled : List Verdict)
-    (verdict : Verdict) (epoch : ℕ) → HaveTaken scheme header logs start first → HaveTaken scheme header logs now runs → now.unbalanced ≡ None
+    (verdict : Verdict) (epoch : ℕ) → HaveRead scheme header logs start first → HaveRead scheme header logs now runs → now.unbalanced ≡ None
     → start.count ≤ now.count → AreVerdictsOn start first settled → slice_get settled (now.count - start.count) ≡ Some verdict → next_epoch runs ≡ Some epoch
     → IsVerdictAt runs 0 epoch verdict
 settled-next scheme header logs start now first runs settled verdict epoch before taken even within are there next =
@@ -404,7 +404,7 @@ ok_holds P (Err fault) is holds = absurd (false≢true (sym is))
 
 -- a turn that certified an epoch
 pub certified-turn : {A : Type 0} (tell : EpochTold A) (scheme : Scheme) (header : Header) (logs : List (List ℕ)) (so_far now : Judged) (runs next : List (Progress Operation)) (more : Bool)
-    (text : List A) → HaveTaken scheme header logs so_far runs → so_far.unbalanced ≡ None
+    (text : List A) → HaveRead scheme header logs so_far runs → so_far.unbalanced ≡ None
     → turn tell so_far runs ≡ record { more = more; judged = now; runs = next; text = text } → more ≡ true
     → IsCertified tell scheme header logs so_far (record { more = true; judged = now; runs = next; text = text })
 certified-turn tell scheme header logs so_far now runs next more text taken even is is_more =
@@ -414,7 +414,7 @@ certified-turn tell scheme header logs so_far now runs next more text taken even
 
 -- and the last
 pub done-turn : {A : Type 0} (tell : EpochTold A) (scheme : Scheme) (header : Header) (logs : List (List ℕ)) (so_far now : Judged) (runs next : List (Progress Operation)) (more : Bool)
-    (text : List A) → HaveTaken scheme header logs so_far runs → so_far.unbalanced ≡ None
+    (text : List A) → HaveRead scheme header logs so_far runs → so_far.unbalanced ≡ None
     → turn tell so_far runs ≡ record { more = more; judged = now; runs = next; text = text } → more ≡ false
     → IsDone scheme header logs so_far (record { more = false; judged = now; runs = next; text = text })
 done-turn tell scheme header logs so_far now runs next more text taken even is not_more =
@@ -424,7 +424,7 @@ done-turn tell scheme header logs so_far now runs next more text taken even is n
 
 -- where an epoch is unbalanced nothing is left to judge
 pub same-judged : (scheme : Scheme) (header : Header) (logs : List (List ℕ)) (so_far : Judged) (runs : List (Progress Operation)) (now : Judged) (uneven : Uneven)
-    → HaveTaken scheme header logs so_far runs → now ≡ so_far → now.unbalanced ≡ Some uneven
+    → HaveRead scheme header logs so_far runs → now ≡ so_far → now.unbalanced ≡ Some uneven
     → so_far ≡ judged header.verifiers (courses_of scheme header logs)
 same-judged scheme header logs so_far runs now uneven taken same is =
     uneven-judged scheme header logs so_far runs uneven taken (sym (ap (λ (j : Judged). j.unbalanced) same) ∙ is)
@@ -458,7 +458,7 @@ lines_front tell courses epoch start count all within below =
 
 -- What was written and what the turn writes are a front of all lines.
 pub turn-front : {A : Type 0} (tell : EpochTold A) (scheme : Scheme) (header : Header) (logs : List (List ℕ)) (so_far : Judged) (runs : List (Progress Operation)) (start : ℕ) (text : List A)
-    → HaveTaken scheme header logs so_far runs → so_far.unbalanced ≡ None → start ≤ so_far.count
+    → HaveRead scheme header logs so_far runs → so_far.unbalanced ≡ None → start ≤ so_far.count
     → text ≡ lines_from tell (courses_of scheme header logs) (header.first + start) (so_far.count - start)
     → (more : List A) × ((text ++ (turn tell so_far runs).text) ++ more
     ≡ lines_from tell (courses_of scheme header logs) (header.first + start) ((judged header.verifiers (courses_of scheme header logs)).count - start))
@@ -494,7 +494,7 @@ turn-front {A} tell scheme header logs so_far runs start text taken even within 
 
 -- How the report ends, as the code finds it.
 pub finish-end : (scheme : Scheme) (header : Header) (logs : List (List ℕ)) (so_far now : Judged) (runs : List (Progress Operation)) (fed : List FedRun)
-    (refused : Option RefusedLog) (bad : Option ℕ) (end : BundleEnd) → HaveTaken scheme header logs so_far runs
+    (refused : Option RefusedLog) (bad : Option ℕ) (end : BundleEnd) → HaveRead scheme header logs so_far runs
     → so_far ≡ judged header.verifiers (courses_of scheme header logs) → now ≡ so_far → runs_of fed ≡ runs_ended runs
     → refused ≡ refused_log 0 (fed_courses fed) → end ≡ end_by now.count now.unbalanced refused bad
     → end ≡ end_of scheme header (map (read_log scheme.format) logs) (histories_at scheme header logs) bad

@@ -16,7 +16,7 @@ use Rattle.bundle_report.specs.declared.judged.Judged.{Judged}
 use Rattle.bundle_report.specs.Report.{EpochTold}
 use Rattle.bundle_report.specs.RunReport.{parts_at, operations_among}
 use Rattle.bundle_report.specs.Judged.{first_parts}
-use Rattle.bundle_report.specs.SoFar.{HaveTaken}
+use Rattle.bundle_report.specs.SoFar.{HaveRead}
 use Rattle.certified_epochs.specs.declared.fed_run.FedRun.{FedRun}
 
 -- no run was starved
@@ -46,7 +46,7 @@ IsVerdictAt runs index epoch verdict = verdict ≡ verdict_of (length runs) epoc
 -- these are the verdicts on the next epochs, one after another, whatever logs the runs have taken
 abbrev pub AreVerdictsOn : Judged → List (Progress Operation) → List Verdict → Type 0
 AreVerdictsOn so_far runs verdicts =
-    (scheme : Scheme) (header : Header) (logs : List (List ℕ)) → HaveTaken scheme header logs so_far runs
+    (scheme : Scheme) (header : Header) (logs : List (List ℕ)) → HaveRead scheme header logs so_far runs
     → (index : ℕ) (verdict : Verdict) → slice_get verdicts index ≡ Some verdict
     → IsVerdictAt runs index (header.first + so_far.count + index) verdict
 

@@ -13,7 +13,7 @@ ghost use Rattle.log_codec.specs.Log.{read_log};
 ghost use Rattle.report_text.specs.Ending.{status_of};
 ghost use Rattle.report_text.specs.Status.{last_line};
 ghost use Rattle.bundle_report.specs.BundleReport.{histories_at, end_of};
-ghost use Rattle.bundle_report.specs.SoFar.{HaveTaken, HaveLogs, lines_from, runs_ended};
+ghost use Rattle.bundle_report.specs.SoFar.{HaveRead, HaveLogs, lines_from, runs_ended};
 ghost use Rattle.bundle_report.specs.Judged.{none_judged};
 ghost use Rattle.bundle_report.specs.Report.{operations_told};
 ghost use Rattle.stamp_order.specs.Merged.{merged, up_to};
@@ -28,6 +28,7 @@ use crate::fed_run::FedRun;
 use crate::gathering::verdict_on;
 use crate::lines::write_epoch_lines;
 use crate::telling::Telling;
+use base_words::Memory;
 use bundle_report::{Judged, ReportStop, Uneven};
 use epoch_gather::Verdict;
 use fv_outside::Sink;
@@ -39,7 +40,6 @@ use report_text::{BundleEnd, Page, write_last};
 use stamp_order::Moment;
 use std::alloc::Global;
 use std::marker::Model;
-use want_of_memory::Memory;
 
 /// How many epochs the runs of all verifiers have certified so far, and the next one where its sums differ. Nothing is
 /// kept of an epoch once its lines are written. Contracts see what is judged.
@@ -100,24 +100,24 @@ impl Certifier {
 
         // Of all logs that the runs have taken so far: what they certify is counted and written.
         ensures judged { (scheme : Scheme) (header : Header) (logs : List (List ℕ))
-            → HaveTaken scheme header logs self.old (map (λ fed. fed.run) runs.old)
+            → HaveRead scheme header logs self.old (map (λ fed. fed.run) runs.old)
             → OnOk result (self.new ≡ judged header.verifiers (courses_of scheme header logs)) }
         ensures taken { (scheme : Scheme) (header : Header) (logs : List (List ℕ))
-            → HaveTaken scheme header logs self.old (map (λ fed. fed.run) runs.old)
-            → OnOk result (HaveTaken scheme header logs self.new (map (λ fed. fed.run) runs.new)) }
+            → HaveRead scheme header logs self.old (map (λ fed. fed.run) runs.old)
+            → OnOk result (HaveRead scheme header logs self.new (map (λ fed. fed.run) runs.new)) }
         ensures lines { (scheme : Scheme) (header : Header) (logs : List (List ℕ))
-            → HaveTaken scheme header logs self.old (map (λ fed. fed.run) runs.old)
+            → HaveRead scheme header logs self.old (map (λ fed. fed.run) runs.old)
             → OnOk result (Grows (O.held out.old) (O.held out.new)
             (lines_from (text_by D.functions telling.now) (courses_of scheme header logs) (header.first + self.old.count) (self.new.count - self.old.count))) }
         ensures counted { (scheme : Scheme) (header : Header) (logs : List (List ℕ)) (workers : ℕ) (before : List Operation)
-            → HaveTaken scheme header logs self.old (map (λ fed. fed.run) runs.old)
+            → HaveRead scheme header logs self.old (map (λ fed. fed.run) runs.old)
             → summary.old ≡ counted_of workers before
             → OnOk result (summary.new ≡ counted_of workers (before
             ++ lines_from operations_told (courses_of scheme header logs) (header.first + self.old.count) (self.new.count - self.old.count))) }
 
         // Where it stops, the sink took a front of the lines of what they certify.
         ensures front { (scheme : Scheme) (header : Header) (logs : List (List ℕ))
-            → HaveTaken scheme header logs self.old (map (λ fed. fed.run) runs.old)
+            → HaveRead scheme header logs self.old (map (λ fed. fed.run) runs.old)
             → OnErr result (GrowsByFront (O.held out.old) (O.held out.new)
             (lines_from (text_by D.functions telling.now) (courses_of scheme header logs) (header.first + self.old.count)
             ((judged header.verifiers (courses_of scheme header logs)).count - self.old.count))) }
@@ -154,7 +154,7 @@ impl Certifier {
     pub fn end(&self, runs: &mut [FedRun], bad: Option<u64>) -> BundleEnd
         requires few { length runs.old ≤ 64 }
         ensures end { (scheme : Scheme) (header : Header) (logs : List (List ℕ))
-            → HaveTaken scheme header logs self.now (map (λ fed. fed.run) runs.old)
+            → HaveRead scheme header logs self.now (map (λ fed. fed.run) runs.old)
             → self.now ≡ judged header.verifiers (courses_of scheme header logs)
             → result ≡ end_of scheme header (map (read_log scheme.format) logs) (histories_at scheme header logs) bad }
     {
@@ -173,12 +173,12 @@ impl Certifier {
 
         // Of all logs that the runs have taken, where all that these certify is counted: how their report ends.
         ensures end { (scheme : Scheme) (header : Header) (logs : List (List ℕ))
-            → HaveTaken scheme header logs self.now (map (λ fed. fed.run) runs.old)
+            → HaveRead scheme header logs self.now (map (λ fed. fed.run) runs.old)
             → self.now ≡ judged header.verifiers (courses_of scheme header logs)
             → IfOk result (λ end. end ≡ end_of scheme header (map (read_log scheme.format) logs) (histories_at scheme header logs) bad) }
         ensures line { IfOk result (λ end. Grows (O.held out.old) (O.held out.new) (last_line (status_of end))) }
         ensures front { (scheme : Scheme) (header : Header) (logs : List (List ℕ))
-            → HaveTaken scheme header logs self.now (map (λ fed. fed.run) runs.old)
+            → HaveRead scheme header logs self.now (map (λ fed. fed.run) runs.old)
             → self.now ≡ judged header.verifiers (courses_of scheme header logs)
             → OnErr result (GrowsByFront (O.held out.old) (O.held out.new)
             (last_line (status_of (end_of scheme header (map (read_log scheme.format) logs) (histories_at scheme header logs) bad)))) }

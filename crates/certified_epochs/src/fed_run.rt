@@ -5,11 +5,11 @@ ghost use Rattle.merkle_records.specs.Scheme.{scheme_of};
 ghost use Rattle.verifier_run.specs.Kept.{keeps_operations};
 ghost use Rattle.verifier_run.specs.Progress.{opening_progress, fed, weight};
 
+use base_words::Memory;
 use lamport_clocks::Header;
 use record_hash::Digests;
 use std::alloc::Global;
 use verifier_run::Run;
-use want_of_memory::Memory;
 
 /// A run that takes its log where no answer can be given, as in a thread: that memory was wanting is kept until
 /// somebody asks.

@@ -12,21 +12,21 @@ use Rattle.bundle_frames.specs.Extent.{IsDue}
 use Rattle.bundle_frames.specs.Progress.{position}
 use Rattle.bundle_frames.specs.Reading.{Reading, ReadsAs, ahead, end_ahead, next_then, header_then}
 use Rattle.bundle_frames.proofs.ReadingLaws.{ReadsAs-kept, ReadsAs-map}
-use Rattle.want_of_memory.specs.declared.memory.Memory.{Memory}
+use Rattle.base_words.specs.declared.memory.Memory.{Memory}
 use Rattle.check_core.specs.declared.batch.Filled.{Filled}
 use Rattle.check_core.specs.declared.batch.Filled.TheVariants.{Whole, End as Ended, Stopped}
-use Rattle.check_core.specs.declared.batch.Slot.{Slot}
+use Rattle.check_core.specs.declared.batch.FrameHolder.{FrameHolder}
 use Rattle.check_core.specs.Batch.{frame_in, bytes_of}
 
 -- ---- a frame more
 
--- the slots that hold frames, once a slot more does
-pub frames_more : (old slots : List Slot) (count : ℕ) (slot : Slot) → count < length slots → take count slots ≡ take count old
-    → map frame_in (take (count + 1) (set slots count slot)) ≡ map frame_in (take count old) ++ frame_in slot ∷ []
-frames_more old slots count slot within same =
-    ap (map frame_in) (take_more_set slots count slot within)
-    ∙ map-append frame_in (take count slots) (slot ∷ [])
-    ∙ ap (λ (front : List Slot). map frame_in front ++ frame_in slot ∷ []) same
+-- the holders that hold frames, once a holder more does
+pub frames_more : (old holders : List FrameHolder) (count : ℕ) (holder : FrameHolder) → count < length holders → take count holders ≡ take count old
+    → map frame_in (take (count + 1) (set holders count holder)) ≡ map frame_in (take count old) ++ frame_in holder ∷ []
+frames_more old holders count holder within same =
+    ap (map frame_in) (take_more_set holders count holder within)
+    ∙ map-append frame_in (take count holders) (holder ∷ [])
+    ∙ ap (λ (front : List FrameHolder). map frame_in front ++ frame_in holder ∷ []) same
 
 -- their bytes
 pub bytes_more : (frames : List FrameOf) (frame : FrameOf) → bytes_of (frames ++ frame ∷ []) ≡ bytes_of frames + length frame.body

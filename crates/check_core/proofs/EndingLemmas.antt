@@ -24,7 +24,7 @@ use Rattle.bundle_report.specs.Logs.{joined_from}
 use Rattle.bundle_report.specs.Logged.{Logged, logged_of}
 use Rattle.bundle_report.specs.Report.{told_by}
 use Rattle.bundle_report.specs.Answer.{answer_by, check_answer}
-use Rattle.want_of_memory.specs.declared.memory.Memory.{Memory}
+use Rattle.base_words.specs.declared.memory.Memory.{Memory}
 use Rattle.check_core.specs.declared.batch.Filled.{Filled}
 use Rattle.check_core.specs.declared.batch.Filled.TheVariants.{Whole, End, Stopped}
 use Rattle.check_core.specs.Intake.{behind_at}
@@ -38,18 +38,18 @@ use Rattle.check_core.proofs.StreamLemmas.{reads_on, reads_all, reads_taken, sam
 -- of which the first so many count
 pub of_taken : (Holds : List ℕ → Type 0) (most n read : ℕ) (x y : Option (List ℕ)) → HasRead n x y → read ≡ min most n
     → IfSome x (λ bytes. Holds (take read bytes)) → OfTaken most Holds x y
-of_taken Holds most n read None y took is holds = tt
-of_taken Holds most n read (Some bytes) None took is holds = absurd took
-of_taken Holds most n read (Some bytes) (Some left) took is holds =
-    let size = ap length took.1 in
+of_taken Holds most n read None y having_read is holds = tt
+of_taken Holds most n read (Some bytes) None having_read is holds = absurd having_read
+of_taken Holds most n read (Some bytes) (Some left) having_read is holds =
+    let size = ap length having_read.1 in
     let size' = length-drop n bytes in
-    let same : read ≡ min most (length bytes - length left) = omega (arith, took.0, size, size', is) in
+    let same : read ≡ min most (length bytes - length left) = omega (arith, having_read.0, size, size', is) in
     subst (λ (k : ℕ). Holds (take k bytes)) same holds
 
 -- So much was taken of a source, of which no more than the limit was read, and no more than that and a byte.
 pub record Took (limit : ℕ) (left left_then : Option (List ℕ)) (new : Reading) : Type 0 where
   pub count : ℕ
-  pub took : HasRead count left left_then
+  pub having_read : HasRead count left left_then
   pub read : new.taken ≡ min limit count
   pub most : count ≤ limit + 1
   pub stops : StopsAtEnd reading_end left left_then
@@ -59,13 +59,13 @@ module _ (limit : ℕ) (left left_now left_then : Option (List ℕ)) (faults fau
     (near : old.taken < new.taken → IfSome left_now (λ bytes. new.taken ≤ end_ahead old bytes + most_behind)) where
   -- no more than the limit
   pub took_within : HasRead (new.taken - old.taken) left_now left_then → Took limit left left_then new
-  took_within took = record {
+  took_within having_read = record {
     count = new.taken;
-    took = HasRead-then _ _ _ _ _ _ come.took took (omega (arith, rises));
+    having_read = HasRead-then _ _ _ _ _ _ come.having_read having_read (omega (arith, rises));
     read = omega (arith, within, same);
     most = omega (arith, within, same);
     stops =
-        stops_near _ left left_then reading_end (HasRead-then _ _ _ _ _ _ come.took took (omega (arith, rises)))
+        stops_near _ left left_then reading_end (HasRead-then _ _ _ _ _ _ come.having_read having_read (omega (arith, rises)))
         (near-more left left_now faults faults_now logs old new come rises near);
   }
 
@@ -73,17 +73,17 @@ module _ (limit : ℕ) (left left_now left_then : Option (List ℕ)) (faults fau
   pub ends_behind : IfSome left_now (λ bytes. new.limit < end_ahead old bytes) → EndsBehind reading_end limit left
   ends_behind beyond =
       subst (λ (most : ℕ). EndsBehind reading_end most left) same
-      (ReadsAs-back (λ (end : ℕ). new.limit < end) _ _ _ _ _ come.took come.extent beyond)
+      (ReadsAs-back (λ (end : ℕ). new.limit < end) _ _ _ _ _ come.having_read come.extent beyond)
 
   -- a byte past the limit
   pub took_past : HasRead (new.limit + 1 - old.taken) left_now left_then → new.taken ≡ new.limit
       → IfSome left_now (λ bytes. new.limit < end_ahead old bytes) → Took limit left left_then new
-  took_past took full beyond =
+  took_past having_read full beyond =
       let sum : limit + 1 ≡ old.taken + (new.limit + 1 - old.taken) = omega (arith, rises, within, same) in
-      let all = HasRead-then _ _ _ _ _ _ come.took took sum in
+      let all = HasRead-then _ _ _ _ _ _ come.having_read having_read sum in
       record {
         count = limit + 1;
-        took = all;
+        having_read = all;
         read = omega (arith, full, same);
         most = omega arith;
         stops =
@@ -98,10 +98,10 @@ module _ (limit : ℕ) (left left_now left_then : Option (List ℕ)) (faults fau
       → (result ≡ Ok (Stopped sources.InputLimit) → new.taken ≡ new.limit)
       → (result ≡ Ok (Stopped sources.InputLimit) → IfSome left_now (λ bytes. new.limit < end_ahead old bytes))
       → Took limit left left_then new
-  took_batch result Whole is took past full beyond = took_within (took (λ limit. cc))
-  took_batch result End is took past full beyond = took_within (took (λ limit. cc))
-  took_batch result (Stopped sources.ReadFault) is took past full beyond = took_within (took (λ limit. cc))
-  took_batch result (Stopped sources.InputLimit) is took past full beyond = took_past (past is) (full is) (beyond is)
+  took_batch result Whole is having_read past full beyond = took_within (having_read (λ limit. cc))
+  took_batch result End is having_read past full beyond = took_within (having_read (λ limit. cc))
+  took_batch result (Stopped sources.ReadFault) is having_read past full beyond = took_within (having_read (λ limit. cc))
+  took_batch result (Stopped sources.InputLimit) is having_read past full beyond = took_past (past is) (full is) (beyond is)
 
   -- the same of the header
   pub took_first : (result : Result Next SourceStop) (stop : SourceStop) → result ≡ Err stop
@@ -110,8 +110,8 @@ module _ (limit : ℕ) (left left_now left_then : Option (List ℕ)) (faults fau
       → (result ≡ Err sources.InputLimit → new.taken ≡ new.limit)
       → (result ≡ Err sources.InputLimit → IfSome left_now (λ bytes. new.limit < end_ahead old bytes))
       → Took limit left left_then new
-  took_first result sources.ReadFault is took past full beyond = took_within (took (λ limit. cc))
-  took_first result sources.InputLimit is took past full beyond = took_past (past is) (full is) (beyond is)
+  took_first result sources.ReadFault is having_read past full beyond = took_within (having_read (λ limit. cc))
+  took_first result sources.InputLimit is having_read past full beyond = took_past (past is) (full is) (beyond is)
 
 -- ---- where it stops
 
@@ -127,17 +127,17 @@ module _ (receipts : Bool) (functions : DigestFunctions) (header : Header) (limi
       → GrowsByFront writing.held writing.held_after (lines_due (told_by receipts functions header) functions header all)
       → (stop ≡ writes.WriteFault → Rose writing.faults writing.faults_after)
       → Answers (checking_stopped limit (stop_by_writing stop))
-  stop_answers writes.Memory took good whole front rose =
+  stop_answers writes.Memory having_read good whole front rose =
       answers-memory (check_answer receipts functions) reading_end limit _ writing
-      (of_taken (λ bytes. GrowsByFront writing.held writing.held_after (check_answer receipts functions bytes).due) limit took.count new.taken left left_then took.took took.read
+      (of_taken (λ bytes. GrowsByFront writing.held writing.held_after (check_answer receipts functions bytes).due) limit having_read.count new.taken left left_then having_read.having_read having_read.read
       (reads_taken (λ (logged : Logged). GrowsByFront writing.held writing.held_after (answer_by receipts functions logged).due) new.taken left logged_of (behind_at all new) means
       (due_front receipts functions header all new known writing.held writing.held_after good whole front [])))
-      (TookAtMost-from_read took.count (limit + 1) left left_then took.took took.most) took.stops
-  stop_answers writes.WriteFault took good whole front rose =
+      (TookAtMost-from_read having_read.count (limit + 1) left left_then having_read.having_read having_read.most) having_read.stops
+  stop_answers writes.WriteFault having_read good whole front rose =
       answers-write_fault (check_answer receipts functions) reading_end limit _ writing
       (reads_all (λ (logged : Logged). GrowsByFront writing.held writing.held_after (answer_by receipts functions logged).text) new.taken left logged_of (behind_at all new) means
       (λ more. text_front receipts functions header all new known writing.held writing.held_after good whole front more))
-      (TookAtMost-from_read took.count (limit + 1) left left_then took.took took.most) took.stops (rose refl)
+      (TookAtMost-from_read having_read.count (limit + 1) left left_then having_read.having_read having_read.most) having_read.stops (rose refl)
 
   -- what was due was written, by the bytes that were taken
   pub due_taken : (ahead new []).frames ≡ [] → joined_from 0 all [] ≡ all
@@ -159,13 +159,13 @@ module _ (receipts : Bool) (functions : DigestFunctions) (header : Header) (limi
       → status_of end ≡ (answer_by receipts functions (ended bad)).status
       → Grows writing.held writing.held_after (answer_by receipts functions (ended bad)).text
       → Answers (status_of end)
-  end_answers bad end took within is reached stops status text =
+  end_answers bad end having_read within is reached stops status text =
       answers-end (check_answer receipts functions) reading_end limit _ writing (status_of end) (is_end end)
-      (ReadsAs-back (λ (logged : Logged). status_of end ≡ (answer_by receipts functions logged).status) new.taken left left_then logged_of (behind_at all new) took means
+      (ReadsAs-back (λ (logged : Logged). status_of end ≡ (answer_by receipts functions logged).status) new.taken left left_then logged_of (behind_at all new) having_read means
       (same_left (λ (logged : Logged). status_of end ≡ (answer_by receipts functions logged).status) (ended bad) left_then (behind_at all new) is status))
-      (ReadsAs-back (λ (logged : Logged). Grows writing.held writing.held_after (answer_by receipts functions logged).text) new.taken left left_then logged_of (behind_at all new) took means
+      (ReadsAs-back (λ (logged : Logged). Grows writing.held writing.held_after (answer_by receipts functions logged).text) new.taken left left_then logged_of (behind_at all new) having_read means
       (same_left (λ (logged : Logged). Grows writing.held writing.held_after (answer_by receipts functions logged).text) (ended bad) left_then (behind_at all new) is text))
-      (TookAtMost-from_read new.taken limit left left_then took within) reached stops
+      (TookAtMost-from_read new.taken limit left left_then having_read within) reached stops
     where
       is_end : (end : BundleEnd) → IsEnd (status_of end)
       is_end (bundles.Done epochs) = tt
@@ -179,11 +179,11 @@ module _ (receipts : Bool) (functions : DigestFunctions) (header : Header) (limi
       → GrowsByFront writing.held writing.held_after (answer_by receipts functions (ended bad)).text
       → Rose writing.faults writing.faults_after
       → Answers statuses.WriteFault
-  last_answers bad took within is stops front rose =
+  last_answers bad having_read within is stops front rose =
       answers-write_fault (check_answer receipts functions) reading_end limit _ writing
-      (ReadsAs-back (λ (logged : Logged). GrowsByFront writing.held writing.held_after (answer_by receipts functions logged).text) new.taken left left_then logged_of (behind_at all new) took means
+      (ReadsAs-back (λ (logged : Logged). GrowsByFront writing.held writing.held_after (answer_by receipts functions logged).text) new.taken left left_then logged_of (behind_at all new) having_read means
       (same_left (λ (logged : Logged). GrowsByFront writing.held writing.held_after (answer_by receipts functions logged).text) (ended bad) left_then (behind_at all new) is front))
-      (TookAtMost-from_read new.taken (limit + 1) left left_then took (omega (arith, within))) stops rose
+      (TookAtMost-from_read new.taken (limit + 1) left left_then having_read (omega (arith, within))) stops rose
 
 -- ---- where reading stops
 
@@ -197,14 +197,14 @@ pub cut_answers : (receipts : Bool) (functions : DigestFunctions) (limit : ℕ) 
     → (stop ≡ sources.InputLimit → EndsBehind reading_end limit left)
     → AnswersTo (check_answer receipts functions) reading_end limit (checking_stopped limit (stop_by_reading stop))
     (record { left = left; left_after = left_then; faults = faults; faults_after = faults_then }) writing
-cut_answers receipts functions limit left left_then faults faults_then new writing sources.ReadFault took due rose within just behind =
+cut_answers receipts functions limit left left_then faults faults_then new writing sources.ReadFault having_read due rose within just behind =
     answers-read_fault (check_answer receipts functions) reading_end limit _ writing
-    (of_taken (λ bytes. Grows writing.held writing.held_after (check_answer receipts functions bytes).due) limit took.count new.taken left left_then took.took took.read due)
-    (within refl) took.stops (rose refl)
-cut_answers receipts functions limit left left_then faults faults_then new writing sources.InputLimit took due rose within just behind =
+    (of_taken (λ bytes. Grows writing.held writing.held_after (check_answer receipts functions bytes).due) limit having_read.count new.taken left left_then having_read.having_read having_read.read due)
+    (within refl) having_read.stops (rose refl)
+cut_answers receipts functions limit left left_then faults faults_then new writing sources.InputLimit having_read due rose within just behind =
     answers-limit (check_answer receipts functions) reading_end limit _ writing
-    (of_taken (λ bytes. Grows writing.held writing.held_after (check_answer receipts functions bytes).due) limit took.count new.taken left left_then took.took took.read due)
-    (just refl) took.stops (behind refl)
+    (of_taken (λ bytes. Grows writing.held writing.held_after (check_answer receipts functions bytes).due) limit having_read.count new.taken left left_then having_read.having_read having_read.read due)
+    (just refl) having_read.stops (behind refl)
 
 -- ---- nothing more was read, or not to the end of a batch
 
@@ -215,8 +215,8 @@ pub memory_answers : (receipts : Bool) (functions : DigestFunctions) (limit coun
     → ((more : List ℕ) → GrowsByFront writing.held writing.held_after (answer_by receipts functions (behind_at logs reading more)).due)
     → AnswersTo (check_answer receipts functions) reading_end limit statuses.Memory
     (record { left = left; left_after = left_then; faults = faults; faults_after = faults_then }) writing
-memory_answers receipts functions limit count taken left left_then faults faults_then logs reading writing means below took within stops front =
+memory_answers receipts functions limit count taken left left_then faults faults_then logs reading writing means below having_read within stops front =
     answers-memory (check_answer receipts functions) reading_end limit _ writing
-    (of_taken (λ bytes. GrowsByFront writing.held writing.held_after (check_answer receipts functions bytes).due) limit taken taken left left_then took (omega (arith, within))
+    (of_taken (λ bytes. GrowsByFront writing.held writing.held_after (check_answer receipts functions bytes).due) limit taken taken left left_then having_read (omega (arith, within))
     (reads_on (λ (logged : Logged). GrowsByFront writing.held writing.held_after (answer_by receipts functions logged).due) count taken left logged_of (behind_at logs reading) means below front))
-    (TookAtMost-from_read taken (limit + 1) left left_then took (omega (arith, within))) stops
+    (TookAtMost-from_read taken (limit + 1) left left_then having_read (omega (arith, within))) stops

@@ -9,25 +9,25 @@ use Rattle.bundle_frames.specs.Bundle.{Frame}
 use Rattle.record_text.specs.declared.operation.Operation.{Operation}
 use Rattle.verifier_run.specs.Kept.{keeps_operations}
 use Rattle.verifier_run.specs.Progress.{Progress, fed, weight}
-use Rattle.bundle_report.specs.SoFar.{took, runs_behind}
+use Rattle.bundle_report.specs.SoFar.{having_read, runs_behind}
 use Rattle.certified_epochs.specs.declared.fed_run.FedRun.{FedRun}
 use Rattle.certified_epochs.specs.Turn.{AreFed}
-use Rattle.check_core.specs.declared.batch.Slot.{Slot}
+use Rattle.check_core.specs.declared.batch.FrameHolder.{FrameHolder}
 use Rattle.check_core.specs.Batch.{frame_in, bytes_of}
-use Rattle.check_core.specs.Feeding.{Takes}
+use Rattle.check_core.specs.Feeding.{Reads}
 
 -- ---- one run
 
--- A run that took the frames of some slots, where these are left.
-pub record TakesOn (functions : DigestFunctions) (number : ℕ) (slots left : List Slot) (old new : FedRun) : Type 0 where
+-- A run that took the frames of some holders, where these are left.
+pub record ReadsOn (functions : DigestFunctions) (number : ℕ) (holders left : List FrameHolder) (old new : FedRun) : Type 0 where
   pub fed : new.is_starved ≡ false → old.is_starved ≡ false
-  pub taken : new.is_starved ≡ false → took (scheme_of functions old.run.course.machine.header) number new.run (map frame_in left)
-      ≡ took (scheme_of functions old.run.course.machine.header) number old.run (map frame_in slots)
+  pub taken : new.is_starved ≡ false → having_read (scheme_of functions old.run.course.machine.header) number new.run (map frame_in left)
+      ≡ having_read (scheme_of functions old.run.course.machine.header) number old.run (map frame_in holders)
   pub header : new.run.course.machine.header ≡ old.run.course.machine.header
-  pub weight : weight new.run + bytes_of (map frame_in left) ≤ weight old.run + bytes_of (map frame_in slots)
+  pub weight : weight new.run + bytes_of (map frame_in left) ≤ weight old.run + bytes_of (map frame_in holders)
 
-pub takes-first : (functions : DigestFunctions) (number : ℕ) (slots : List Slot) (old : FedRun) → TakesOn functions number slots slots old old
-takes-first functions number slots old = record {
+pub takes-first : (functions : DigestFunctions) (number : ℕ) (holders : List FrameHolder) (old : FedRun) → ReadsOn functions number holders holders old old
+takes-first functions number holders old = record {
   fed = λ is. is;
   taken = λ is. refl;
   header = refl;
@@ -35,27 +35,27 @@ takes-first functions number slots old = record {
 }
 
 -- all were taken
-pub takes-all : (functions : DigestFunctions) (number : ℕ) (slots left : List Slot) (old new : FedRun) → left ≡ []
-    → TakesOn functions number slots left old new → Takes functions number (map frame_in slots) old new
-takes-all functions number slots left old new none on =
-    let weights = subst (λ (rest : List Slot). weight new.run + bytes_of (map frame_in rest) ≤ weight old.run + bytes_of (map frame_in slots)) none on.weight in
+pub takes-all : (functions : DigestFunctions) (number : ℕ) (holders left : List FrameHolder) (old new : FedRun) → left ≡ []
+    → ReadsOn functions number holders left old new → Reads functions number (map frame_in holders) old new
+takes-all functions number holders left old new none on =
+    let weights = subst (λ (rest : List FrameHolder). weight new.run + bytes_of (map frame_in rest) ≤ weight old.run + bytes_of (map frame_in holders)) none on.weight in
     record {
       fed = on.fed;
-      taken = λ is. sym (ap (λ (rest : List Slot). took (scheme_of functions old.run.course.machine.header) number new.run (map frame_in rest)) none) ∙ on.taken is;
+      taken = λ is. sym (ap (λ (rest : List FrameHolder). having_read (scheme_of functions old.run.course.machine.header) number new.run (map frame_in rest)) none) ∙ on.taken is;
       header = on.header;
       weight = omega (arith, weights);
     }
 
 -- a frame of another verifier is passed by
-pub takes-other : (functions : DigestFunctions) (number : ℕ) (slots left rest : List Slot) (slot : Slot) (old now : FedRun) → left ≡ slot ∷ rest
-    → (slot.verifier ≡ number → ⊥) → TakesOn functions number slots left old now → TakesOn functions number slots rest old now
-takes-other functions number slots left rest slot old now is other on =
+pub takes-other : (functions : DigestFunctions) (number : ℕ) (holders left rest : List FrameHolder) (holder : FrameHolder) (old now : FedRun) → left ≡ holder ∷ rest
+    → (holder.verifier ≡ number → ⊥) → ReadsOn functions number holders left old now → ReadsOn functions number holders rest old now
+takes-other functions number holders left rest holder old now is other on =
     let scheme = scheme_of functions old.run.course.machine.header in
-    let weights = subst (λ (l : List Slot). weight now.run + bytes_of (map frame_in l) ≤ weight old.run + bytes_of (map frame_in slots)) is on.weight in
+    let weights = subst (λ (l : List FrameHolder). weight now.run + bytes_of (map frame_in l) ≤ weight old.run + bytes_of (map frame_in holders)) is on.weight in
     record {
       fed = on.fed;
-      taken = λ fine. sym (ap (λ (l : List Slot). took scheme number now.run (map frame_in l)) is
-          ∙ ap (λ (t : Bool). took scheme number (if t then fed keeps_operations scheme now.run slot.body else now.run) (map frame_in rest)) (ne_eqb slot.verifier number other))
+      taken = λ fine. sym (ap (λ (l : List FrameHolder). having_read scheme number now.run (map frame_in l)) is
+          ∙ ap (λ (t : Bool). having_read scheme number (if t then fed keeps_operations scheme now.run holder.body else now.run) (map frame_in rest)) (ne_eqb holder.verifier number other))
           ∙ on.taken fine;
       header = on.header;
       weight = omega (arith, weights);
@@ -66,34 +66,34 @@ starved-back true is stays fine = sym (stays refl) ∙ fine
 starved-back false is stays fine = refl
 
 -- one of its own is taken
-pub takes-own : (functions : DigestFunctions) (number : ℕ) (slots left rest : List Slot) (slot : Slot) (old now new : FedRun) → left ≡ slot ∷ rest
-    → slot.verifier ≡ number
-    → (new.is_starved ≡ false → new.run ≡ fed keeps_operations (scheme_of functions now.run.course.machine.header) now.run slot.body)
+pub takes-own : (functions : DigestFunctions) (number : ℕ) (holders left rest : List FrameHolder) (holder : FrameHolder) (old now new : FedRun) → left ≡ holder ∷ rest
+    → holder.verifier ≡ number
+    → (new.is_starved ≡ false → new.run ≡ fed keeps_operations (scheme_of functions now.run.course.machine.header) now.run holder.body)
     → (now.is_starved ≡ true → new.is_starved ≡ true)
     → new.run.course.machine.header ≡ now.run.course.machine.header
-    → weight new.run ≤ weight now.run + length slot.body
-    → TakesOn functions number slots left old now → TakesOn functions number slots rest old new
-takes-own functions number slots left rest slot old now new is own taken starved header heavy on =
+    → weight new.run ≤ weight now.run + length holder.body
+    → ReadsOn functions number holders left old now → ReadsOn functions number holders rest old new
+takes-own functions number holders left rest holder old now new is own taken starved header heavy on =
     let scheme = scheme_of functions old.run.course.machine.header in
-    let weights = subst (λ (l : List Slot). weight now.run + bytes_of (map frame_in l) ≤ weight old.run + bytes_of (map frame_in slots)) is on.weight in
+    let weights = subst (λ (l : List FrameHolder). weight now.run + bytes_of (map frame_in l) ≤ weight old.run + bytes_of (map frame_in holders)) is on.weight in
     record {
       fed = λ fine. on.fed (starved-back now.is_starved new.is_starved starved fine);
       taken = λ fine.
-          ap (λ (run : Progress Operation). took scheme number run (map frame_in rest))
-          (taken fine ∙ ap (λ (h : Header). fed keeps_operations (scheme_of functions h) now.run slot.body) on.header)
-          ∙ sym (ap (λ (l : List Slot). took scheme number now.run (map frame_in l)) is
-          ∙ ap (λ (t : Bool). took scheme number (if t then fed keeps_operations scheme now.run slot.body else now.run) (map frame_in rest)) (eq-eqb slot.verifier number own))
+          ap (λ (run : Progress Operation). having_read scheme number run (map frame_in rest))
+          (taken fine ∙ ap (λ (h : Header). fed keeps_operations (scheme_of functions h) now.run holder.body) on.header)
+          ∙ sym (ap (λ (l : List FrameHolder). having_read scheme number now.run (map frame_in l)) is
+          ∙ ap (λ (t : Bool). having_read scheme number (if t then fed keeps_operations scheme now.run holder.body else now.run) (map frame_in rest)) (eq-eqb holder.verifier number own))
           ∙ on.taken (starved-back now.is_starved new.is_starved starved fine);
       header = header ∙ on.header;
       weight = omega (arith, weights, heavy);
     }
 
 -- a run may be fed what is left for it
-pub room-left : (functions : DigestFunctions) (number : ℕ) (slots left rest : List Slot) (slot : Slot) (old now : FedRun) → left ≡ slot ∷ rest
-    → TakesOn functions number slots left old now → weight old.run + bytes_of (map frame_in slots) < 9223372036854775808
-    → weight now.run + length slot.body < 9223372036854775808
-room-left functions number slots left rest slot old now is on room =
-    let weights = subst (λ (l : List Slot). weight now.run + bytes_of (map frame_in l) ≤ weight old.run + bytes_of (map frame_in slots)) is on.weight in
+pub room-left : (functions : DigestFunctions) (number : ℕ) (holders left rest : List FrameHolder) (holder : FrameHolder) (old now : FedRun) → left ≡ holder ∷ rest
+    → ReadsOn functions number holders left old now → weight old.run + bytes_of (map frame_in holders) < 9223372036854775808
+    → weight now.run + length holder.body < 9223372036854775808
+room-left functions number holders left rest holder old now is on room =
+    let weights = subst (λ (l : List FrameHolder). weight now.run + bytes_of (map frame_in l) ≤ weight old.run + bytes_of (map frame_in holders)) is on.weight in
     omega (arith, weights, room)
 
 -- ---- all runs
@@ -105,28 +105,28 @@ all_at P (x ∷ xs) zero d within all = all.0
 all_at P (x ∷ xs) (suc i) d within all = all_at P xs i d (omega (arith, within)) all.1
 
 -- each run took the frames of its verifier, the first of which has this number
-abbrev pub AllTake : DigestFunctions → ℕ → List Frame → List FedRun → List FedRun → Type 0
-AllTake functions number frames [] [] = Unit {0}
-AllTake functions number frames [] (new ∷ news) = ⊥
-AllTake functions number frames (old ∷ olds) [] = ⊥
-AllTake functions number frames (old ∷ olds) (new ∷ news) = Takes functions number frames old new × AllTake functions (suc number) frames olds news
+abbrev pub AllRead : DigestFunctions → ℕ → List Frame → List FedRun → List FedRun → Type 0
+AllRead functions number frames [] [] = Unit {0}
+AllRead functions number frames [] (new ∷ news) = ⊥
+AllRead functions number frames (old ∷ olds) [] = ⊥
+AllRead functions number frames (old ∷ olds) (new ∷ news) = Reads functions number frames old new × AllRead functions (suc number) frames olds news
 
 pub all_take : (functions : DigestFunctions) (number : ℕ) (frames : List Frame) (olds news : List FedRun) → length news ≡ length olds
-    → ((i : ℕ) (d : FedRun) → i < length olds → Takes functions (number + i) frames (get_or olds i d) (get_or news i d))
-    → AllTake functions number frames olds news
+    → ((i : ℕ) (d : FedRun) → i < length olds → Reads functions (number + i) frames (get_or olds i d) (get_or news i d))
+    → AllRead functions number frames olds news
 all_take functions number frames [] [] len each = tt
 all_take functions number frames [] (new ∷ news) len each = absurd (omega (arith, len))
 all_take functions number frames (old ∷ olds) [] len each = absurd (omega (arith, len))
 all_take functions number frames (old ∷ olds) (new ∷ news) len each =
     let first : number + 0 ≡ number = omega arith in (
-      subst (λ (n : ℕ). Takes functions n frames old new) first (each 0 old (omega arith)),
+      subst (λ (n : ℕ). Reads functions n frames old new) first (each 0 old (omega arith)),
       all_take functions (suc number) frames olds news (omega (arith, len))
           (λ i d within. let next : number + suc i ≡ suc number + i = omega arith in
-          subst (λ (n : ℕ). Takes functions n frames (get_or olds i d) (get_or news i d)) next (each (suc i) d (omega (arith, within)))),
+          subst (λ (n : ℕ). Reads functions n frames (get_or olds i d) (get_or news i d)) next (each (suc i) d (omega (arith, within)))),
     )
 
 module _ (functions : DigestFunctions) (frames : List Frame) where
-  pub taken_by_all : (number : ℕ) (header : Header) (olds news : List FedRun) → AllTake functions number frames olds news
+  pub taken_by_all : (number : ℕ) (header : Header) (olds news : List FedRun) → AllRead functions number frames olds news
       → AllByRecursion (λ fed. fed.run.course.machine.header ≡ header) olds → AreFed news
       → AreFed olds × (map (λ fed. fed.run) news ≡ runs_behind (scheme_of functions header) number (map (λ fed. fed.run) olds) frames)
   taken_by_all number header [] [] each headers fine = (tt, refl)
@@ -135,18 +135,18 @@ module _ (functions : DigestFunctions) (frames : List Frame) where
   taken_by_all number header (old ∷ olds) (new ∷ news) each headers fine =
       let rest = taken_by_all (suc number) header olds news each.1 headers.1 fine.1 in (
         (each.0.fed fine.0, rest.0),
-        ap (λ (run : Progress Operation). run ∷ map (λ fed. fed.run) news) (each.0.taken fine.0 ∙ ap (λ (h : Header). took (scheme_of functions h) number old.run frames) headers.0)
-            ∙ ap (λ (runs : List (Progress Operation)). took (scheme_of functions header) number old.run frames ∷ runs) rest.1,
+        ap (λ (run : Progress Operation). run ∷ map (λ fed. fed.run) news) (each.0.taken fine.0 ∙ ap (λ (h : Header). having_read (scheme_of functions h) number old.run frames) headers.0)
+            ∙ ap (λ (runs : List (Progress Operation)). having_read (scheme_of functions header) number old.run frames ∷ runs) rest.1,
       )
 
-  pub headers_of_all : (number : ℕ) (header : Header) (olds news : List FedRun) → AllTake functions number frames olds news
+  pub headers_of_all : (number : ℕ) (header : Header) (olds news : List FedRun) → AllRead functions number frames olds news
       → AllByRecursion (λ fed. fed.run.course.machine.header ≡ header) olds → AllByRecursion (λ fed. fed.run.course.machine.header ≡ header) news
   headers_of_all number header [] [] each headers = tt
   headers_of_all number header [] (new ∷ news) each headers = absurd each
   headers_of_all number header (old ∷ olds) [] each headers = absurd each
   headers_of_all number header (old ∷ olds) (new ∷ news) each headers = (each.0.header ∙ headers.0, headers_of_all (suc number) header olds news each.1 headers.1)
 
-  pub weights_of_all : (number bound : ℕ) (olds news : List FedRun) → AllTake functions number frames olds news
+  pub weights_of_all : (number bound : ℕ) (olds news : List FedRun) → AllRead functions number frames olds news
       → AllByRecursion (λ fed. weight fed.run ≤ bound) olds → AllByRecursion (λ fed. weight fed.run ≤ bound + bytes_of frames) news
   weights_of_all number bound [] [] each weights = tt
   weights_of_all number bound [] (new ∷ news) each weights = absurd each

@@ -35,7 +35,7 @@ pub come_none : (limit : ℕ) (left : Option (List ℕ)) (faults : ℕ) (reading
 come_none limit left faults reading is =
     let none = ap (λ (r : Reading). r.taken) is in
     record {
-      took = HasRead-none _ _ none;
+      having_read = HasRead-none _ _ none;
       means = ReadsAs-none _ _ _ _ none (λ more. opening_joined limit [] reading more refl is);
       extent = ReadsAs-none _ _ _ _ none (λ more. end_opening limit more ∙ ap (λ (r : Reading). end_ahead r more) (sym is));
       near = λ some. absurd (omega (arith, some, none));
@@ -57,7 +57,7 @@ module _ (limit : ℕ) (left : Option (List ℕ)) (faults : ℕ) (old new : Read
       → ReadsAs new.taken left logged_of (behind_at (empty_logs header.verifiers) new)
   means_header next header is reads known frame =
       let none = ap (λ (r : Reading). r.progress.header) opening in
-      ReadsAs-then _ _ _ _ _ _ _ _ come.took come.means
+      ReadsAs-then _ _ _ _ _ _ _ _ come.having_read come.means
       (reads_next _ _ [] (empty_logs header.verifiers) old new next new.progress.body reads known (λ h head. none) frame
       (sym (ap log_count none)) (sym (ap (λ (n : Next). logs_then n new.progress.body []) is))) sum
 
@@ -67,7 +67,7 @@ module _ (limit : ℕ) (left : Option (List ℕ)) (faults : ℕ) (old new : Read
       → new.progress.header ≡ old.progress.header
       → ReadsAs new.taken left logged_of (behind_at [] new)
   means_none result same reads known =
-      ReadsAs-then _ _ _ _ _ _ _ _ come.took come.means
+      ReadsAs-then _ _ _ _ _ _ _ _ come.having_read come.means
       (ReadsAs-kept _ _ (behind_at [] old) (λ more. behind old.progress.header [] (next_then result new.progress.body (ahead new more))) (behind_at [] new)
       (ReadsAs-map (behind old.progress.header []) _ _ (ahead old) (λ more. next_then result new.progress.body (ahead new more)) reads)
       (λ more. ap (behind old.progress.header []) (same (ahead new more)) ∙ ap (λ (h : Option Header). behind h [] (ahead new more)) (sym known))) sum
@@ -103,22 +103,22 @@ module _ (receipts : Bool) (functions : DigestFunctions) (limit : ℕ) (left lef
       → TookToEnd reading_end left left_then → StopsAtEnd reading_end left left_then
       → AnswersTo (check_answer receipts functions) reading_end limit (check_status limit result)
       (record { left = left; left_after = left_then; faults = faults; faults_after = faults_then }) writing
-  bad_answers result (inl is) whole front rose took within ends reached stops =
+  bad_answers result (inl is) whole front rose having_read within ends reached stops =
       subst (λ (r : Result BundleEnd CheckStop). AnswersTo (check_answer receipts functions) reading_end limit (check_status limit r)
       (record { left = left; left_after = left_then; faults = faults; faults_after = faults_then }) writing) (sym is)
       (answers-end (check_answer receipts functions) reading_end limit _ writing (statuses.BadBundle 0) tt
-      (ReadsAs-back (λ (logged : Logged). statuses.BadBundle 0 ≡ (answer_by receipts functions logged).status) new.taken left left_then logged_of (behind_at [] new) took means
+      (ReadsAs-back (λ (logged : Logged). statuses.BadBundle 0 ≡ (answer_by receipts functions logged).status) new.taken left left_then logged_of (behind_at [] new) having_read means
       (at_end (λ (answer : Answer). statuses.BadBundle 0 ≡ answer.status) left_then ends refl))
-      (ReadsAs-back (λ (logged : Logged). Grows writing.held writing.held_after (answer_by receipts functions logged).text) new.taken left left_then logged_of (behind_at [] new) took means
+      (ReadsAs-back (λ (logged : Logged). Grows writing.held writing.held_after (answer_by receipts functions logged).text) new.taken left left_then logged_of (behind_at [] new) having_read means
       (at_end (λ (answer : Answer). Grows writing.held writing.held_after answer.text) left_then ends
       (subst (λ (r : Result BundleEnd CheckStop). OnOk r (Grows writing.held writing.held_after no_answer.text)) is whole)))
-      (TookAtMost-from_read new.taken limit left left_then took within) reached stops)
-  bad_answers result (inr is) whole front rose took within ends reached stops =
+      (TookAtMost-from_read new.taken limit left left_then having_read within) reached stops)
+  bad_answers result (inr is) whole front rose having_read within ends reached stops =
       subst (λ (r : Result BundleEnd CheckStop). AnswersTo (check_answer receipts functions) reading_end limit (check_status limit r)
       (record { left = left; left_after = left_then; faults = faults; faults_after = faults_then }) writing) (sym is)
       (answers-write_fault (check_answer receipts functions) reading_end limit _ writing
-      (ReadsAs-back (λ (logged : Logged). GrowsByFront writing.held writing.held_after (answer_by receipts functions logged).text) new.taken left left_then logged_of (behind_at [] new) took means
+      (ReadsAs-back (λ (logged : Logged). GrowsByFront writing.held writing.held_after (answer_by receipts functions logged).text) new.taken left left_then logged_of (behind_at [] new) having_read means
       (at_end (λ (answer : Answer). GrowsByFront writing.held writing.held_after answer.text) left_then ends
       (subst (λ (r : Result BundleEnd CheckStop). OnErr r (GrowsByFront writing.held writing.held_after no_answer.text)) is front)))
-      (TookAtMost-from_read new.taken (limit + 1) left left_then took (omega (arith, within))) stops
+      (TookAtMost-from_read new.taken (limit + 1) left left_then having_read (omega (arith, within))) stops
       (subst (λ (r : Result BundleEnd CheckStop). OnErr r (Rose writing.faults writing.faults_after)) is rose))

@@ -27,7 +27,7 @@ use Rattle.bundle_report.specs.Answer.{answer_at, answer_by}
 use Rattle.report_text.specs.Answer.{Answer}
 use Rattle.bundle_report.specs.RunReport.{courses_of}
 use Rattle.bundle_report.specs.Judged.{judged}
-use Rattle.bundle_report.specs.SoFar.{lines_from, left_from, runs_from, runs_behind, opening_runs, HaveTaken}
+use Rattle.bundle_report.specs.SoFar.{lines_from, left_from, runs_from, runs_behind, opening_runs, HaveRead}
 use Rattle.bundle_report.proofs.LinesLaws.{lines-behind}
 use Rattle.bundle_report.proofs.SoFarLaws.{taken-more, lines-taken, counted-within}
 use Rattle.bundle_report.proofs.DueLaws.{lines-certified, lines-due, lines-front, due-stays}
@@ -92,19 +92,19 @@ module _ (left left_now : Option (List ℕ)) (faults faults_now : ℕ) (logs : L
   sum-more = omega (arith, rises)
 
   pub extent-more : ReadsAs (new.taken - old.taken) left_now (end_ahead old) (end_ahead new) → ReadsAs new.taken left reading_end (end_ahead new)
-  extent-more extent = ReadsAs-then _ _ _ _ _ _ _ _ come.took come.extent extent sum-more
+  extent-more extent = ReadsAs-then _ _ _ _ _ _ _ _ come.having_read come.extent extent sum-more
 
   pub near-more : (old.taken < new.taken → IfSome left_now (λ bytes. new.taken ≤ end_ahead old bytes + most_behind))
       → 0 < new.taken → IfSome left (λ bytes. new.taken ≤ reading_end bytes + most_behind)
-  near-more near = near-then _ _ _ _ _ _ _ _ _ come.took come.extent rises refl come.near near
+  near-more near = near-then _ _ _ _ _ _ _ _ _ come.having_read come.extent rises refl come.near near
 
   pub come-more : (all : List (List ℕ)) (left_then : Option (List ℕ)) (faults_then : ℕ) → HasRead (new.taken - old.taken) left_now left_then
       → ReadsAs new.taken left logged_of (behind_at all new)
       → ReadsAs (new.taken - old.taken) left_now (end_ahead old) (end_ahead new)
       → (old.taken < new.taken → IfSome left_now (λ bytes. new.taken ≤ end_ahead old bytes + most_behind))
       → faults_now ≤ faults_then → HasCome left faults all new left_then faults_then
-  come-more all left_then faults_then took means extent near rose = record {
-    took = HasRead-then _ _ _ _ _ _ come.took took sum-more;
+  come-more all left_then faults_then having_read means extent near rose = record {
+    having_read = HasRead-then _ _ _ _ _ _ come.having_read having_read sum-more;
     means = means;
     extent = extent-more extent;
     near = near-more near;
@@ -115,7 +115,7 @@ module _ (left left_now : Option (List ℕ)) (faults faults_now : ℕ) (logs : L
   pub means-more : (header : Header) (frames : List Frame) → old.progress.header ≡ Some header → GoesOnBy frames old new left_now
       → ReadsAs new.taken left logged_of (behind_at (joined_from 0 logs frames) new)
   means-more header frames known on =
-      ReadsAs-then _ _ _ _ _ _ _ _ come.took come.means (means_more _ _ logs frames old new header known on.header on.means) sum-more
+      ReadsAs-then _ _ _ _ _ _ _ _ come.having_read come.means (means_more _ _ logs frames old new header known on.header on.means) sum-more
 
 -- ---- what is due
 
@@ -182,7 +182,7 @@ pub fed_checked : (functions : DigestFunctions) (header : Header) (logs : List (
     → map (λ fed. fed.run) runs_fed ≡ runs_behind (scheme_of functions header) 0 (map (λ fed. fed.run) runs) frames
     → AreChecked functions header (joined_from 0 logs frames) so_far runs_fed
 fed_checked functions header logs frames so_far runs runs_fed checked is =
-    subst (HaveTaken (scheme_of functions header) header (joined_from 0 logs frames) so_far) (sym is)
+    subst (HaveRead (scheme_of functions header) header (joined_from 0 logs frames) so_far) (sym is)
     (taken-more (scheme_of functions header) header logs so_far (map (λ fed. fed.run) runs) frames checked)
 
 module _ (tell : EpochText) (functions : DigestFunctions) (header : Header) (logs : List (List ℕ)) (frames : List Frame) (so_far : Judged) (runs : List FedRun)

@@ -2,16 +2,16 @@
 use Rattle.std.specs.Prelude.{◌≡◌, ℕ, ◌+◌, ◌-◌, ◌*◌, ◌≤◌, List, [], ◌∷◌, length, map, take, Option, vec_len}
 use Rattle.bundle_frames.specs.Bundle.{Frame, with_frames, longest_body}
 use Rattle.bundle_frames.specs.Reading.{Reading, ahead, end_ahead, ReadsAs}
-use Rattle.check_core.specs.declared.batch.Slot.{Slot}
+use Rattle.check_core.specs.declared.batch.FrameHolder.{FrameHolder}
 use Rattle.check_core.specs.declared.batch.Batch.TheInside.{Inside}
 
--- the frame that a slot holds
-abbrev pub frame_in : Slot → Frame
-frame_in slot = record { verifier = slot.verifier; body = slot.body }
+-- the frame that a holder holds
+abbrev pub frame_in : FrameHolder → Frame
+frame_in holder = record { verifier = holder.verifier; body = holder.body }
 
 -- the frames that were read
 abbrev pub frames_of : Inside → List Frame
-frames_of b = map frame_in (take b.count b.slots.items)
+frames_of b = map frame_in (take b.count b.holders.items)
 
 -- how many bytes their bodies have
 abbrev pub bytes_of : List Frame → ℕ
@@ -20,7 +20,7 @@ bytes_of (frame ∷ frames) = length frame.body + bytes_of frames
 
 -- as many frames as are counted, and as many bytes
 pub record IsBatch (b : Inside) : Type 0 where
-  pub count : b.count ≤ vec_len b.slots
+  pub count : b.count ≤ vec_len b.holders
   pub few : b.count ≤ 64
   pub bytes : b.bytes ≡ bytes_of (frames_of b)
   pub bounded : b.bytes ≤ b.count * longest_body

@@ -11,7 +11,7 @@ use Rattle.bundle_report.specs.Logged.{logged_of}
 use Rattle.bundle_report.specs.Report.{EpochText}
 use Rattle.bundle_report.specs.BundleReport.{certified_lines, histories_at}
 use Rattle.bundle_report.specs.RunReport.{courses_of}
-use Rattle.bundle_report.specs.SoFar.{HaveTaken, lines_from}
+use Rattle.bundle_report.specs.SoFar.{HaveRead, lines_from}
 use Rattle.certified_epochs.specs.declared.fed_run.FedRun.{FedRun}
 use Rattle.check_core.specs.Intake.{behind_at}
 
@@ -19,7 +19,7 @@ use Rattle.check_core.specs.Intake.{behind_at}
 -- so far and what is ahead.
 pub record HasCome (left : Option (List ℕ)) (faults : ℕ) (logs : List (List ℕ)) (reading : Reading) (left_now : Option (List ℕ))
     (faults_now : ℕ) : Type 0 where
-  pub took : HasRead reading.taken left left_now
+  pub having_read : HasRead reading.taken left left_now
   pub means : ReadsAs reading.taken left logged_of (behind_at logs reading)
   pub extent : ReadsAs reading.taken left reading_end (end_ahead reading)
   pub near : 0 < reading.taken → IfSome left (λ bytes. reading.taken ≤ reading_end bytes + most_behind)
@@ -27,7 +27,7 @@ pub record HasCome (left : Option (List ℕ)) (faults : ℕ) (logs : List (List 
 
 -- the runs have taken these logs so far, and the epochs that are counted are taken out of them
 abbrev pub AreChecked : DigestFunctions → Header → List (List ℕ) → Judged → List FedRun → Type 0
-AreChecked functions header logs so_far runs = HaveTaken (scheme_of functions header) header logs so_far (map (λ fed. fed.run) runs)
+AreChecked functions header logs so_far runs = HaveRead (scheme_of functions header) header logs so_far (map (λ fed. fed.run) runs)
 
 -- the lines of the epochs that are counted
 abbrev pub lines_counted : EpochText → DigestFunctions → Header → List (List ℕ) → Judged → List ℕ

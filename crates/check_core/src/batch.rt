@@ -10,11 +10,11 @@ ghost use Rattle.bundle_frames.specs.Progress.{position};
 ghost use Rattle.bundle_frames.specs.Reading.{ahead, end_ahead, HasRead, IsSpent};
 ghost use Rattle.check_core.specs.Batch.{frame_in, bytes_of, GoesOnBy};
 
+use base_words::Memory;
 use bundle_frames::{BundleReader, FrameBuffer, Next, SourceStop};
 use fv_outside::Source;
 use std::alloc::Global;
 use std::marker::Model;
-use want_of_memory::Memory;
 
 /// The most frames that are read before they are fed.
 pub const BATCH_FRAMES: usize = 64;
@@ -32,7 +32,7 @@ pub enum Filled {
 
 /// A frame that was read: whose, and its body.
 #[derive(Drop)]
-pub struct Slot {
+pub struct FrameHolder {
     pub verifier: u16,
     pub body: FrameBuffer,
 }
@@ -40,8 +40,8 @@ pub struct Slot {
 /// The frames that are read before they are fed. Their buffers are used again and again. Contracts see the frames.
 #[derive(Drop)]
 pub struct Batch {
-    slots: Vec<Slot>,
-    // So many of the slots hold a frame, of so many bytes in all.
+    holders: Vec<FrameHolder>,
+    // So many of the holders hold a frame, of so many bytes in all.
     count: usize,
     bytes: u64,
 }
@@ -64,17 +64,17 @@ impl Batch {
         ensures empty { result ≡ [] }
     {
         Batch {
-            slots: Vec::new(alloc),
+            holders: Vec::new(alloc),
             count: 0,
             bytes: 0,
         }
     }
 
     /// The frames.
-    pub fn slots(&self) -> &[Slot]
+    pub fn holders(&self) -> &[FrameHolder]
         ensures frames { map frame_in result.now ≡ self.now }
     {
-        &self.slots[..self.count]
+        &self.holders[..self.count]
     }
 
     /// How many bytes the bodies of the frames have in all.
@@ -101,7 +101,7 @@ impl Batch {
         ensures whole { result ≡ Ok Filled.Whole → length self.new ≡ 64 }
 
         // What was taken of the source. Past the limit it is one byte, and that is not read.
-        ensures took { result ≢ Ok (Filled.Stopped SourceStop.InputLimit)
+        ensures having_read { result ≢ Ok (Filled.Stopped SourceStop.InputLimit)
             → HasRead (reader.new.taken - reader.old.taken) (S.left source.old) (S.left source.new) }
         ensures limit { result ≡ Ok (Filled.Stopped SourceStop.InputLimit)
             → HasRead (reader.new.limit + 1 - reader.old.taken) (S.left source.old) (S.left source.new) }
@@ -172,34 +172,34 @@ impl Batch {
         ensures handed { OnOk result (reader.new ≡ record reader.old { progress = record reader.old.progress { body = [] } }) }
         ensures reader { OnErr result (reader.new ≡ reader.old) }
     {
-        make_room(alloc, &mut self.slots, self.count)?;
+        make_room(alloc, &mut self.holders, self.count)?;
         let len = reader.body().len() as u64;
-        put(&mut self.slots[self.count], reader, verifier);
+        put(&mut self.holders[self.count], reader, verifier);
         self.count += 1;
         self.bytes += len;
         Ok(())
     }
 }
 
-// Makes one slot more, if there are just so many.
-fn make_room(alloc: Global, slots: &mut Vec<Slot>, count: usize) -> Result<(), Memory>
-    requires count { count ≤ vec_len slots.old }
-    ensures same { take count slots.new.items ≡ take count slots.old.items }
-    ensures count { count ≤ vec_len slots.new }
-    ensures room { OnOk result (count < vec_len slots.new) }
+// Makes one holder more, if there are just so many.
+fn make_room(alloc: Global, holders: &mut Vec<FrameHolder>, count: usize) -> Result<(), Memory>
+    requires count { count ≤ vec_len holders.old }
+    ensures same { take count holders.new.items ≡ take count holders.old.items }
+    ensures count { count ≤ vec_len holders.new }
+    ensures room { OnOk result (count < vec_len holders.new) }
 {
-    if count == slots.len() {
+    if count == holders.len() {
         let body = FrameBuffer::new(alloc)?;
-        slots.push(Slot { verifier: 0, body })?;
+        holders.push(FrameHolder { verifier: 0, body })?;
     }
     Ok(())
 }
 
-// Puts the frame that was read last, of this verifier, into a slot.
-fn put(slot: &mut Slot, reader: &mut BundleReader, verifier: u16)
-    ensures frame { frame_in slot.new ≡ record { verifier = verifier; body = reader.old.progress.body } }
+// Puts the frame that was read last, of this verifier, into a holder.
+fn put(holder: &mut FrameHolder, reader: &mut BundleReader, verifier: u16)
+    ensures frame { frame_in holder.new ≡ record { verifier = verifier; body = reader.old.progress.body } }
     ensures handed { reader.new ≡ record reader.old { progress = record reader.old.progress { body = [] } } }
 {
-    slot.verifier = verifier;
-    reader.hand_over(&mut slot.body);
+    holder.verifier = verifier;
+    reader.hand_over(&mut holder.body);
 }

@@ -12,13 +12,13 @@ ghost use Rattle.bundle_report.specs.Judged.{CanBeJudged, judged, end_of_runs};
 
 use crate::intake::Intake;
 use crate::judging::{first_refused, judge};
+use base_words::Memory;
 use certified_epochs::end_of;
 use lamport_clocks::Header;
 use record_hash::Digests;
 use report_text::BundleEnd;
 use std::alloc::Global;
 use verifier_run::{Kept, Run, run_logs};
-use want_of_memory::Memory;
 
 /// How many epochs of a bundle are certified, from the first on, and how its report ends.
 #[derive(Clone, Copy, Debug, PartialEq, Eq)]

@@ -7,9 +7,9 @@ ghost use Rattle.verifier_run.specs.Progress.{weight};
 ghost use Rattle.bundle_report.specs.SoFar.{runs_behind};
 ghost use Rattle.certified_epochs.specs.Turn.{AreFed};
 ghost use Rattle.check_core.specs.Batch.{frame_in, bytes_of};
-ghost use Rattle.check_core.specs.Feeding.{Takes};
+ghost use Rattle.check_core.specs.Feeding.{Reads};
 
-use crate::batch::{Batch, Slot};
+use crate::batch::{Batch, FrameHolder};
 use certified_epochs::FedRun;
 use record_hash::Digests;
 use std::thread::{Threads, for_each_mut};
@@ -41,26 +41,26 @@ pub fn feed_batch<R: Threads + Sync, D: Digests + Sync>(
     } else {
         runs.len().max(1)
     };
-    let slots = batch.slots();
+    let holders = batch.holders();
     for_each_mut(
         rt,
         runs,
         threads,
         &|index: usize, fed: &mut FedRun|
-            requires { weight fed.now.run + bytes_of (map frame_in slots.now) < 2 ^ 63 }
-            ensures { Takes (D.functions d.entry.now) index (map frame_in slots.entry.now) fed.entry.now fed.exit.now }
-        { feed_own(d, slots, index, fed) },
+            requires { weight fed.now.run + bytes_of (map frame_in holders.now) < 2 ^ 63 }
+            ensures { Reads (D.functions d.entry.now) index (map frame_in holders.entry.now) fed.entry.now fed.exit.now }
+        { feed_own(d, holders, index, fed) },
     );
 }
 
 // Feeds a run the frames of the verifier of this number, in order.
-fn feed_own<D: Digests>(d: &D, slots: &[Slot], number: usize, fed: &mut FedRun)
-    requires room { weight fed.old.run + bytes_of (map frame_in slots.now) < 2 ^ 63 }
-    ensures takes { Takes (D.functions d.now) number (map frame_in slots.now) fed.old fed.new }
+fn feed_own<D: Digests>(d: &D, holders: &[FrameHolder], number: usize, fed: &mut FedRun)
+    requires room { weight fed.old.run + bytes_of (map frame_in holders.now) < 2 ^ 63 }
+    ensures takes { Reads (D.functions d.now) number (map frame_in holders.now) fed.old fed.new }
 {
-    for slot in slots {
-        if usize::from(slot.verifier) == number {
-            fed.feed(d, slot.body.body());
+    for holder in holders {
+        if usize::from(holder.verifier) == number {
+            fed.feed(d, holder.body.body());
         }
     }
 }

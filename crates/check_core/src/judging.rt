@@ -4,12 +4,12 @@ ghost use Rattle.std.specs.Option.{option_to_list};
 ghost use Rattle.bundle_report.specs.RunReport.{parts_at};
 ghost use Rattle.bundle_report.specs.Judged.{judged, judged_from, refused_log, CanBeJudged};
 
+use base_words::Memory;
 use bundle_report::{Judged, RefusedLog, Uneven};
 use epoch_gather::{Verdict, verdict};
 use multiset_sum::{Part, Sum};
 use std::alloc::{AllocError, Global};
 use verifier_run::{Kept, Run};
-use want_of_memory::Memory;
 
 /// Judges epoch by epoch, from the first on, up to the first that is not certified.
 pub(crate) fn judge<T: Kept>(alloc: Global, runs: &[Run<T>]) -> Result<Judged, Memory>

@@ -23,7 +23,7 @@ mod opening;
 mod reading;
 mod stops;
 
-pub use batch::{BATCH_FRAMES, Batch, Filled, Slot};
+pub use batch::{BATCH_FRAMES, Batch, Filled, FrameHolder};
 pub use checking::check;
 pub use concluding::{Concluded, Conclusion, conclude};
 pub use feeding::{FEW_BYTES, feed_batch};

@@ -3,10 +3,10 @@ ghost use Rattle.std.specs.Prelude.{◌≡◌, ℕ, IfOk, map, vec_len};
 ghost use Rattle.lamport_clocks.specs.Header.{IsHeader};
 ghost use Rattle.bundle_report.specs.SoFar.{opening_runs};
 
+use base_words::Memory;
 use certified_epochs::FedRun;
 use lamport_clocks::Header;
 use std::alloc::Global;
-use want_of_memory::Memory;
 
 /// A run for each verifier of a bundle, which has taken nothing yet.
 pub(crate) fn open_runs(alloc: Global, header: &Header) -> Result<Vec<FedRun>, Memory>

@@ -11,11 +11,11 @@ ghost use Rattle.fv_outside.specs.Consumed.{EndsBehind, StopsAtEnd, TookAtMost, 
 
 use crate::intake::Intake;
 use crate::stops::ReadStop;
+use base_words::Memory;
 use bundle_frames::{BundleReader, Next};
 use fv_outside::Source;
 use lamport_clocks::Header;
 use std::alloc::{AllocError, Global};
-use want_of_memory::Memory;
 
 /// Reads a bundle from a source, to its end or to the first bad frame, and no more than so many bytes.
 pub fn read_bundle<S: Source>(alloc: Global, limit: u64, source: &mut S) -> Result<Intake, ReadStop>

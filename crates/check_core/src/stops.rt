@@ -2,11 +2,11 @@
 ghost use Rattle.std.specs.Prelude.{◌≡◌};
 ghost use Rattle.check_core.specs.Stops.{reading_stopped, checking_stopped};
 
+use base_words::Memory;
 use bundle_frames::SourceStop;
 use bundle_report::ReportStop;
 use report_text::Status;
 use std::alloc::AllocError;
-use want_of_memory::Memory;
 
 /// Why a bundle was not read to its end.
 #[derive(Clone, Copy, Debug, PartialEq, Eq)]

@@ -6,8 +6,8 @@ use Rattle.std.proofs.lemmas.Result.{IfOk-at_ok}
 use Rattle.tree_keys.specs.Path.{side}
 use Rattle.tree_keys.proofs.PathLaws.{same_path-apart}
 use Rattle.lamport_clocks.specs.Clock.{received, sent, advanced}
-use Rattle.step_words.specs.Steps.{need}
-use Rattle.step_words.proofs.StepLaws.{test-ok}
+use Rattle.base_words.specs.Steps.{need}
+use Rattle.base_words.proofs.StepLaws.{test-ok}
 use Rattle.record_text.specs.declared.value.Node.{Node}
 use Rattle.record_text.specs.declared.value.Pointer.{Pointer}
 use Rattle.record_text.specs.declared.value.Value.{Value}

@@ -16,12 +16,12 @@ use crate::audit_event::AuditEvent;
 use crate::clash::first_clash;
 use crate::elements::{added_of, evicted_of, first_uneven};
 use crate::events::ordered_events;
+use base_words::Memory;
 use lamport_clocks::Header;
 use record_hash::Digests;
 use record_text::Exhibit;
 use std::alloc::Global;
 use verifier_run::{Run, run_logs};
-use want_of_memory::Memory;
 
 /// What an audit of logs shows, that of verifier 0 first, over so many epochs from the header's first on: the
 /// elements of the first epoch whose added ones are no permutation of its evicted ones; or else the texts of the

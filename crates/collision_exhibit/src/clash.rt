@@ -9,9 +9,9 @@ ghost use Rattle.collision_exhibit.specs.Within.{is_within};
 
 use crate::audit_event::{AuditChange, AuditEvent};
 use crate::last_evicted::LastEvictedValues;
+use base_words::Memory;
 use record_text::{Value, ValueText};
 use std::alloc::Global;
-use want_of_memory::Memory;
 
 /// Two strings with one digest: what was evicted, and the other that was added for it.
 #[derive(Debug, Drop)]

@@ -11,10 +11,10 @@ ghost use Rattle.collision_exhibit.specs.Shown.{added_elements, evicted_elements
 ghost use Rattle.collision_exhibit.specs.Elements.{HaveOwnStamps, evict_moment, is_within, within, parting};
 
 use crate::audit_event::{AuditChange, AuditEvent};
+use base_words::Memory;
 use record_text::{Element, Elements};
 use stamp_order::Moment;
 use std::alloc::Global;
-use want_of_memory::Memory;
 
 /// Of so many epochs from the first on, the first whose added elements are no permutation of its evicted ones.
 pub(crate) fn first_uneven(

@@ -3,13 +3,13 @@ ghost use Rattle.std.specs.Prelude.{◌≡◌};
 
 use crate::audit_event::{AuditChange, AuditEvent};
 use crate::elements::{added_of, evicted_of, first_uneven};
+use base_words::Memory;
 use lamport_clocks::Stamp;
 use record_text::{Blob, Element, Value};
 use stamp_order::Moment;
 use std::alloc::Global;
 use std::test::Fail;
 use tree_keys::Path;
-use want_of_memory::Memory;
 
 // The epoch and counter of a stamp, and the verifier that evicted with it.
 type Spot = (u32, u32, u16);

@@ -5,10 +5,10 @@ ghost use Rattle.collision_exhibit.specs.AuditEvent.{audit_moment};
 ghost use Rattle.collision_exhibit.specs.Audited.{audit_events_among};
 
 use crate::audit_event::AuditEvent;
+use base_words::Memory;
 use stamp_order::Moment;
 use std::alloc::Global;
 use verifier_run::Run;
-use want_of_memory::Memory;
 
 /// The audit events of all runs, in the order of their moments.
 pub(crate) fn ordered_events(

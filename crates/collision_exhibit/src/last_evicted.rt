@@ -4,12 +4,12 @@ ghost use Rattle.std.specs.Option.{option_map};
 ghost use Rattle.soundness.specs.Clash.{none_evicted, with_last_evicted};
 ghost use Rattle.collision_exhibit.specs.LastEvicted.{path_number, last_evicted_at};
 
+use base_words::Memory;
 use record_text::Value;
 use std::alloc::Global;
 use std::collections::BTreeMap;
 use std::marker::Model;
 use tree_keys::Path;
-use want_of_memory::Memory;
 
 /// The value with which each path was last evicted, if it was. Contracts see the entries, and read them as a
 /// function from paths by `last_evicted_at`.

@@ -5,9 +5,9 @@ use crate::numbers::{WORDS, numbers_of};
 use crate::pass::{Pass, Ticket};
 use crate::rule::{Account, Adds, Deals, SumsOfRows};
 use atomic_table::Table;
+use base_words::Memory;
 use multiset_sum::Part;
 use std::alloc::Global;
-use want_of_memory::Memory;
 
 /// Words to which the verifiers of an epoch add their parts, each from a thread of its own.
 #[derive(Drop)]

@@ -3,7 +3,7 @@ use Rattle.std.proofs.Common.{◌≡◌, ℕ, suc, ◌<◌, ◌^◌, ◌==◌, B
 use Rattle.std.proofs.lemmas.List.{length-map}
 use Rattle.std.proofs.lemmas.Bool.{cases_lt}
 use Rattle.std.specs.List.{onto_first}
-use Rattle.step_words.specs.Steps.{and_then}
+use Rattle.base_words.specs.Steps.{and_then}
 use Rattle.record_hash.specs.Functions.{DigestFunctions}
 use Rattle.merkle_records.specs.Merkle.{GivesDigests}
 use Rattle.log_codec.specs.declared.command.Command.{Command}

@@ -17,6 +17,7 @@ ghost use Rattle.fastver_top.specs.Auditing.{audit_end, audit_end_status, audit_
 ghost use Rattle.fastver_top.specs.Answers.{IsAuditStatus};
 
 use crate::audit_end::AuditEnd;
+use base_words::Memory;
 use bundle_report::{ReportStop, digests_have_32_bytes};
 use check_core::{Conclusion, Intake, conclude, read_bundle};
 use collision_exhibit::{AuditEvent, exhibit_of_runs};
@@ -27,7 +28,6 @@ use record_text::Exhibit;
 use report_text::{Status, write_exhibit, write_last};
 use std::alloc::Global;
 use verifier_run::Run;
-use want_of_memory::Memory;
 
 /// Reads a bundle of no more than so many bytes, and writes what an audit of it shows: the exhibit over its
 /// certified epochs, and the last line of its report. Each log is run once.

@@ -23,6 +23,7 @@ mod sources;
 mod std_streams;
 mod sure_sinks;
 
+pub use base_words::Memory;
 pub use errors::Failed;
 pub use file_vaults::FileVault;
 pub use gates::{FreeGate, Gate};
@@ -32,4 +33,3 @@ pub use sinks::{Sink, Vault, write_all};
 pub use sources::Source;
 pub use std_streams::{StdSink, StdSource};
 pub use sure_sinks::{SureSink, SureVault};
-pub use want_of_memory::Memory;

@@ -9,9 +9,9 @@ ghost use Rattle.fv_outside.specs.SinkState.{new_sink, write_fails, write_answer
 use crate::calls::Calls;
 use crate::errors::Failed;
 use crate::sinks::{Sink, Vault};
+use base_words::Memory;
 use std::alloc::Global;
 use std::marker::Model;
-use want_of_memory::Memory;
 
 /// Appends bytes for which there is room.
 pub(crate) fn append_reserved(held: &mut Vec<u8>, bytes: &[u8])

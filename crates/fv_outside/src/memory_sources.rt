@@ -8,9 +8,9 @@ ghost use Rattle.fv_outside.specs.SourceState.{SureSourceState, given_count, fil
 use crate::calls::Calls;
 use crate::errors::Failed;
 use crate::sources::Source;
+use base_words::Memory;
 use std::alloc::Global;
 use std::marker::Model;
-use want_of_memory::Memory;
 
 /// Bytes in memory, read at most `piece` at a time. It never fails.
 #[derive(Drop)]

@@ -8,9 +8,9 @@ ghost use Rattle.fv_outside.specs.SureSinkState.{new_sure_sink, sure_count, held
 use crate::errors::Failed;
 use crate::memory_sinks::append_reserved;
 use crate::sinks::{Sink, Vault};
+use base_words::Memory;
 use std::alloc::Global;
 use std::marker::Model;
-use want_of_memory::Memory;
 
 /// A sink in memory that never fails. What comes past its capacity is taken and dropped, and from
 /// then on it tells no bytes.

@@ -9,7 +9,7 @@ use Rattle.std.proofs.lemmas.Bool.Decides.{nat_tests}
 use Rattle.lamport_clocks.specs.Reading.{Reading}
 use Rattle.lamport_clocks.specs.Clock.{last_epoch, sealed_by_advancing}
 use Rattle.lamport_clocks.specs.declared.clock.ClockFault.TheVariants as faults
-use Rattle.step_words.specs.Steps.{test}
+use Rattle.base_words.specs.Steps.{test}
 use Rattle.record_text.specs.declared.request.Request.{Request}
 use Rattle.record_text.specs.Format.{format_of}
 use Rattle.log_codec.specs.declared.command.Command.{Command}

@@ -1,6 +1,6 @@
 -- All evicted elements together are all added ones with the pending elements of all contents, each as often.
 use Rattle.std.proofs.Common.{◌≡◌, ℕ, zero, suc, ◌+◌, ◌-◌, ◌<◌, true, List, [], ◌∷◌, ◌++◌, map, length, get_or, set, replicate, refl, sym, ◌∙◌, ap, subst, arith}
-use Rattle.step_words.specs.Traced.{traced}
+use Rattle.base_words.specs.Traced.{traced}
 use Rattle.std.specs.List.{flat_map}
 use Rattle.std.proofs.lemmas.Grind.{flat_map-append}
 use Rattle.record_text.specs.declared.element.Element.{Element}

@@ -1,7 +1,7 @@
 -- What holds of the books behind every list of enabled events: each account is right, each shard mirrors, and no clock is
 -- more than one epoch past a pending element.
 use Rattle.std.proofs.Common.{◌≡◌, ◌⊎◌, ℕ, zero, suc, ◌+◌, ◌-◌, ◌<◌, ◌≤◌, Bool, true, false, List, [], ◌∷◌, ◌++◌, map, length, take, get_or, set, replicate, refl, sym, ◌∙◌, ap, subst, inl, inr, if◌then◌else◌, true≢false, arith}
-use Rattle.step_words.specs.Traced.{traced}
+use Rattle.base_words.specs.Traced.{traced}
 use Rattle.std.specs.List.{flat_map, AllByRecursion}
 use Rattle.std.proofs.lemmas.Grind.{flat_map-append}
 use Rattle.std.proofs.lemmas.List.{length-map, length-set, length-replicate}

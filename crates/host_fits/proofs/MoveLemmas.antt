@@ -8,11 +8,11 @@ use Rattle.merkle_records.specs.Merkle.{GivesDigests}
 use Rattle.script_text.specs.declared.task.Task.{Task}
 use Rattle.protection_moves.specs.Stage.{Stage}
 use Rattle.protection_moves.specs.Move.{IsMove, IsPastEnd}
-use Rattle.errand_laws.specs.Stages.{StageMirrors}
+use Rattle.move_laws.specs.Stages.{StageMirrors}
 use Rattle.host_world.specs.declared.settings.Settings.{Settings}
 use Rattle.host_world.specs.Moving.{seats_of}
 use Rattle.host_world.specs.ShippedHost.{shipped_host}
-use Rattle.host_world.proofs.TripLaws.{move_is_done, move_past}
+use Rattle.host_world.proofs.DescentLaws.{move_is_done, move_past}
 
 module _ (functions : DigestFunctions) (settings : Settings) (script : List (List Task)) (worker s : ℕ) where
   pub move_done : (old new : Stage) (commands : List Command) → GivesDigests functions.digest → IfSome settings.hot (λ least. 0 < least)

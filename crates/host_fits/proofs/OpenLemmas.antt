@@ -36,7 +36,7 @@ use Rattle.host_laws.proofs.NumberLaws.{number_of-none, number_of-child, count_f
 use Rattle.host_laws.proofs.ContentsLaws.{length-child}
 use Rattle.host_laws.proofs.RunLaws.{run-history}
 use Rattle.host_laws.proofs.SetUpLaws.{setup_runs}
-use Rattle.host_mirrors.proofs.FirstLaws.{new_mirrors}
+use Rattle.host_laws.proofs.FirstLaws.{new_mirrors}
 use Rattle.host_world.specs.ShippedHost.{hot_places, new_seats}
 use Rattle.host_fits.proofs.Keeping.{Setting, IsSetting, bits_in, ranged, PlacesMirror, kept_of}
 use Rattle.host_fits.proofs.EventLemmas.{ask_of, touching-events, touching-none}

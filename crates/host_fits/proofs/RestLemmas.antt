@@ -21,13 +21,13 @@ use Rattle.host_core.specs.Clear.{IsClearDeed}
 use Rattle.protection_moves.specs.Stage.{Stage, touched_in}
 use Rattle.protection_moves.specs.Move.{begun}
 use Rattle.protection_moves.proofs.RenewingLaws.{renewing_each-end}
-use Rattle.errand_laws.specs.Stages.{StageMirrors, IsTakable}
+use Rattle.move_laws.specs.Stages.{StageMirrors, IsTakable}
 use Rattle.move_laws.specs.Moved.{MoveRuns, CanMove, waiting_in}
 use Rattle.move_laws.specs.Deed.{IsMoveDeed, IsClearMove}
 use Rattle.move_laws.proofs.CounterLaws.{move_clock}
 use Rattle.move_laws.proofs.DeedLaws.{move_deed, clear_move}
 use Rattle.move_laws.proofs.MoveLaws.{move_runs, move_typed}
-use Rattle.move_laws.proofs.TripLaws.{each-end, each-frontier}
+use Rattle.move_laws.proofs.DescentLaws.{each-end, each-frontier}
 use Rattle.host_world.specs.Planned.{IsMoved}
 use Rattle.host_world.specs.Seated.{SeatsMirror, IsHotPlace, waiting_at}
 use Rattle.host_world.proofs.PlaceLaws.{waits-hot, hot-moved}
@@ -120,7 +120,7 @@ module _ (setting : Setting) (worker epoch : ℕ) (clock : Reading) (s : ℕ) (c
 
   -- the new places have no shard
   still_alone : AllByRecursion IsHotPlace new.places
-  still_alone = subst (λ (st : Stage). AllByRecursion IsHotPlace st.places) (sym moved_so.is.after) (hot-moved format digest worker old moved_so.is.trips mirrors.hot_alone)
+  still_alone = subst (λ (st : Stage). AllByRecursion IsHotPlace st.places) (sym moved_so.is.after) (hot-moved format digest worker old moved_so.is.descents mirrors.hot_alone)
 
   waits_then : waiting_at format found.after ≡ waiting_in format new
   waits_then =
@@ -130,13 +130,13 @@ module _ (setting : Setting) (worker epoch : ℕ) (clock : Reading) (s : ℕ) (c
   clock_end : found.clock.end ≡ clock.end
   clock_end =
       ap (λ (c : Reading). c.end) (moved_so.clock ∙ ap (λ (st : Stage). st.clock) moved_so.is.after)
-      ∙ (each-end format digest worker (begun worker old) moved_so.is.trips ∙ renewing_each-end clock (touched_in mirrors.places))
+      ∙ (each-end format digest worker (begun worker old) moved_so.is.descents ∙ renewing_each-end clock (touched_in mirrors.places))
 
   counters : found.clock.at.counter ≤ clock.end
   counters =
       subst (λ (c : Reading). c.at.counter ≤ clock.end)
       (sym (moved_so.clock ∙ move_clock format digest worker setting.settings.hot old new found.commands moved_so.is))
-      (not_past clock.end _ (λ past. moved_so.within (record { due = moved_so.is.due; are_due = moved_so.is.are_due; past = past })))
+      (not_past clock.end _ (λ past. moved_so.within (record { promotable = moved_so.is.promotable; are_promotable = moved_so.is.are_promotable; past = past })))
 
   rest_deed : IsDeed (ranged setting) worker (resting (ranged setting) worker clock) found.commands found.clock contents found.after []
   rest_deed = record {
@@ -165,7 +165,7 @@ module _ (setting : Setting) (worker epoch : ℕ) (clock : Reading) (s : ℕ) (c
   frontier_new =
       ap frontier_in moved_so.after
       ∙ (ap (λ (st : Stage). st.shard.frontier) moved_so.is.after
-      ∙ (each-frontier format digest worker (begun worker old) moved_so.is.trips ∙ ap frontier_in (sym mirrors.is)))
+      ∙ (each-frontier format digest worker (begun worker old) moved_so.is.descents ∙ ap frontier_in (sym mirrors.is)))
 
   rest_mirrors : PlacesMirror setting s found.after
   rest_mirrors = record {

@@ -35,7 +35,7 @@ use Rattle.host_laws.specs.Running.{Access, run}
 use Rattle.host_laws.specs.Served.{IsBare, CanTake, PlanRuns, access_for, waiting}
 use Rattle.host_laws.specs.SettingUp.{set_up_root}
 use Rattle.host_laws.proofs.RequestLaws.{plan_runs}
-use Rattle.host_mirrors.proofs.MirrorLaws.{mirrors_serve, plan_typed}
+use Rattle.host_laws.proofs.MirrorLaws.{mirrors_serve, plan_typed}
 use Rattle.protection_moves.specs.Stage.{hot_paths}
 use Rattle.host_world.specs.Planned.{IsPlanned}
 use Rattle.host_world.specs.Seated.{SeatsMirror, waiting_at}

@@ -29,13 +29,13 @@ use Rattle.host_order.specs.Steady.{HasOne, MovesOn, IsUpFrom, IsSteady}
 use Rattle.host_order.specs.Close.{MovesKeepEpoch}
 use Rattle.protection_moves.specs.Stage.{Stage, is_hot_at, touched_in}
 use Rattle.protection_moves.specs.Renewing.{renewing_each}
-use Rattle.protection_moves.specs.Errand.{Errand, demotes, promotes, clock_needed}
-use Rattle.protection_moves.specs.Trip.{Trip, done_by, done_by_each}
+use Rattle.protection_moves.specs.Transfer.{Transfer, demotes, promotes, clock_needed}
+use Rattle.protection_moves.specs.Descent.{Descent, done_by, done_by_each}
 use Rattle.protection_moves.specs.Move.{begun}
 use Rattle.host_world.specs.declared.settings.Settings.{Settings}
-use Rattle.host_world.specs.Due.{due_in}
+use Rattle.host_world.specs.Promotable.{promotable_in}
 use Rattle.host_world.specs.Links.{links_of}
-use Rattle.host_world.specs.Moving.{stage_of, trips_of, done_with, move_seats}
+use Rattle.host_world.specs.Moving.{stage_of, descents_of, done_with, move_seats}
 use Rattle.host_world.specs.ShippedHost.{is_blob, serves_key, shipped_host}
 use Rattle.host_fits.proofs.Keeping.{Setting, setting_of, served_at}
 use Rattle.host_fits.proofs.PlaceLemmas.{both, done_within, none_past, past_none}
@@ -60,31 +60,31 @@ renew_epoch : (clock : Reading) (found : List HotRecord) → (renewing_each cloc
 renew_epoch clock [] = refl
 renew_epoch clock (one ∷ more) = renew_epoch (renewing clock one.stamp) more
 
-errand_epoch : (format : Format) (digest : Digest) (worker : ℕ) (stage : Stage) (errand : Errand) (links : List Link)
-    → (done_by format digest worker stage errand links).clock.at.epoch ≡ stage.clock.at.epoch
-errand_epoch format digest worker stage (demotes found) links = refl
-errand_epoch format digest worker stage (promotes key) links = refl
+transfer_epoch : (format : Format) (digest : Digest) (worker : ℕ) (stage : Stage) (transfer : Transfer) (links : List Link)
+    → (done_by format digest worker stage transfer links).clock.at.epoch ≡ stage.clock.at.epoch
+transfer_epoch format digest worker stage (demotes found) links = refl
+transfer_epoch format digest worker stage (promotes key) links = refl
 
-trips_epoch : (format : Format) (digest : Digest) (worker : ℕ) (stage : Stage) (trips : List Trip)
-    → (done_by_each format digest worker stage trips).clock.at.epoch ≡ stage.clock.at.epoch
-trips_epoch format digest worker stage [] = refl
-trips_epoch format digest worker stage (trip ∷ trips) =
-    trips_epoch format digest worker (done_by format digest worker stage trip.errand trip.links) trips
-    ∙ errand_epoch format digest worker stage trip.errand trip.links
+descents_epoch : (format : Format) (digest : Digest) (worker : ℕ) (stage : Stage) (descents : List Descent)
+    → (done_by_each format digest worker stage descents).clock.at.epoch ≡ stage.clock.at.epoch
+descents_epoch format digest worker stage [] = refl
+descents_epoch format digest worker stage (descent ∷ descents) =
+    descents_epoch format digest worker (done_by format digest worker stage descent.transfer descent.links) descents
+    ∙ transfer_epoch format digest worker stage descent.transfer descent.links
 
 move_epoch : (format : Format) (digest : Digest) (worker : ℕ) (threshold : Option ℕ) (clock : Reading) (contents : List Content) (done : Done (List Content))
     → move_seats format digest worker threshold (stage_of clock contents) ≡ Some done → done.clock.at.epoch ≡ clock.at.epoch
 move_epoch format digest worker threshold clock [] done is = absurd (none-some done is)
 move_epoch format digest worker threshold clock (cold shard ∷ rest) done is =
     ap (λ (d : Done (List Content)). d.clock.at.epoch)
-    (sym (done_within clock.end (clock_needed stage due).at.counter (done_with format digest worker stage (trips_of format digest worker stage due)) done is).0)
-    ∙ (trips_epoch format digest worker (begun worker stage) (trips_of format digest worker stage due) ∙ renew_epoch clock (touched_in rest))
+    (sym (done_within clock.end (clock_needed stage promotable).at.counter (done_with format digest worker stage (descents_of format digest worker stage promotable)) done is).0)
+    ∙ (descents_epoch format digest worker (begun worker stage) (descents_of format digest worker stage promotable) ∙ renew_epoch clock (touched_in rest))
   where
     stage : Stage
     stage = record { shard = shard; places = rest; clock = clock }
 
-    due : List ℕ
-    due = due_in format stage threshold
+    promotable : List ℕ
+    promotable = promotable_in format stage threshold
 move_epoch format digest worker threshold clock (hot found ∷ rest) done is = absurd (none-some done is)
 move_epoch format digest worker threshold clock (vacant ∷ rest) done is = absurd (none-some done is)
 

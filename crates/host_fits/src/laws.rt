@@ -11,7 +11,7 @@ ghost use Rattle.script_text.specs.Text.{AreTasks};
 ghost use Rattle.host_shard.specs.Content.{Content};
 ghost use Rattle.host_plan.specs.Plan.{CanServe, IsPlan, IsPastEnd, clock_after};
 ghost use Rattle.host_plan.specs.declared.plans.Plan.{Plan};
-ghost use Rattle.errand_laws.specs.Stages.{StageMirrors};
+ghost use Rattle.move_laws.specs.Stages.{StageMirrors};
 ghost use Rattle.protection_moves.specs.Stage.{Stage};
 ghost use Rattle.protection_moves.specs.Move.{IsMove};
 ghost use Rattle.protection_moves.specs.Move as move;

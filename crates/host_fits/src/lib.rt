@@ -2,7 +2,7 @@
 //! sealed epochs are certified, with nothing to exhibit. So it is whichever keys become hot.
 //!
 //! `host_core` shows this of any host whose deeds fit and are clear. Here the deeds are those of `shipped_host` of
-//! `host_world`, which `host_laws` and `host_mirrors` speak of, and they fit. The crate has no code to run. Begin with
+//! `host_world`, which `host_laws` and `host_laws` speak of, and they fit. The crate has no code to run. Begin with
 //! `laws.rt`, then read `specs/Promise.antt`.
 #![tactic(auto)]
 

@@ -17,3 +17,6 @@ pub mod RequestLaws
 pub mod NumberLaws
 pub mod ContentsLaws
 pub mod SetUpLaws
+mod PartLemmas
+pub mod MirrorLaws
+pub mod FirstLaws

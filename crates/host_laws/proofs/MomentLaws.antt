@@ -2,7 +2,7 @@
 use Rattle.std.proofs.Common.{◌≡◌, ◌+◌, ◌≤◌, Bool, true, not, nat_le, nat_lt, eq-eqb, ◌<◌, Ok, Err, refl, ap, arith}
 use Rattle.std.specs.Prelude.{◌==◌}
 use Rattle.std.proofs.lemmas.Bool.Decides.{nat_tests}
-use Rattle.step_words.specs.Steps.{test}
+use Rattle.base_words.specs.Steps.{test}
 use Rattle.lamport_clocks.specs.declared.stamp.Stamp.{Stamp}
 use Rattle.lamport_clocks.specs.declared.clock.ClockFault.TheVariants as faults
 use Rattle.lamport_clocks.specs.Reading.{Reading}

@@ -1,7 +1,7 @@
 -- A step whose tests are not met, and whose parts are there, is what comes next.
 use Rattle.std.proofs.Common.{◌≡◌, Bool, false, Option, Some, Result, Ok, ◌∙◌, ap}
 use Rattle.lamport_clocks.specs.declared.clock.ClockFault.{ClockFault}
-use Rattle.step_words.specs.Steps.{test, need, and_then}
+use Rattle.base_words.specs.Steps.{test, need, and_then}
 use Rattle.record_text.specs.declared.refusal.Refusal.{Refusal}
 use Rattle.verifier_commands.specs.Transition.{timed}
 

@@ -3,3 +3,4 @@ pub mod Running
 pub mod Carried
 pub mod Served
 pub mod SettingUp
+pub mod Mirroring

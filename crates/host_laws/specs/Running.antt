@@ -1,7 +1,7 @@
 -- Commands one after another, all of them accepted: what they did is told in order, and one equation says it.
 use Rattle.std.specs.Prelude.{◌≡◌, ℕ, suc, Bool, true, false, List, [], ◌∷◌, None, Result, Ok}
 use Rattle.std.specs.List.{flat_map}
-use Rattle.step_words.specs.Steps.{and_then}
+use Rattle.base_words.specs.Steps.{and_then}
 use Rattle.lamport_clocks.specs.declared.stamp.Stamp.{Stamp}
 use Rattle.record_text.specs.declared.element.Element.{Element}
 use Rattle.record_text.specs.declared.value.Value.{Value}

@@ -3,11 +3,11 @@ ghost use Rattle.std.specs.Prelude.{◌≡◌, [], ◌++◌, take, OnOk, OnErr};
 ghost use Rattle.record_text.specs.Format.{short_keys};
 ghost use Rattle.log_codec.specs.Command.{command_text};
 
+use base_words::Memory;
 use log_codec::{Command, write};
 use std::alloc::Global;
 use std::marker::Model;
 use std::mem;
-use want_of_memory::Memory;
 
 /// The texts of commands, one behind another. Contracts see these bytes.
 #[derive(Debug, Drop)]

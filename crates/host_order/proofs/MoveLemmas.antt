@@ -117,12 +117,12 @@ module _ {C R : Type 0} (host : Host C R) (base : World C) where
     rank : s / length base.workers ≡ length (dones i)
     rank = ap (λ (n : ℕ). n / length base.workers) at ∙ div-mul-add (length (dones i)) (length base.workers) i there
 
-    own_slot : slice_get (dones (s % length base.workers)) (s / length base.workers) ≡ None
-    own_slot = ap (λ (n : ℕ). slice_get (dones n) (s / length base.workers)) own
+    own_done : slice_get (dones (s % length base.workers)) (s / length base.workers) ≡ None
+    own_done = ap (λ (n : ℕ). slice_get (dones n) (s / length base.workers)) own
         ∙ ap (slice_get (dones i)) rank ∙ slice_get_past (dones i) (length (dones i)) (omega arith)
 
     pub shard_is : shard_at later s ≡ shard_at base s
-    shard_is = moved.shards s shard ∙ ap (seats_after (shard_at base s)) own_slot
+    shard_is = moved.shards s shard ∙ ap (seats_after (shard_at base s)) own_done
 
     pub clock_is : (worker_at host later i).clock ≡ last_clock (worker_at host base i).clock (dones i)
     clock_is = ap (λ (w : Worker). w.clock) (moved.worker i there)
@@ -199,20 +199,20 @@ module _ {C R : Type 0} (host : Host C R) (base : World C) where
             ∙ ap (λ (zs : List (Done (List C))). moved_worker (worker_at host base j) zs (flags j)) (sym (update-other dones i (dones i ++ done ∷ []) j apart))
 
         -- the moves of a shard's worker, at the shard's rank
-        slot : ℕ → (ℕ → List (Done (List C))) → Option (Done (List C))
-        slot t ds = slice_get (ds (t % length base.workers)) (t / length base.workers)
+        done_at : ℕ → (ℕ → List (Done (List C))) → Option (Done (List C))
+        done_at t ds = slice_get (ds (t % length base.workers)) (t / length base.workers)
 
-        slot_own : slot s more ≡ Some done
-        slot_own =
+        done_own : done_at s more ≡ Some done
+        done_own =
             ap (λ (n : ℕ). slice_get (more n) (s / length base.workers)) own
             ∙ ap (λ (zs : List (Done (List C))). slice_get zs (s / length base.workers)) (update-same dones i (dones i ++ done ∷ []))
             ∙ ap (slice_get (dones i ++ done ∷ [])) rank
             ∙ slice_get-last (dones i) done
 
-        slot_other : (t : ℕ) → t ≢ s → slot t more ≡ slot t dones
-        slot_other t apart = go (cases_eq (t % length base.workers) i)
+        done_other : (t : ℕ) → t ≢ s → done_at t more ≡ done_at t dones
+        done_other t apart = go (cases_eq (t % length base.workers) i)
           where
-            go : (t % length base.workers ≡ i) ⊎ (t % length base.workers ≡ i → ⊥) → slot t more ≡ slot t dones
+            go : (t % length base.workers ≡ i) ⊎ (t % length base.workers ≡ i → ⊥) → done_at t more ≡ done_at t dones
             go (inl whose) =
                 ap (λ (n : ℕ). slice_get (more n) (t / length base.workers)) whose
                 ∙ ap (λ (zs : List (Done (List C))). slice_get zs (t / length base.workers)) (update-same dones i (dones i ++ done ∷ []))
@@ -223,16 +223,16 @@ module _ {C R : Type 0} (host : Host C R) (base : World C) where
                 ∙ ap (λ (n : ℕ). slice_get (dones n) (t / length base.workers)) (sym whose)
             go (inr another) = ap (λ (zs : List (Done (List C))). slice_get zs (t / length base.workers)) (update-other dones i (dones i ++ done ∷ []) (t % length base.workers) another)
 
-        shards_after : (t : ℕ) → (t ≡ s) ⊎ (t ≡ s → ⊥) → t < length base.shards → shard_at next t ≡ seats_after (shard_at base t) (slot t more)
+        shards_after : (t : ℕ) → (t ≡ s) ⊎ (t ≡ s → ⊥) → t < length base.shards → shard_at next t ≡ seats_after (shard_at base t) (done_at t more)
         shards_after t (inl same) within =
             ap (shard_at next) same
             ∙ get_or-set_same later.shards s (record { contents = done.after; moved = true }) (unmoved []) (subst (λ (n : ℕ). s < n) (sym moved.shard_count) shard)
-            ∙ sym (ap (seats_after (shard_at base s)) slot_own)
-            ∙ ap (λ (n : ℕ). seats_after (shard_at base n) (slot n more)) (sym same)
+            ∙ sym (ap (seats_after (shard_at base s)) done_own)
+            ∙ ap (λ (n : ℕ). seats_after (shard_at base n) (done_at n more)) (sym same)
         shards_after t (inr apart) within =
             get_or-set_other later.shards s t (record { contents = done.after; moved = true }) (unmoved []) apart
             ∙ moved.shards t within
-            ∙ ap (seats_after (shard_at base t)) (sym (slot_other t apart))
+            ∙ ap (seats_after (shard_at base t)) (sym (done_other t apart))
 
         epochs_after : (j : ℕ) → (j ≡ i) ⊎ (j ≡ i → ⊥) → j < length base.workers → (last_clock (worker_at host base j).clock (more j)).at.epoch ≡ epoch_of host base + 1
         epochs_after j (inl same) within =

@@ -8,28 +8,28 @@ use Rattle.record_text.specs.Value.{IsOf}
 use Rattle.merkle_records.specs.Merkle.{Digest, GivesDigests}
 use Rattle.host_shard.specs.declared.link.Link.{Link}
 use Rattle.host_shard.specs.Chain.{IsChain}
-use Rattle.host_shard.specs.Shard.{Shard, tree_of, settled}
+use Rattle.host_shard.specs.Shard.{Shard, tree_of, rehashed}
 use Rattle.host_shard.specs.Mirrors.{IsShard, IsKeyOf}
-use Rattle.host_shard.proofs.ShardLaws.{settled_is}
+use Rattle.host_shard.proofs.ShardLaws.{rehashed_is}
 
 -- touches, stamp and evictor don't matter
 other_stamp : (format : Format) (shard : Shard) (touches : List Bool → ℕ) (stamp : Stamp) (evictor : ℕ) → IsShard format shard
     → IsShard format (record shard { touches = touches; stamp = stamp; evictor = evictor })
 other_stamp format shard touches stamp evictor fits = record { below_root = fits.below_root; no_data = fits.no_data; kinds = fits.kinds }
 
--- A shard behind a settled chain, with other touches, stamp and evictor.
-pub served_is : (format : Format) (digest : Digest) (shard settled_shard now : Shard) (key : List Bool) (links : List Link) (last : Value) (touches : List Bool → ℕ) (stamp : Stamp) (evictor : ℕ)
+-- A shard behind a rehashed chain, with other touches, stamp and evictor.
+pub served_is : (format : Format) (digest : Digest) (shard rehashed_shard now : Shard) (key : List Bool) (links : List Link) (last : Value) (touches : List Bool → ℕ) (stamp : Stamp) (evictor : ℕ)
     → GivesDigests digest → IsShard format shard → IsKeyOf format shard key → IsOf format key last → IsChain format (tree_of shard) key shard.frontier shard.value links
-    → settled_shard ≡ settled format digest shard links last → now ≡ record settled_shard { touches = touches }
+    → rehashed_shard ≡ rehashed format digest shard links last → now ≡ record rehashed_shard { touches = touches }
     → IsShard format (record now { stamp = stamp; evictor = evictor })
-served_is format digest shard settled_shard now key links last touches stamp evictor digests fits own end chain is touched =
+served_is format digest shard rehashed_shard now key links last touches stamp evictor digests fits own end chain is touched =
     subst (λ (s : Shard). IsShard format (record s { stamp = stamp; evictor = evictor })) (sym touched)
     (subst (λ (s : Shard). IsShard format (record s { touches = touches; stamp = stamp; evictor = evictor })) (sym is)
-    (other_stamp format (settled format digest shard links last) touches stamp evictor (settled_is format digest shard key links last digests fits own end chain)))
+    (other_stamp format (rehashed format digest shard links last) touches stamp evictor (rehashed_is format digest shard key links last digests fits own end chain)))
 
 -- The same keys lie below it.
-pub served_owns : (format : Format) (digest : Digest) (shard settled_shard now : Shard) (key : List Bool) (links : List Link) (last : Value) (touches : List Bool → ℕ)
-    → settled_shard ≡ settled format digest shard links last → now ≡ record settled_shard { touches = touches } → IsKeyOf format shard key → IsBelow now.frontier key
-served_owns format digest shard settled_shard now key links last touches is touched own =
+pub served_owns : (format : Format) (digest : Digest) (shard rehashed_shard now : Shard) (key : List Bool) (links : List Link) (last : Value) (touches : List Bool → ℕ)
+    → rehashed_shard ≡ rehashed format digest shard links last → now ≡ record rehashed_shard { touches = touches } → IsKeyOf format shard key → IsBelow now.frontier key
+served_owns format digest shard rehashed_shard now key links last touches is touched own =
     subst (λ (frontier : List Bool). IsBelow frontier key)
     (sym (ap (λ (s : Shard). s.frontier) touched ∙ ap (λ (s : Shard). s.frontier) is)) own.below

@@ -16,7 +16,7 @@ use Rattle.tree_keys.proofs.SideLaws.{above_apart}
 use Rattle.host_shard.specs.declared.link.Link.{Link}
 use Rattle.host_shard.specs.Tree.{Tree}
 use Rattle.host_shard.specs.Chain.{IsChain}
-use Rattle.host_shard.specs.Shard.{Shard, tree_of, settled}
+use Rattle.host_shard.specs.Shard.{Shard, tree_of, rehashed}
 use Rattle.merkle_records.specs.Merkle.{Digest}
 use Rattle.host_shard.proofs.ChainLaws.{AreOf, next_of, closed_end}
 use Rattle.host_plan.specs.Visit.{visit, between}
@@ -79,9 +79,9 @@ chain_typed format tree key element links command stamp whole kinds kind chain a
     (visit_typed format tree key element.path element.value links (command ∷ []) whole kinds kind chain (one_typed format command typed))
 
 -- a key of a shard has a record behind the chain to it
-pub settled_there : (format : Format) (digest : Digest) (shard now : Shard) (key : List Bool) (links : List Link) (last : Value)
-    → IsBelow shard.frontier key → IsChain format (tree_of shard) key shard.frontier shard.value links → now ≡ settled format digest shard links last
+pub rehashed_there : (format : Format) (digest : Digest) (shard now : Shard) (key : List Bool) (links : List Link) (last : Value)
+    → IsBelow shard.frontier key → IsChain format (tree_of shard) key shard.frontier shard.value links → now ≡ rehashed format digest shard links last
     → IsSome (now.records key)
-settled_there format digest shard now key links last below chain is =
+rehashed_there format digest shard now key links last below chain is =
     subst (λ (s : Shard). IsSome (s.records key)) (sym is)
     (closed_end format digest false (tree_of shard) shard.records key shard.frontier shard.value links last (frontier_apart shard.frontier key below) chain)

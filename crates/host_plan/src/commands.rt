@@ -3,6 +3,7 @@ ghost use Rattle.std.specs.Prelude.{◌≡◌, ◌≤◌, List, [], ◌∷◌, �
 ghost use Rattle.record_text.specs.Element.{IsStamp};
 ghost use Rattle.host_plan.specs.Visit.{visit, between};
 
+use base_words::Memory;
 use host_shard::Link;
 use lamport_clocks::Stamp;
 use log_codec::Command;
@@ -10,7 +11,6 @@ use record_text::Element;
 use std::alloc::Global;
 use std::marker::Model;
 use tree_keys::Path;
-use want_of_memory::Memory;
 
 /// Commands in the order in which they are logged. Contracts see the list of them.
 #[derive(Debug, Drop)]

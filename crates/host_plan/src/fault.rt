@@ -3,7 +3,7 @@ ghost use Rattle.std.specs.Prelude.{◌≡◌};
 ghost use Rattle.host_plan.specs.declared.fault.PlanFault.TheVariants as faults;
 ghost use Rattle.host_plan.specs.declared.fault.SetupFault.TheVariants as setups;
 
-use want_of_memory::Memory;
+use base_words::Memory;
 
 /// Why a request has no plan.
 #[derive(Clone, Copy, Debug, PartialEq, Eq)]

@@ -86,7 +86,7 @@ fn serve_shard<D: Digests>(
     let command = command_of(request, &answer);
     let element = shard.pending();
     let commands = Commands::between(alloc, element, links.as_slice(), command, later.at())?;
-    shard.settle(d, links.as_slice(), Value::Blob(answer.copy()))?;
+    shard.rehash(d, links.as_slice(), Value::Blob(answer.copy()))?;
     shard.touch(request.key);
     shard.stamp = later.at();
     shard.evictor = worker;

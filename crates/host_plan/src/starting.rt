@@ -10,13 +10,13 @@ ghost use Rattle.host_plan.specs.Setup.{IsShardCount, first_stamp, first_content
 
 use crate::commands::Commands;
 use crate::fault::SetupFault;
+use base_words::Memory;
 use host_shard::{Content, Shard};
 use lamport_clocks::{Header, Stamp};
 use log_codec::Command;
 use record_text::initial;
 use std::alloc::Global;
 use tree_keys::{KEY_BITS, Path};
-use want_of_memory::Memory;
 
 /// Sets up so many shards: what worker 0 logs, and the contents behind it, in the order of the shards.
 pub fn setup(

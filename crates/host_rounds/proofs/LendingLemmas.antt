@@ -7,14 +7,14 @@ use Rattle.merkle_records.specs.Scheme.{Scheme, scheme_of}
 use Rattle.verifier_run.specs.Kept.{keeps_operations}
 use Rattle.verifier_run.specs.Progress.{Progress, fed, weight}
 use Rattle.certified_epochs.specs.declared.fed_run.FedRun.{FedRun}
-use Rattle.host_rounds.specs.Feeding.{AllTake}
+use Rattle.host_rounds.specs.Feeding.{AllRead}
 
 -- a piece weighs no more than its bytes
 abbrev pub PiecesWeigh : Type 0
 PiecesWeigh = (scheme : Scheme) (progress : Progress Operation) (piece : List ℕ) → weight (fed keeps_operations scheme progress piece) ≤ weight progress + length piece
 
 -- runs that took logs weigh no more than is counted
-pub takes-few : PiecesWeigh → (functions : DigestFunctions) (bytes all : ℕ) (round : List (List ℕ)) (olds news : List FedRun) → AllTake functions round olds news
+pub takes-few : PiecesWeigh → (functions : DigestFunctions) (bytes all : ℕ) (round : List (List ℕ)) (olds news : List FedRun) → AllRead functions round olds news
     → AllByRecursion (λ fed. weight fed.run ≤ bytes) olds → AllByRecursion (λ log. bytes + length log ≤ all) round → AllByRecursion (λ fed. weight fed.run ≤ all) news
 takes-few weigh functions bytes all [] [] [] takes few counted = tt
 takes-few weigh functions bytes all [] [] (new ∷ news) takes few counted = absurd takes
@@ -28,7 +28,7 @@ takes-few weigh functions bytes all (log ∷ round) (old ∷ olds) (new ∷ news
 )
 
 -- as many logs as runs
-pub round-length : (functions : DigestFunctions) (round : List (List ℕ)) (olds news : List FedRun) → AllTake functions round olds news → length round ≡ length olds
+pub round-length : (functions : DigestFunctions) (round : List (List ℕ)) (olds news : List FedRun) → AllRead functions round olds news → length round ≡ length olds
 round-length functions [] [] [] takes = refl
 round-length functions [] [] (new ∷ news) takes = absurd takes
 round-length functions [] (old ∷ olds) news takes = absurd takes

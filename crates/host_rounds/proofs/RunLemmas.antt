@@ -20,14 +20,14 @@ use Rattle.bundle_report.specs.Logs.{joined_from}
 use Rattle.bundle_report.specs.Report.{EpochText, EpochTold, operations_told}
 use Rattle.bundle_report.specs.RunReport.{courses_of}
 use Rattle.bundle_report.specs.Judged.{judged}
-use Rattle.bundle_report.specs.SoFar.{lines_from, left_from, opening_runs, runs_from, took, runs_behind, HaveTaken}
+use Rattle.bundle_report.specs.SoFar.{lines_from, left_from, opening_runs, runs_from, took, runs_behind, HaveRead}
 use Rattle.bundle_report.proofs.LinesLaws.{lines-behind}
 use Rattle.bundle_report.proofs.SoFarLaws.{taken-more, lines-taken, counted-within}
 use Rattle.bundle_report.proofs.DueLaws.{lines-certified, lines-due}
 use Rattle.certified_epochs.specs.declared.fed_run.FedRun.{FedRun}
 use Rattle.certified_epochs.specs.Turn.{AreFed}
 use Rattle.host_rounds.specs.Round.{logs_with, pieces_of}
-use Rattle.host_rounds.specs.Feeding.{AllTake}
+use Rattle.host_rounds.specs.Feeding.{AllRead}
 use Rattle.load_summary.specs.Counting.{Counted, counted_of}
 use Rattle.host_rounds.specs.SoFar.{RunsSoFar, HaveRun, HaveRunSome, lines_counted, lines_due, operations_counted}
 use Rattle.host_rounds.proofs.BundleLemmas.{round-joined}
@@ -109,7 +109,7 @@ weights_from scheme header count other number bound (log ∷ logs) all =
     )
 
 runs_weights : (functions : DigestFunctions) (header : Header) (logs : List (List ℕ)) (so_far now : RunsSoFar) → HaveRun functions header logs so_far
-    → HaveTaken (scheme_of functions header) header logs now.judged (map (λ fed. fed.run) now.runs)
+    → HaveRead (scheme_of functions header) header logs now.judged (map (λ fed. fed.run) now.runs)
     → AllByRecursion (λ fed. weight fed.run ≤ so_far.bytes) now.runs
 runs_weights functions header logs so_far now have taken =
     all_runs (λ run. weight run ≤ so_far.bytes) now.runs
@@ -137,7 +137,7 @@ runs-skip scheme number frame (run ∷ runs) frames below =
 
 -- runs that took the bytes of their verifiers took the pieces
 runs-took : (functions : DigestFunctions) (header : Header) (number : ℕ) (round : List (List ℕ)) (olds news : List FedRun)
-    → AllByRecursion (λ fed. fed.run.course.machine.header ≡ header) olds → AllTake functions round olds news
+    → AllByRecursion (λ fed. fed.run.course.machine.header ≡ header) olds → AllRead functions round olds news
     → map (λ fed. fed.run) news ≡ runs_behind (scheme_of functions header) number (map (λ fed. fed.run) olds) (pieces_of number round)
 runs-took functions header number [] [] [] headers takes = refl
 runs-took functions header number [] [] (new ∷ news) headers takes = absurd takes
@@ -160,7 +160,7 @@ runs-took functions header number (bytes ∷ round) (old ∷ olds) (new ∷ news
     ap (λ (r : Progress Operation). r ∷ map (λ fed. fed.run) news) own
     ∙ ap (λ (rs : List (Progress Operation)). took scheme number old.run (piece ∷ rest) ∷ rs) others
 
-all_fed : (functions : DigestFunctions) (round : List (List ℕ)) (olds news : List FedRun) → AllTake functions round olds news → AreFed news
+all_fed : (functions : DigestFunctions) (round : List (List ℕ)) (olds news : List FedRun) → AllRead functions round olds news → AreFed news
 all_fed functions [] [] [] takes = tt
 all_fed functions [] [] (new ∷ news) takes = absurd takes
 all_fed functions [] (old ∷ olds) news takes = absurd takes
@@ -168,7 +168,7 @@ all_fed functions (bytes ∷ round) [] news takes = absurd takes
 all_fed functions (bytes ∷ round) (old ∷ olds) [] takes = absurd takes
 all_fed functions (bytes ∷ round) (old ∷ olds) (new ∷ news) takes = (takes.0.is_fed, all_fed functions round olds news takes.1)
 
-pub length-take : (functions : DigestFunctions) (round : List (List ℕ)) (olds news : List FedRun) → AllTake functions round olds news → length news ≡ length olds
+pub length-take : (functions : DigestFunctions) (round : List (List ℕ)) (olds news : List FedRun) → AllRead functions round olds news → length news ≡ length olds
 length-take functions [] [] [] takes = refl
 length-take functions [] [] (new ∷ news) takes = absurd takes
 length-take functions [] (old ∷ olds) news takes = absurd takes
@@ -189,16 +189,16 @@ module _ (functions : DigestFunctions) (header : Header) (logs : List (List ℕ)
       ∙ lines-taken tell own_scheme header logs so_far.judged (map (λ fed. fed.run) so_far.runs) (pieces_of 0 round) have.taken
 
   -- runs that took a round have taken the logs with it
-  pub round-taken : (round : List (List ℕ)) (news : List FedRun) → AllTake functions round so_far.runs news
-      → HaveTaken own_scheme header (logs_with logs round) so_far.judged (map (λ fed. fed.run) news)
+  pub round-taken : (round : List (List ℕ)) (news : List FedRun) → AllRead functions round so_far.runs news
+      → HaveRead own_scheme header (logs_with logs round) so_far.judged (map (λ fed. fed.run) news)
   round-taken round news takes =
-      subst (λ (all : List (List ℕ)). HaveTaken own_scheme header all so_far.judged (map (λ fed. fed.run) news)) (round-joined 0 logs round)
-      (subst (HaveTaken own_scheme header (joined_from 0 logs (pieces_of 0 round)) so_far.judged)
+      subst (λ (all : List (List ℕ)). HaveRead own_scheme header all so_far.judged (map (λ fed. fed.run) news)) (round-joined 0 logs round)
+      (subst (HaveRead own_scheme header (joined_from 0 logs (pieces_of 0 round)) so_far.judged)
       (sym (runs-took functions header 0 round so_far.runs news (runs_headers functions header logs so_far have) takes))
       (taken-more own_scheme header logs so_far.judged (map (λ fed. fed.run) so_far.runs) (pieces_of 0 round) have.taken))
 
   -- the runs took a round
-  pub round-run : (round : List (List ℕ)) (news : List FedRun) (bytes : ℕ) (summary : Counted) → summary ≡ so_far.summary → AllTake functions round so_far.runs news
+  pub round-run : (round : List (List ℕ)) (news : List FedRun) (bytes : ℕ) (summary : Counted) → summary ≡ so_far.summary → AllRead functions round so_far.runs news
       → AllByRecursion (λ fed. weight fed.run ≤ bytes) news
       → HaveRun functions header (logs_with logs round) (record { judged = so_far.judged; runs = news; bytes = bytes; summary = summary })
   round-run round news bytes summary same takes few = record {
@@ -236,7 +236,7 @@ module _ (functions : DigestFunctions) (header : Header) (logs : List (List ℕ)
       (lines_to tell (judged header.verifiers courses).count within_all ∙ lines-certified tell own_scheme header logs have.taken.header_good have.taken.whole)
       (GrowsByFront-then held before after _ _ written front)
 
-  module _ (now : RunsSoFar) (taken : HaveTaken own_scheme header logs now.judged (map (λ fed. fed.run) now.runs)) where
+  module _ (now : RunsSoFar) (taken : HaveRead own_scheme header logs now.judged (map (λ fed. fed.run) now.runs)) where
     pub certified-run : AreFed now.runs → now.bytes ≡ so_far.bytes → now.judged ≡ judged header.verifiers courses
         → ((workers : ℕ) (before : List Operation) → so_far.summary ≡ counted_of workers before
         → now.summary ≡ counted_of workers (before ++ lines_from operations_told courses (header.first + so_far.judged.count) (now.judged.count - so_far.judged.count)))

@@ -9,21 +9,21 @@ use Rattle.epoch_book.specs.declared.book.EpochBook.{EpochBook}
 use Rattle.epoch_book.specs.declared.pass.Pass.{Pass}
 use Rattle.epoch_book.specs.Passes.{parts_of, verifiers_of, AreAllPassesOf}
 use Rattle.bundle_report.specs.declared.judged.Judged.{Judged}
-use Rattle.bundle_report.specs.SoFar.{HaveTaken}
+use Rattle.bundle_report.specs.SoFar.{HaveRead}
 use Rattle.certified_epochs.specs.declared.fed_run.FedRun.{FedRun}
 use Rattle.certified_epochs.specs.Turn.{AreFed, IsVerdictAt}
-use Rattle.host_rounds.specs.Sealing.{HasTaken, HaveAllTaken, HasHandedIn}
+use Rattle.host_rounds.specs.Sealing.{HasRead, HaveAllTaken, HasHandedIn}
 use Rattle.host_rounds.proofs.WithPassLemmas.{half-count, back-both, back-two}
 use Rattle.host_rounds.proofs.SettlingLemmas.{all-passes, settled-verdict}
 
 module _ {X : Type 0} (run_in : X → FedRun) (lent later : List X) (news : List FedRun) (news_are : news ≡ map run_in later) (many : length later ≡ length lent) where
   -- all runs took the round
   pub sealed-taken : (functions : DigestFunctions) (round : List (List ℕ)) (olds : List FedRun) → olds ≡ map run_in lent
-      → ((i : ℕ) (x : X) → i < length lent → HasTaken functions i round (run_in (get_or lent i x)) (run_in (get_or later i x)))
+      → ((i : ℕ) (x : X) → i < length lent → HasRead functions i round (run_in (get_or lent i x)) (run_in (get_or later i x)))
       → AreFed news → HaveAllTaken functions round olds news
   sealed-taken functions round olds olds_are each fed = record {
     count = half-count run_in news later news_are ∙ many ∙ sym (half-count run_in olds lent olds_are);
-    each = back-two run_in (λ i old new. HasTaken functions i round old new) olds news lent later olds_are news_are many each;
+    each = back-two run_in (λ i old new. HasRead functions i round old new) olds news lent later olds_are news_are many each;
     are_fed = fed;
   }
 
@@ -46,7 +46,7 @@ module _ {X : Type 0} (run_in : X → FedRun) (lent later : List X) (news : List
 
     -- and what the book says of them is the verdict by the runs
     pub sealed-verdict : (scheme : Scheme) (header : Header) (logs : List (List ℕ)) (judged : Judged) (verdict : Verdict) → AreFed news
-        → HaveTaken scheme header logs judged (map (λ fed. fed.run) news)
+        → HaveRead scheme header logs judged (map (λ fed. fed.run) news)
         → ((epoch : ℕ) → All (λ part. part.epoch ≡ epoch) (parts_of passes) → verdict ≡ verdict_of (verifiers_of book) epoch (parts_of passes))
         → IsVerdictAt (map (λ fed. fed.run) news) place (header.first + judged.count + place) verdict
     sealed-verdict = settled-verdict book place news passes as_many for_all handed

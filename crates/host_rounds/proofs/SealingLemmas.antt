@@ -15,7 +15,7 @@ use Rattle.bundle_report.proofs.LeftLaws.{run_of}
 use Rattle.bundle_report.proofs.PartLaws.{left-part}
 use Rattle.certified_epochs.specs.declared.fed_run.FedRun.{FedRun}
 use Rattle.host_rounds.specs.Round.{logs_with}
-use Rattle.host_rounds.specs.Feeding.{Takes, AllTake}
+use Rattle.host_rounds.specs.Feeding.{Reads, AllRead}
 use Rattle.host_rounds.specs.SoFar.{RunsSoFar, HaveRun}
 use Rattle.host_rounds.specs.Sealing.{log_of, HasPartsOf, SealsOwn, HaveAllTaken}
 use Rattle.host_rounds.proofs.RunLemmas.{round-taken}
@@ -49,7 +49,7 @@ fed_all functions (bytes ∷ round) [] = []
 fed_all functions (bytes ∷ round) (old ∷ olds) =
     record { run = fed keeps_operations (scheme_of functions old.run.course.machine.header) old.run bytes; is_starved = false } ∷ fed_all functions round olds
 
-fed_all-takes : (functions : DigestFunctions) (round : List (List ℕ)) (olds : List FedRun) → length round ≡ length olds → AllTake functions round olds (fed_all functions round olds)
+fed_all-takes : (functions : DigestFunctions) (round : List (List ℕ)) (olds : List FedRun) → length round ≡ length olds → AllRead functions round olds (fed_all functions round olds)
 fed_all-takes functions [] [] len = tt
 fed_all-takes functions [] (old ∷ olds) len = absurd (omega (arith, len))
 fed_all-takes functions (bytes ∷ round) [] len = absurd (omega (arith, len))
@@ -90,8 +90,8 @@ seals-own functions header logs so_far have round len number d within =
 
 -- all took a round, where each did
 pub all-take : (functions : DigestFunctions) (round : List (List ℕ)) (olds news : List FedRun) → length round ≡ length olds → length news ≡ length olds
-    → ((index : ℕ) (d : FedRun) → index < length olds → Takes functions (log_of index round) (get_or olds index d) (get_or news index d))
-    → AllTake functions round olds news
+    → ((index : ℕ) (d : FedRun) → index < length olds → Reads functions (log_of index round) (get_or olds index d) (get_or news index d))
+    → AllRead functions round olds news
 all-take functions [] [] [] len same each = tt
 all-take functions [] [] (new ∷ news) len same each = absurd (omega (arith, same))
 all-take functions [] (old ∷ olds) news len same each = absurd (omega (arith, len))
@@ -113,7 +113,7 @@ one-of P (x ∷ xs) zero d within all = all.0
 one-of P (x ∷ xs) (suc index) d within all = one-of P xs index d (omega (arith, within)) all.1
 
 module _ (functions : DigestFunctions) (round : List (List ℕ)) (olds news : List FedRun) (len : length round ≡ length olds) (taken : HaveAllTaken functions round olds news) where
-  pub taken-all : AllTake functions round olds news
+  pub taken-all : AllRead functions round olds news
   taken-all =
       all-take functions round olds news len taken.count
       (λ index d within. (taken.each index d within).takes (one-of (λ (f : FedRun). f.is_starved ≡ false) news index d (omega (arith, within, taken.count)) taken.are_fed))

@@ -17,7 +17,7 @@ use Rattle.record_text.specs.declared.operation.Operation.{Operation}
 use Rattle.verifier_run.specs.Progress.{Progress}
 use Rattle.bundle_report.specs.declared.judged.Judged.{Judged}
 use Rattle.bundle_report.specs.RunReport.{parts_at}
-use Rattle.bundle_report.specs.SoFar.{HaveTaken}
+use Rattle.bundle_report.specs.SoFar.{HaveRead}
 use Rattle.bundle_report.proofs.PartLaws.{later-epochs}
 use Rattle.certified_epochs.specs.declared.fed_run.FedRun.{FedRun}
 use Rattle.certified_epochs.specs.Turn.{AreFed, courses_in, IsVerdictAt}
@@ -70,7 +70,7 @@ module _ (book : EpochBook) (index : ℕ) (runs : List FedRun) (passes : List Pa
 
   -- What the book says is the verdict on the epoch by what the runs have handed in.
   pub settled-verdict : (scheme : Scheme) (header : Header) (logs : List (List ℕ)) (judged : Judged) (verdict : Verdict) → AreFed runs
-      → HaveTaken scheme header logs judged (map (λ fed. fed.run) runs)
+      → HaveRead scheme header logs judged (map (λ fed. fed.run) runs)
       → ((epoch : ℕ) → All (λ part. part.epoch ≡ epoch) (parts_of passes) → verdict ≡ verdict_of (verifiers_of book) epoch (parts_of passes))
       → IsVerdictAt (map (λ fed. fed.run) runs) index (header.first + judged.count + index) verdict
   settled-verdict scheme header logs judged verdict fed taken says =

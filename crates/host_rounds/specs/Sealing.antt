@@ -11,7 +11,7 @@ use Rattle.epoch_book.specs.declared.pass.Pass.{Pass}
 use Rattle.epoch_book.specs.Passes.{IsPassOf, number_of, part_of}
 use Rattle.certified_epochs.specs.declared.fed_run.FedRun.{FedRun}
 use Rattle.certified_epochs.specs.Turn.{AreFed}
-use Rattle.host_rounds.specs.Feeding.{Takes}
+use Rattle.host_rounds.specs.Feeding.{Reads}
 
 -- what the verifier of this number logged in a round
 abbrev pub log_of : ℕ → List (List ℕ) → List ℕ
@@ -35,14 +35,14 @@ pub record CanTake (functions : DigestFunctions) (number : ℕ) (round : List (L
   pub parts : SealsOwn functions number round run
 
 -- It took it, unless memory was wanting.
-pub record HasTaken (functions : DigestFunctions) (number : ℕ) (round : List (List ℕ)) (old new : FedRun) : Type 0 where
-  pub takes : new.is_starved ≡ false → Takes functions (log_of number round) old new
+pub record HasRead (functions : DigestFunctions) (number : ℕ) (round : List (List ℕ)) (old new : FedRun) : Type 0 where
+  pub takes : new.is_starved ≡ false → Reads functions (log_of number round) old new
   pub weight_is : weight new.run ≤ weight old.run + length (log_of number round)
 
 -- All runs took a round, and memory was wanting for none.
 pub record HaveAllTaken (functions : DigestFunctions) (round : List (List ℕ)) (olds news : List FedRun) : Type 0 where
   pub count : length news ≡ length olds
-  pub each : (number : ℕ) (default : FedRun) → number < length olds → HasTaken functions number round (get_or olds number default) (get_or news number default)
+  pub each : (number : ℕ) (default : FedRun) → number < length olds → HasRead functions number round (get_or olds number default) (get_or news number default)
   pub are_fed : AreFed news
 
 -- the pass of the verifier of this number, by which nothing was handed in

@@ -19,7 +19,7 @@ use Rattle.bundle_report.specs.Report.{EpochTold, operations_told}
 use Rattle.bundle_report.specs.BundleReport.{certified_lines, histories_at, end_of}
 use Rattle.bundle_report.specs.Judged.{judged}
 use Rattle.bundle_report.specs.RunReport.{courses_of}
-use Rattle.bundle_report.specs.SoFar.{HaveTaken, lines_from}
+use Rattle.bundle_report.specs.SoFar.{HaveRead, lines_from}
 use Rattle.certified_epochs.specs.declared.fed_run.FedRun.{FedRun}
 use Rattle.certified_epochs.specs.Turn.{AreFed}
 use Rattle.host_rounds.specs.Bundle.{HasBundle}
@@ -47,7 +47,7 @@ operations_counted functions header logs so_far = lines_counted operations_told 
 -- worker the operations of these epochs are counted.
 pub record HaveRun (functions : DigestFunctions) (header : Header) (logs : List (List ℕ)) (so_far : RunsSoFar) : Type 0 where
   pub fed : AreFed so_far.runs
-  pub taken : HaveTaken (scheme_of functions header) header logs so_far.judged (map (λ fed. fed.run) so_far.runs)
+  pub taken : HaveRead (scheme_of functions header) header logs so_far.judged (map (λ fed. fed.run) so_far.runs)
   pub few : AllByRecursion (λ fed. weight fed.run ≤ so_far.bytes) so_far.runs
   pub summed : so_far.summary ≡ counted_of header.verifiers (operations_counted functions header logs so_far)
 

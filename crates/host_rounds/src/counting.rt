@@ -3,8 +3,8 @@ ghost use Rattle.std.specs.Prelude.{◌≡◌, ◌+◌, ◌≤◌, ◌<◌, ◌^
 ghost use Rattle.std.specs.List.{AllByRecursion};
 ghost use Rattle.host_rounds.specs.Sealing.{log_of};
 
+use base_words::Memory;
 use host_log::LogBuffer;
-use want_of_memory::Memory;
 
 // So many bytes are not fed in all.
 const MOST_BYTES: u64 = 1 << 63;

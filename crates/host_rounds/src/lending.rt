@@ -24,7 +24,7 @@ impl Rounds {
     ghost use Rattle.host_log.specs.Frames.{pieces_text};
     ghost use Rattle.host_rounds.specs.Round.{logs_with, pieces_of};
     ghost use Rattle.host_rounds.specs.Bundle.{HasFront};
-    ghost use Rattle.host_rounds.specs.Feeding.{AllTake};
+    ghost use Rattle.host_rounds.specs.Feeding.{AllRead};
     ghost use Rattle.host_rounds.specs.SoFar.{HaveRun, Keeps, lines_counted, with_runs};
 
     /// Lends the runs, one of each verifier, to be fed and handed back.
@@ -58,7 +58,7 @@ impl Rounds {
         // Whatever runs took them, with whatever logs before. Of epochs no more are counted yet, and their lines stay what they
         // were.
         ensures keeps { (functions : DigestFunctions) (header : Header) (before : List (List ℕ)) (held : Option (List ℕ)) (runs : List FedRun)
-            → Keeps functions header before (with_runs runs self.old) held (V.held vault.old) → AllTake functions logs.now runs self.old.runs
+            → Keeps functions header before (with_runs runs self.old) held (V.held vault.old) → AllRead functions logs.now runs self.old.runs
             → OnOk result (Keeps functions header (logs_with before logs.now) self.new held (V.held vault.new)) }
         ensures counted { OnOk result (self.new.judged ≡ self.old.judged) }
         ensures lines { (tell : EpochText) (functions : DigestFunctions) (header : Header) (before : List (List ℕ)) (runs : List FedRun)
@@ -71,7 +71,7 @@ impl Rounds {
         ensures grown { GrowsByFront (V.held vault.old) (V.held vault.new) (pieces_text (pieces_of 0 logs.now)) }
         ensures whole { result ≡ Err RoundStop.Memory → Grows (V.held vault.old) (V.held vault.new) (pieces_text (pieces_of 0 logs.now)) }
         ensures front { (functions : DigestFunctions) (header : Header) (before : List (List ℕ)) (held : Option (List ℕ)) (runs : List FedRun)
-            → Keeps functions header before (with_runs runs self.old) held (V.held vault.old) → AllTake functions logs.now runs self.old.runs
+            → Keeps functions header before (with_runs runs self.old) held (V.held vault.old) → AllRead functions logs.now runs self.old.runs
             → OnErr result (HasFront header (logs_with before logs.now) held (V.held vault.new)) }
         ensures stop { result ≢ Err RoundStop.WriteFault }
         ensures vault_fault { result ≡ Err RoundStop.VaultFault → Rose (V.faults vault.old) (V.faults vault.new) }

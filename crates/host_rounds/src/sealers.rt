@@ -3,7 +3,7 @@ ghost use Rattle.std.specs.Prelude.{◌≡◌, ◌<◌, ℕ, false, length, slic
 ghost use Rattle.certified_epochs.specs.declared.fed_run.FedRun.{FedRun};
 ghost use Rattle.epoch_book.specs.Passes.{number_of};
 ghost use Rattle.host_rounds.specs.declared.with_pass.WithPass.{WithPass};
-ghost use Rattle.host_rounds.specs.Sealing.{CanTake, HasTaken, HasPartsOf, IsNewPass, HasHandedIn};
+ghost use Rattle.host_rounds.specs.Sealing.{CanTake, HasRead, HasPartsOf, IsNewPass, HasHandedIn};
 
 use crate::with_pass::WithPass;
 use certified_epochs::FedRun;
@@ -26,7 +26,7 @@ pub(crate) fn seal_next<R: Threads + Sync, D: Digests + Sync>(
         × IsNewPass book.now i (slice_index_or sealers.old i default).pass }
     ensures len { length sealers.new ≡ length sealers.old }
     ensures sealed { (i : ℕ) (default : WithPass FedRun) → i < length sealers.old
-        → HasTaken (D.functions d.now) i logs.now (slice_index_or sealers.old i default).item (slice_index_or sealers.new i default).item
+        → HasRead (D.functions d.now) i logs.now (slice_index_or sealers.old i default).item (slice_index_or sealers.new i default).item
         × HasHandedIn book.now 0 i (slice_index_or sealers.new i default).item (slice_index_or sealers.new i default).pass }
 {
     let threads = sealers.len().max(1);
@@ -36,7 +36,7 @@ pub(crate) fn seal_next<R: Threads + Sync, D: Digests + Sync>(
         threads,
         &|number: usize, sealer: &mut WithPass<FedRun>|
             requires { CanTake (D.functions d.now) number logs.now sealer.now.item × IsNewPass book.now number sealer.now.pass }
-            ensures { HasTaken (D.functions d.entry.now) number logs.entry.now sealer.entry.now.item sealer.exit.now.item
+            ensures { HasRead (D.functions d.entry.now) number logs.entry.now sealer.entry.now.item sealer.exit.now.item
                 × HasHandedIn book.entry.now 0 number sealer.exit.now.item sealer.exit.now.pass }
         { seal_own(d, logs, book, number, sealer) },
     );
@@ -57,7 +57,7 @@ pub(crate) fn seal_both<R: Threads + Sync, D: Digests + Sync>(
         × IsNewPass last.now i (slice_index_or sealers.old i default).pass }
     ensures len { length sealers.new ≡ length sealers.old }
     ensures sealed { (i : ℕ) (default : WithPass (WithPass FedRun)) → i < length sealers.old
-        → HasTaken (D.functions d.now) i logs.now (slice_index_or sealers.old i default).item.item (slice_index_or sealers.new i default).item.item
+        → HasRead (D.functions d.now) i logs.now (slice_index_or sealers.old i default).item.item (slice_index_or sealers.new i default).item.item
         × HasHandedIn next.now 0 i (slice_index_or sealers.new i default).item.item (slice_index_or sealers.new i default).item.pass
         × HasHandedIn last.now 1 i (slice_index_or sealers.new i default).item.item (slice_index_or sealers.new i default).pass }
 {
@@ -69,7 +69,7 @@ pub(crate) fn seal_both<R: Threads + Sync, D: Digests + Sync>(
         &|number: usize, sealer: &mut WithPass<WithPass<FedRun>>|
             requires { CanTake (D.functions d.now) number logs.now sealer.now.item.item
                 × IsNewPass next.now number sealer.now.item.pass × IsNewPass last.now number sealer.now.pass }
-            ensures { HasTaken (D.functions d.entry.now) number logs.entry.now sealer.entry.now.item.item sealer.exit.now.item.item
+            ensures { HasRead (D.functions d.entry.now) number logs.entry.now sealer.entry.now.item.item sealer.exit.now.item.item
                 × HasHandedIn next.entry.now 0 number sealer.exit.now.item.item sealer.exit.now.item.pass
                 × HasHandedIn last.entry.now 1 number sealer.exit.now.item.item sealer.exit.now.pass }
         { seal_both_own(d, logs, next, last, number, sealer) },
@@ -86,7 +86,7 @@ fn seal_own<D: Digests>(
 )
     requires can { CanTake (D.functions d.now) number logs.now sealer.old.item }
     requires pass { IsNewPass book.now number sealer.old.pass }
-    ensures taken { HasTaken (D.functions d.now) number logs.now sealer.old.item sealer.new.item }
+    ensures taken { HasRead (D.functions d.now) number logs.now sealer.old.item sealer.new.item }
     ensures handed { HasHandedIn book.now 0 number sealer.new.item sealer.new.pass }
     ensures parts { sealer.new.item.is_starved ≡ false → HasPartsOf number sealer.new.item.run }
 {
@@ -106,7 +106,7 @@ fn seal_both_own<D: Digests>(
     requires can { CanTake (D.functions d.now) number logs.now sealer.old.item.item }
     requires next { IsNewPass next.now number sealer.old.item.pass }
     requires last { IsNewPass last.now number sealer.old.pass }
-    ensures taken { HasTaken (D.functions d.now) number logs.now sealer.old.item.item sealer.new.item.item }
+    ensures taken { HasRead (D.functions d.now) number logs.now sealer.old.item.item sealer.new.item.item }
     ensures next { HasHandedIn next.now 0 number sealer.new.item.item sealer.new.item.pass }
     ensures last { HasHandedIn last.now 1 number sealer.new.item.item sealer.new.pass }
 {
@@ -117,7 +117,7 @@ fn seal_both_own<D: Digests>(
 // The run of the verifier of this number takes its log.
 fn take_own<D: Digests>(d: &D, logs: &[LogBuffer], number: usize, fed: &mut FedRun)
     requires can { CanTake (D.functions d.now) number logs.now fed.old }
-    ensures taken { HasTaken (D.functions d.now) number logs.now fed.old fed.new }
+    ensures taken { HasRead (D.functions d.now) number logs.now fed.old fed.new }
     ensures parts { fed.new.is_starved ≡ false → HasPartsOf number fed.new.run }
 {
     fed.feed(d, logs[number].bytes());

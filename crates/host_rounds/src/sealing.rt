@@ -5,12 +5,13 @@ ghost use Rattle.verifier_run.specs.Progress.{weight};
 ghost use Rattle.bundle_report.specs.declared.judged.Judged.{Judged};
 ghost use Rattle.certified_epochs.specs.declared.fed_run.FedRun.{FedRun};
 ghost use Rattle.certified_epochs.specs.Turn.{AreFed, AreVerdictsOn};
-ghost use Rattle.host_rounds.specs.Feeding.{AllTake};
+ghost use Rattle.host_rounds.specs.Feeding.{AllRead};
 ghost use Rattle.host_rounds.specs.Sealing.{CanTake, HaveAllTaken, SealsOwn};
 
 use crate::counting::bytes_with;
 use crate::sealers::{seal_both, seal_next};
 use crate::with_pass::{apart, with_passes};
+use base_words::Memory;
 use certified_epochs::FedRun;
 use epoch_book::EpochBook;
 use epoch_gather::Verdict;
@@ -18,7 +19,6 @@ use host_log::LogBuffer;
 use record_hash::Digests;
 use std::alloc::Global;
 use std::thread::Threads;
-use want_of_memory::Memory;
 
 /// Feeds each run the log of its verifier, in a thread of its own where one can be made, and counts the bytes. There the verifier
 /// hands in what its run has sealed of the next epoch, and in a last round of the one behind it too. The answer has the verdicts
@@ -37,7 +37,7 @@ pub(crate) fn seal_round<R: Threads + Sync, D: Digests + Sync>(
     requires few { AllByRecursion (λ fed. weight fed.run ≤ bytes.old) runs.items }
     requires parts { (number : ℕ) (default : FedRun) → number < length runs.items
         → SealsOwn (D.functions d.now) number logs.now (get_or runs.items number default) }
-    ensures taken { IfOk result (λ left. AllTake (D.functions d.now) logs.now runs.items left.0.items) }
+    ensures taken { IfOk result (λ left. AllRead (D.functions d.now) logs.now runs.items left.0.items) }
     ensures few { IfOk result (λ left. AllByRecursion (λ fed. weight fed.run ≤ bytes.new) left.0.items) }
     ensures one { last ≡ false → IfOk result (λ left. length left.1.items ≡ 1) }
     ensures two { last ≡ true → IfOk result (λ left. length left.1.items ≡ 2) }

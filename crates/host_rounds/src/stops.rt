@@ -1,8 +1,8 @@
 //! Why a round of a host stops before its end.
 ghost use Rattle.std.specs.Prelude.{◌≡◌};
 
+use base_words::Memory;
 use bundle_report::ReportStop;
-use want_of_memory::Memory;
 
 /// Why a round stops before its end.
 #[derive(Clone, Copy, Debug, PartialEq, Eq)]

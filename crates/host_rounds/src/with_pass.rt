@@ -2,9 +2,9 @@
 ghost use Rattle.std.specs.Prelude.{◌≡◌, IfOk, length, map};
 ghost use Rattle.host_rounds.specs.WithPass.{item_in, pass_in};
 
+use base_words::Memory;
 use epoch_book::Pass;
 use std::alloc::Global;
-use want_of_memory::Memory;
 
 /// Something of a verifier, with its pass.
 #[derive(Drop)]

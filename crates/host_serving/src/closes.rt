@@ -10,10 +10,10 @@ ghost use Rattle.host_serving.specs.Leading.{Leads, LeadsTo, CanDoNoMore};
 ghost use Rattle.host_serving.specs.Standing.{IsServedUpTo, IsServedOut, IsClosed, NoneStopped, NoneStuckBelow};
 ghost use Rattle.host_serving.specs.Closing.{CanAllAdvance, EndsAdvance, CanMoveOwn, EndsOwn, CanMoveAll, EndsMoves, EndsShards};
 
+use base_words::Memory;
 use host_fits::the_shipped_host_is_steady;
 use host_world::{ClockEnd, Event, World, worlds_are_orderly};
 use record_hash::Digests;
-use want_of_memory::Memory;
 
 /// Closes the world's phase, which is served out: all workers advance, and each moves its shards in order. In a last close all
 /// then advance once more; else the next phase opens. Where a clock ends, the others finish their shards and nothing follows. It

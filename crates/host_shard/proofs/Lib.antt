@@ -3,7 +3,7 @@ pub mod ChainLaws
 pub mod ShardLaws
 mod ChainLemmas
 mod RecordLemmas
-mod SettleLemmas
+mod RehashLemmas
 mod TouchLemmas
 mod ForgetLemmas
 mod OrderLemmas

@@ -1,4 +1,4 @@
--- A shard stays a shard: its values are of their paths' kinds, also behind a chain that was settled.
+-- A shard stays a shard: its values are of their paths' kinds, also behind a chain that was rehashed.
 use Rattle.std.proofs.Common.{◌≡◌, ℕ, ◌<◌, ◌≤◌, Bool, true, false, List, [], ◌∷◌, length, Option, Some, None, if◌then◌else◌, refl, sym, ◌∙◌, ap, subst, arith}
 use Rattle.std.proofs.lemmas.Option.{none-some, same_Some}
 use Rattle.tree_keys.specs.Path.{side, same_path}
@@ -14,7 +14,7 @@ use Rattle.merkle_records.proofs.KindLaws.{is_prefix-side, IsOf-with_side}
 use Rattle.host_shard.specs.declared.link.Link.{Link}
 use Rattle.host_shard.specs.Tree.{Tree}
 use Rattle.host_shard.specs.Chain.{IsChain, aimed, aimed_on, closed_value, closed_records}
-use Rattle.host_shard.specs.Shard.{Shard, tree_of, settled, new_shard}
+use Rattle.host_shard.specs.Shard.{Shard, tree_of, rehashed, new_shard}
 use Rattle.host_shard.specs.Mirrors.{IsShard, IsKeyOf}
 use Rattle.host_shard.proofs.ChainLaws.{AreOf, frontier_kind, next_of}
 
@@ -65,11 +65,11 @@ closed_kinds format digest tree kept key at value (link ∷ links) last path dig
     (closed_kind format digest tree key link.path link.taken links last digests whole kinds next.taken end chain.1)
     (closed_kinds format digest tree kept key link.path link.taken links last path digests whole kinds next.taken end chain.1 rest)
 
--- A shard behind a settled chain is a shard.
-pub settled_is : (format : Format) (digest : Digest) (shard : Shard) (key : List Bool) (links : List Link) (last : Value)
+-- A shard behind a rehashed chain is a shard.
+pub rehashed_is : (format : Format) (digest : Digest) (shard : Shard) (key : List Bool) (links : List Link) (last : Value)
     → GivesDigests digest → IsShard format shard → IsKeyOf format shard key → IsOf format key last → IsChain format (tree_of shard) key shard.frontier shard.value links
-    → IsShard format (settled format digest shard links last)
-settled_is format digest shard key links last digests fits own end chain = record {
+    → IsShard format (rehashed format digest shard links last)
+rehashed_is format digest shard key links last digests fits own end chain = record {
   below_root = fits.below_root;
   no_data = fits.no_data;
   kinds = λ path found is. go path found (same_path path shard.frontier) refl is;

@@ -49,8 +49,8 @@ new_shard format frontier stamp evictor = record {
 }
 
 -- The shard at the end of a chain, where the value there becomes `last`, and each path is evicted to the one before.
-abbrev pub settled : Format → Digest → Shard → List Link → Value → Shard
-settled format digest shard links last = record shard {
+abbrev pub rehashed : Format → Digest → Shard → List Link → Value → Shard
+rehashed format digest shard links last = record shard {
   value = closed_value format digest false shard.frontier shard.value links last;
   records = closed_records format digest false shard.records links last;
 }

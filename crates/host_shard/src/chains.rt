@@ -10,10 +10,10 @@ ghost use Rattle.host_shard.specs.Shown.{shown};
 
 use crate::link::Link;
 use crate::shard::Shard;
+use base_words::Memory;
 use record_text::{Pointer, Value};
 use std::alloc::Global;
 use tree_keys::Path;
-use want_of_memory::Memory;
 
 // Room for so many links is taken at once. A longer chain takes more.
 const ROOM: usize = 24;

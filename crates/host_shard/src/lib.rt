@@ -10,7 +10,7 @@ mod content;
 mod link;
 mod record;
 mod records;
-mod settling;
+mod rehashing;
 mod shard;
 mod waiting;
 

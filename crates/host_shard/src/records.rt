@@ -7,13 +7,13 @@ ghost use Rattle.host_shard.specs.Records.{record_at, with_kept, new_record, unt
 ghost use Rattle.host_shard.specs.Shard.{one_more};
 
 use crate::record::Record;
+use base_words::Memory;
 use record_text::{Value, initial};
 use std::alloc::Global;
 use std::collections::BTreeMap;
 use std::collections::btree_map::Iter;
 use std::marker::Model;
 use tree_keys::Path;
-use want_of_memory::Memory;
 
 /// Records by their paths. Contracts see the list of them.
 #[derive(Drop)]

@@ -10,17 +10,17 @@ use Rattle.host_shard.specs.Shown.{shown_content}
 use Rattle.host_plan.specs.declared.plans.Plan.{Plan}
 use Rattle.host_plan.specs.Plan.{IsPlan}
 use Rattle.host_table.specs.declared.hand.Hand.{Hand}
-use Rattle.host_table.specs.declared.told.Entry.{Entry}
+use Rattle.host_table.specs.declared.told.Service.{Service}
 use Rattle.host_table.specs.declared.told.Loss.{Loss}
 use Rattle.host_table.specs.declared.told.Stop.{Stop}
 use Rattle.host_table.specs.Terms.{Terms, IsClockOf}
 use Rattle.host_table.specs.Calls.{IsAfter, clock_at}
 use Rattle.host_table.proofs.ServedLemmas.{plan_one}
 
-pub after_then : (a b c : Hand) (es fs : List Entry) (ls ms : List Loss) (s t : Option Stop) → IsAfter a b es ls s → IsAfter b c fs ms t → IsAfter a c (es ++ fs) (ls ++ ms) t
+pub after_then : (a b c : Hand) (es fs : List Service) (ls ms : List Loss) (s t : Option Stop) → IsAfter a b es ls s → IsAfter b c fs ms t → IsAfter a c (es ++ fs) (ls ++ ms) t
 after_then a b c es fs ls ms s t one two = record {
   worker = two.worker ∙ one.worker;
-  entries = two.entries ∙ (ap (λ xs. xs ++ fs) one.entries ∙ append_assoc _ es fs);
+  services = two.services ∙ (ap (λ xs. xs ++ fs) one.services ∙ append_assoc _ es fs);
   losses = two.losses ∙ (ap (λ xs. xs ++ ms) one.losses ∙ append_assoc _ ls ms);
   stop = two.stop;
 }
@@ -29,11 +29,11 @@ after_then a b c es fs ls ms s t one two = record {
 pub clock_told : (terms : Terms) (clock : Reading) (stamp : Stamp) → IsClockOf terms clock → stamp ≡ clock.at → clock_at terms stamp ≡ clock
 clock_told terms clock stamp is at = λ i. record { first = sym is.first i; end = sym is.end i; at = at i }
 
--- an entry's plan, where the request has this one
-pub entry_plan : (terms : Terms) (digest : Digest) (worker : ℕ) (x : Content) (request : Request) (clock : Reading) (plan : Plan) (after : Content) (later : Reading) (entry : Entry)
-    → digest ≡ terms.digest → shown_content entry.before ≡ x → entry.request ≡ request → entry.clock ≡ clock
-    → IsPlan short_keys terms.digest entry.worker (shown_content entry.before) entry.request entry.clock entry.plan (shown_content entry.after) entry.later
-    → IsPlan short_keys digest worker x request clock plan after later → (entry.plan ≡ plan) × (entry.later ≡ later)
-entry_plan terms digest worker x request clock plan after later entry same before asked at mine its =
-    plan_one short_keys terms.digest entry.worker worker (shown_content entry.before) entry.request entry.clock entry.plan plan (shown_content entry.after) after entry.later later mine
+-- a service's plan, where the request has this one
+pub service_plan : (terms : Terms) (digest : Digest) (worker : ℕ) (x : Content) (request : Request) (clock : Reading) (plan : Plan) (after : Content) (later : Reading) (service : Service)
+    → digest ≡ terms.digest → shown_content service.before ≡ x → service.request ≡ request → service.clock ≡ clock
+    → IsPlan short_keys terms.digest service.worker (shown_content service.before) service.request service.clock service.plan (shown_content service.after) service.later
+    → IsPlan short_keys digest worker x request clock plan after later → (service.plan ≡ plan) × (service.later ≡ later)
+service_plan terms digest worker x request clock plan after later service same before asked at mine its =
+    plan_one short_keys terms.digest service.worker worker (shown_content service.before) service.request service.clock service.plan plan (shown_content service.after) after service.later later mine
     (subst (λ (t : Digest × Content × Request × Reading). IsPlan short_keys t.0 worker t.1 t.2 t.3 plan after later) (λ i. (same i, sym before i, sym asked i, sym at i)) its)

@@ -12,7 +12,7 @@ use Rattle.atomic_table.specs.Table.{State, opening}
 use Rattle.atomic_table.proofs.Lists.{at_map}
 use Rattle.host_shard.specs.declared.content.Content.{Content}
 use Rattle.host_shard.specs.declared.content.Content.TheVariants.{Vacant}
-use Rattle.host_table.specs.declared.told.Entry.{Entry}
+use Rattle.host_table.specs.declared.told.Service.{Service}
 use Rattle.host_table.specs.declared.views.Row.{Row}
 use Rattle.host_table.specs.declared.views.View.{View}
 use Rattle.host_table.specs.Terms.{Terms, place_count, first_at}
@@ -63,13 +63,13 @@ module _ (terms : Terms) where
           let count = length-replicate terms.workers new_row in omega (arith, count),
           λ i row found. let new = all_new terms.workers i row found in record { here = refl; list = ap (λ (t : Row). t.list) (sym new); stop = ap (λ (t : Row). t.stop) (sym new) },
         );
-    even = subst (λ (t : List Entry × List Entry). IsPermutation t.0 t.1)
+    even = subst (λ (t : List Service × List Service). IsPermutation t.0 t.1)
         (λ k. (sym (joined_of_none 0 terms.workers) k, sym (joined_of_none 0 (place_count terms)) k)) (IsPermutation-refl []);
   }
 
   -- ---- the end
 
-  rows_joined : (number : ℕ) (rows : List Row) (f : ℕ → List Entry) → ((i : ℕ) (row : Row) → get_elem? rows i ≡ some row → row.list ≡ f (number + i))
+  rows_joined : (number : ℕ) (rows : List Row) (f : ℕ → List Service) → ((i : ℕ) (row : Row) → get_elem? rows i ≡ some row → row.list ≡ f (number + i))
       → joined_from number (length rows) f ≡ flat_map (λ row. row.list) rows
   rows_joined number [] f each = refl
   rows_joined number (row ∷ rows) f each =

@@ -97,5 +97,5 @@ module _ (terms : Terms) where
   place_still c c' s s' place word home now past held kept = record {
     free = λ z. home ∙ (kept.free (sym word ∙ z) ∙ ap (λ (x : Content). some (some x)) (sym now));
     held = λ busy. subst (IsHeldAt terms c' s'.views place) (sym word) (held (kept.held (λ z. busy (word ∙ z))));
-    leads = subst (λ (t : List Rattle.host_table.specs.declared.told.Entry.Entry × Content). Rattle.host_table.specs.Told.Leads terms place (Rattle.host_table.specs.Terms.first_at terms place) t.0 t.1) (λ i. (sym past i, sym now i)) kept.leads;
+    leads = subst (λ (t : List Rattle.host_table.specs.declared.told.Service.Service × Content). Rattle.host_table.specs.Told.Leads terms place (Rattle.host_table.specs.Terms.first_at terms place) t.0 t.1) (λ i. (sym past i, sym now i)) kept.leads;
   }

@@ -5,7 +5,7 @@ use lib.ListN.{get_elem?}
 use Rattle.atomic_table.specs.Table.{State, Enters, Splits, Joins, step}
 use Rattle.atomic_table.proofs.Lists.{set_else, at_longer}
 use Rattle.host_shard.specs.declared.content.Content.{Content}
-use Rattle.host_table.specs.declared.told.Entry.{Entry}
+use Rattle.host_table.specs.declared.told.Service.{Service}
 use Rattle.host_table.specs.declared.told.Loss.{Loss}
 use Rattle.host_table.specs.declared.told.Stop.{Stop}
 use Rattle.host_table.specs.declared.views.Held.TheVariants.{Idle}
@@ -100,7 +100,7 @@ module _ (terms : Terms) where
 
   -- ---- a worker's row is gathered
 
-  pub gathers : (id other i : ℕ) (rows : List Row) (list : List Entry) (stop : Option Stop) (losses : List Loss)
+  pub gathers : (id other i : ℕ) (rows : List Row) (list : List Service) (stop : Option Stop) (losses : List Loss)
       → Joins (IsKept terms) id (rack (suc i) rows) other (Working (record { number = i; held = Idle; list = list; stop = stop; losses = losses }))
       (rack i (record { list = list; stop = stop } ∷ rows)) Spent
   gathers id other i rows list stop losses s r at apart at' =

@@ -23,11 +23,11 @@ use Rattle.host_shard.specs.Content.{Content, cold, hot, vacant, key_path}
 use Rattle.host_shard.specs.Mirrors.{IsShard, IsKeyOf}
 use Rattle.host_shard.specs.Shown.{shown_content}
 use Rattle.host_shard.proofs.ChainLaws.{frontier_kind, last_kind}
-use Rattle.host_shard.proofs.ShardLaws.{settled_is}
+use Rattle.host_shard.proofs.ShardLaws.{rehashed_is}
 use Rattle.host_plan.specs.declared.plans.Plan.{Plan}
 use Rattle.host_plan.specs.Request.{value_after, served}
 use Rattle.host_plan.specs.Plan.{Owns, IsOpenAt, IsPastEnd, AreLinks, IsPlan, clock_after, commands_of, value_found}
-use Rattle.host_table.specs.declared.told.Entry.{Entry}
+use Rattle.host_table.specs.declared.told.Service.{Service}
 use Rattle.host_table.specs.Terms.{Terms, IsStampOf, IsStamped, first_at, phase_epoch}
 use Rattle.host_table.specs.Told.{Leads}
 
@@ -47,10 +47,10 @@ shard_owns : (format : Format) (digest : Digest) (worker : ℕ) (shard : Shard) 
     → IsChain format (tree_of shard) (key_path format request.key) shard.frontier shard.value links → IsShard format (served format digest worker shard links request clock)
 shard_owns format digest worker shard request clock links digests fits is own chain =
     let last = value_after request (last_value shard.value links) in
-    let settled = settled_is format digest shard (key_path format request.key) links last digests is own
+    let rehashed = rehashed_is format digest shard (key_path format request.key) links last digests is own
     (after_kind format request (last_value shard.value links) fits own.whole
     (last_kind format (tree_of shard) (key_path format request.key) shard.frontier shard.value links own.whole is.kinds (frontier_kind format shard is.kinds) chain)) chain in
-    record { below_root = settled.below_root; no_data = settled.no_data; kinds = settled.kinds }
+    record { below_root = rehashed.below_root; no_data = rehashed.no_data; kinds = rehashed.kinds }
 
 -- what a content owned before a request it owns after it
 pub plan_owns : (format : Format) (digest : Digest) (worker : ℕ) (content after : Content) (request : Request) (clock later : Reading) (plan : Plan)
@@ -64,22 +64,22 @@ plan_owns format digest worker vacant after request clock later plan digests fit
 
 module _ (terms : Terms) (digests : GivesDigests terms.digest) where
   -- a content that a place has had owns the keys that the place owned at the making
-  owns_from : (place : ℕ) (x : code.Content) (past : List Entry) (y : code.Content)
+  owns_from : (place : ℕ) (x : code.Content) (past : List Service) (y : code.Content)
       → ((key : ℕ) → Owns short_keys (shown_content (first_at terms place)) key → Owns short_keys (shown_content x) key)
       → Leads terms place x past y → (key : ℕ) → Owns short_keys (shown_content (first_at terms place)) key → Owns short_keys (shown_content y) key
   owns_from place x [] y from leads key owns = subst (λ (c : Content). Owns short_keys c key) (sym leads) (from key owns)
-  owns_from place x (entry ∷ past) y from leads key owns =
+  owns_from place x (service ∷ past) y from leads key owns =
       let served = leads.2 in
-      let before : (k : ℕ) → Owns short_keys (shown_content (first_at terms place)) k → Owns short_keys (shown_content entry.before) k =
+      let before : (k : ℕ) → Owns short_keys (shown_content (first_at terms place)) k → Owns short_keys (shown_content service.before) k =
       λ k o. subst (λ (c : Content). Owns short_keys c k) (sym leads.1) (from k o) in
-      let own : Owns short_keys (shown_content (first_at terms place)) entry.request.key =
-      subst (λ (p : ℕ). Owns short_keys (shown_content (first_at terms p)) entry.request.key) leads.0 served.at.owns in
-      owns_from place entry.after past y
-      (λ k o. plan_owns short_keys terms.digest entry.worker (shown_content entry.before) (shown_content entry.after) entry.request entry.clock entry.later entry.plan
-      digests served.value (before entry.request.key own) served.plan k (before k o))
+      let own : Owns short_keys (shown_content (first_at terms place)) service.request.key =
+      subst (λ (p : ℕ). Owns short_keys (shown_content (first_at terms p)) service.request.key) leads.0 served.at.owns in
+      owns_from place service.after past y
+      (λ k o. plan_owns short_keys terms.digest service.worker (shown_content service.before) (shown_content service.after) service.request service.clock service.later service.plan
+      digests served.value (before service.request.key own) served.plan k (before k o))
       leads.3 key owns
 
-  pub leads_owns : (place : ℕ) (past : List Entry) (y : code.Content) → Leads terms place (first_at terms place) past y
+  pub leads_owns : (place : ℕ) (past : List Service) (y : code.Content) → Leads terms place (first_at terms place) past y
       → (key : ℕ) → Owns short_keys (shown_content (first_at terms place)) key → Owns short_keys (shown_content y) key
   leads_owns place past y leads key owns = owns_from place (first_at terms place) past y (λ k o. o) leads key owns
 
@@ -108,12 +108,12 @@ module _ (terms : Terms) (few : terms.workers ≤ terms.header.verifiers) where
   Stamped x = IsStamped terms.header (phase_epoch terms) (shown_content x)
 
   -- a content that a place has had waits in the phase
-  pub stamped_from : (place : ℕ) (x : code.Content) (past : List Entry) (y : code.Content) → Stamped x → Leads terms place x past y → Stamped y
+  pub stamped_from : (place : ℕ) (x : code.Content) (past : List Service) (y : code.Content) → Stamped x → Leads terms place x past y → Stamped y
   stamped_from place x [] y from leads = subst (IsStamped terms.header (phase_epoch terms)) (sym leads) from
-  stamped_from place x (entry ∷ past) y from leads =
+  stamped_from place x (service ∷ past) y from leads =
       let served = leads.2 in
-      stamped_from place entry.after past y
-      (plan_stamped terms.header (phase_epoch terms) entry.worker short_keys terms.digest (shown_content entry.before) (shown_content entry.after) entry.request entry.clock entry.later entry.plan
+      stamped_from place service.after past y
+      (plan_stamped terms.header (phase_epoch terms) service.worker short_keys terms.digest (shown_content service.before) (shown_content service.after) service.request service.clock service.later service.plan
       (omega (arith, served.by, few)) served.clock.epoch served.clock.end served.within served.plan)
       leads.3
 

@@ -7,7 +7,7 @@ use native.Mathlib.Decide.{ℕ_discrete}
 use lib.ListN.{get_elem?}
 use Rattle.atomic_table.specs.Table.{State}
 use Rattle.host_shard.specs.declared.content.Content.{Content}
-use Rattle.host_table.specs.declared.told.Entry.{Entry}
+use Rattle.host_table.specs.declared.told.Service.{Service}
 use Rattle.host_table.specs.declared.told.Stop.{Stop}
 use Rattle.host_table.specs.declared.views.Desk.{Desk}
 use Rattle.host_table.specs.declared.views.View.{View}
@@ -18,7 +18,7 @@ use Rattle.host_table.specs.Rule.{Scene, IsOf, HoldsPlace, IsPlaceKept, IsWorker
 use Rattle.host_table.proofs.SceneLemmas.{views_stay, there_still, knows_still, held_still, place_still}
 
 module _ (terms : Terms) (s : State Content View) (r : IsKept terms s) (id p : ℕ) (old new : Desk) (at : get_elem? s.views id ≡ some (Working old))
-    (words' : List ℕ) (homes' : List (maybe.Option Content)) (now' : ℕ → Content) (past' list' : ℕ → List Entry) (stop' : ℕ → Option Stop) where
+    (words' : List ℕ) (homes' : List (maybe.Option Content)) (now' : ℕ → Content) (past' list' : ℕ → List Service) (stop' : ℕ → Option Stop) where
   abbrev pub scene_after : Scene
   scene_after = record { now = now'; past = past'; list = list'; stop = stop'; view_of = r.scene.view_of }
 

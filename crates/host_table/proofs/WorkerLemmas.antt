@@ -1,4 +1,4 @@
--- Each kind of step of a worker keeps the rule: a try, an entry noted, a clock's end noted, a word freed.
+-- Each kind of step of a worker keeps the rule: a try, a service noted, a clock's end noted, a word freed.
 use Rattle.std.proofs.Common.{◌≡◌, ◌≢◌, ℕ, suc, ◌<◌, eqb, List, [], ◌∷◌, ◌++◌, length, set, slice_index, length-set, get_or-set_other, get_or-set_same, refl, sym, ap, ◌∙◌, subst, Option, Some, None, arith}
 use mathlib.Core.Logic.{dite}
 use mathlib.Core.Option.{some, none, some-injective}
@@ -13,7 +13,7 @@ use Rattle.atomic_table.proofs.Lists.{set_else, set_here, exchanged}
 use Rattle.host_shard.specs.declared.content.Content.{Content}
 use Rattle.host_shard.specs.Shown.{shown_content}
 use Rattle.host_plan.specs.Plan.{IsPastEnd}
-use Rattle.host_table.specs.declared.told.Entry.{Entry}
+use Rattle.host_table.specs.declared.told.Service.{Service}
 use Rattle.host_table.specs.declared.told.Loss.{Loss}
 use Rattle.host_table.specs.declared.told.Stop.{Stop}
 use Rattle.host_table.specs.declared.views.Held.{Held}
@@ -25,12 +25,12 @@ use Rattle.std.proofs.lemmas.Option.{none-some, same_Some}
 use Rattle.host_table.specs.Terms.{Terms, IsPlaceOf, IsClockOf, place_count, first_at}
 use Rattle.host_table.specs.Told.{IsSame, IsServed, IsStop, IsHad, IsListOf, Leads, TakesUp}
 use Rattle.host_table.specs.Rule.{HoldsPlace, Knows, IsKept}
-use Rattle.host_table.specs.Plays.{Draft, IsDrafted, tried, noted, stopped, freed, stop_of, with_loss, with_entry, with_stop, with_held}
+use Rattle.host_table.specs.Plays.{Draft, IsDrafted, tried, noted, stopped, freed, stop_of, with_loss, with_service, with_stop, with_held}
 use Rattle.host_table.proofs.ToldLemmas.{put, put_here, put_else, leads_on, leads_more, leads_to_had, list_more, had_more, even_more}
 use Rattle.host_table.proofs.SceneLemmas.{set_there, views_stay, there_still, held_still, place_still}
 use Rattle.host_table.proofs.StepLemmas.{worker_step}
 
-abbrev desk_of : ℕ → Held → List Entry → Option Stop → List Loss → Desk
+abbrev desk_of : ℕ → Held → List Service → Option Stop → List Loss → Desk
 desk_of i held list stop losses = record { number = i; held = held; list = list; stop = stop; losses = losses }
 
 -- a word that is 0 names no worker, and one that names a worker names no other
@@ -40,7 +40,7 @@ zero_apart n i x zero held = omega (arith, zero, held)
 own_apart : (n i x : ℕ) → n ≡ suc i → x ≢ i → n ≢ suc x
 own_apart n i x own other held = other (omega (arith, own, held))
 
-module _ (terms : Terms) (id i p slots : ℕ) (list : List Entry) (losses : List Loss) where
+module _ (terms : Terms) (id i p slots : ℕ) (list : List Service) (losses : List Loss) where
   -- ---- a try
 
   module _ (stop : Option Stop) (there : p < place_count terms) (s : State Content View) (r : IsKept terms s)
@@ -127,7 +127,7 @@ module _ (terms : Terms) (id i p slots : ℕ) (list : List Entry) (losses : List
 
   -- ---- while the place is held
 
-  module _ (x : Content) (past : List Entry) (stop : Option Stop) (s : State Content View) (r : IsKept terms s)
+  module _ (x : Content) (past : List Service) (stop : Option Stop) (s : State Content View) (r : IsKept terms s)
       (at : get_elem? s.views id ≡ some (Working (desk_of i (Has p x past) list stop losses))) where
     abbrev holding : Desk
     holding = desk_of i (Has p x past) list stop losses
@@ -157,20 +157,20 @@ module _ (terms : Terms) (id i p slots : ℕ) (list : List Entry) (losses : List
     is_view = (r.views id (Working holding) at).1.here
 
     leads : Leads terms p (first_at terms p) past x
-    leads = subst (λ (t : List Entry × Content). Leads terms p (first_at terms p) t.0 t.1) (λ j. (sym is_past j, sym is_now j)) (r.places p there).leads
+    leads = subst (λ (t : List Service × Content). Leads terms p (first_at terms p) t.0 t.1) (λ j. (sym is_past j, sym is_now j)) (r.places p there).leads
 
-    -- the content becomes y, and the history and the list have an entry more
-    notes_one : (e : Entry) → stop ≡ None → e.place ≡ p → e.worker ≡ i → IsSame x e.before → IsServed terms e → TakesUp list e.clock
+    -- the content becomes y, and the history and the list have a service more
+    notes_one : (e : Service) → stop ≡ None → e.place ≡ p → e.worker ≡ i → IsSame x e.before → IsServed terms e → TakesUp list e.clock
         → IsKept terms record { words = s.words; homes = s.homes; views = set s.views id (Working (desk_of i (Has p e.after (past ++ e ∷ [])) (list ++ e ∷ []) stop losses)) }
     notes_one e going e_place e_worker e_before served chained =
         let now' : ℕ → Content = put r.scene.now p e.after in
-        let past' : ℕ → List Entry = put r.scene.past p (r.scene.past p ++ e ∷ []) in
-        let list' : ℕ → List Entry = put r.scene.list i (r.scene.list i ++ e ∷ []) in
+        let past' : ℕ → List Service = put r.scene.past p (r.scene.past p ++ e ∷ []) in
+        let list' : ℕ → List Service = put r.scene.list i (r.scene.list i ++ e ∷ []) in
         let new : Desk = desk_of i (Has p e.after (past ++ e ∷ [])) (list ++ e ∷ []) stop losses in
         let past_is : past ++ e ∷ [] ≡ past' p = ap (λ es. es ++ e ∷ []) is_past ∙ sym (put_here r.scene.past p (r.scene.past p ++ e ∷ [])) in
         let now_is : e.after ≡ now' p = sym (put_here r.scene.now p e.after) in
         let list_is : list ++ e ∷ [] ≡ list' i = ap (λ es. es ++ e ∷ []) is_list ∙ sym (put_here r.scene.list i (r.scene.list i ++ e ∷ [])) in
-        let keeps_stop : (q : ℕ) (st : Stop) (es : List Entry) → IsStop terms (r.scene.past st.place) es st → IsStop terms (past' st.place) es st = λ q st es ended. record {
+        let keeps_stop : (q : ℕ) (st : Stop) (es : List Service) → IsStop terms (r.scene.past st.place) es st → IsStop terms (past' st.place) es st = λ q st es ended. record {
           at = ended.at;
           value = ended.value;
           clock = ended.clock;
@@ -188,7 +188,7 @@ module _ (terms : Terms) (id i p slots : ℕ) (list : List Entry) (losses : List
         record {
           free = λ z. absurd (omega (arith, z, word));
           held = λ _. record { worker = i; is = word; known = known; view = Working new; there = ap (get_elem? (set s.views id (Working new))) is_view ∙ set_there s.views id (Working new) (Working holding) at; holds = (refl, refl) };
-          leads = subst (λ (t : List Entry × Content). Leads terms p (first_at terms p) t.0 t.1) (λ j. (past_is j, now_is j)) (leads_more terms p (first_at terms p) past x e e_place e_before served leads);
+          leads = subst (λ (t : List Service × Content). Leads terms p (first_at terms p) t.0 t.1) (λ j. (past_is j, now_is j)) (leads_more terms p (first_at terms p) past x e e_place e_before served leads);
         }
         record {
           own = subst (IsListOf terms i) list_is (list_more terms i list e (subst (IsListOf terms i) (sym is_list) (r.workers i known).own) e_worker served chained);
@@ -209,7 +209,7 @@ module _ (terms : Terms) (id i p slots : ℕ) (list : List Entry) (losses : List
         let stop' : ℕ → Option Stop = put r.scene.stop i (Some st) in
         let stop_is : Some st ≡ stop' i = sym (put_here r.scene.stop i (Some st)) in
         let own_past : past ≡ r.scene.past st.place = is_past ∙ ap r.scene.past (sym st_place) in
-        let is_ended : IsStop terms (r.scene.past st.place) (r.scene.list i) st = subst (λ (t : List Entry × List Entry). IsStop terms t.0 t.1 st) (λ j. (own_past j, is_list j)) ended in
+        let is_ended : IsStop terms (r.scene.past st.place) (r.scene.list i) st = subst (λ (t : List Service × List Service). IsStop terms t.0 t.1 st) (λ j. (own_past j, is_list j)) ended in
         worker_step terms s r id p holding new at s.words s.homes r.scene.now r.scene.past r.scene.list stop'
         refl refl (λ y other. own_apart (slice_index s.words p) i y word other) (λ q _. refl) (λ q _. refl) (λ q _. refl) (λ q _. refl) (λ y _. refl)
         (λ y other. put_else r.scene.stop i (Some st) y other) (λ q other is. other (sym is))
@@ -240,28 +240,28 @@ module _ (terms : Terms) (id i p slots : ℕ) (list : List Entry) (losses : List
         record {
           free = λ _. set_here s.homes p (some y) (omega (arith, r.deep, there)) ∙ ap (λ (z : Content). some (some z)) now_is;
           held = λ busy. absurd (busy (get_or-set_same s.words p 0 0 (omega (arith, r.wide, there))));
-          leads = subst (λ (t : List Entry × Content). Leads terms p (first_at terms p) t.0 t.1) (λ j. (is_past j, now_is j)) (leads_on terms p (first_at terms p) past x y same leads);
+          leads = subst (λ (t : List Service × Content). Leads terms p (first_at terms p) t.0 t.1) (λ j. (is_past j, now_is j)) (leads_on terms p (first_at terms p) past x y same leads);
         }
         record { own = (r.workers i known).own; ended = (r.workers i known).ended } (λ z _ kept. record { own = kept.own; ended = kept.ended })
         (known, record { here = is_view; list = is_list; stop = is_stop }, tt)
         r.even
 
-  -- an entry is noted
-  pub notes : (x : Content) (past : List Entry) (draft : Draft) (carried : List (ℕ × Content)) (e : Entry)
+  -- a service is noted
+  pub notes : (x : Content) (past : List Service) (draft : Draft) (carried : List (ℕ × Content)) (e : Service)
       → IsDrafted terms draft p (Working (desk_of i (Has p x past) list None losses)) e → TakesUp list e.clock
       → Allows (IsKept terms) slots id (Working (desk_of i (Has p x past) list None losses), carried) p (λ n. n)
       (noted terms draft (step slots p 0 0 none) (Working (desk_of i (Has p x past) list None losses), carried))
   notes x past draft carried e drafted chained s r deep at below = (
-    with_entry e (Working (desk_of i (Has p x past) list None losses)),
+    with_service e (Working (desk_of i (Has p x past) list None losses)),
     keeps,
     tt,
-    subst (λ ws. IsKept terms record { words = ws; homes = s.homes; views = set s.views id (with_entry e (Working (desk_of i (Has p x past) list None losses))) }) (sym (set-get_or s.words p 0))
+    subst (λ ws. IsKept terms record { words = ws; homes = s.homes; views = set s.views id (with_service e (Working (desk_of i (Has p x past) list None losses))) }) (sym (set-get_or s.words p 0))
         (notes_one x past None s r at e refl drafted.place_is drafted.worker_is (ap shown_content drafted.before_is) drafted.served chained),
     (e, drafted, refl),
   )
 
   -- a clock's end is noted
-  pub ends : (x : Content) (past : List Entry) (stop : Option Stop) (draft : Draft) (carried : List (ℕ × Content))
+  pub ends : (x : Content) (past : List Service) (stop : Option Stop) (draft : Draft) (carried : List (ℕ × Content))
       → IsPlaceOf terms p draft.request.key → IsBlob short_keys draft.request.value → IsClockOf terms draft.clock → TakesUp list draft.clock → IsPastEnd (shown_content x) draft.clock
       → Allows (IsKept terms) slots id (Working (desk_of i (Has p x past) list stop losses), carried) p (λ n. n)
       (stopped draft (step slots p 0 0 none) (Working (desk_of i (Has p x past) list stop losses), carried))
@@ -276,7 +276,7 @@ module _ (terms : Terms) (id i p slots : ℕ) (list : List Entry) (losses : List
       )
 
   -- the word is freed: what the seat has out goes home
-  pub frees : (x : Content) (past : List Entry) (stop : Option Stop) (y : Content) → IsSame x y
+  pub frees : (x : Content) (past : List Service) (stop : Option Stop) (y : Content) → IsSame x y
       → Allows (IsKept terms) slots id (Working (desk_of i (Has p x past) list stop losses), (p, y) ∷ []) p (λ _. 0)
       (λ _. freed (step slots p 0 0 none) (Working (desk_of i (Has p x past) list stop losses), (p, y) ∷ []) 0)
   frees x past stop y same s r deep at below =

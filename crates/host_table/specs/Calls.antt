@@ -6,7 +6,7 @@ use Rattle.record_text.specs.declared.request.Request.{Request}
 use Rattle.atomic_table.specs.Seated.{TableId}
 use Rattle.host_shard.specs.declared.content.Content.{Content}
 use Rattle.host_plan.specs.declared.plans.Plan.{Plan}
-use Rattle.host_table.specs.declared.told.Entry.{Entry}
+use Rattle.host_table.specs.declared.told.Service.{Service}
 use Rattle.host_table.specs.declared.told.Loss.{Loss}
 use Rattle.host_table.specs.declared.told.Stop.{Stop}
 use Rattle.host_table.specs.declared.hand.Hand.{Hand}
@@ -17,7 +17,7 @@ use Rattle.host_table.specs.declared.answers.Attempt.{Attempt}
 use Rattle.host_table.specs.declared.answers.Attempt.TheVariants as attempt
 use Rattle.host_table.specs.Terms.{Terms, first_at}
 use Rattle.host_table.specs.Told.{IsSame, IsServed, IsStop, Leads, TakesUp}
-use Rattle.host_table.specs.Hands.{worker_of, entries, losses, stop, content, history, IsFree, Holds, HoldsContent}
+use Rattle.host_table.specs.Hands.{worker_of, services, losses, stop, content, history, IsFree, Holds, HoldsContent}
 
 -- ---- all hands of a table
 
@@ -29,20 +29,20 @@ pub record AreAll (z : TableId) (workers : ℕ) (hands : List Hand) : Type 0 whe
 
 -- a worker that has done nothing yet
 pub record IsNew (hand : Hand) : Type 0 where
-  pub entries : entries hand ≡ []
+  pub services : services hand ≡ []
   pub losses : losses hand ≡ []
   pub stop : stop hand ≡ None
 
 -- what a hand tells
 abbrev pub told_by : Hand → Row
-told_by hand = record { list = entries hand; stop = stop hand }
+told_by hand = record { list = services hand; stop = stop hand }
 
 -- ---- what a call does
 
--- It is the same worker's, and has told this much more: entries, losses, and where its clock ended.
-pub record IsAfter (old new : Hand) (served : List Entry) (found : List Loss) (ended : Option Stop) : Type 0 where
+-- It is the same worker's, and has told this much more: services, losses, and where its clock ended.
+pub record IsAfter (old new : Hand) (served : List Service) (found : List Loss) (ended : Option Stop) : Type 0 where
   pub worker : worker_of new ≡ worker_of old
-  pub entries : entries new ≡ entries old ++ served
+  pub services : services new ≡ services old ++ served
   pub losses : losses new ≡ losses old ++ found
   pub stop : stop new ≡ ended
 
@@ -72,41 +72,41 @@ Tries terms z old place taking.Busy new = Loses old new place × IsFree z new
 abbrev pub clock_at : Terms → Stamp → Reading
 clock_at terms stamp = record { first = terms.header.first; end = terms.header.end; at = stamp }
 
--- the entry is what the worker served at the place that it holds: this request, from this clock, to this content
-pub record IsEntryOf (terms : Terms) (old : Hand) (place : ℕ) (clock : Reading) (request : Request) (after : Content) (entry : Entry) : Type 0 where
-  pub place_is : entry.place ≡ place
-  pub worker_is : entry.worker ≡ worker_of old
-  pub before_is : entry.before ≡ content old
-  pub clock_is : entry.clock ≡ clock
-  pub request_is : entry.request ≡ request
-  pub after_is : entry.after ≡ after
-  pub served : IsServed terms entry
+-- the service is what the worker served at the place that it holds: this request, from this clock, to this content
+pub record IsServiceOf (terms : Terms) (old : Hand) (place : ℕ) (clock : Reading) (request : Request) (after : Content) (service : Service) : Type 0 where
+  pub place_is : service.place ≡ place
+  pub worker_is : service.worker ≡ worker_of old
+  pub before_is : service.before ≡ content old
+  pub clock_is : service.clock ≡ clock
+  pub request_is : service.request ≡ request
+  pub after_is : service.after ≡ after
+  pub served : IsServed terms service
 
 -- What is given back is what was taken; or it is what serving this request makes of it, from the clock that the worker's
--- last entry left.
+-- last service left.
 abbrev pub MayGive : Terms → Hand → ℕ → Content → Option (Stamp × Request) → Type 0
 MayGive terms old place given None = IsSame (content old) given
-MayGive terms old place given (Some served) = (stop old ≡ None) × TakesUp (entries old) (clock_at terms served.0)
-    × ((entry : Entry) × IsEntryOf terms old place (clock_at terms served.0) served.1 given entry)
+MayGive terms old place given (Some served) = (stop old ≡ None) × TakesUp (services old) (clock_at terms served.0)
+    × ((service : Service) × IsServiceOf terms old place (clock_at terms served.0) served.1 given service)
 
 abbrev pub Gives : Terms → Hand → ℕ → Content → Option (Stamp × Request) → Hand → Type 0
 Gives terms old place given None new = IsAfter old new [] [] (stop old)
 Gives terms old place given (Some served) new =
-    (entry : Entry) × IsEntryOf terms old place (clock_at terms served.0) served.1 given entry × IsAfter old new (entry ∷ []) [] (stop old)
+    (service : Service) × IsServiceOf terms old place (clock_at terms served.0) served.1 given service × IsAfter old new (service ∷ []) [] (stop old)
 
 -- ---- to attempt
 
--- one entry more: of this request at this place, from the clock before to the clock after, with this plan
+-- one service more: of this request at this place, from the clock before to the clock after, with this plan
 pub record Serves (terms : Terms) (old new : Hand) (place : ℕ) (request : Request) (clock later : Reading) (plan : Plan) : Type 0 where
-  pub entry : Entry
-  pub after : IsAfter old new (entry ∷ []) [] (stop old)
-  pub place_is : entry.place ≡ place
-  pub worker_is : entry.worker ≡ worker_of old
-  pub clock_is : entry.clock ≡ clock
-  pub request_is : entry.request ≡ request
-  pub plan_is : entry.plan ≡ plan
-  pub later_is : entry.later ≡ later
-  pub served : IsServed terms entry
+  pub service : Service
+  pub after : IsAfter old new (service ∷ []) [] (stop old)
+  pub place_is : service.place ≡ place
+  pub worker_is : service.worker ≡ worker_of old
+  pub clock_is : service.clock ≡ clock
+  pub request_is : service.request ≡ request
+  pub plan_is : service.plan ≡ plan
+  pub later_is : service.later ≡ later
+  pub served : IsServed terms service
 
 -- the clock ended: the worker notes the request and the content, which the place has had
 pub record Ends (terms : Terms) (old new : Hand) (place : ℕ) (request : Request) (clock : Reading) : Type 0 where
@@ -115,8 +115,8 @@ pub record Ends (terms : Terms) (old new : Hand) (place : ℕ) (request : Reques
   pub place_is : ended.place ≡ place
   pub clock_is : ended.clock ≡ clock
   pub request_is : ended.request ≡ request
-  pub past : List Entry
-  pub is : IsStop terms past (entries old) ended
+  pub past : List Service
+  pub is : IsStop terms past (services old) ended
 
 -- What an attempt does: it serves, or finds the word held, or its clock ends, or it wants memory. Only the first changes the
 -- clock.

@@ -3,7 +3,7 @@ use Rattle.std.specs.Prelude.{◌≡◌, ℕ, List, [], ◌∷◌, Option, None}
 use Rattle.atomic_table.specs.Seated.{TableId}
 use Rattle.host_shard.specs.declared.content.Content.{Content}
 use Rattle.host_shard.specs.declared.content.Content.TheVariants.{Vacant}
-use Rattle.host_table.specs.declared.told.Entry.{Entry}
+use Rattle.host_table.specs.declared.told.Service.{Service}
 use Rattle.host_table.specs.declared.told.Loss.{Loss}
 use Rattle.host_table.specs.declared.told.Stop.{Stop}
 use Rattle.host_table.specs.declared.hand.Hand.{Hand}
@@ -13,7 +13,7 @@ use Rattle.host_table.specs.declared.views.View.{View}
 use Rattle.host_table.specs.declared.views.View.TheVariants.{Working, Keeping, Spent}
 use Rattle.host_table.specs.Plays.{held_in, content_of, past_of}
 
-abbrev pub list_in : View → List Entry
+abbrev pub list_in : View → List Service
 list_in (Working desk) = desk.list
 list_in (Keeping rack) = []
 list_in Spent = []
@@ -33,8 +33,8 @@ abbrev pub worker_of : Hand → ℕ
 worker_of hand = hand.number
 
 -- what it served, in order
-abbrev pub entries : Hand → List Entry
-entries hand = list_in hand.seat.me.0
+abbrev pub services : Hand → List Service
+services hand = list_in hand.seat.me.0
 
 -- what it found held
 abbrev pub losses : Hand → List Loss
@@ -49,13 +49,13 @@ abbrev pub content : Hand → Content
 content hand = content_of (held_in hand.seat.me.0)
 
 -- the history that this place had when it took it, and what it served there since
-abbrev pub history : Hand → List Entry
+abbrev pub history : Hand → List Service
 history hand = past_of (held_in hand.seat.me.0)
 
--- it sits at the table, with this in hand, and these slots out
+-- it sits at the table, with this in hand, and these cells out
 abbrev pub Sits : TableId → Hand → Held → List (ℕ × Content) → Type 0
 Sits table hand held out = (hand.seat.table_id ≡ table)
-    × (hand.seat.me ≡ (Working (record { number = hand.number; held = held; list = entries hand; stop = stop hand; losses = losses hand }), out))
+    × (hand.seat.me ≡ (Working (record { number = hand.number; held = held; list = services hand; stop = stop hand; losses = losses hand }), out))
 
 -- it holds nothing
 abbrev pub IsFree : TableId → Hand → Type 0
@@ -65,6 +65,6 @@ IsFree table hand = Sits table hand Idle []
 abbrev pub Holds : TableId → Hand → ℕ → Type 0
 Holds table hand place = Sits table hand (Has place (content hand) (history hand)) ((place, Vacant) ∷ [])
 
--- the same, with the content still in the slot
+-- the same, with the content still in its cell
 abbrev pub HoldsContent : TableId → Hand → ℕ → Type 0
 HoldsContent table hand place = Sits table hand (Has place (content hand) (history hand)) ((place, content hand) ∷ [])

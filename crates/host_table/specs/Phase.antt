@@ -3,7 +3,7 @@ use Rattle.std.specs.Prelude.{◌≡◌, ℕ, ◌<◌, List, length, get_or, IsP
 use Rattle.std.specs.List.{flat_map}
 use Rattle.host_shard.specs.declared.content.Content.{Content}
 use Rattle.host_shard.specs.declared.content.Content.TheVariants.{Vacant}
-use Rattle.host_table.specs.declared.told.Entry.{Entry}
+use Rattle.host_table.specs.declared.told.Service.{Service}
 use Rattle.host_table.specs.declared.told.Stop.{Stop}
 use Rattle.host_table.specs.declared.views.Row.{Row}
 use Rattle.host_table.specs.Terms.{Terms, place_count, first_at}
@@ -14,11 +14,11 @@ use Rattle.host_table.specs.Made.{new_row}
 abbrev pub row_at : List Row → ℕ → Row
 row_at rows worker = get_or rows worker new_row
 
--- Each place has a history, which makes the content at the end of the one at the making; the histories have the entries of
+-- Each place has a history, which makes the content at the end of the one at the making; the histories have the services of
 -- the workers' lists, each as often; each list is its worker's; and where a worker's clock ended, it did at a content that
 -- the place has had.
 pub record IsPhase (terms : Terms) (after : List Content) (rows : List Row) : Type 0 where
-  pub past : ℕ → List Entry
+  pub past : ℕ → List Service
   pub as_many : length after ≡ place_count terms
   pub all : length rows ≡ terms.workers
   pub leads : (place : ℕ) → place < place_count terms

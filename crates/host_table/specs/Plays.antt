@@ -5,7 +5,7 @@ use Rattle.record_text.specs.declared.request.Request.{Request}
 use Rattle.atomic_table.specs.Table.{Me, Step}
 use Rattle.host_shard.specs.declared.content.Content.{Content}
 use Rattle.host_shard.specs.declared.content.Content.TheVariants.{Vacant}
-use Rattle.host_table.specs.declared.told.Entry.{Entry}
+use Rattle.host_table.specs.declared.told.Service.{Service}
 use Rattle.host_table.specs.declared.told.Stop.{Stop}
 use Rattle.host_table.specs.declared.views.Held.{Held}
 use Rattle.host_table.specs.declared.views.Held.TheVariants.{Idle, Has}
@@ -40,7 +40,7 @@ abbrev pub content_of : Held → Content
 content_of Idle = Vacant
 content_of (Has place x past) = x
 
-abbrev pub past_of : Held → List Entry
+abbrev pub past_of : Held → List Service
 past_of Idle = []
 past_of (Has place x past) = past
 
@@ -61,13 +61,13 @@ with_loss place found (Working desk) = Working (record desk { losses = desk.loss
 with_loss place found (Keeping rack) = Keeping rack
 with_loss place found Spent = Spent
 
-abbrev pub with_entry : Entry → View → View
-with_entry entry (Working desk) = Working (record desk {
-  held = Has (place_of desk.held) entry.after (past_of desk.held ++ entry ∷ []);
-  list = desk.list ++ entry ∷ [];
+abbrev pub with_service : Service → View → View
+with_service service (Working desk) = Working (record desk {
+  held = Has (place_of desk.held) service.after (past_of desk.held ++ service ∷ []);
+  list = desk.list ++ service ∷ [];
 })
-with_entry entry (Keeping rack) = Keeping rack
-with_entry entry Spent = Spent
+with_service service (Keeping rack) = Keeping rack
+with_service service Spent = Spent
 
 abbrev pub with_stop : Stop → View → View
 with_stop stop (Working desk) = Working (record desk { stop = Some stop })
@@ -80,23 +80,23 @@ with_stop stop Spent = Spent
 -- finds the word held by another worker, and notes that.
 abbrev pub tried : Terms → Step Content → Sat → ℕ → Sat → Type 0
 tried terms step m found m' =
-    (found ≡ 0 → (x : Content) × (past : List Entry) × (m' ≡ (with_held (Has step.word x past) m.0, (step.word, x) ∷ m.1))
+    (found ≡ 0 → (x : Content) × (past : List Service) × (m' ≡ (with_held (Has step.word x past) m.0, (step.word, x) ∷ m.1))
     × Leads terms step.word (first_at terms step.word) past x × (number_in m.0 < terms.workers))
     × (found ≢ 0 → (found ≢ suc (number_in m.0)) × (m' ≡ (with_loss step.word found m.0, m.1)))
 
--- the entry is of this draft, at the place of the word that is read, by the seat's worker, from the content that it holds
-pub record IsDrafted (terms : Terms) (draft : Draft) (place : ℕ) (view : View) (entry : Entry) : Type 0 where
-  pub place_is : entry.place ≡ place
-  pub worker_is : entry.worker ≡ number_in view
-  pub before_is : entry.before ≡ content_of (held_in view)
-  pub clock_is : entry.clock ≡ draft.clock
-  pub request_is : entry.request ≡ draft.request
-  pub after_is : entry.after ≡ draft.after
-  pub served : IsServed terms entry
+-- the service is of this draft, at the place of the word that is read, by the seat's worker, from the content that it holds
+pub record IsDrafted (terms : Terms) (draft : Draft) (place : ℕ) (view : View) (service : Service) : Type 0 where
+  pub place_is : service.place ≡ place
+  pub worker_is : service.worker ≡ number_in view
+  pub before_is : service.before ≡ content_of (held_in view)
+  pub clock_is : service.clock ≡ draft.clock
+  pub request_is : service.request ≡ draft.request
+  pub after_is : service.after ≡ draft.after
+  pub served : IsServed terms service
 
--- an entry joins the worker's list and the history of the place that it holds, which has the entry's content then
+-- a service joins the worker's list and the history of the place that it holds, which has the service's content then
 abbrev pub noted : Terms → Draft → Step Content → Sat → ℕ → Sat → Type 0
-noted terms draft step m found m' = (entry : Entry) × IsDrafted terms draft step.word m.0 entry × (m' ≡ (with_entry entry m.0, m.1))
+noted terms draft step m found m' = (service : Service) × IsDrafted terms draft step.word m.0 service × (m' ≡ (with_service service m.0, m.1))
 
 -- the stop of this draft, at the content that is held
 abbrev pub stop_of : Draft → ℕ → View → Stop

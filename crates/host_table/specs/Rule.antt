@@ -4,7 +4,7 @@ use mathlib.Core.Option.{some}
 use lib.ListN.{get_elem?}
 use Rattle.atomic_table.specs.Table.{State}
 use Rattle.host_shard.specs.declared.content.Content.{Content}
-use Rattle.host_table.specs.declared.told.Entry.{Entry}
+use Rattle.host_table.specs.declared.told.Service.{Service}
 use Rattle.host_table.specs.declared.told.Stop.{Stop}
 use Rattle.host_table.specs.declared.views.Held.{Held}
 use Rattle.host_table.specs.declared.views.Held.TheVariants.{Idle, Has}
@@ -18,8 +18,8 @@ use Rattle.host_table.specs.Told.{Leads, IsListOf, IsStop, joined_from}
 -- each worker what it served, where its clock ended, and which view is its own.
 pub record Scene : Type 0 where
   pub now : ℕ → Content
-  pub past : ℕ → List Entry
-  pub list : ℕ → List Entry
+  pub past : ℕ → List Service
+  pub list : ℕ → List Service
   pub stop : ℕ → Option Stop
   pub view_of : ℕ → ℕ
 
@@ -77,7 +77,7 @@ Knows terms scene words view (Working desk) =
 Knows terms scene words view (Keeping rack) = (rack.from + length rack.rows ≡ terms.workers)
     × ((i : ℕ) (row : Row) → get_elem? rack.rows i ≡ some row → IsRowOf scene view (rack.from + i) row)
 
--- The rule. There is a scene that all places, workers and views are of, and the histories of the places have the entries of
+-- The rule. There is a scene that all places, workers and views are of, and the histories of the places have the services of
 -- the workers' lists.
 pub record IsKept (terms : Terms) (s : State Content View) : Type 0 where
   pub scene : Scene

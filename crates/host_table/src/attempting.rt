@@ -9,7 +9,7 @@ ghost use Rattle.host_plan.specs.declared.plans.Plan.{Plan};
 ghost use Rattle.host_plan.specs.Plan.{IsPastEnd};
 ghost use Rattle.host_table.specs.declared.answers.Attempt.TheVariants.{Served};
 ghost use Rattle.host_table.specs.Calls.{Attempts, IsAfter, clock_at};
-ghost use Rattle.host_table.specs.Hands.{Holds, IsFree, content, entries, stop};
+ghost use Rattle.host_table.specs.Hands.{Holds, IsFree, content, services, stop};
 ghost use Rattle.host_table.specs.Made.{terms_of};
 ghost use Rattle.host_table.specs.Plays.{stop_of};
 ghost use Rattle.host_table.specs.Table.{table, terms};
@@ -47,11 +47,11 @@ impl<D: Digests> Records<D> {
         requires free { IsFree (table self.now) hand.old }
         requires going { stop hand.old ≡ None }
         requires clock { IsClockOf (terms D.functions self.now) clock.old }
-        requires chained { TakesUp (entries hand.old) clock.old }
+        requires chained { TakesUp (services hand.old) clock.old }
         ensures free { IsFree (table self.now) hand.new }
         ensures attempts { Attempts (terms D.functions self.now) hand.old place request.now clock.old result hand.new clock.new }
         ensures clock { IsClockOf (terms D.functions self.now) clock.new }
-        ensures chained { TakesUp (entries hand.new) clock.new }
+        ensures chained { TakesUp (services hand.new) clock.new }
         ensures typed { (made : Plan) → result ≡ Served made → AllByRecursion (IsCommand short_keys) made.commands }
     {
         let mut content = match self.try_take(hand, place) {
@@ -94,7 +94,7 @@ fn note_end<D: Digests, N: Told>(
     requires place { IsPlaceOf (terms_of D.functions board.now.shared.key) place request.now.key }
     requires value { IsBlob short_keys request.now.value }
     requires clock { IsClockOf (terms_of D.functions board.now.shared.key) (clock_at (terms_of D.functions board.now.shared.key) clock) }
-    requires chained { TakesUp (entries hand.old) (clock_at (terms_of D.functions board.now.shared.key) clock) }
+    requires chained { TakesUp (services hand.old) (clock_at (terms_of D.functions board.now.shared.key) clock) }
     requires past { IsPastEnd (shown_content (content hand.old)) (clock_at (terms_of D.functions board.now.shared.key) clock) }
     ensures holds { Holds board.now.shared.table_id hand.new place × (content hand.new ≡ content hand.old) }
     ensures after { IsAfter hand.old hand.new [] [] (Some (stop_of N.draft place hand.old.seat.me.0)) }

@@ -71,7 +71,7 @@ fn gather_one<D: Digests>(board: &Board<D>, seat: &mut Place, hand: Hand)
     board.shared.join_seat::<Gather>(seat, other);
 }
 
-// The contents of the slots, in their order.
+// The contents of the cells, in their order.
 fn hand_out(closed: Closed<Content, Global>, room: Vec<Content>) -> Vec<Content>
     requires full { IsFull closed.slots }
     requires room { (room.items ≡ []) × (slots_len closed.slots ≤ vec_capacity room) }

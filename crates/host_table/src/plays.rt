@@ -31,7 +31,7 @@ impl<N: Told> Play<Content, View> for Try<N> {
     ghost then = { tried N.terms };
 }
 
-/// An entry noted.
+/// A service noted.
 pub(crate) struct Note<N> {
     of: PhantomData<N>,
 }

@@ -1,8 +1,8 @@
 //! How a worker takes a place and gives it back.
 ghost use Rattle.std.specs.Prelude.{◌≡◌, ◌≢◌, ◌<◌, [], ◌∷◌, None};
-ghost use Rattle.host_table.specs.declared.told.Entry.{Entry};
-ghost use Rattle.host_table.specs.Calls.{Gives, IsAfter, IsEntryOf, Loses, MayGive, Tries, Wins, clock_at};
-ghost use Rattle.host_table.specs.Hands.{Holds, HoldsContent, IsFree, content, entries, stop};
+ghost use Rattle.host_table.specs.declared.told.Service.{Service};
+ghost use Rattle.host_table.specs.Calls.{Gives, IsAfter, IsServiceOf, Loses, MayGive, Tries, Wins, clock_at};
+ghost use Rattle.host_table.specs.Hands.{Holds, HoldsContent, IsFree, content, services, stop};
 ghost use Rattle.host_table.specs.Made.{terms_of};
 ghost use Rattle.host_table.specs.Table.{table, terms};
 ghost use Rattle.host_table.specs.Terms.{place_count};
@@ -78,7 +78,7 @@ fn try_word<D: Digests, N: Told>(board: &Board<D>, hand: &mut Hand, place: usize
         .compare_exchange::<Try<N>>(&mut hand.seat, place, FREE, own)
 }
 
-// Notes an entry: this request was served at the place that is held, from this clock, and made this content.
+// Notes a service: this request was served at the place that is held, from this clock, and made this content.
 pub(crate) fn note<D: Digests, N: Told>(
     board: &Board<D>,
     hand: &mut Hand,
@@ -96,18 +96,18 @@ pub(crate) fn note<D: Digests, N: Told>(
     requires word { place < board.now.shared.table_id.words }
     requires holds { Holds board.now.shared.table_id hand.old place }
     requires going { stop hand.old ≡ None }
-    requires chained { TakesUp (entries hand.old) (clock_at (terms_of D.functions board.now.shared.key) clock) }
-    requires entry { (entry : Entry) × IsEntryOf (terms_of D.functions board.now.shared.key) hand.old place
-        (clock_at (terms_of D.functions board.now.shared.key) clock) request.now after.now entry }
+    requires chained { TakesUp (services hand.old) (clock_at (terms_of D.functions board.now.shared.key) clock) }
+    requires service { (service : Service) × IsServiceOf (terms_of D.functions board.now.shared.key) hand.old place
+        (clock_at (terms_of D.functions board.now.shared.key) clock) request.now after.now service }
     ensures holds { Holds board.now.shared.table_id hand.new place × (content hand.new ≡ after.now) }
-    ensures entry { (entry : Entry) × IsEntryOf (terms_of D.functions board.now.shared.key) hand.old place
-        (clock_at (terms_of D.functions board.now.shared.key) clock) request.now after.now entry
-        × IsAfter hand.old hand.new (entry ∷ []) [] None }
+    ensures service { (service : Service) × IsServiceOf (terms_of D.functions board.now.shared.key) hand.old place
+        (clock_at (terms_of D.functions board.now.shared.key) clock) request.now after.now service
+        × IsAfter hand.old hand.new (service ∷ []) [] None }
 {
     board.shared.load::<Note<N>>(&mut hand.seat, place);
 }
 
-// Puts a content into the slot of the place that is held, and frees its word.
+// Puts a content into the cell of the place that is held, and frees its word.
 pub(crate) fn put_back<D: Digests>(board: &Board<D>, hand: &mut Hand, place: usize, given: Content)
     requires word { place < board.now.shared.table_id.words }
     requires holds { Holds board.now.shared.table_id hand.old place }

@@ -6,7 +6,7 @@ use record_text::Request;
 
 /// A request that a worker served at a place: from its clock and the content there, with its plan, to the content and the
 /// clock after it. It exists in proofs alone.
-pub struct Entry {
+pub struct Service {
     pub place: u64,
     pub worker: u64,
     pub clock: Clock,

@@ -367,7 +367,7 @@ fn assert_waits(rt: &impl Abort, content: &Content, stamp: Stamp) {
 }
 
 #[test]
-fn the_counters_end_between_two_errands(rt: HostRuntime) {
+fn the_counters_end_between_two_transfers(rt: HostRuntime) {
     // the frontier is taken in, the keys are handed out, and the frontier is
     let before = Stamp {
         epoch: 0,

@@ -22,7 +22,7 @@ use Rattle.host_world.specs.Planned.{IsMoved}
 use Rattle.host_world.specs.Seated.{SeatsMirror}
 use Rattle.protection_moves.specs.Stage.{Stage}
 use Rattle.protection_moves.specs.Move.{begun}
-use Rattle.move_laws.proofs.TripLaws.{each-frontier}
+use Rattle.move_laws.proofs.DescentLaws.{each-frontier}
 use Rattle.host_world.specs.Moving.{stage_of, move_seats}
 use Rattle.host_world.specs.Orderly.{IsOrderlyShard, IsOrderly}
 use Rattle.host_world.specs.ShippedHost.{new_seats, serve_at}
@@ -83,7 +83,7 @@ move_frontier digest i epoch threshold clock seats done digests least orderly is
     moved_frontier moved =
         ap (λ (xs : List Content). frontier_in xs) moved.after
         ∙ (ap (λ (s : Stage). s.shard.frontier) moved.is.after
-        ∙ each-frontier short_keys digest i (begun i (stage_at orderly.mirrors.shard orderly.mirrors.places clock)) moved.is.trips)
+        ∙ each-frontier short_keys digest i (begun i (stage_at orderly.mirrors.shard orderly.mirrors.places clock)) moved.is.descents)
 
 -- ---- what happens in a world
 

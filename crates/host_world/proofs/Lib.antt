@@ -1,7 +1,7 @@
 -- Lemmas on the shipped host.
 pub mod LinkLaws
-mod DueLemmas
-pub mod TripLaws
+mod PromotableLemmas
+pub mod DescentLaws
 pub mod PlaceLaws
 pub mod FrontLaws
 mod ServeLemmas

@@ -17,8 +17,8 @@ use Rattle.log_codec.specs.declared.command.Command.TheVariants.{NextEpoch}
 use Rattle.host_shard.specs.Content.{Content, vacant}
 use Rattle.host_shard.specs.Shard.{new_shard}
 use Rattle.host_plan.specs.Setup.{setup_contents, first_content, first_stamp, paths_below}
-use Rattle.host_mirrors.specs.Mirroring.{ContentMirrors}
-use Rattle.host_mirrors.proofs.FirstLaws.{contents_mirror}
+use Rattle.host_laws.specs.Mirroring.{ContentMirrors}
+use Rattle.host_laws.proofs.FirstLaws.{contents_mirror}
 use Rattle.script_text.specs.declared.task.Task.{Task}
 use Rattle.host_world.specs.declared.settings.Settings.{Settings}
 use Rattle.host_world.specs.Settings.{frontier_bits}

@@ -13,10 +13,10 @@ use Rattle.host_plan.specs.Moments.{renewing}
 use Rattle.host_laws.specs.Served.{waiting}
 use Rattle.protection_moves.specs.Stage.{Stage, hot_records, is_hot_at, replaced, placed, touched_in}
 use Rattle.protection_moves.specs.Renewing.{renewed_record, renewed_places}
-use Rattle.protection_moves.specs.Errand.{Errand, demotes, promotes}
-use Rattle.protection_moves.specs.Trip.{Trip, promoted_record, done_by, done_by_each}
+use Rattle.protection_moves.specs.Transfer.{Transfer, demotes, promotes}
+use Rattle.protection_moves.specs.Descent.{Descent, promoted_record, done_by, done_by_each}
 use Rattle.protection_moves.specs.Move.{begun}
-use Rattle.errand_laws.specs.Stages.{IsOne}
+use Rattle.move_laws.specs.Stages.{IsOne}
 use Rattle.host_world.specs.Seated.{IsHotPlace, waiting_at}
 
 -- ---- one place that changes
@@ -168,29 +168,29 @@ hot-renewed worker clock places (found ∷ more) all =
     hot-renewed worker (renewing clock found.stamp) _ more (hot-replaced found.key (hot (renewed_record worker clock found)) places tt all)
 
 module _ (format : Format) (digest : Digest) (worker : ℕ) where
-  length-done : (stage : Stage) (errand : Errand) (links : List Link) → length (done_by format digest worker stage errand links).places ≡ length stage.places
+  length-done : (stage : Stage) (transfer : Transfer) (links : List Link) → length (done_by format digest worker stage transfer links).places ≡ length stage.places
   length-done stage (demotes found) links = length-replaced found.key vacant stage.places
   length-done stage (promotes key) links = length-placed (promoted_record worker stage key links) stage.places
 
-  hot-done : (stage : Stage) (errand : Errand) (links : List Link) → AllByRecursion IsHotPlace stage.places
-      → AllByRecursion IsHotPlace (done_by format digest worker stage errand links).places
+  hot-done : (stage : Stage) (transfer : Transfer) (links : List Link) → AllByRecursion IsHotPlace stage.places
+      → AllByRecursion IsHotPlace (done_by format digest worker stage transfer links).places
   hot-done stage (demotes found) links all = hot-replaced found.key vacant stage.places tt all
   hot-done stage (promotes key) links all = hot-placed (promoted_record worker stage key links) stage.places all
 
-  length-each : (stage : Stage) (trips : List Trip) → length (done_by_each format digest worker stage trips).places ≡ length stage.places
+  length-each : (stage : Stage) (descents : List Descent) → length (done_by_each format digest worker stage descents).places ≡ length stage.places
   length-each stage [] = refl
-  length-each stage (trip ∷ trips) = length-each (done_by format digest worker stage trip.errand trip.links) trips ∙ length-done stage trip.errand trip.links
+  length-each stage (descent ∷ descents) = length-each (done_by format digest worker stage descent.transfer descent.links) descents ∙ length-done stage descent.transfer descent.links
 
-  hot-each : (stage : Stage) (trips : List Trip) → AllByRecursion IsHotPlace stage.places
-      → AllByRecursion IsHotPlace (done_by_each format digest worker stage trips).places
+  hot-each : (stage : Stage) (descents : List Descent) → AllByRecursion IsHotPlace stage.places
+      → AllByRecursion IsHotPlace (done_by_each format digest worker stage descents).places
   hot-each stage [] all = all
-  hot-each stage (trip ∷ trips) all = hot-each (done_by format digest worker stage trip.errand trip.links) trips (hot-done stage trip.errand trip.links all)
+  hot-each stage (descent ∷ descents) all = hot-each (done_by format digest worker stage descent.transfer descent.links) descents (hot-done stage descent.transfer descent.links all)
 
   -- the hot places of a stage are as many behind its move
-  pub length-moved : (stage : Stage) (trips : List Trip) → length (done_by_each format digest worker (begun worker stage) trips).places ≡ length stage.places
-  length-moved stage trips = length-each (begun worker stage) trips ∙ length-renewed worker stage.clock stage.places (touched_in stage.places)
+  pub length-moved : (stage : Stage) (descents : List Descent) → length (done_by_each format digest worker (begun worker stage) descents).places ≡ length stage.places
+  length-moved stage descents = length-each (begun worker stage) descents ∙ length-renewed worker stage.clock stage.places (touched_in stage.places)
 
   -- and none has a shard
-  pub hot-moved : (stage : Stage) (trips : List Trip) → AllByRecursion IsHotPlace stage.places
-      → AllByRecursion IsHotPlace (done_by_each format digest worker (begun worker stage) trips).places
-  hot-moved stage trips all = hot-each (begun worker stage) trips (hot-renewed worker stage.clock stage.places (touched_in stage.places) all)
+  pub hot-moved : (stage : Stage) (descents : List Descent) → AllByRecursion IsHotPlace stage.places
+      → AllByRecursion IsHotPlace (done_by_each format digest worker (begun worker stage) descents).places
+  hot-moved stage descents all = hot-each (begun worker stage) descents (hot-renewed worker stage.clock stage.places (touched_in stage.places) all)

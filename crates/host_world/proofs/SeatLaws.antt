@@ -21,26 +21,26 @@ use Rattle.host_shard.specs.Content.{Content, cold, hot, vacant, key_path, pendi
 use Rattle.host_plan.specs.Moments.{renewing}
 use Rattle.host_plan.specs.Plan.{Owns, clock_after, content_after}
 use Rattle.host_laws.specs.Served.{waiting}
-use Rattle.host_mirrors.specs.Mirroring.{IsMirrored, ContentMirrors, IsCold}
-use Rattle.host_mirrors.proofs.MirrorLaws.{plan_mirrors}
+use Rattle.host_laws.specs.Mirroring.{IsMirrored, ContentMirrors, IsCold}
+use Rattle.host_laws.proofs.MirrorLaws.{plan_mirrors}
 use Rattle.protection_moves.specs.Stage.{Stage, hot_records, hot_paths, is_hot_at, touched_in}
 use Rattle.protection_moves.specs.Renewing.{renewing_each}
 use Rattle.protection_moves.specs.Move.{begun, moved}
 use Rattle.protection_moves.proofs.RenewingLaws.{renewing_each-epoch}
-use Rattle.errand_laws.specs.Stages.{StageMirrors}
-use Rattle.errand_laws.proofs.PlaceLaws.{one_of-all}
-use Rattle.errand_laws.proofs.VacantLaws.{among-member, member-one, images-all}
+use Rattle.move_laws.specs.Stages.{StageMirrors}
+use Rattle.move_laws.proofs.PlaceLaws.{one_of-all}
+use Rattle.move_laws.proofs.VacantLaws.{among-member, member-one, images-all}
 use Rattle.move_laws.proofs.FitLaws.{move_fresh}
 use Rattle.move_laws.proofs.MoveLaws.{move_mirrors}
 use Rattle.move_laws.proofs.RenewLaws.{IsFresh}
-use Rattle.move_laws.proofs.TripLaws.{each-first, each-epoch}
+use Rattle.move_laws.proofs.DescentLaws.{each-first, each-epoch}
 use Rattle.host_world.specs.Moving.{stage_of, move_seats}
 use Rattle.host_world.specs.Planned.{IsPlanned, IsMoved}
 use Rattle.host_world.specs.Seated.{IsHotPlace, SeatsMirror, waiting_at}
 use Rattle.host_world.specs.ShippedHost.{is_blob, serves_key, is_place_of, serve_at}
 use Rattle.host_world.proofs.PlaceLaws.{hot_there, keys-set, records-set, all-set, place_there, key_found, waits-hot, length-moved, hot-moved}
 use Rattle.host_world.proofs.PlannedLaws.{served_is_planned}
-use Rattle.host_world.proofs.TripLaws.{done_is_move}
+use Rattle.host_world.proofs.DescentLaws.{done_is_move}
 
 -- the value fits
 pub blob_fits : (format : Format) (blob : Option (List ℕ)) → is_blob format blob ≡ true → IsBlob format blob
@@ -269,7 +269,7 @@ moved_keeps format digest worker threshold stage done digests some mirrors four 
     shard = is.new.shard;
     places = is.new.places;
     is = refl;
-    four = subst (λ (s : Stage). length s.places ≡ 4) (sym is.is.after) (length-moved format digest worker stage is.is.trips ∙ four);
+    four = subst (λ (s : Stage). length s.places ≡ 4) (sym is.is.after) (length-moved format digest worker stage is.is.descents ∙ four);
     hot_alone = still_alone;
     mirrored = again.shard;
     blobs = again.blobs;
@@ -280,10 +280,10 @@ moved_keeps format digest worker threshold stage done digests some mirrors four 
     subst (AllByRecursion (λ element. (element.verifier ≡ worker) × (element.stamp.epoch ≡ stage.clock.at.epoch))) (sym (waits-hot format is.new.places still_alone))
         (images-all (pending_hot format) (λ element. (element.verifier ≡ worker) × (element.stamp.epoch ≡ stage.clock.at.epoch)) (hot_records is.new.places)
         (subst (λ (s : Stage). AllByRecursion (IsFresh worker stage.clock.at.epoch) (hot_records s.places)) (sym is.is.after)
-        (move_fresh format digest worker threshold stage is.is.due is.is.trips some mirrors is.is.are_due is.is.errands))),
+        (move_fresh format digest worker threshold stage is.is.promotable is.is.descents some mirrors is.is.are_promotable is.is.transfers))),
   );
   same_epoch = subst (SameEpoch stage.clock) (sym (is.clock ∙ ap (λ (s : Stage). s.clock) is.is.after)) (record {
-    first = each-first format digest worker (begun worker stage) is.is.trips ∙ renewing_each-first stage.clock (touched_in stage.places);
+    first = each-first format digest worker (begun worker stage) is.is.descents ∙ renewing_each-first stage.clock (touched_in stage.places);
     epoch = epoch;
   });
 }
@@ -291,11 +291,11 @@ moved_keeps format digest worker threshold stage done digests some mirrors four 
     again : StageMirrors format digest is.new
     again = move_mirrors format digest worker threshold stage is.new done.commands digests some mirrors is.is
 
-    epoch : (moved format digest worker stage is.is.trips).clock.at.epoch ≡ stage.clock.at.epoch
-    epoch = each-epoch format digest worker (begun worker stage) is.is.trips ∙ renewing_each-epoch stage.clock (touched_in stage.places)
+    epoch : (moved format digest worker stage is.is.descents).clock.at.epoch ≡ stage.clock.at.epoch
+    epoch = each-epoch format digest worker (begun worker stage) is.is.descents ∙ renewing_each-epoch stage.clock (touched_in stage.places)
 
     still_alone : AllByRecursion IsHotPlace is.new.places
-    still_alone = subst (λ (s : Stage). AllByRecursion IsHotPlace s.places) (sym is.is.after) (hot-moved format digest worker stage is.is.trips alone)
+    still_alone = subst (λ (s : Stage). AllByRecursion IsHotPlace s.places) (sym is.is.after) (hot-moved format digest worker stage is.is.descents alone)
 
 -- what is done is a move of the stage
 pub seats_moved : (format : Format) (digest : Digest) (worker : ℕ) (threshold : Option ℕ) (clock : Reading) (seats : List Content) (done : Done (List Content))

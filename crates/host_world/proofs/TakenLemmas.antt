@@ -14,8 +14,8 @@ use Rattle.host_shard.specs.declared.content.Content as place
 use Rattle.host_shard.specs.declared.content.Content.TheVariants as places
 use Rattle.host_shard.specs.declared.shard.Shard as shards
 use Rattle.protection_moves.specs.Stage.{hot_records}
-use Rattle.errand_laws.specs.Stages.{StageMirrors}
-use Rattle.errand_laws.proofs.ErrandLaws.{hot_own}
+use Rattle.move_laws.specs.Stages.{StageMirrors}
+use Rattle.move_laws.proofs.TransferLaws.{hot_own}
 use Rattle.host_world.specs.Behind.{CanTakeSeats}
 use Rattle.host_world.specs.Seated.{waiting_at}
 use Rattle.host_world.proofs.PlaceLaws.{waits-hot}

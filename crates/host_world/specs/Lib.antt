@@ -1,7 +1,7 @@
 -- The shipped host as a host of the machine, and the world that its code steps, in reading order.
 pub mod Links
 pub mod Settings
-pub mod Due
+pub mod Promotable
 pub mod Moving
 pub mod ShippedHost
 pub mod Seated

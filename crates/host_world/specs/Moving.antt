@@ -8,10 +8,10 @@ use Rattle.host_shard.specs.declared.link.Link.{Link}
 use Rattle.host_shard.specs.Shard.{Shard}
 use Rattle.host_shard.specs.Content.{Content, cold, hot, vacant, key_path}
 use Rattle.protection_moves.specs.Stage.{Stage}
-use Rattle.protection_moves.specs.Errand.{Errand, demotes, promotes, errands_of, clock_needed}
-use Rattle.protection_moves.specs.Trip.{Trip, with_back, done_by}
+use Rattle.protection_moves.specs.Transfer.{Transfer, demotes, promotes, transfers_of, clock_needed}
+use Rattle.protection_moves.specs.Descent.{Descent, with_back, done_by}
 use Rattle.protection_moves.specs.Move.{begun, moved, move_commands}
-use Rattle.host_world.specs.Due.{due_in}
+use Rattle.host_world.specs.Promotable.{promotable_in}
 use Rattle.host_world.specs.Links.{links_in}
 
 -- the seats of a shard as a stage, for a worker whose clock stands so: the shard, then its hot places
@@ -25,37 +25,37 @@ stage_of clock (vacant ∷ places) = None
 abbrev pub seats_of : Stage → List Content
 seats_of stage = cold stage.shard ∷ stage.places
 
--- the links to an errand's key
-abbrev pub links_for : Format → Shard → Errand → List Link
+-- the links to a transfer's key
+abbrev pub links_for : Format → Shard → Transfer → List Link
 links_for format shard (demotes found) = links_in format (with_back format shard found) (key_path format found.key)
 links_for format shard (promotes key) = links_in format shard (key_path format key)
 
--- errands as trips, one after another
-abbrev pub trips_for : Format → Digest → ℕ → Stage → List Errand → List Trip
-trips_for format digest worker stage [] = []
-trips_for format digest worker stage (errand ∷ errands) =
-    record { errand = errand; links = links_for format stage.shard errand }
-    ∷ trips_for format digest worker (done_by format digest worker stage errand (links_for format stage.shard errand)) errands
+-- transfers as descents, one after another
+abbrev pub descents_for : Format → Digest → ℕ → Stage → List Transfer → List Descent
+descents_for format digest worker stage [] = []
+descents_for format digest worker stage (transfer ∷ transfers) =
+    record { transfer = transfer; links = links_for format stage.shard transfer }
+    ∷ descents_for format digest worker (done_by format digest worker stage transfer (links_for format stage.shard transfer)) transfers
 
--- the trips of a move after which these keys are to be hot
-abbrev pub trips_of : Format → Digest → ℕ → Stage → List ℕ → List Trip
-trips_of format digest worker stage due = trips_for format digest worker (begun worker stage) (errands_of stage due)
+-- the descents of a move after which these keys are to be hot
+abbrev pub descents_of : Format → Digest → ℕ → Stage → List ℕ → List Descent
+descents_of format digest worker stage promotable = descents_for format digest worker (begun worker stage) (transfers_of stage promotable)
 
--- a move with these trips
-abbrev pub done_with : Format → Digest → ℕ → Stage → List Trip → Done (List Content)
-done_with format digest worker stage trips = record {
-  commands = move_commands format digest worker stage trips;
-  after = seats_of (moved format digest worker stage trips);
-  clock = (moved format digest worker stage trips).clock;
+-- a move with these descents
+abbrev pub done_with : Format → Digest → ℕ → Stage → List Descent → Done (List Content)
+done_with format digest worker stage descents = record {
+  commands = move_commands format digest worker stage descents;
+  after = seats_of (moved format digest worker stage descents);
+  clock = (moved format digest worker stage descents).clock;
 }
 
--- The move of a stage by this worker, where these keys are due to become hot: none where its counters would pass their end.
-abbrev pub move_due : Format → Digest → ℕ → Stage → List ℕ → Option (Done (List Content))
-move_due format digest worker stage due =
-    if nat_lt stage.clock.end (clock_needed stage due).at.counter then None
-    else Some (done_with format digest worker stage (trips_of format digest worker stage due))
+-- The move of a stage by this worker, where these keys are promotable to become hot: none where its counters would pass their end.
+abbrev pub move_promotable : Format → Digest → ℕ → Stage → List ℕ → Option (Done (List Content))
+move_promotable format digest worker stage promotable =
+    if nat_lt stage.clock.end (clock_needed stage promotable).at.counter then None
+    else Some (done_with format digest worker stage (descents_of format digest worker stage promotable))
 
 -- The move of a shard's seats, for some threshold.
 abbrev pub move_seats : Format → Digest → ℕ → Option ℕ → Option Stage → Option (Done (List Content))
 move_seats format digest worker threshold None = None
-move_seats format digest worker threshold (Some stage) = move_due format digest worker stage (due_in format stage threshold)
+move_seats format digest worker threshold (Some stage) = move_promotable format digest worker stage (promotable_in format stage threshold)

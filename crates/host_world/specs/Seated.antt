@@ -8,7 +8,7 @@ use Rattle.merkle_records.specs.Merkle.{Digest}
 use Rattle.host_shard.specs.Content.{Content, cold, hot, vacant, pending}
 use Rattle.host_shard.specs.Shard.{Shard}
 use Rattle.host_laws.specs.Served.{waiting}
-use Rattle.host_mirrors.specs.Mirroring.{IsMirrored}
+use Rattle.host_laws.specs.Mirroring.{IsMirrored}
 use Rattle.protection_moves.specs.Stage.{hot_records, hot_paths}
 use Rattle.host_world.specs.ShippedHost.{hot_places}
 

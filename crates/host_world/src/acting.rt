@@ -10,9 +10,9 @@ ghost use Rattle.host_world.specs.Behind.{host_of, StandsBehind, AreOfOneHost};
 use crate::fault::ClockEnd;
 use crate::seats::reopen;
 use crate::world::World;
+use base_words::Memory;
 use record_hash::Digests;
 use record_text::Request;
-use want_of_memory::Memory;
 
 // How many places a shard has: one for itself, and four hot ones.
 pub(crate) const PLACES_EACH: u32 = 5;

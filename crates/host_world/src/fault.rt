@@ -2,8 +2,8 @@
 ghost use Rattle.std.specs.Prelude.{◌≡◌};
 ghost use Rattle.host_world.specs.declared.fault.WorldFault.TheVariants as faults;
 
+use base_words::Memory;
 use lamport_clocks::Stamp;
-use want_of_memory::Memory;
 
 /// A worker's clock ended: a counter would pass its end, or there is no epoch to come.
 #[derive(Clone, Copy, Debug, PartialEq, Eq)]

@@ -11,9 +11,9 @@ ghost use Rattle.host_world.specs.Shown.{shown_world, digests_of};
 ghost use Rattle.host_world.specs.Behind.{host_of, log_at, StandsWith, AreOfOneHost};
 
 use crate::world::World;
+use base_words::Memory;
 use host_log::LogBuffer;
 use record_hash::Digests;
-use want_of_memory::Memory;
 
 impl<'a, D: Digests> World<'a, D> {
     /// The texts of the commands that a worker logged since they were last handed out go behind what a buffer has, and the

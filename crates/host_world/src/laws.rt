@@ -16,10 +16,10 @@ ghost use Rattle.host_core.specs.Host.{Done};
 ghost use Rattle.host_plan.specs.Plan.{Owns};
 ghost use Rattle.host_shard.specs.Content.{Content};
 ghost use Rattle.protection_moves.specs.Stage.{Stage};
-ghost use Rattle.protection_moves.specs.Errand.{AreDue};
-ghost use Rattle.errand_laws.specs.Stages.{StageMirrors};
-ghost use Rattle.host_world.specs.Due.{due_in};
-ghost use Rattle.host_world.specs.Moving.{move_due};
+ghost use Rattle.protection_moves.specs.Transfer.{ArePromotable};
+ghost use Rattle.move_laws.specs.Stages.{StageMirrors};
+ghost use Rattle.host_world.specs.Promotable.{promotable_in};
+ghost use Rattle.host_world.specs.Moving.{move_promotable};
 ghost use Rattle.host_world.specs.Planned.{IsPlanned, IsMoved};
 ghost use Rattle.host_world.specs.ShippedHost.{serve_at};
 ghost use Rattle.record_text.specs.Format.{Format};
@@ -44,11 +44,11 @@ pub fn what_is_served_is_planned()
         → IsPlanned format digest worker clock content request done }
 {}
 
-/// The keys that are due to become hot are one list: there is one, and no other.
-pub fn due_keys_are_one_list()
-    ensures there { (format : Format) (stage : Stage) (threshold : Option ℕ) → AreDue format stage threshold (due_in format stage threshold) }
-    ensures only { (format : Format) (stage : Stage) (threshold : Option ℕ) (due : List ℕ) → AreDue format stage threshold due
-        → due ≡ due_in format stage threshold }
+/// The keys that are promotable to become hot are one list: there is one, and no other.
+pub fn promotable_keys_are_one_list()
+    ensures there { (format : Format) (stage : Stage) (threshold : Option ℕ) → ArePromotable format stage threshold (promotable_in format stage threshold) }
+    ensures only { (format : Format) (stage : Stage) (threshold : Option ℕ) (promotable : List ℕ) → ArePromotable format stage threshold promotable
+        → promotable ≡ promotable_in format stage threshold }
 {}
 
 /// What the shipped host moves at a close is a move, for every threshold of at least one touch, where the stage mirrors. It
@@ -56,7 +56,7 @@ pub fn due_keys_are_one_list()
 pub fn what_is_moved_is_a_move()
     ensures moved { (format : Format) (digest : Digest) (worker : ℕ) (threshold : Option ℕ) (stage : Stage) (done : Done (List Content))
         → GivesDigests digest → IfSome threshold (λ least. 0 < least) → StageMirrors format digest stage
-        → move_due format digest worker stage (due_in format stage threshold) ≡ Some done
+        → move_promotable format digest worker stage (promotable_in format stage threshold) ≡ Some done
         → IsMoved format digest worker threshold stage done }
 {}
 

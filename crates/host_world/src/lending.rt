@@ -9,9 +9,9 @@ ghost use Rattle.host_world.specs.Shown.{contents_of, shown_seats, shown_world};
 use crate::seats::Seats;
 use crate::worker::Worker;
 use crate::world::World;
+use base_words::Memory;
 use host_shard::Content;
 use std::mem::{replace, swap};
-use want_of_memory::Memory;
 
 impl Seats {
     // The places have these contents, and what they had stands there in their stead.

@@ -13,11 +13,11 @@ ghost use Rattle.host_world.specs.ShippedHost.{serve_at, new_seats};
 ghost use Rattle.host_world.specs.Shown.{contents_of, shown_seats};
 
 use crate::worker::Worker;
+use base_words::Memory;
 use host_shard::Content;
 use record_hash::Digests;
 use record_text::Request;
 use std::alloc::Global;
-use want_of_memory::Memory;
 
 /// What the places of a shard have.
 #[derive(Drop)]

@@ -9,8 +9,8 @@ ghost use Rattle.host_world.specs.Behind.{host_of, StandsBehind, StandsWith, Are
 use crate::event::Event;
 use crate::fault::{ClockEnd, EventStop};
 use crate::world::World;
+use base_words::Memory;
 use record_hash::Digests;
-use want_of_memory::Memory;
 
 impl<'a, D: Digests> World<'a, D> {
     /// One event, which is enabled in this world. Where a clock ends, only a stop or the end is noted, and the answer says

@@ -17,6 +17,7 @@ ghost use Rattle.host_world.specs.Doing.{HasDone, HasServed};
 ghost use Rattle.host_world.specs.Moving.{stage_of, move_seats};
 ghost use Rattle.host_world.specs.ShippedHost.{serve_at};
 
+use base_words::Memory;
 use host_log::LogBuffer;
 use host_plan::{Commands, PlanFault, plan};
 use host_shard::Content;
@@ -28,7 +29,6 @@ use record_text::Request;
 use std::alloc::Global;
 use std::marker::Model;
 use std::mem::replace;
-use want_of_memory::Memory;
 
 /// A place that a worker holds, by its number, and whether it has served there since it took it.
 #[derive(Clone, Copy, Debug, PartialEq, Eq)]

@@ -7,7 +7,7 @@ use Rattle.lamport_clocks.specs.declared.clock.ClockFault.TheVariants.{BadEpoch,
 use Rattle.lamport_clocks.specs.Stamp.{IsLater}
 use Rattle.lamport_clocks.specs.Reading.{Reading, IsReading, SameBounds}
 use Rattle.lamport_clocks.specs.Clock.{last_epoch, received, sent, advanced, is_open, greater_counter, sealed_by_advancing}
-use Rattle.step_words.proofs.StepLaws.{test-ok}
+use Rattle.base_words.proofs.StepLaws.{test-ok}
 
 -- an add that was taken: its epoch is open, the counter doesn't pass its end, and this is the clock after it
 pub received-ok : (clock after : Reading) (t : Stamp) → received clock t ≡ Ok after → (is_open clock t.epoch ≡ true) × (1 + greater_counter clock.at t ≤ clock.end) × (after ≡ record clock { at = record { epoch = clock.at.epoch; counter = 1 + greater_counter clock.at t } })

@@ -3,7 +3,7 @@ use Rattle.std.specs.Prelude.{ℕ, ◌+◌, ◌-◌, max, Bool, not, ◌==◌, �
 use Rattle.lamport_clocks.specs.declared.stamp.Stamp.{Stamp}
 use Rattle.lamport_clocks.specs.declared.clock.ClockFault.{ClockFault}
 use Rattle.lamport_clocks.specs.declared.clock.ClockFault.TheVariants.{BadEpoch, StampNotLater, ClockEnd}
-use Rattle.step_words.specs.Steps.{test}
+use Rattle.base_words.specs.Steps.{test}
 use Rattle.lamport_clocks.specs.Reading.{Reading}
 
 -- at the start of the first epoch

@@ -1,6 +1,6 @@
 //! A verifier's clock, and its three steps.
 ghost use Rattle.std.specs.Prelude.{◌≡◌, ◌≤◌};
-ghost use Rattle.step_words.specs.Follows.{Follows, Becomes};
+ghost use Rattle.base_words.specs.Follows.{Follows, Becomes};
 ghost use Rattle.lamport_clocks.specs.Clock.{opening_reading, is_open, received, sent, advanced};
 
 use crate::stamp::Stamp;

@@ -9,12 +9,12 @@ ghost use Rattle.load_summary.specs.Summary.{summary_with_end, worker_lines};
 
 use crate::lines::{end_line, head_lines, worker_line};
 use crate::tally::Tally;
+use base_words::Memory;
 use fv_outside::{Failed, Sink};
 use record_text::Operation;
 use report_text::{Page, Status};
 use std::alloc::Global;
 use std::marker::Model;
-use want_of_memory::Memory;
 
 /// How often each worker got, put and deleted among the operations that were counted. Contracts see the tallies, and how
 /// many operations were counted.

@@ -10,7 +10,7 @@ use Rattle.log_rings.specs.declared.lane.Receiver.{Receiver}
 abbrev pub sent : Sender → List Parcel
 sent sender = ring.sent sender.ring
 
--- how many free slots the sender knows of
+-- for how many parcels the sender knows that there is room
 abbrev pub room : Sender → ℕ
 room sender = known_free sender.ring
 

@@ -23,7 +23,7 @@ impl Sender {
     ghost use Rattle.std.specs.Prelude.{◌≡◌, ◌+◌, ◌<◌, ◌≤◌, ◌↔◌, [], ◌∷◌, ◌++◌, IsTrue, IsNone, IfNone, IfSome};
     ghost use Rattle.log_rings.specs.Lanes.{sent, room, SameSender};
 
-    /// Sends a parcel, or hands it back where this end knows of no free slot.
+    /// Sends a parcel, or hands it back where this end knows of no room.
     pub fn offer(&mut self, parcel: Parcel) -> Option<Parcel>
         ensures lane { SameSender self.old self.new }
         ensures taken { IfNone result ((sent self.new ≡ sent self.old ++ parcel ∷ [])
@@ -38,7 +38,7 @@ impl Sender {
         }
     }
 
-    /// Whether this end knows of a free slot, once it has looked.
+    /// Whether this end knows of room for one more, once it has looked.
     pub fn has_room(&mut self) -> bool
         ensures lane { SameSender self.old self.new }
         ensures sent { sent self.new ≡ sent self.old }
@@ -48,7 +48,7 @@ impl Sender {
         !self.ring.is_full()
     }
 
-    /// Sends a parcel into a slot that is known to be free.
+    /// Sends a parcel where there is known to be room.
     pub fn send(&mut self, parcel: Parcel)
         requires room { 0 < room self.old }
         ensures lane { SameSender self.old self.new }

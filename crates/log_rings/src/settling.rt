@@ -3,9 +3,9 @@ ghost use Rattle.std.specs.Prelude.{◌≡◌, ◌-◌, ◌^◌, [], ◌++◌, l
 ghost use Rattle.log_rings.specs.Lanes.{sent, room, received_by, waiting, AreEnds, SameSender, SameReceiver};
 
 use crate::lane::{Receiver, Sender};
+use base_words::Memory;
 use rtrb::RingBuffer;
 use std::alloc::Global;
-use want_of_memory::Memory;
 
 /// A way for parcels from one thread to one other. Its two ends are a `Sender` and a `Receiver`.
 pub struct Lane;

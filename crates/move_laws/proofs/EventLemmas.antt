@@ -27,7 +27,7 @@ use Rattle.host_core.specs.Clear.{IsKept, touches, touching}
 use Rattle.host_laws.specs.Running.{Told, run, added_told, evicted_told, accesses_told, as_events}
 use Rattle.host_laws.specs.Carried.{carries, carried}
 use Rattle.host_laws.proofs.RunLaws.{run-none, run-begins}
-use Rattle.errand_laws.specs.Kept.{AreCarried}
+use Rattle.move_laws.specs.Kept.{AreCarried}
 
 -- ---- the state that is left
 

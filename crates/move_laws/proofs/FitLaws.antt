@@ -1,4 +1,4 @@
--- The errands of a move can be done, each when its turn comes.
+-- The transfers of a move can be done, each when its turn comes.
 use Rattle.std.proofs.Common.{◌≡◌, ◌≢◌, ◌⊎◌, ℕ, zero, suc, ◌+◌, ◌<◌, ◌≤◌, ◌^◌, Bool, true, false, not, List, [], ◌∷◌, ◌++◌, map, take, length, cond, Option, Some, None, IsSome, get_or, if◌then◌else◌, refl, sym, ◌∙◌, ap, subst, inl, inr, arith}
 use Rattle.std.specs.Prelude.{filter, IfSome}
 use Rattle.std.specs.List.{AllByRecursion, AllPairs, IsAmong}
@@ -21,21 +21,21 @@ use Rattle.host_shard.specs.Mirrors.{IsKeyOf, Mirrors}
 use Rattle.host_plan.specs.Moments.{renewing}
 use Rattle.protection_moves.specs.Stage.{Stage, hot_records, hot_paths, vacancies, replaced, placed, is_touched, touched_in, untouched_in}
 use Rattle.protection_moves.specs.Renewing.{renewed_record, renewed_places}
-use Rattle.protection_moves.specs.Errand.{Errand, demotes, promotes, IsDue, AreDue, errands_of}
-use Rattle.protection_moves.specs.Trip.{Trip, with_back, promoted_record, done_by, done_by_each}
+use Rattle.protection_moves.specs.Transfer.{Transfer, demotes, promotes, IsPromotable, ArePromotable, transfers_of}
+use Rattle.protection_moves.specs.Descent.{Descent, with_back, promoted_record, done_by, done_by_each}
 use Rattle.protection_moves.specs.Move.{begun}
 use Rattle.protection_moves.proofs.RenewingLaws.{renewing_each-epoch}
 use Rattle.protection_moves.proofs.TouchedLaws.{all-filter, all-order, touched_all}
-use Rattle.errand_laws.specs.Stages.{StageMirrors, IsOne}
-use Rattle.errand_laws.specs.Errands.{IsFit}
-use Rattle.errand_laws.proofs.PlaceLaws.{HasNone, AreApart, all-are, all-map, all-replaced, one_of-all}
-use Rattle.errand_laws.proofs.VacantLaws.{AreDifferent, among-member, member-among, one-member, member-one, all-images, images-all, one-vacant, vacancies-vacant, vacancies-hot, all-placed, placed-one, vacancies-placed}
-use Rattle.errand_laws.proofs.AboveLaws.{closed_some}
+use Rattle.move_laws.specs.Stages.{StageMirrors, IsOne}
+use Rattle.move_laws.specs.Transfers.{IsFit}
+use Rattle.move_laws.proofs.PlaceLaws.{HasNone, AreApart, all-are, all-map, all-replaced, one_of-all}
+use Rattle.move_laws.proofs.VacantLaws.{AreDifferent, among-member, member-among, one-member, member-one, all-images, images-all, one-vacant, vacancies-vacant, vacancies-hot, all-placed, placed-one, vacancies-placed}
+use Rattle.move_laws.proofs.AboveLaws.{closed_some}
 use Rattle.move_laws.proofs.RenewLaws.{IsFresh, still_there, renewed-keys, renewed-all, renewed-fresh}
 use Rattle.move_laws.proofs.StageLemmas.{all_split, all_untouched, apart_untouched}
-use Rattle.move_laws.proofs.TripLaws.{AreFit, apart_by_number}
+use Rattle.move_laws.proofs.DescentLaws.{AreFit, apart_by_number}
 
--- ---- what is known when an errand's turn comes
+-- ---- what is known when a transfer's turn comes
 
 -- a key of the shard that isn't hot and has a record, whose touches are forgotten
 pub record IsReady (format : Format) (stage : Stage) (key : ℕ) : Type 0 where
@@ -155,10 +155,10 @@ module _ (format : Format) (digest : Digest) (worker epoch : ℕ) where
       all-ready [] all apart = tt
       all-ready (other ∷ more) all apart = (one other all.0 apart.0, all-ready more all.1 apart.1)
 
-  -- Trips with these errands can be done, and leave hot records of this worker and this epoch alone.
-  pub record GoWell (stage : Stage) (trips : List Trip) : Type 0 where
-    pub fit : AreFit format digest worker stage trips
-    pub fresh : AllByRecursion (IsFresh worker epoch) (hot_records (done_by_each format digest worker stage trips).places)
+  -- Descents with these transfers can be done, and leave hot records of this worker and this epoch alone.
+  pub record GoWell (stage : Stage) (descents : List Descent) : Type 0 where
+    pub fit : AreFit format digest worker stage descents
+    pub fresh : AllByRecursion (IsFresh worker epoch) (hot_records (done_by_each format digest worker stage descents).places)
 
   only_fresh : (records : List HotRecord) → AllByRecursion (λ found. IsFresh worker epoch found ⊎ IsOne [] found) records → AllByRecursion (IsFresh worker epoch) records
   only_fresh records all = all-map (λ found. IsFresh worker epoch found ⊎ IsOne [] found) (IsFresh worker epoch) go records all
@@ -167,27 +167,27 @@ module _ (format : Format) (digest : Digest) (worker epoch : ℕ) where
       go found (inl is) = is
       go found (inr nothing) = absurd nothing
 
-  errands_in : List Trip → List Errand
-  errands_in trips = map (λ (trip : Trip). trip.errand) trips
+  transfers_in : List Descent → List Transfer
+  transfers_in descents = map (λ (descent : Descent). descent.transfer) descents
 
-  no_trip : {errand : Errand} {errands : List Errand} → ◌≡◌ {A = List Errand} [] (errand ∷ errands) → ⊥
-  no_trip is = cc
+  no_descent : {transfer : Transfer} {transfers : List Transfer} → ◌≡◌ {A = List Transfer} [] (transfer ∷ transfers) → ⊥
+  no_descent is = cc
 
-  first_errand : (a b : Errand) (xs ys : List Errand) → a ∷ xs ≡ b ∷ ys → a ≡ b
-  first_errand a b xs ys is = cc
+  first_transfer : (a b : Transfer) (xs ys : List Transfer) → a ∷ xs ≡ b ∷ ys → a ≡ b
+  first_transfer a b xs ys is = cc
 
-  other_errands : (a b : Errand) (xs ys : List Errand) → a ∷ xs ≡ b ∷ ys → xs ≡ ys
-  other_errands a b xs ys is = cc
+  other_transfers : (a b : Transfer) (xs ys : List Transfer) → a ∷ xs ≡ b ∷ ys → xs ≡ ys
+  other_transfers a b xs ys is = cc
 
-  hot_go : (keys : List ℕ) (trips : List Trip) (stage : Stage) → map (λ (trip : Trip). trip.errand) trips ≡ map promotes keys
-      → AreReady format worker epoch stage [] keys → GoWell stage trips
+  hot_go : (keys : List ℕ) (descents : List Descent) (stage : Stage) → map (λ (descent : Descent). descent.transfer) descents ≡ map promotes keys
+      → AreReady format worker epoch stage [] keys → GoWell stage descents
   hot_go [] [] stage is are = record { fit = tt; fresh = only_fresh (hot_records stage.places) are.fresh }
-  hot_go [] (trip ∷ trips) stage is are = absurd (no_trip (sym is))
-  hot_go (key ∷ keys) [] stage is are = absurd (no_trip is)
-  hot_go (key ∷ keys) (trip ∷ trips) stage is are =
-      let one : trip.errand ≡ promotes key = first_errand _ _ _ _ is in
-      let rest = hot_go keys trips (done_by format digest worker stage trip.errand trip.links) (other_errands _ _ _ _ is)
-      (subst (λ (e : Errand). AreReady format worker epoch (done_by format digest worker stage e trip.links) [] keys) (sym one) (ready-hot stage key trip.links keys are)) in
+  hot_go [] (descent ∷ descents) stage is are = absurd (no_descent (sym is))
+  hot_go (key ∷ keys) [] stage is are = absurd (no_descent is)
+  hot_go (key ∷ keys) (descent ∷ descents) stage is are =
+      let one : descent.transfer ≡ promotes key = first_transfer _ _ _ _ is in
+      let rest = hot_go keys descents (done_by format digest worker stage descent.transfer descent.links) (other_transfers _ _ _ _ is)
+      (subst (λ (e : Transfer). AreReady format worker epoch (done_by format digest worker stage e descent.links) [] keys) (sym one) (ready-hot stage key descent.links keys are)) in
       record {
         fit = (
           subst (IsFit format stage) (sym one) (record {
@@ -203,14 +203,14 @@ module _ (format : Format) (digest : Digest) (worker epoch : ℕ) where
         fresh = rest.fresh;
       }
 
-  pub all_go : (back : List HotRecord) (keys : List ℕ) (trips : List Trip) (stage : Stage)
-      → map (λ (trip : Trip). trip.errand) trips ≡ map demotes back ++ map promotes keys → AreReady format worker epoch stage back keys → GoWell stage trips
-  all_go [] keys trips stage is are = hot_go keys trips stage is are
-  all_go (found ∷ back) keys [] stage is are = absurd (no_trip is)
-  all_go (found ∷ back) keys (trip ∷ trips) stage is are =
-      let one : trip.errand ≡ demotes found = first_errand _ _ _ _ is in
-      let rest = all_go back keys trips (done_by format digest worker stage trip.errand trip.links) (other_errands _ _ _ _ is)
-      (subst (λ (e : Errand). AreReady format worker epoch (done_by format digest worker stage e trip.links) back keys) (sym one) (ready-back stage found trip.links back keys are)) in
+  pub all_go : (back : List HotRecord) (keys : List ℕ) (descents : List Descent) (stage : Stage)
+      → map (λ (descent : Descent). descent.transfer) descents ≡ map demotes back ++ map promotes keys → AreReady format worker epoch stage back keys → GoWell stage descents
+  all_go [] keys descents stage is are = hot_go keys descents stage is are
+  all_go (found ∷ back) keys [] stage is are = absurd (no_descent is)
+  all_go (found ∷ back) keys (descent ∷ descents) stage is are =
+      let one : descent.transfer ≡ demotes found = first_transfer _ _ _ _ is in
+      let rest = all_go back keys descents (done_by format digest worker stage descent.transfer descent.links) (other_transfers _ _ _ _ is)
+      (subst (λ (e : Transfer). AreReady format worker epoch (done_by format digest worker stage e descent.links) back keys) (sym one) (ready-back stage found descent.links back keys are)) in
       record { fit = (subst (IsFit format stage) (sym one) are.there.0, rest.fit); fresh = rest.fresh }
 
 -- ---- at the beginning
@@ -274,7 +274,7 @@ renewed-vacancies worker clock places [] = refl
 renewed-vacancies worker clock places (found ∷ more) =
     renewed-vacancies worker (renewing clock found.stamp) _ more ∙ vacancies-hot found.key (renewed_record worker clock found) places
 
--- ---- the keys that are due
+-- ---- the keys that are promotable
 
 all-among : (P : ℕ → Type 0) (keys : List ℕ) → ((key : ℕ) → IsAmong keys key → P key) → AllByRecursion P keys
 all-among P [] each = tt
@@ -323,19 +323,19 @@ module _ (format : Format) where
     different-front n keys different.1,
   )
 
--- the errands of a move are ready at its beginning
-pub begun-ready : (format : Format) (digest : Digest) (worker : ℕ) (threshold : Option ℕ) (stage : Stage) (due : List ℕ)
-    → IfSome threshold (λ least. 0 < least) → StageMirrors format digest stage → AreApart (hot_records stage.places) → AreDue format stage threshold due
+-- the transfers of a move are ready at its beginning
+pub begun-ready : (format : Format) (digest : Digest) (worker : ℕ) (threshold : Option ℕ) (stage : Stage) (promotable : List ℕ)
+    → IfSome threshold (λ least. 0 < least) → StageMirrors format digest stage → AreApart (hot_records stage.places) → ArePromotable format stage threshold promotable
     → AreReady format worker stage.clock.at.epoch (begun worker stage) (untouched_in stage.places)
-    (take (vacancies stage.places + length (untouched_in stage.places)) due)
-begun-ready format digest worker threshold stage due some mirrors apart are = record {
+    (take (vacancies stage.places + length (untouched_in stage.places)) promotable)
+begun-ready format digest worker threshold stage promotable some mirrors apart are = record {
   there = renewed-there worker stage.clock stage.places touched back (all_untouched (IsOne (hot_records stage.places)) stage.places (all-are (hot_records stage.places)))
       (touched_apart stage.places apart);
   apart = apart_untouched stage.places apart;
-  ready = all-take (IsReady format (begun worker stage)) most due (all-among (IsReady format (begun worker stage)) due (λ key is. ready key ((are.due key).0 is)));
-  different = different-front format most due (different_keys format due are.rising
-      (all-among (λ key. key < 2 ^ path_bits format) due (λ key is. small threshold key ((are.due key).0 is))));
-  room = omega (arith, length-front most due, renewed-vacancies worker stage.clock stage.places touched);
+  ready = all-take (IsReady format (begun worker stage)) most promotable (all-among (IsReady format (begun worker stage)) promotable (λ key is. ready key ((are.promotable key).0 is)));
+  different = different-front format most promotable (different_keys format promotable are.rising
+      (all-among (λ key. key < 2 ^ path_bits format) promotable (λ key is. small threshold key ((are.promotable key).0 is))));
+  room = omega (arith, length-front most promotable, renewed-vacancies worker stage.clock stage.places touched);
   of_epoch = renewing_each-epoch stage.clock touched;
   fresh = renewed-fresh worker stage.clock stage.places touched back
       (all-map (IsOne (touched ++ back)) (λ found. IsFresh worker stage.clock.at.epoch found ⊎ IsOne (touched ++ back) found) (λ found is. inr is)
@@ -354,20 +354,20 @@ begun-ready format digest worker threshold stage due some mirrors apart are = re
     same_hot : hot_paths format (begun worker stage).places ≡ hot_paths format stage.places
     same_hot = renewed-keys (key_path format) worker stage.clock stage.places (touched_in stage.places)
 
-    small : (least : Option ℕ) (key : ℕ) → IsDue format stage least key → key < 2 ^ path_bits format
+    small : (least : Option ℕ) (key : ℕ) → IsPromotable format stage least key → key < 2 ^ path_bits format
     small None key is = absurd is
     small (Some least) key is = is.in_range
 
-    ready : (key : ℕ) → IsDue format stage threshold key → IsReady format (begun worker stage) key
+    ready : (key : ℕ) → IsPromotable format stage threshold key → IsReady format (begun worker stage) key
     ready key is = go threshold some is
       where
-        go : (least : Option ℕ) → IfSome least (λ n. 0 < n) → IsDue format stage least key → IsReady format (begun worker stage) key
-        go None positive due' = absurd due'
-        go (Some least) positive due' = record {
-          in_range = due'.in_range;
-          own = record { whole = due'.own.whole; below = due'.own.below };
-          cold = λ among. due'.cold (subst (λ (paths : List (List Bool)). IsAmong paths (key_path format key)) same_hot among);
-          there = mirrors.shard.mirrors.touched (key_path format key) (omega (arith, positive, due'.often));
+        go : (least : Option ℕ) → IfSome least (λ n. 0 < n) → IsPromotable format stage least key → IsReady format (begun worker stage) key
+        go None positive promotable' = absurd promotable'
+        go (Some least) positive promotable' = record {
+          in_range = promotable'.in_range;
+          own = record { whole = promotable'.own.whole; below = promotable'.own.below };
+          cold = λ among. promotable'.cold (subst (λ (paths : List (List Bool)). IsAmong paths (key_path format key)) same_hot among);
+          there = mirrors.shard.mirrors.touched (key_path format key) (omega (arith, positive, promotable'.often));
           untouched = refl;
         }
 
@@ -395,18 +395,18 @@ begun_mirrors format digest worker stage mirrors = record {
 }
 
 -- What is hot behind a move was handed out in it.
-pub move_fresh : (format : Format) (digest : Digest) (worker : ℕ) (threshold : Option ℕ) (stage : Stage) (due : List ℕ) (trips : List Trip)
-    → IfSome threshold (λ least. 0 < least) → StageMirrors format digest stage → AreDue format stage threshold due
-    → map (λ (trip : Trip). trip.errand) trips ≡ errands_of stage due
-    → AllByRecursion (IsFresh worker stage.clock.at.epoch) (hot_records (done_by_each format digest worker (begun worker stage) trips).places)
-move_fresh format digest worker threshold stage due trips some mirrors are is =
-    (all_go format digest worker stage.clock.at.epoch (untouched_in stage.places) (take (vacancies stage.places + length (untouched_in stage.places)) due) trips (begun worker stage)
-    is (begun-ready format digest worker threshold stage due some mirrors (apart_by_number format digest worker stage mirrors) are)).fresh
+pub move_fresh : (format : Format) (digest : Digest) (worker : ℕ) (threshold : Option ℕ) (stage : Stage) (promotable : List ℕ) (descents : List Descent)
+    → IfSome threshold (λ least. 0 < least) → StageMirrors format digest stage → ArePromotable format stage threshold promotable
+    → map (λ (descent : Descent). descent.transfer) descents ≡ transfers_of stage promotable
+    → AllByRecursion (IsFresh worker stage.clock.at.epoch) (hot_records (done_by_each format digest worker (begun worker stage) descents).places)
+move_fresh format digest worker threshold stage promotable descents some mirrors are is =
+    (all_go format digest worker stage.clock.at.epoch (untouched_in stage.places) (take (vacancies stage.places + length (untouched_in stage.places)) promotable) descents (begun worker stage)
+    is (begun-ready format digest worker threshold stage promotable some mirrors (apart_by_number format digest worker stage mirrors) are)).fresh
 
--- Trips that are the errands of a move can be done, each when its turn comes.
-pub move_fits : (format : Format) (digest : Digest) (worker : ℕ) (threshold : Option ℕ) (stage : Stage) (due : List ℕ) (trips : List Trip)
-    → IfSome threshold (λ least. 0 < least) → StageMirrors format digest stage → AreDue format stage threshold due
-    → map (λ (trip : Trip). trip.errand) trips ≡ errands_of stage due → AreFit format digest worker (begun worker stage) trips
-move_fits format digest worker threshold stage due trips some mirrors are is =
-    (all_go format digest worker stage.clock.at.epoch (untouched_in stage.places) (take (vacancies stage.places + length (untouched_in stage.places)) due) trips (begun worker stage)
-    is (begun-ready format digest worker threshold stage due some mirrors (apart_by_number format digest worker stage mirrors) are)).fit
+-- Descents that are the transfers of a move can be done, each when its turn comes.
+pub move_fits : (format : Format) (digest : Digest) (worker : ℕ) (threshold : Option ℕ) (stage : Stage) (promotable : List ℕ) (descents : List Descent)
+    → IfSome threshold (λ least. 0 < least) → StageMirrors format digest stage → ArePromotable format stage threshold promotable
+    → map (λ (descent : Descent). descent.transfer) descents ≡ transfers_of stage promotable → AreFit format digest worker (begun worker stage) descents
+move_fits format digest worker threshold stage promotable descents some mirrors are is =
+    (all_go format digest worker stage.clock.at.epoch (untouched_in stage.places) (take (vacancies stage.places + length (untouched_in stage.places)) promotable) descents (begun worker stage)
+    is (begun-ready format digest worker threshold stage promotable some mirrors (apart_by_number format digest worker stage mirrors) are)).fit

@@ -2,8 +2,20 @@
 pub mod CounterLaws
 pub mod RenewLaws
 mod StageLemmas
-pub mod TripLaws
+pub mod DescentLaws
 pub mod FitLaws
 pub mod MoveLaws
 mod EventLemmas
 pub mod DeedLaws
+pub mod CountLaws
+pub mod PlaceLaws
+pub mod VacantLaws
+mod WayLemmas
+mod EndLemmas
+pub mod AroundLaws
+mod AlongLemmas
+mod ClosedLemmas
+pub mod AboveLaws
+mod BackLemmas
+mod HotLemmas
+pub mod TransferLaws

@@ -1,4 +1,4 @@
--- The move of a stage: the touched hot records are renewed, then the errands are done while the frontier stands in the cache.
+-- The move of a stage: the touched hot records are renewed, then the transfers are done while the frontier stands in the cache.
 use Rattle.std.proofs.Common.{◌≡◌, ◌⊎◌, ℕ, ◌+◌, ◌<◌, ◌≤◌, Bool, true, false, List, [], ◌∷◌, ◌++◌, map, take, length, Option, Some, Ok, refl, sym, ◌∙◌, ap, subst, inl, inr, arith, append-nil}
 use Rattle.std.specs.Prelude.{IfSome}
 use Rattle.std.specs.List.{AllByRecursion, flat_map}
@@ -39,22 +39,22 @@ use Rattle.host_laws.proofs.ToldLaws.{added_told-append, evicted_told-append, ac
 use Rattle.host_laws.proofs.WorksLaws.{IsClear, standing}
 use Rattle.protection_moves.specs.Stage.{Stage, hot_records, vacancies, touched_in, untouched_in}
 use Rattle.protection_moves.specs.Renewing.{renewing_each, renewing_commands}
-use Rattle.protection_moves.specs.Errand.{Errand, demotes, promotes, AreDue, errands_of, clock_needed}
-use Rattle.protection_moves.specs.Trip.{Trip, AreTrips, done_by_each}
+use Rattle.protection_moves.specs.Transfer.{Transfer, demotes, promotes, ArePromotable, transfers_of, clock_needed}
+use Rattle.protection_moves.specs.Descent.{Descent, AreDescents, done_by_each}
 use Rattle.protection_moves.specs.Move.{IsMove, begun, handed_out, moved, move_commands}
 use Rattle.protection_moves.proofs.RenewingLaws.{renewing-up, renewing_each-open, renewing_each-end, renewing_each-epoch}
 use Rattle.protection_moves.proofs.TouchedLaws.{touched_all}
-use Rattle.errand_laws.specs.Kept.{AreCarried}
-use Rattle.errand_laws.specs.Stages.{StageMirrors, IsTakable, IsOne}
-use Rattle.errand_laws.specs.Errands.{IsBetween, adds_by, holding}
-use Rattle.errand_laws.proofs.CountLaws.{weight, count-front, count-append}
-use Rattle.errand_laws.proofs.PlaceLaws.{AreApart, all-are, all-map}
-use Rattle.errand_laws.proofs.VacantLaws.{all-images, images-all}
-use Rattle.errand_laws.proofs.AroundLaws.{told_in, told_out, takes_in, hands_out}
+use Rattle.move_laws.specs.Kept.{AreCarried}
+use Rattle.move_laws.specs.Stages.{StageMirrors, IsTakable, IsOne}
+use Rattle.move_laws.specs.Transfers.{IsBetween, adds_by, holding}
+use Rattle.move_laws.proofs.CountLaws.{weight, count-front, count-append}
+use Rattle.move_laws.proofs.PlaceLaws.{AreApart, all-are, all-map}
+use Rattle.move_laws.proofs.VacantLaws.{all-images, images-all}
+use Rattle.move_laws.proofs.AroundLaws.{told_in, told_out, takes_in, hands_out}
 use Rattle.move_laws.specs.Moved.{waiting_in, CanMove, IsOfClock, MoveRuns, at_stage}
 use Rattle.move_laws.proofs.RenewLaws.{not_root, told_renewing, renewing-runs, renewed_each, added-renewing, evicted-renewing, no_access-renewing, unsealed-renewing, carried-renewing, carries-renewing, renewed-weight}
 use Rattle.move_laws.proofs.StageLemmas.{weight_split, all_untouched, apart_touched}
-use Rattle.move_laws.proofs.TripLaws.{adds_by_each, evicts_by_each, apart_by_number, trips_mirror, trips_typed, trips-weight, TripsRun, trips_run, each-up, each-epoch, each-end, each-frontier}
+use Rattle.move_laws.proofs.DescentLaws.{adds_by_each, evicts_by_each, apart_by_number, descents_mirror, descents_typed, descents-weight, DescentsRun, descents_run, each-up, each-epoch, each-end, each-frontier}
 use Rattle.move_laws.proofs.FitLaws.{GoWell, all_go, begun-ready, begun_mirrors}
 use Rattle.move_laws.proofs.CounterLaws.{move_clock}
 
@@ -93,58 +93,58 @@ handed_mirrors format digest worker stage mirrors = record {
   in_range = mirrors.in_range;
 }
 
--- ---- what errands add
+-- ---- what transfers add
 
 -- those of the records that come back
-adds_back : (format : Format) (digest : Digest) (worker : ℕ) (back : List HotRecord) (keys : List ℕ) (trips : List Trip)
-    → map (λ (trip : Trip). trip.errand) trips ≡ map demotes back ++ map promotes keys
-    → adds_by_each format digest worker trips ≡ map (pending_hot format) back
-adds_back format digest worker back keys trips is = by_errands trips ∙ (ap (λ (errands : List Errand). flat_map (adds_by format) errands) is ∙ of_errands back)
+adds_back : (format : Format) (digest : Digest) (worker : ℕ) (back : List HotRecord) (keys : List ℕ) (descents : List Descent)
+    → map (λ (descent : Descent). descent.transfer) descents ≡ map demotes back ++ map promotes keys
+    → adds_by_each format digest worker descents ≡ map (pending_hot format) back
+adds_back format digest worker back keys descents is = by_transfers descents ∙ (ap (λ (transfers : List Transfer). flat_map (adds_by format) transfers) is ∙ of_transfers back)
   where
-    by_errands : (some : List Trip) → adds_by_each format digest worker some ≡ flat_map (adds_by format) (map (λ (trip : Trip). trip.errand) some)
-    by_errands [] = refl
-    by_errands (trip ∷ some) = ap (λ (xs : List Element). adds_by format trip.errand ++ xs) (by_errands some)
+    by_transfers : (some : List Descent) → adds_by_each format digest worker some ≡ flat_map (adds_by format) (map (λ (descent : Descent). descent.transfer) some)
+    by_transfers [] = refl
+    by_transfers (descent ∷ some) = ap (λ (xs : List Element). adds_by format descent.transfer ++ xs) (by_transfers some)
 
     none_added : (some : List ℕ) → flat_map (adds_by format) (map promotes some) ≡ []
     none_added [] = refl
     none_added (key ∷ some) = none_added some
 
-    of_errands : (some : List HotRecord) → flat_map (adds_by format) (map demotes some ++ map promotes keys) ≡ map (pending_hot format) some
-    of_errands [] = none_added keys
-    of_errands (found ∷ some) = ap (λ (xs : List Element). pending_hot format found ∷ xs) (of_errands some)
+    of_transfers : (some : List HotRecord) → flat_map (adds_by format) (map demotes some ++ map promotes keys) ≡ map (pending_hot format) some
+    of_transfers [] = none_added keys
+    of_transfers (found ∷ some) = ap (λ (xs : List Element). pending_hot format found ∷ xs) (of_transfers some)
 
 -- ---- a move
 
-module _ (format : Format) (digest : Digest) (worker : ℕ) (threshold : Option ℕ) (old : Stage) (due : List ℕ) (trips : List Trip) where
-  -- What is known of a move: a threshold is at least one touch, and these trips are its errands.
+module _ (format : Format) (digest : Digest) (worker : ℕ) (threshold : Option ℕ) (old : Stage) (promotable : List ℕ) (descents : List Descent) where
+  -- What is known of a move: a threshold is at least one touch, and these descents are its transfers.
   pub record IsGiven : Type 0 where
     pub digests : GivesDigests digest
     pub some : IfSome threshold (λ least. 0 < least)
     pub mirrors : StageMirrors format digest old
-    pub are_due : AreDue format old threshold due
-    pub errands : map (λ (trip : Trip). trip.errand) trips ≡ errands_of old due
-    pub ways : AreTrips format digest worker (begun worker old) trips
+    pub are_promotable : ArePromotable format old threshold promotable
+    pub transfers : map (λ (descent : Descent). descent.transfer) descents ≡ transfers_of old promotable
+    pub ways : AreDescents format digest worker (begun worker old) descents
 
   module _ (given : IsGiven) where
-    pub go_well : GoWell format digest worker old.clock.at.epoch (begun worker old) trips
+    pub go_well : GoWell format digest worker old.clock.at.epoch (begun worker old) descents
     go_well =
-        all_go format digest worker old.clock.at.epoch (untouched_in old.places) (take (vacancies old.places + length (untouched_in old.places)) due) trips (begun worker old)
-        given.errands (begun-ready format digest worker threshold old due given.some given.mirrors (apart_by_number format digest worker old given.mirrors) given.are_due)
+        all_go format digest worker old.clock.at.epoch (untouched_in old.places) (take (vacancies old.places + length (untouched_in old.places)) promotable) descents (begun worker old)
+        given.transfers (begun-ready format digest worker threshold old promotable given.some given.mirrors (apart_by_number format digest worker old given.mirrors) given.are_promotable)
 
     pub begins : StageMirrors format digest (begun worker old)
     begins = begun_mirrors format digest worker old given.mirrors
 
     -- the stage mirrors again behind it
-    pub mirrors_again : StageMirrors format digest (moved format digest worker old trips)
-    mirrors_again = handed_mirrors format digest worker _ (trips_mirror format digest worker (begun worker old) trips given.digests begins go_well.fit given.ways)
+    pub mirrors_again : StageMirrors format digest (moved format digest worker old descents)
+    mirrors_again = handed_mirrors format digest worker _ (descents_mirror format digest worker (begun worker old) descents given.digests begins go_well.fit given.ways)
 
     -- what it logs is typed
-    pub all_typed : AllByRecursion (IsTyped format) (move_commands format digest worker old trips)
+    pub all_typed : AllByRecursion (IsTyped format) (move_commands format digest worker old descents)
     all_typed =
         all-append (IsTyped format) (renewing_commands format old.clock (touched_in old.places)) _
         (renewing-typed old.clock (touched_in old.places) (touched_all (λ found. IsBlob format found.value) old.places given.mirrors.blobs)) (
           given.mirrors.shard.fits.kinds old.shard.frontier old.shard.value (frontier_there old.shard),
-          all-append (IsTyped format) _ _ (trips_typed format digest worker (begun worker old) trips given.digests begins go_well.fit given.ways) (tt, tt),
+          all-append (IsTyped format) _ _ (descents_typed format digest worker (begun worker old) descents given.digests begins go_well.fit given.ways) (tt, tt),
         )
       where
         renewing-typed : (clock : Reading) (records : List HotRecord) → AllByRecursion (λ found. IsBlob format found.value) records
@@ -155,9 +155,9 @@ module _ (format : Format) (digest : Digest) (worker : ℕ) (threshold : Option 
 
 -- ---- it runs
 
-module _ (rules : Rules) (cache : Held) (threshold : Option ℕ) (old : Stage) (due : List ℕ) (trips : List Trip)
-    (given : IsGiven rules.scheme.format rules.scheme.digest rules.number threshold old due trips) (can : CanMove rules cache threshold old)
-    (within : (moved rules.scheme.format rules.scheme.digest rules.number old trips).clock.at.counter ≤ old.clock.end) where
+module _ (rules : Rules) (cache : Held) (threshold : Option ℕ) (old : Stage) (promotable : List ℕ) (descents : List Descent)
+    (given : IsGiven rules.scheme.format rules.scheme.digest rules.number threshold old promotable descents) (can : CanMove rules cache threshold old)
+    (within : (moved rules.scheme.format rules.scheme.digest rules.number old descents).clock.at.counter ≤ old.clock.end) where
   abbrev format : Format
   format = rules.scheme.format
 
@@ -171,10 +171,10 @@ module _ (rules : Rules) (cache : Held) (threshold : Option ℕ) (old : Stage) (
   start = begun rules.number old
 
   abbrev last : Stage
-  last = done_by_each rules.scheme.format rules.scheme.digest rules.number (begun rules.number old) trips
+  last = done_by_each rules.scheme.format rules.scheme.digest rules.number (begun rules.number old) descents
 
   abbrev new : Stage
-  new = moved rules.scheme.format rules.scheme.digest rules.number old trips
+  new = moved rules.scheme.format rules.scheme.digest rules.number old descents
 
   -- the clock once the touched hot records are renewed
   abbrev renewed : Reading
@@ -196,27 +196,27 @@ module _ (rules : Rules) (cache : Held) (threshold : Option ℕ) (old : Stage) (
   ends = renewing_each-end old.clock (touched_in old.places)
 
   last_end : last.clock.end ≡ old.clock.end
-  last_end = each-end format digest rules.number start trips ∙ ends
+  last_end = each-end format digest rules.number start descents ∙ ends
 
   counters : (taking (renewing_each old.clock (touched_in old.places)) old.shard.stamp).at.counter ≤ last.clock.at.counter
-  counters = each-up format digest rules.number start trips
+  counters = each-up format digest rules.number start descents
 
   takable : AllByRecursion (λ found. IsTakable rules old.clock (pending_hot rules.scheme.format found)) (hot_records old.places)
   takable = all-images (pending_hot format) (IsTakable rules old.clock) (hot_records old.places) can.takable.1
 
   -- what comes back can be taken in
-  back_takable : AllByRecursion (IsTakable rules start.clock) (adds_by_each rules.scheme.format rules.scheme.digest rules.number trips)
+  back_takable : AllByRecursion (IsTakable rules start.clock) (adds_by_each rules.scheme.format rules.scheme.digest rules.number descents)
   back_takable =
-      subst (AllByRecursion (IsTakable rules start.clock)) (sym (adds_back format digest rules.number (untouched_in old.places) _ trips given.errands))
+      subst (AllByRecursion (IsTakable rules start.clock)) (sym (adds_back format digest rules.number (untouched_in old.places) _ descents given.transfers))
       (images-all (pending_hot format) (IsTakable rules start.clock) (untouched_in old.places)
       (all-map (λ found. IsTakable rules old.clock (pending_hot format found)) (λ found. IsTakable rules start.clock (pending_hot format found))
       (λ found is. (is.0, renewing_each-open old.clock touched found.stamp.epoch ∙ is.1)) (untouched_in old.places)
       (all_untouched (λ found. IsTakable rules old.clock (pending_hot format found)) old.places takable)))
 
-  done : TripsRun rules cache.entries cache.room (begun rules.number old) trips
+  done : DescentsRun rules cache.entries cache.room (begun rules.number old) descents
   done =
-      trips_run rules cache.entries cache.room given.digests can.bare can.room start trips (begins format digest rules.number threshold old due trips given)
-      (go_well format digest rules.number threshold old due trips given).fit given.ways back_takable (omega (arith, within, ends))
+      descents_run rules cache.entries cache.room given.digests can.bare can.room start descents (begins format digest rules.number threshold old promotable descents given)
+      (go_well format digest rules.number threshold old promotable descents given).fit given.ways back_takable (omega (arith, within, ends))
 
   -- what is told of the move
   abbrev told_all : Told
@@ -226,26 +226,26 @@ module _ (rules : Rules) (cache : Held) (threshold : Option ℕ) (old : Stage) (
       ++ (done.told ++ told_out rules.number last.clock old.shard.frontier last.shard.value))
 
   same_frontier : last.shard.frontier ≡ old.shard.frontier
-  same_frontier = each-frontier format digest rules.number start trips
+  same_frontier = each-frontier format digest rules.number start descents
 
   -- how often an element waits in hot places: of those that were renewed, and of those that came back and went
   old-weight : (x : Element) → weight rules.scheme.format x (hot_records old.places)
-      ≡ weight rules.scheme.format x (touched_in old.places) + count_of x (adds_by_each rules.scheme.format rules.scheme.digest rules.number trips)
+      ≡ weight rules.scheme.format x (touched_in old.places) + count_of x (adds_by_each rules.scheme.format rules.scheme.digest rules.number descents)
   old-weight x =
       omega (
         arith,
         weight_split format x old.places,
-        ap (λ (xs : List Element). count_of x xs) (adds_back format digest rules.number (untouched_in old.places) _ trips given.errands),
+        ap (λ (xs : List Element). count_of x xs) (adds_back format digest rules.number (untouched_in old.places) _ descents given.transfers),
       )
 
   new-weight : (x : Element) → weight rules.scheme.format x (hot_records last.places)
       ≡ weight rules.scheme.format x (renewed_each rules.number old.clock (touched_in old.places))
-      + count_of x (evicts_by_each rules.scheme.format rules.scheme.digest rules.number (begun rules.number old) trips)
+      + count_of x (evicts_by_each rules.scheme.format rules.scheme.digest rules.number (begun rules.number old) descents)
   new-weight x =
       omega (
         arith,
-        trips-weight format digest rules.number x start trips given.digests (begins format digest rules.number threshold old due trips given)
-            (go_well format digest rules.number threshold old due trips given).fit given.ways,
+        descents-weight format digest rules.number x start descents given.digests (begins format digest rules.number threshold old promotable descents given)
+            (go_well format digest rules.number threshold old promotable descents given).fit given.ways,
         renewed-weight format rules.number x old.clock old.places touched apart_hot
             (touched_all (IsOne (hot_records old.places)) old.places (all-are (hot_records old.places))) (apart_touched old.places apart_hot),
         old-weight x,
@@ -262,8 +262,8 @@ module _ (rules : Rules) (cache : Held) (threshold : Option ℕ) (old : Stage) (
       ∙ ap (λ (xs : List Element). map (pending_hot format) touched ++ element ∷ xs) (added_told-append done.told _ ∙ (append-nil (added_told done.told) ∙ done.added))))
       ∙ omega (
         arith,
-        count-append x (map (pending_hot format) touched) (element ∷ adds_by_each format digest rules.number trips),
-        count-front x element (adds_by_each format digest rules.number trips),
+        count-append x (map (pending_hot format) touched) (element ∷ adds_by_each format digest rules.number descents),
+        count-front x element (adds_by_each format digest rules.number descents),
         count-front x element (map (pending_hot format) (hot_records old.places)),
         old-weight x,
       )
@@ -276,11 +276,11 @@ module _ (rules : Rules) (cache : Held) (threshold : Option ℕ) (old : Stage) (
       ∙ ap (λ (xs : List Element). map (pending_hot format) (renewed_each rules.number old.clock touched) ++ xs)
       (evicted_told-append done.told _
       ∙ (ap (λ (xs : List Element). xs ++ out ∷ []) done.evicted
-      ∙ ap (λ (k : List Bool). evicts_by_each format digest rules.number start trips ++ record { path = k; value = last.shard.value; stamp = (giving last.clock).at; verifier = rules.number } ∷ []) (sym same_frontier)))))
+      ∙ ap (λ (k : List Bool). evicts_by_each format digest rules.number start descents ++ record { path = k; value = last.shard.value; stamp = (giving last.clock).at; verifier = rules.number } ∷ []) (sym same_frontier)))))
       ∙ omega (
         arith,
-        count-append x (map (pending_hot format) (renewed_each rules.number old.clock touched)) (evicts_by_each format digest rules.number start trips ++ pending_shard new.shard ∷ []),
-        count-append x (evicts_by_each format digest rules.number start trips) (pending_shard new.shard ∷ []),
+        count-append x (map (pending_hot format) (renewed_each rules.number old.clock touched)) (evicts_by_each format digest rules.number start descents ++ pending_shard new.shard ∷ []),
+        count-append x (evicts_by_each format digest rules.number start descents) (pending_shard new.shard ∷ []),
         count-front x (pending_shard new.shard) (map (pending_hot format) (hot_records new.places)),
         new-weight x,
       )
@@ -311,7 +311,7 @@ module _ (rules : Rules) (cache : Held) (threshold : Option ℕ) (old : Stage) (
       from_first (inr counter) = inr (counter.0 ∙ sym is.0, omega (arith, counter.1, is.1))
 
       to_last : IsLater (giving last.clock).at at
-      to_last = inr (is.0 ∙ sym (each-epoch format digest rules.number start trips), omega (arith, is.2))
+      to_last = inr (is.0 ∙ sym (each-epoch format digest rules.number start descents), omega (arith, is.2))
 
   within_all : (path : List Bool) → AllByRecursion
       (λ (one : Stamp × Change). carries path one.1 ≡ true → IsWithin (Some (pending_shard old.shard)) (Some (pending_shard new.shard)) one.0) told_all
@@ -326,8 +326,8 @@ module _ (rules : Rules) (cache : Held) (threshold : Option ℕ) (old : Stage) (
       each (one ∷ told) all = ((λ is. between_later one.0 all.0), each told all.1)
 
   -- A move runs.
-  pub is_run : MoveRuns rules cache old (moved rules.scheme.format rules.scheme.digest rules.number old trips)
-      (move_commands rules.scheme.format rules.scheme.digest rules.number old trips)
+  pub is_run : MoveRuns rules cache old (moved rules.scheme.format rules.scheme.digest rules.number old descents)
+      (move_commands rules.scheme.format rules.scheme.digest rules.number old descents)
   is_run = record {
     told = told_all;
     runs = run-append rules (at_stage cache old) _ _ _ _ (record { cache = cache; clock = renewed }) (at_stage cache new)
@@ -344,8 +344,8 @@ module _ (rules : Rules) (cache : Held) (threshold : Option ℕ) (old : Stage) (
     added = added_all;
     evicted = evicted_all;
     renewed = (
-      (refl, each-epoch format digest rules.number start trips ∙ renewing_each-epoch old.clock touched),
-      images-all (pending_hot format) (IsOfClock rules old.clock) (hot_records new.places) (go_well format digest rules.number threshold old due trips given).fresh,
+      (refl, each-epoch format digest rules.number start descents ∙ renewing_each-epoch old.clock touched),
+      images-all (pending_hot format) (IsOfClock rules old.clock) (hot_records new.places) (go_well format digest rules.number threshold old promotable descents given).fresh,
     );
     no_access = accesses_told-append (told_renewing rules old.clock touched) _
         ∙ (ap (λ (xs : List Access). xs ++ accesses_told (done.told ++ told_out rules.number last.clock old.shard.frontier last.shard.value)) (no_access-renewing rules old.clock touched)
@@ -357,7 +357,7 @@ module _ (rules : Rules) (cache : Held) (threshold : Option ℕ) (old : Stage) (
     own = λ path is. carried_all path ∙ done.own path is;
     within = within_all;
     rises = later-trans old.shard.stamp start.clock.at new.shard.stamp first_later
-        (later_or_same start.clock.at last.clock.at (giving last.clock).at (each-epoch format digest rules.number start trips) counters last_later);
+        (later_or_same start.clock.at last.clock.at (giving last.clock).at (each-epoch format digest rules.number start descents) counters last_later);
   }
     where
       later_or_same : (s t u : Stamp) → t.epoch ≡ s.epoch → s.counter ≤ t.counter → IsLater u t → IsLater u s
@@ -369,8 +369,8 @@ module _ (rules : Rules) (cache : Held) (threshold : Option ℕ) (old : Stage) (
 module _ (format : Format) (digest : Digest) (worker : ℕ) (threshold : Option ℕ) (old new : Stage) (commands : List Command)
     (is : IsMove format digest worker threshold old commands new) (digests : GivesDigests digest) (some : IfSome threshold (λ least. 0 < least))
     (mirrors : StageMirrors format digest old) where
-  abbrev pub move_given : IsGiven format digest worker threshold old is.due is.trips
-  move_given = record { digests = digests; some = some; mirrors = mirrors; are_due = is.are_due; errands = is.errands; ways = is.ways }
+  abbrev pub move_given : IsGiven format digest worker threshold old is.promotable is.descents
+  move_given = record { digests = digests; some = some; mirrors = mirrors; are_promotable = is.are_promotable; transfers = is.transfers; ways = is.ways }
 
 -- A verifier at rest accepts the commands of a move.
 pub move_runs : (rules : Rules) (cache : Held) (threshold : Option ℕ) (old new : Stage) (commands : List Command)
@@ -380,12 +380,12 @@ pub move_runs : (rules : Rules) (cache : Held) (threshold : Option ℕ) (old new
     → MoveRuns rules cache old new commands
 move_runs rules cache threshold old new commands digests some can mirrors is =
     subst (λ (log : List Command). MoveRuns rules cache old new log) (sym is.commands)
-    (subst (λ (stage : Stage). MoveRuns rules cache old stage (move_commands rules.scheme.format rules.scheme.digest rules.number old is.trips)) (sym is.after)
-    (is_run rules cache threshold old is.due is.trips
+    (subst (λ (stage : Stage). MoveRuns rules cache old stage (move_commands rules.scheme.format rules.scheme.digest rules.number old is.descents)) (sym is.after)
+    (is_run rules cache threshold old is.promotable is.descents
     (move_given rules.scheme.format rules.scheme.digest rules.number threshold old new commands is digests some mirrors) can
     (subst (λ (stage : Stage). stage.clock.at.counter ≤ old.clock.end) is.after
     (subst (λ (clock : Reading). clock.at.counter ≤ old.clock.end) (sym (move_clock _ _ rules.number threshold old new commands is))
-    (not_past (clock_needed old is.due).at.counter old.clock.end (λ over. can.counters (record { due = is.due; are_due = is.are_due; past = over })))))))
+    (not_past (clock_needed old is.promotable).at.counter old.clock.end (λ over. can.counters (record { promotable = is.promotable; are_promotable = is.are_promotable; past = over })))))))
 
 -- The stage mirrors again behind it.
 pub move_mirrors : (format : Format) (digest : Digest) (worker : ℕ) (threshold : Option ℕ) (old new : Stage) (commands : List Command)
@@ -393,7 +393,7 @@ pub move_mirrors : (format : Format) (digest : Digest) (worker : ℕ) (threshold
     → IsMove format digest worker threshold old commands new → StageMirrors format digest new
 move_mirrors format digest worker threshold old new commands digests some mirrors is =
     subst (StageMirrors format digest) (sym is.after)
-    (mirrors_again format digest worker threshold old is.due is.trips (move_given format digest worker threshold old new commands is digests some mirrors))
+    (mirrors_again format digest worker threshold old is.promotable is.descents (move_given format digest worker threshold old new commands is digests some mirrors))
 
 -- The values that its commands bring in are of their paths' kinds.
 pub move_typed : (format : Format) (digest : Digest) (worker : ℕ) (threshold : Option ℕ) (old new : Stage) (commands : List Command)
@@ -401,4 +401,4 @@ pub move_typed : (format : Format) (digest : Digest) (worker : ℕ) (threshold :
     → IsMove format digest worker threshold old commands new → AllByRecursion (IsTyped format) commands
 move_typed format digest worker threshold old new commands digests some mirrors is =
     subst (AllByRecursion (IsTyped format)) (sym is.commands)
-    (all_typed format digest worker threshold old is.due is.trips (move_given format digest worker threshold old new commands is digests some mirrors))
+    (all_typed format digest worker threshold old is.promotable is.descents (move_given format digest worker threshold old new commands is digests some mirrors))

@@ -26,9 +26,9 @@ use Rattle.host_laws.proofs.BetweenLaws.{clear-bare, length-bare, told_between, 
 use Rattle.protection_moves.proofs.RenewingLaws.{renewing_each-up}
 use Rattle.protection_moves.specs.Stage.{hot_records, replaced}
 use Rattle.protection_moves.specs.Renewing.{renewed_record, renewing_each, renewed_places, renewing_commands}
-use Rattle.errand_laws.specs.Stages.{IsOne, IsTakable}
-use Rattle.errand_laws.proofs.CountLaws.{weight, weight-front}
-use Rattle.errand_laws.proofs.PlaceLaws.{HasNone, AreApart, replaced-weight, replaced-keys, apart-replaced, all-replaced, one-replaced}
+use Rattle.move_laws.specs.Stages.{IsOne, IsTakable}
+use Rattle.move_laws.proofs.CountLaws.{weight, weight-front}
+use Rattle.move_laws.proofs.PlaceLaws.{HasNone, AreApart, replaced-weight, replaced-keys, apart-replaced, all-replaced, one-replaced}
 
 -- ---- paths
 

@@ -9,9 +9,9 @@ use Rattle.host_shard.specs.declared.content.HotRecord.{HotRecord}
 use Rattle.host_shard.specs.Content.{Content}
 use Rattle.protection_moves.specs.Stage.{hot_records, is_touched, touched_in, untouched_in}
 use Rattle.protection_moves.proofs.TouchedLaws.{all-filter, all-order}
-use Rattle.errand_laws.specs.Stages.{IsOne}
-use Rattle.errand_laws.proofs.CountLaws.{weight, weight-order, weight-split}
-use Rattle.errand_laws.proofs.PlaceLaws.{AreApart, all-are, all-map, apart-filter, apart-order}
+use Rattle.move_laws.specs.Stages.{IsOne}
+use Rattle.move_laws.proofs.CountLaws.{weight, weight-order, weight-split}
+use Rattle.move_laws.proofs.PlaceLaws.{AreApart, all-are, all-map, apart-filter, apart-order}
 
 -- ---- those that were touched, and those that were not
 

@@ -1,3 +1,6 @@
 -- What the laws of moves cite, in reading order.
 pub mod Moved
 pub mod Deed
+pub mod Kept
+pub mod Stages
+pub mod Transfers

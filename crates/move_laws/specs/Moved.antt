@@ -19,8 +19,8 @@ use Rattle.host_laws.specs.Carried.{carried, carries}
 use Rattle.host_laws.specs.Served.{IsBare, IsWithin}
 use Rattle.protection_moves.specs.Stage.{Stage, hot_records}
 use Rattle.protection_moves.specs.Move.{IsPastEnd}
-use Rattle.errand_laws.specs.Kept.{AreCarried}
-use Rattle.errand_laws.specs.Stages.{IsTakable}
+use Rattle.move_laws.specs.Kept.{AreCarried}
+use Rattle.move_laws.specs.Stages.{IsTakable}
 
 -- the elements with which a shard and its hot places wait
 abbrev pub waiting_in : Format → Stage → List Element

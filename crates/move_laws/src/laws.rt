@@ -9,10 +9,10 @@ ghost use Rattle.verifier_cache.specs.Cache.{Held};
 ghost use Rattle.verifier_commands.specs.Transition.{Rules};
 ghost use Rattle.soundness.specs.Typed.{IsTyped};
 ghost use Rattle.protection_moves.specs.Stage.{Stage};
-ghost use Rattle.protection_moves.specs.Errand.{clock_needed};
+ghost use Rattle.protection_moves.specs.Transfer.{clock_needed};
 ghost use Rattle.protection_moves.specs.Move.{IsMove};
 ghost use Rattle.move_laws.specs.Deed.{IsClearMove, IsMoveDeed};
-ghost use Rattle.errand_laws.specs.Stages.{StageMirrors};
+ghost use Rattle.move_laws.specs.Stages.{StageMirrors};
 ghost use Rattle.move_laws.specs.Moved.{CanMove, MoveRuns};
 
 /// A verifier at rest accepts the commands of a move: it takes in what waited, hands out what then waits, and rests again.
@@ -41,7 +41,7 @@ pub fn a_move_is_typed()
 /// The clock behind a move is the one that is counted from stamps.
 pub fn a_move_takes_what_is_counted()
     ensures clock { (format : Format) (digest : Digest) (worker : ℕ) (threshold : Option ℕ) (old new : Stage) (commands : List Command)
-        → (is : IsMove format digest worker threshold old commands new) → new.clock ≡ clock_needed old is.due }
+        → (is : IsMove format digest worker threshold old commands new) → new.clock ≡ clock_needed old is.promotable }
 {}
 
 /// A move that runs is a deed of a machine that knows the events of its commands, and a clear one: there is nothing to

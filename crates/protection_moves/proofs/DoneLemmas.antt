@@ -1,4 +1,4 @@
--- Errands one after another: one more in front of others, and others in a shard that lacks a record.
+-- Transfers one after another: one more in front of others, and others in a shard that lacks a record.
 use Rattle.std.proofs.Common.{◌≡◌, ◌⊎◌, ℕ, suc, ◌<◌, ◌≤◌, ◌^◌, Fits, w64, slice_index_or, IsTrue, Bool, true, false, List, [], ◌∷◌, ◌++◌, map, length, Option, Some, None, if◌then◌else◌, refl, sym, ◌∙◌, ap, subst, inl, inr, append_assoc, arith}
 use Rattle.std.proofs.lemmas.Bool.{false≢true}
 use Rattle.std.proofs.Math.Path.{fun_ext}
@@ -24,49 +24,49 @@ use Rattle.host_shard.specs.declared.link.Link.{Link}
 use Rattle.host_shard.specs.Chain.{IsChain, next_link, known_link, fork_link, last_value, closed_value, closed_records}
 use Rattle.host_shard.specs.Content.{Content, key_path, vacant}
 use Rattle.host_shard.specs.Mirrors.{IsKeyOf}
-use Rattle.host_shard.specs.Shard.{Shard, tree_of, settled}
+use Rattle.host_shard.specs.Shard.{Shard, tree_of, rehashed}
 use Rattle.host_shard.specs.Tree.{Tree, pointer_of}
 use Rattle.host_shard.proofs.ChainLaws.{common-right}
 use Rattle.host_plan.specs.Moments.{taking, giving}
 use Rattle.protection_moves.specs.Stage.{Stage, replaced, placed}
-use Rattle.protection_moves.specs.Errand.{Errand, demotes, promotes, clock_by_each}
-use Rattle.protection_moves.specs.Trip.{Trip, AreLinks, AreTrips, without_record, shard_without, with_back, promoted_record, visit_but_last, become_hot, done_by, done_by_each, commands_by, commands_by_each, data_of}
+use Rattle.protection_moves.specs.Transfer.{Transfer, demotes, promotes, clock_by_each}
+use Rattle.protection_moves.specs.Descent.{Descent, AreLinks, AreDescents, without_record, shard_without, with_back, promoted_record, visit_but_last, become_hot, done_by, done_by_each, commands_by, commands_by_each, data_of}
 use Rattle.protection_moves.specs.Lending.{IsLending, IsReturning}
 use Rattle.protection_moves.specs.Done.{AreDone, stage_with}
-use Rattle.protection_moves.specs.Due.{AreRising}
+use Rattle.protection_moves.specs.Promotable.{AreRising}
 use Rattle.protection_moves.specs.Places.{placed_each, vacated}
 use Rattle.protection_moves.specs.Turn.{shard_but}
 use Rattle.protection_moves.proofs.SavingLemmas.{closed_elsewhere}
 
 module _ (format : Format) (digest : Digest) (worker : ℕ) where
   -- one more in front
-  pub errands_cons : (old : Stage) (errand : Errand) (links : List Link) (errands : List Errand) (before mid after : List Command) (last : Command) (new : Stage)
-      → AreLinks format old.shard errand links → mid ≡ before ++ commands_by format old errand links
-      → AreDone format digest worker (done_by format digest worker old errand links) errands mid last after new
-      → AreDone format digest worker old (errand ∷ errands) before last after new
-  errands_cons old errand links errands before mid after last new way logged rest = record {
-    trips = record { errand = errand; links = links } ∷ rest.trips;
-    errands = ap (λ (es : List Errand). errand ∷ es) rest.errands;
+  pub transfers_cons : (old : Stage) (transfer : Transfer) (links : List Link) (transfers : List Transfer) (before mid after : List Command) (last : Command) (new : Stage)
+      → AreLinks format old.shard transfer links → mid ≡ before ++ commands_by format old transfer links
+      → AreDone format digest worker (done_by format digest worker old transfer links) transfers mid last after new
+      → AreDone format digest worker old (transfer ∷ transfers) before last after new
+  transfers_cons old transfer links transfers before mid after last new way logged rest = record {
+    descents = record { transfer = transfer; links = links } ∷ rest.descents;
+    transfers = ap (λ (es : List Transfer). transfer ∷ es) rest.transfers;
     ways = (way, rest.ways);
     logged = rest.logged
-        ∙ ap (λ (cs : List Command). cs ++ (commands_by_each format digest worker (done_by format digest worker old errand links) rest.trips ++ last ∷ [])) logged
-        ∙ append_assoc before (commands_by format old errand links) (commands_by_each format digest worker (done_by format digest worker old errand links) rest.trips ++ last ∷ [])
+        ∙ ap (λ (cs : List Command). cs ++ (commands_by_each format digest worker (done_by format digest worker old transfer links) rest.descents ++ last ∷ [])) logged
+        ∙ append_assoc before (commands_by format old transfer links) (commands_by_each format digest worker (done_by format digest worker old transfer links) rest.descents ++ last ∷ [])
         ∙ ap (λ (cs : List Command). before ++ cs)
-        (sym (append_assoc (commands_by format old errand links) (commands_by_each format digest worker (done_by format digest worker old errand links) rest.trips) (last ∷ [])));
+        (sym (append_assoc (commands_by format old transfer links) (commands_by_each format digest worker (done_by format digest worker old transfer links) rest.descents) (last ∷ [])));
     leaves = rest.leaves;
   }
 
   -- A hot record comes back, and then there are others.
-  pub errands_back : (shard mid_shard : Shard) (found : HotRecord) (clock next : Reading) (errands : List Errand) (before mid after : List Command) (last : Command) (new : Stage)
+  pub transfers_back : (shard mid_shard : Shard) (found : HotRecord) (clock next : Reading) (transfers : List Transfer) (before mid after : List Command) (last : Command) (new : Stage)
       (touches : List Bool → ℕ) (places : List Content)
       → IsReturning format digest found shard before mid mid_shard → next ≡ taking clock found.stamp
-      → AreDone format digest worker (stage_with mid_shard touches (replaced found.key vacant places) next) errands mid last after new
-      → AreDone format digest worker (stage_with shard touches places clock) (demotes found ∷ errands) before last after new
-  errands_back shard mid_shard found clock next errands before mid after last new touches places back later rest =
-      errands_cons (stage_with shard touches places clock) (demotes found) back.links errands before mid after last new back.way back.commands
-      (subst (λ (stage : Stage). AreDone format digest worker stage errands mid last after new)
+      → AreDone format digest worker (stage_with mid_shard touches (replaced found.key vacant places) next) transfers mid last after new
+      → AreDone format digest worker (stage_with shard touches places clock) (demotes found ∷ transfers) before last after new
+  transfers_back shard mid_shard found clock next transfers before mid after last new touches places back later rest =
+      transfers_cons (stage_with shard touches places clock) (demotes found) back.links transfers before mid after last new back.way back.commands
+      (subst (λ (stage : Stage). AreDone format digest worker stage transfers mid last after new)
       (ap (λ (s : Shard). stage_with s touches (replaced found.key vacant places) next) back.shard
-      ∙ ap (λ (c : Reading). stage_with (settled format digest (with_back format shard found) back.links (values.Blob found.value)) touches (replaced found.key vacant places) c) later)
+      ∙ ap (λ (c : Reading). stage_with (rehashed format digest (with_back format shard found) back.links (values.Blob found.value)) touches (replaced found.key vacant places) c) later)
       rest)
 
   -- ---- a shard without a record
@@ -173,8 +173,8 @@ module _ (format : Format) (digest : Digest) (worker : ℕ) where
           ≡ without_record (without_record (closed_records format digest true shard.records links last) (key_path format key)) path k
       each k = at k (same_path k (key_path format key)) (same_path k path) refl
 
-  -- an errand that makes another key hot than that of this path
-  abbrev pub IsElse : List Bool → Errand → Type 0
+  -- a transfer that makes another key hot than that of this path
+  abbrev pub IsElse : List Bool → Transfer → Type 0
   IsElse path (demotes found) = ⊥
   IsElse path (promotes key) = (same_path (key_path format key) path ≡ false) × (length path ≡ length (key_path format key))
 
@@ -183,79 +183,79 @@ module _ (format : Format) (digest : Digest) (worker : ℕ) where
   above_same shard path key apart p front =
       ap (λ (o : Option Value). if same_path p shard.frontier then Some shard.value else o) (sym (ap (λ (b : Bool). if b then None else shard.records p) (apart p front)))
 
-  links_but : (shard : Shard) (path : List Bool) (errand : Errand) (links : List Link) → IsElse path errand → AreLinks format shard errand links → AreLinks format (shard_but shard path) errand links
+  links_but : (shard : Shard) (path : List Bool) (transfer : Transfer) (links : List Link) → IsElse path transfer → AreLinks format shard transfer links → AreLinks format (shard_but shard path) transfer links
   links_but shard path (demotes found) links is way = absurd is
   links_but shard path (promotes key) links is way =
       chain_same (tree_of shard) (tree_of (shard_but shard path)) (key_path format key) shard.frontier shard.value links
       (above_same shard path (key_path format key) (apart_fronts path (key_path format key) is.1 is.0)) way
 
-  done_but : (stage : Stage) (path : List Bool) (errand : Errand) (links : List Link) → IsElse path errand → AreLinks format stage.shard errand links
-      → done_by format digest worker (stage_but stage path) errand links ≡ stage_but (done_by format digest worker stage errand links) path
+  done_but : (stage : Stage) (path : List Bool) (transfer : Transfer) (links : List Link) → IsElse path transfer → AreLinks format stage.shard transfer links
+      → done_by format digest worker (stage_but stage path) transfer links ≡ stage_but (done_by format digest worker stage transfer links) path
   done_but stage path (demotes found) links is way = absurd is
   done_but stage path (promotes key) links is way =
       ap (λ (s : Shard). let now : Stage = record { shard = s; places = placed (promoted_record worker stage key links) stage.places; clock = giving stage.clock } in now)
       (without_but stage.shard key path links is.0
       (links_apart (tree_of stage.shard) path (key_path format key) stage.shard.frontier stage.shard.value links (apart_fronts path (key_path format key) is.1 is.0) way))
 
-  commands_but : (stage : Stage) (path : List Bool) (errand : Errand) (links : List Link) → IsElse path errand
-      → commands_by format (stage_but stage path) errand links ≡ commands_by format stage errand links
+  commands_but : (stage : Stage) (path : List Bool) (transfer : Transfer) (links : List Link) → IsElse path transfer
+      → commands_by format (stage_but stage path) transfer links ≡ commands_by format stage transfer links
   commands_but stage path (demotes found) links is = absurd is
   commands_but stage path (promotes key) links is = refl
 
-  -- what trips do where a record isn't there
-  pub record AreTripsBut (stage : Stage) (path : List Bool) (trips : List Trip) : Type 0 where
-    pub ways : AreTrips format digest worker (stage_but stage path) trips
-    pub commands : commands_by_each format digest worker (stage_but stage path) trips ≡ commands_by_each format digest worker stage trips
-    pub leaves : done_by_each format digest worker (stage_but stage path) trips ≡ stage_but (done_by_each format digest worker stage trips) path
+  -- what descents do where a record isn't there
+  pub record AreDescentsBut (stage : Stage) (path : List Bool) (descents : List Descent) : Type 0 where
+    pub ways : AreDescents format digest worker (stage_but stage path) descents
+    pub commands : commands_by_each format digest worker (stage_but stage path) descents ≡ commands_by_each format digest worker stage descents
+    pub leaves : done_by_each format digest worker (stage_but stage path) descents ≡ stage_but (done_by_each format digest worker stage descents) path
 
-  trips_but : (stage : Stage) (path : List Bool) (trips : List Trip) → AllByRecursion (λ (trip : Trip). IsElse path trip.errand) trips
-      → AreTrips format digest worker stage trips → AreTripsBut stage path trips
-  trips_but stage path [] is ways = record { ways = tt; commands = refl; leaves = refl }
-  trips_but stage path (trip ∷ trips) is ways =
-      let next : Stage = done_by format digest worker stage trip.errand trip.links in
-      let same = sym (done_but stage path trip.errand trip.links is.0 ways.0) in
-      let rest = trips_but next path trips is.1 ways.1 in
+  descents_but : (stage : Stage) (path : List Bool) (descents : List Descent) → AllByRecursion (λ (descent : Descent). IsElse path descent.transfer) descents
+      → AreDescents format digest worker stage descents → AreDescentsBut stage path descents
+  descents_but stage path [] is ways = record { ways = tt; commands = refl; leaves = refl }
+  descents_but stage path (descent ∷ descents) is ways =
+      let next : Stage = done_by format digest worker stage descent.transfer descent.links in
+      let same = sym (done_but stage path descent.transfer descent.links is.0 ways.0) in
+      let rest = descents_but next path descents is.1 ways.1 in
       record {
         ways = (
-          links_but stage.shard path trip.errand trip.links is.0 ways.0,
-          subst (λ (s : Stage). AreTrips format digest worker s trips) same rest.ways,
+          links_but stage.shard path descent.transfer descent.links is.0 ways.0,
+          subst (λ (s : Stage). AreDescents format digest worker s descents) same rest.ways,
         );
-        commands = ap (λ (s : Stage). commands_by format (stage_but stage path) trip.errand trip.links ++ commands_by_each format digest worker s trips) (sym same)
-            ∙ ap (λ (cs : List Command). commands_by format (stage_but stage path) trip.errand trip.links ++ cs) rest.commands
-            ∙ ap (λ (cs : List Command). cs ++ commands_by_each format digest worker next trips) (commands_but stage path trip.errand trip.links is.0);
-        leaves = ap (λ (s : Stage). done_by_each format digest worker s trips) (sym same) ∙ rest.leaves;
+        commands = ap (λ (s : Stage). commands_by format (stage_but stage path) descent.transfer descent.links ++ commands_by_each format digest worker s descents) (sym same)
+            ∙ ap (λ (cs : List Command). commands_by format (stage_but stage path) descent.transfer descent.links ++ cs) rest.commands
+            ∙ ap (λ (cs : List Command). cs ++ commands_by_each format digest worker next descents) (commands_but stage path descent.transfer descent.links is.0);
+        leaves = ap (λ (s : Stage). done_by_each format digest worker s descents) (sym same) ∙ rest.leaves;
       }
 
-  errands_else : (path : List Bool) (trips : List Trip) → AllByRecursion (IsElse path) (map (λ (trip : Trip). trip.errand) trips) → AllByRecursion (λ (trip : Trip). IsElse path trip.errand) trips
-  errands_else path [] all = tt
-  errands_else path (trip ∷ trips) all = (all.0, errands_else path trips all.1)
+  transfers_else : (path : List Bool) (descents : List Descent) → AllByRecursion (IsElse path) (map (λ (descent : Descent). descent.transfer) descents) → AllByRecursion (λ (descent : Descent). IsElse path descent.transfer) descents
+  transfers_else path [] all = tt
+  transfers_else path (descent ∷ descents) all = (all.0, transfers_else path descents all.1)
 
-  -- Errands that make other keys hot do the same where a record isn't there.
-  pub errands_but : (old new : Stage) (path : List Bool) (errands : List Errand) (before after : List Command) (last : Command) → AllByRecursion (IsElse path) errands
-      → AreDone format digest worker old errands before last after new
-      → AreDone format digest worker (stage_but old path) errands before last after (stage_but new path)
-  errands_but old new path errands before after last all run =
-      let but = trips_but old path run.trips (errands_else path run.trips (subst (AllByRecursion (IsElse path)) (sym run.errands) all)) run.ways in
+  -- Transfers that make other keys hot do the same where a record isn't there.
+  pub transfers_but : (old new : Stage) (path : List Bool) (transfers : List Transfer) (before after : List Command) (last : Command) → AllByRecursion (IsElse path) transfers
+      → AreDone format digest worker old transfers before last after new
+      → AreDone format digest worker (stage_but old path) transfers before last after (stage_but new path)
+  transfers_but old new path transfers before after last all run =
+      let but = descents_but old path run.descents (transfers_else path run.descents (subst (AllByRecursion (IsElse path)) (sym run.transfers) all)) run.ways in
       record {
-        trips = run.trips;
-        errands = run.errands;
+        descents = run.descents;
+        transfers = run.transfers;
         ways = but.ways;
         logged = run.logged ∙ ap (λ (cs : List Command). before ++ (cs ++ last ∷ [])) (sym but.commands);
         leaves = ap (λ (s : Stage). stage_but s path) run.leaves ∙ sym but.leaves;
       }
 
   -- A key becomes hot, and then there are others. Its own record is taken away in the end.
-  pub errands_hot : (shard mid_shard : Shard) (key : ℕ) (hot : HotRecord) (clock next : Reading) (stamp : Stamp) (errands : List Errand) (before mid after : List Command) (last : Command) (new : Stage)
+  pub transfers_hot : (shard mid_shard : Shard) (key : ℕ) (hot : HotRecord) (clock next : Reading) (stamp : Stamp) (transfers : List Transfer) (before mid after : List Command) (last : Command) (new : Stage)
       (touches : List Bool → ℕ) (places : List Content)
       → IsLending format digest worker stamp key shard before hot mid mid_shard → next ≡ giving clock → stamp ≡ next.at
-      → AllByRecursion (IsElse (key_path format key)) errands
-      → AreDone format digest worker (stage_with mid_shard touches (placed hot places) next) errands mid last after new
-      → AreDone format digest worker (stage_with shard touches places clock) (promotes key ∷ errands) before last after (stage_but new (key_path format key))
-  errands_hot shard mid_shard key hot clock next stamp errands before mid after last new touches places lending later at all rest =
-      errands_cons (stage_with shard touches places clock) (promotes key) links errands before mid after last (stage_but new path) lending.way
+      → AllByRecursion (IsElse (key_path format key)) transfers
+      → AreDone format digest worker (stage_with mid_shard touches (placed hot places) next) transfers mid last after new
+      → AreDone format digest worker (stage_with shard touches places clock) (promotes key ∷ transfers) before last after (stage_but new (key_path format key))
+  transfers_hot shard mid_shard key hot clock next stamp transfers before mid after last new touches places lending later at all rest =
+      transfers_cons (stage_with shard touches places clock) (promotes key) links transfers before mid after last (stage_but new path) lending.way
       (lending.commands ∙ ap (λ (t : Stamp). before ++ visit_but_last shard.frontier links (become_hot t)) moment)
-      (subst (λ (stage : Stage). AreDone format digest worker stage errands mid last after (stage_but new path)) same
-      (errands_but (stage_with mid_shard touches (placed hot places) next) new path errands mid after last all rest))
+      (subst (λ (stage : Stage). AreDone format digest worker stage transfers mid last after (stage_but new path)) same
+      (transfers_but (stage_with mid_shard touches (placed hot places) next) new path transfers mid after last all rest))
     where
       path : List Bool
       path = key_path format key
@@ -316,7 +316,7 @@ rest_within clock next keys rest key is later within =
     (subst (λ (ks : List ℕ). (giving (clock_by_each clock (map (λ (k : ℕ). promotes k) ks))).at.counter ≤ clock.end) is within)
 
 -- The run of keys, of which the first becomes hot before the others.
-pub errands_promoted : (digest : Digest) (worker : ℕ) (shard mid_shard rest_shard final : Shard) (key : ℕ) (rest keys : List ℕ) (hot : HotRecord) (others all : List HotRecord)
+pub transfers_promoted : (digest : Digest) (worker : ℕ) (shard mid_shard rest_shard final : Shard) (key : ℕ) (rest keys : List ℕ) (hot : HotRecord) (others all : List HotRecord)
     (clock next : Reading) (stamp : Stamp) (before mid after : List Command)
     → keys ≡ key ∷ rest → IsLending short_keys digest worker stamp key shard before hot mid mid_shard → next ≡ giving clock → stamp ≡ next.at
     → AllByRecursion (λ k. k < 2 ^ 64) keys → AreRising keys → mid_shard.frontier ≡ shard.frontier
@@ -327,18 +327,18 @@ pub errands_promoted : (digest : Digest) (worker : ℕ) (shard mid_shard rest_sh
     → (touches : List Bool → ℕ) (places : List Content) → AreDone short_keys digest worker (stage_with shard touches places clock) (map (λ (k : ℕ). promotes k) keys) before
     (EvictB shard.frontier (giving (clock_by_each clock (map (λ (k : ℕ). promotes k) keys))).at) after
     (stage_with final touches (placed_each all places) (clock_by_each clock (map (λ (k : ℕ). promotes k) keys)))
-errands_promoted digest worker shard mid_shard rest_shard final key rest keys hot others all clock next stamp before mid after is lending later at fit rising same run hots left touches places =
+transfers_promoted digest worker shard mid_shard rest_shard final key rest keys hot others all clock next stamp before mid after is lending later at fit rising same run hots left touches places =
     subst (λ (ks : List ℕ). AreDone short_keys digest worker (stage_with shard touches places clock) (map (λ (k : ℕ). promotes k) ks) before
     (EvictB shard.frontier (giving (clock_by_each clock (map (λ (k : ℕ). promotes k) ks))).at) after
     (stage_with final touches (placed_each all places) (clock_by_each clock (map (λ (k : ℕ). promotes k) ks)))) (sym is)
-    (subst (λ (new : Stage). AreDone short_keys digest worker (stage_with shard touches places clock) (promotes key ∷ errands) before (EvictB shard.frontier (giving (clock_by_each (giving clock) errands)).at) after new) new
-    (subst (λ (last : Command). AreDone short_keys digest worker (stage_with shard touches places clock) (promotes key ∷ errands) before last after
-    (stage_but short_keys digest worker (stage_with rest_shard touches (placed_each others (placed hot places)) (clock_by_each next errands)) (key_path short_keys key))) last
-    (errands_hot short_keys digest worker shard mid_shard key hot clock next stamp errands before mid after _ _ touches places lending later at
+    (subst (λ (new : Stage). AreDone short_keys digest worker (stage_with shard touches places clock) (promotes key ∷ transfers) before (EvictB shard.frontier (giving (clock_by_each (giving clock) transfers)).at) after new) new
+    (subst (λ (last : Command). AreDone short_keys digest worker (stage_with shard touches places clock) (promotes key ∷ transfers) before last after
+    (stage_but short_keys digest worker (stage_with rest_shard touches (placed_each others (placed hot places)) (clock_by_each next transfers)) (key_path short_keys key))) last
+    (transfers_hot short_keys digest worker shard mid_shard key hot clock next stamp transfers before mid after _ _ touches places lending later at
     (else_all digest worker key rest fits.0 fits.1 above.0) (run touches (placed hot places)))))
   where
-    errands : List Errand
-    errands = map (λ (k : ℕ). promotes k) rest
+    transfers : List Transfer
+    transfers = map (λ (k : ℕ). promotes k) rest
 
     fits : AllByRecursion (λ k. k < 2 ^ 64) (key ∷ rest)
     fits = subst (AllByRecursion (λ k. k < 2 ^ 64)) is fit
@@ -346,17 +346,17 @@ errands_promoted digest worker shard mid_shard rest_shard final key rest keys ho
     above : AreRising (key ∷ rest)
     above = subst AreRising is rising
 
-    last : EvictB mid_shard.frontier (giving (clock_by_each next errands)).at ≡ EvictB shard.frontier (giving (clock_by_each (giving clock) errands)).at
-    last = ap (λ (f : List Bool). EvictB f (giving (clock_by_each next errands)).at) same ∙ ap (λ (c : Reading). EvictB shard.frontier (giving (clock_by_each c errands)).at) later
+    last : EvictB mid_shard.frontier (giving (clock_by_each next transfers)).at ≡ EvictB shard.frontier (giving (clock_by_each (giving clock) transfers)).at
+    last = ap (λ (f : List Bool). EvictB f (giving (clock_by_each next transfers)).at) same ∙ ap (λ (c : Reading). EvictB shard.frontier (giving (clock_by_each c transfers)).at) later
 
-    new : stage_but short_keys digest worker (stage_with rest_shard touches (placed_each others (placed hot places)) (clock_by_each next errands)) (key_path short_keys key)
-        ≡ stage_with final touches (placed_each all places) (clock_by_each (giving clock) errands)
-    new = ap (λ (s : Shard). let now : Stage = record { shard = s; places = placed_each (hot ∷ others) places; clock = clock_by_each next errands } in now) (sym (left touches))
-        ∙ ap (λ (hs : List HotRecord). stage_with final touches (placed_each hs places) (clock_by_each next errands)) (sym hots)
-        ∙ ap (λ (c : Reading). stage_with final touches (placed_each all places) (clock_by_each c errands)) later
+    new : stage_but short_keys digest worker (stage_with rest_shard touches (placed_each others (placed hot places)) (clock_by_each next transfers)) (key_path short_keys key)
+        ≡ stage_with final touches (placed_each all places) (clock_by_each (giving clock) transfers)
+    new = ap (λ (s : Shard). let now : Stage = record { shard = s; places = placed_each (hot ∷ others) places; clock = clock_by_each next transfers } in now) (sym (left touches))
+        ∙ ap (λ (hs : List HotRecord). stage_with final touches (placed_each hs places) (clock_by_each next transfers)) (sym hots)
+        ∙ ap (λ (c : Reading). stage_with final touches (placed_each all places) (clock_by_each c transfers)) later
 
--- The run of records that come back before other errands.
-pub errands_returned : (digest : Digest) (worker : ℕ) (shard mid_shard rest_shard : Shard) (found : HotRecord) (rest back : List HotRecord) (more : List Errand) (hots : List HotRecord)
+-- The run of records that come back before other transfers.
+pub transfers_returned : (digest : Digest) (worker : ℕ) (shard mid_shard rest_shard : Shard) (found : HotRecord) (rest back : List HotRecord) (more : List Transfer) (hots : List HotRecord)
     (clock next : Reading) (before mid after : List Command)
     → back ≡ found ∷ rest → IsReturning short_keys digest found shard before mid mid_shard → next ≡ taking clock found.stamp → mid_shard.frontier ≡ shard.frontier
     → ((touches : List Bool → ℕ) (places : List Content) → AreDone short_keys digest worker (stage_with mid_shard touches places next) (map (λ (f : HotRecord). demotes f) rest ++ more) mid
@@ -365,21 +365,21 @@ pub errands_returned : (digest : Digest) (worker : ℕ) (shard mid_shard rest_sh
     → (touches : List Bool → ℕ) (places : List Content) → AreDone short_keys digest worker (stage_with shard touches places clock) (map (λ (f : HotRecord). demotes f) back ++ more) before
     (EvictB shard.frontier (giving (clock_by_each clock (map (λ (f : HotRecord). demotes f) back ++ more))).at) after
     (stage_with rest_shard touches (placed_each hots (vacated back places)) (clock_by_each clock (map (λ (f : HotRecord). demotes f) back ++ more)))
-errands_returned digest worker shard mid_shard rest_shard found rest back more hots clock next before mid after is returning later same run touches places =
+transfers_returned digest worker shard mid_shard rest_shard found rest back more hots clock next before mid after is returning later same run touches places =
     subst (λ (fs : List HotRecord). AreDone short_keys digest worker (stage_with shard touches places clock) (map (λ (f : HotRecord). demotes f) fs ++ more) before
     (EvictB shard.frontier (giving (clock_by_each clock (map (λ (f : HotRecord). demotes f) fs ++ more))).at) after
     (stage_with rest_shard touches (placed_each hots (vacated fs places)) (clock_by_each clock (map (λ (f : HotRecord). demotes f) fs ++ more)))) (sym is)
-    (errands_back short_keys digest worker shard mid_shard found clock next errands before mid after _ _ touches places returning later
-    (subst (λ (c : Reading). AreDone short_keys digest worker (stage_with mid_shard touches (replaced found.key vacant places) next) errands mid
-    (EvictB shard.frontier (giving (clock_by_each c errands)).at) after
-    (stage_with rest_shard touches (placed_each hots (vacated rest (replaced found.key vacant places))) (clock_by_each c errands))) later
-    (subst (λ (f : List Bool). AreDone short_keys digest worker (stage_with mid_shard touches (replaced found.key vacant places) next) errands mid
-    (EvictB f (giving (clock_by_each next errands)).at) after
-    (stage_with rest_shard touches (placed_each hots (vacated rest (replaced found.key vacant places))) (clock_by_each next errands))) same
+    (transfers_back short_keys digest worker shard mid_shard found clock next transfers before mid after _ _ touches places returning later
+    (subst (λ (c : Reading). AreDone short_keys digest worker (stage_with mid_shard touches (replaced found.key vacant places) next) transfers mid
+    (EvictB shard.frontier (giving (clock_by_each c transfers)).at) after
+    (stage_with rest_shard touches (placed_each hots (vacated rest (replaced found.key vacant places))) (clock_by_each c transfers))) later
+    (subst (λ (f : List Bool). AreDone short_keys digest worker (stage_with mid_shard touches (replaced found.key vacant places) next) transfers mid
+    (EvictB f (giving (clock_by_each next transfers)).at) after
+    (stage_with rest_shard touches (placed_each hots (vacated rest (replaced found.key vacant places))) (clock_by_each next transfers))) same
     (run touches (replaced found.key vacant places)))))
   where
-    errands : List Errand
-    errands = map (λ (f : HotRecord). demotes f) rest ++ more
+    transfers : List Transfer
+    transfers = map (λ (f : HotRecord). demotes f) rest ++ more
 
 -- the clock behind the first record takes the others in too
 pub rest_open : (clock next : Reading) (found : HotRecord) (rest back : List HotRecord) → back ≡ found ∷ rest → next ≡ taking clock found.stamp
@@ -388,7 +388,7 @@ rest_open clock next found rest back is later open' =
     subst (λ (c : Reading). AllByRecursion (λ (f : HotRecord). IsTrue (is_open c f.stamp.epoch)) rest) (sym later)
     (subst (AllByRecursion (λ (f : HotRecord). IsTrue (is_open clock f.stamp.epoch))) is open').1
 
-pub rest_within_back : (clock next : Reading) (found : HotRecord) (rest back : List HotRecord) (more : List Errand) → back ≡ found ∷ rest → next ≡ taking clock found.stamp
+pub rest_within_back : (clock next : Reading) (found : HotRecord) (rest back : List HotRecord) (more : List Transfer) → back ≡ found ∷ rest → next ≡ taking clock found.stamp
     → (giving (clock_by_each clock (map (λ (f : HotRecord). demotes f) back ++ more))).at.counter ≤ clock.end
     → (giving (clock_by_each next (map (λ (f : HotRecord). demotes f) rest ++ more))).at.counter ≤ next.end
 rest_within_back clock next found rest back more is later within =

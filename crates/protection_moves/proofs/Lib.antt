@@ -1,11 +1,11 @@
 -- How moves are proved, in reading order.
 pub mod RenewingLaws
 pub mod TouchedLaws
-pub mod ErrandLaws
+pub mod TransferLaws
 mod CountingLemmas
 mod PlaceLemmas
 mod SavingLemmas
-mod DueLemmas
-mod TripLemmas
+mod PromotableLemmas
+mod DescentLemmas
 mod DoneLemmas
 mod MoveLemmas

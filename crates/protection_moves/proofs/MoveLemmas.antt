@@ -1,4 +1,4 @@
--- The move of a shard, put together: what is due, the counters, and the run of its errands.
+-- The move of a shard, put together: what is promotable, the counters, and the run of its transfers.
 use Rattle.std.proofs.Common.{◌≡◌, ◌⊎◌, ℕ, suc, ◌+◌, ◌<◌, Bool, List, [], ◌∷◌, ◌++◌, map, take, length, Option, IsTrue, refl, sym, ◌∙◌, ap, subst, inl, inr, append_assoc, arith}
 use Rattle.std.proofs.Math.Path.{fun_ext}
 use Rattle.std.specs.Prelude.{AllPairs}
@@ -16,16 +16,16 @@ use Rattle.host_shard.specs.Shard.{Shard, pending_shard}
 use Rattle.host_plan.specs.Moments.{taking, giving}
 use Rattle.protection_moves.specs.Stage.{Stage, vacancies, touched_in, untouched_in}
 use Rattle.protection_moves.specs.Renewing.{renewing_each, renewed_places, renewing_commands}
-use Rattle.protection_moves.specs.Errand.{Errand, demotes, promotes, AreDue, errands_of, clock_by_each, clock_needed}
+use Rattle.protection_moves.specs.Transfer.{Transfer, demotes, promotes, ArePromotable, transfers_of, clock_by_each, clock_needed}
 use Rattle.protection_moves.specs.Move.{IsMove, IsPastEnd, begun, handed_out, moved}
-use Rattle.protection_moves.specs.Trip.{AreTrips, done_by_each, commands_by_each}
+use Rattle.protection_moves.specs.Descent.{AreDescents, done_by_each, commands_by_each}
 use Rattle.protection_moves.specs.Done.{AreDone, stage_with, taking_in}
-use Rattle.protection_moves.specs.Due.{AreFirstDue}
-use Rattle.protection_moves.proofs.DueLemmas.{among_head, among_tail, among_cases}
+use Rattle.protection_moves.specs.Promotable.{AreFirstPromotable}
+use Rattle.protection_moves.proofs.PromotableLemmas.{among_head, among_tail, among_cases}
 use Rattle.protection_moves.proofs.CountingLemmas.{clock_by_each-up, clock_by_each-open}
 use Rattle.protection_moves.proofs.RenewingLaws.{renewing_each-open}
 
--- ---- the keys that are due are one list
+-- ---- the keys that are promotable are one list
 
 -- in a rising list the first is the least
 head_least : (x v : ℕ) (xs : List ℕ) → AllPairs (λ a b. a < b) (x ∷ xs) → IsAmong xs v → x < v
@@ -65,23 +65,23 @@ rising_unique (x ∷ xs) (y ∷ ys) one two there back =
     (λ k is. same_tail x y k xs ys one same is (there k (among_tail x k xs is)))
     (λ k is. same_tail y x k ys xs two (sym same) is (back k (among_tail y k ys is))))
 
-pub due_unique : (format : Format) (stage : Stage) (threshold : Option ℕ) (xs ys : List ℕ) → AreDue format stage threshold xs → AreDue format stage threshold ys → xs ≡ ys
-due_unique format stage threshold xs ys one two =
-    rising_unique xs ys one.rising two.rising (λ k is. (two.due k).1 ((one.due k).0 is)) (λ k is. (one.due k).1 ((two.due k).0 is))
+pub promotable_unique : (format : Format) (stage : Stage) (threshold : Option ℕ) (xs ys : List ℕ) → ArePromotable format stage threshold xs → ArePromotable format stage threshold ys → xs ≡ ys
+promotable_unique format stage threshold xs ys one two =
+    rising_unique xs ys one.rising two.rising (λ k is. (two.promotable k).1 ((one.promotable k).0 is)) (λ k is. (one.promotable k).1 ((two.promotable k).0 is))
 
 -- ---- one stage
 
 module _ (stage : Stage) (threshold : Option ℕ) (back : List HotRecord) (keys : List ℕ) (returning : back ≡ untouched_in stage.places)
-    (first : AreFirstDue short_keys stage threshold (vacancies stage.places + length back) keys) where
-  abbrev pub errands : List Errand
-  errands = map (λ (f : HotRecord). demotes f) back ++ map (λ (k : ℕ). promotes k) keys
+    (first : AreFirstPromotable short_keys stage threshold (vacancies stage.places + length back) keys) where
+  abbrev pub transfers : List Transfer
+  transfers = map (λ (f : HotRecord). demotes f) back ++ map (λ (k : ℕ). promotes k) keys
 
-  -- the errands of the move
-  are_errands : (due : List ℕ) → AreDue short_keys stage threshold due → errands ≡ errands_of stage due
-  are_errands due are =
+  -- the transfers of the move
+  are_transfers : (promotable : List ℕ) → ArePromotable short_keys stage threshold promotable → transfers ≡ transfers_of stage promotable
+  are_transfers promotable are =
       ap (λ (ks : List ℕ). map (λ (f : HotRecord). demotes f) back ++ map (λ (k : ℕ). promotes k) ks)
-      (first.first ∙ ap (take (vacancies stage.places + length back)) (due_unique short_keys stage threshold first.due due first.are_due are))
-      ∙ ap (λ (fs : List HotRecord). map (λ (f : HotRecord). demotes f) fs ++ map (λ (k : ℕ). promotes k) (take (vacancies stage.places + length fs) due)) returning
+      (first.first ∙ ap (take (vacancies stage.places + length back)) (promotable_unique short_keys stage threshold first.promotable promotable first.are_promotable are))
+      ∙ ap (λ (fs : List HotRecord). map (λ (f : HotRecord). demotes f) fs ++ map (λ (k : ℕ). promotes k) (take (vacancies stage.places + length fs) promotable)) returning
 
   -- the clock that has the frontier taken in, and the one at the end
   module _ (touched : List HotRecord) (staying : touched ≡ touched_in stage.places) where
@@ -89,52 +89,52 @@ module _ (stage : Stage) (threshold : Option ℕ) (back : List HotRecord) (keys 
     start_clock = taking (renewing_each stage.clock touched) stage.shard.stamp
 
     abbrev pub end_clock : Reading
-    end_clock = giving (clock_by_each start_clock errands)
+    end_clock = giving (clock_by_each start_clock transfers)
 
-    needed : (due : List ℕ) → AreDue short_keys stage threshold due → end_clock ≡ clock_needed stage due
-    needed due are =
-        ap (λ (es : List Errand). giving (clock_by_each start_clock es)) (are_errands due are)
-        ∙ ap (λ (fs : List HotRecord). giving (clock_by_each (taking (renewing_each stage.clock fs) stage.shard.stamp) (errands_of stage due))) staying
+    needed : (promotable : List ℕ) → ArePromotable short_keys stage threshold promotable → end_clock ≡ clock_needed stage promotable
+    needed promotable are =
+        ap (λ (es : List Transfer). giving (clock_by_each start_clock es)) (are_transfers promotable are)
+        ∙ ap (λ (fs : List HotRecord). giving (clock_by_each (taking (renewing_each stage.clock fs) stage.shard.stamp) (transfers_of stage promotable))) staying
 
     pub is_past : stage.clock.end < end_clock.at.counter → IsPastEnd short_keys threshold stage
     is_past past = record {
-      due = first.due;
-      are_due = first.are_due;
-      past = subst (λ (c : Reading). stage.clock.end < c.at.counter) (needed first.due first.are_due) past;
+      promotable = first.promotable;
+      are_promotable = first.are_promotable;
+      past = subst (λ (c : Reading). stage.clock.end < c.at.counter) (needed first.promotable first.are_promotable) past;
     }
 
     pub past_is : IsPastEnd short_keys threshold stage → stage.clock.end < end_clock.at.counter
-    past_is past = subst (λ (c : Reading). stage.clock.end < c.at.counter) (sym (needed past.due past.are_due)) past.past
+    past_is past = subst (λ (c : Reading). stage.clock.end < c.at.counter) (sym (needed past.promotable past.are_promotable)) past.past
 
     -- the frontier alone passes it
     pub past_at_start : stage.clock.end < start_clock.at.counter → IsPastEnd short_keys threshold stage
-    past_at_start past = is_past (omega (arith, past, clock_by_each-up start_clock errands))
+    past_at_start past = is_past (omega (arith, past, clock_by_each-up start_clock transfers))
 
-    -- A run of the errands is the move.
+    -- A run of the transfers is the move.
     pub is_move : (digest : Digest) (worker : ℕ) (mid later : Reading) (start logged : List Command) (left : Shard) (places : List Content) (new : Stage)
-        → mid ≡ start_clock → later ≡ giving (clock_by_each mid errands)
+        → mid ≡ start_clock → later ≡ giving (clock_by_each mid transfers)
         → start ≡ renewing_commands short_keys stage.clock touched ++ taking_in (pending_shard stage.shard) ∷ []
-        → AreDone short_keys digest worker (stage_with stage.shard (λ k. 0) (renewed_places worker stage.clock stage.places touched) mid) errands start
-        (EvictB stage.shard.frontier (giving (clock_by_each mid errands)).at) logged
-        (stage_with left (λ k. 0) places (clock_by_each mid errands))
+        → AreDone short_keys digest worker (stage_with stage.shard (λ k. 0) (renewed_places worker stage.clock stage.places touched) mid) transfers start
+        (EvictB stage.shard.frontier (giving (clock_by_each mid transfers)).at) logged
+        (stage_with left (λ k. 0) places (clock_by_each mid transfers))
         → new ≡ record { shard = record left { touches = λ k. 0; stamp = later.at; evictor = worker }; places = places; clock = later }
         → IsMove short_keys digest worker threshold stage logged new
     is_move digest worker mid later start logged left places new begins ends starts run becomes = record {
-      due = first.due;
-      are_due = first.are_due;
-      trips = run.trips;
-      errands = run.errands ∙ are_errands first.due first.are_due;
-      ways = subst (λ (s : Stage). AreTrips short_keys digest worker s run.trips) started run.ways;
+      promotable = first.promotable;
+      are_promotable = first.are_promotable;
+      descents = run.descents;
+      transfers = run.transfers ∙ are_transfers first.promotable first.are_promotable;
+      ways = subst (λ (s : Stage). AreDescents short_keys digest worker s run.descents) started run.ways;
       commands = run.logged
-          ∙ ap (λ (cs : List Command). cs ++ (commands_by_each short_keys digest worker first_stage run.trips ++ last mid ∷ [])) starts
-          ∙ append_assoc (renewing_commands short_keys stage.clock touched) (taking_in (pending_shard stage.shard) ∷ []) (commands_by_each short_keys digest worker first_stage run.trips ++ last mid ∷ [])
-          ∙ ap (λ (s : Stage). renewing_commands short_keys stage.clock touched ++ taking_in (pending_shard stage.shard) ∷ (commands_by_each short_keys digest worker s run.trips ++ last mid ∷ [])) started
+          ∙ ap (λ (cs : List Command). cs ++ (commands_by_each short_keys digest worker first_stage run.descents ++ last mid ∷ [])) starts
+          ∙ append_assoc (renewing_commands short_keys stage.clock touched) (taking_in (pending_shard stage.shard) ∷ []) (commands_by_each short_keys digest worker first_stage run.descents ++ last mid ∷ [])
+          ∙ ap (λ (s : Stage). renewing_commands short_keys stage.clock touched ++ taking_in (pending_shard stage.shard) ∷ (commands_by_each short_keys digest worker s run.descents ++ last mid ∷ [])) started
           ∙ ap (λ (c : Reading). renewing_commands short_keys stage.clock touched
-          ++ taking_in (pending_shard stage.shard) ∷ (commands_by_each short_keys digest worker (begun worker stage) run.trips ++ EvictB stage.shard.frontier (giving c).at ∷ []))
+          ++ taking_in (pending_shard stage.shard) ∷ (commands_by_each short_keys digest worker (begun worker stage) run.descents ++ EvictB stage.shard.frontier (giving c).at ∷ []))
           (ap (λ (s : Stage). s.clock) done)
           ∙ ap (λ (fs : List HotRecord). renewing_commands short_keys stage.clock fs
-          ++ taking_in (pending_shard stage.shard) ∷ (commands_by_each short_keys digest worker (begun worker stage) run.trips
-          ++ EvictB stage.shard.frontier (moved short_keys digest worker stage run.trips).clock.at ∷ [])) staying;
+          ++ taking_in (pending_shard stage.shard) ∷ (commands_by_each short_keys digest worker (begun worker stage) run.descents
+          ++ EvictB stage.shard.frontier (moved short_keys digest worker stage run.descents).clock.at ∷ [])) staying;
       after = becomes
           ∙ ap (λ (c : Reading). let now : Stage = record { shard = record left { touches = λ k. 0; stamp = c.at; evictor = worker }; places = places; clock = c } in now) ends
           ∙ ap (handed_out worker) done;
@@ -144,14 +144,14 @@ module _ (stage : Stage) (threshold : Option ℕ) (back : List HotRecord) (keys 
         first_stage = stage_with stage.shard (λ k. 0) (renewed_places worker stage.clock stage.places touched) mid
 
         last : Reading → Command
-        last c = EvictB stage.shard.frontier (giving (clock_by_each c errands)).at
+        last c = EvictB stage.shard.frontier (giving (clock_by_each c transfers)).at
 
         started : first_stage ≡ begun worker stage
         started = ap (λ (c : Reading). stage_with stage.shard (λ k. 0) (renewed_places worker stage.clock stage.places touched) c) begins
             ∙ ap (λ (fs : List HotRecord). stage_with stage.shard (λ k. 0) (renewed_places worker stage.clock stage.places fs) (taking (renewing_each stage.clock fs) stage.shard.stamp)) staying
 
-        done : stage_with left (λ k. 0) places (clock_by_each mid errands) ≡ done_by_each short_keys digest worker (begun worker stage) run.trips
-        done = run.leaves ∙ ap (λ (s : Stage). done_by_each short_keys digest worker s run.trips) started
+        done : stage_with left (λ k. 0) places (clock_by_each mid transfers) ≡ done_by_each short_keys digest worker (begun worker stage) run.descents
+        done = run.leaves ∙ ap (λ (s : Stage). done_by_each short_keys digest worker s run.descents) started
 
 -- ---- the clock within a move
 
@@ -162,14 +162,14 @@ open_between clock mid touched stamp records is all =
     subst (λ (opens : ℕ → Bool). AllByRecursion (λ (f : HotRecord). IsTrue (opens f.stamp.epoch)) records)
     (fun_ext (λ epoch. sym (ap (λ (c : Reading). is_open c epoch) is ∙ renewing_each-open clock touched epoch))) all
 
-pub open_after : (clock mid later : Reading) (touched : List HotRecord) (stamp : Stamp) (errands : List Errand) (epoch : ℕ)
-    → mid ≡ taking (renewing_each clock touched) stamp → later ≡ giving (clock_by_each mid errands) → is_open later epoch ≡ is_open clock epoch
-open_after clock mid later touched stamp errands epoch begins ends =
-    ap (λ (c : Reading). is_open c epoch) ends ∙ clock_by_each-open mid errands epoch ∙ ap (λ (c : Reading). is_open c epoch) begins ∙ renewing_each-open clock touched epoch
+pub open_after : (clock mid later : Reading) (touched : List HotRecord) (stamp : Stamp) (transfers : List Transfer) (epoch : ℕ)
+    → mid ≡ taking (renewing_each clock touched) stamp → later ≡ giving (clock_by_each mid transfers) → is_open later epoch ≡ is_open clock epoch
+open_after clock mid later touched stamp transfers epoch begins ends =
+    ap (λ (c : Reading). is_open c epoch) ends ∙ clock_by_each-open mid transfers epoch ∙ ap (λ (c : Reading). is_open c epoch) begins ∙ renewing_each-open clock touched epoch
 
 -- the keys that the code found
 pub first_keys : (stage : Stage) (threshold : Option ℕ) (back : List HotRecord) (found keys : List ℕ) (vacant' count : ℕ) → vacant' ≡ vacancies stage.places → count ≡ length back → keys ≡ found
-    → AreFirstDue short_keys stage threshold (vacant' + count) found → AreFirstDue short_keys stage threshold (vacancies stage.places + length back) keys
+    → AreFirstPromotable short_keys stage threshold (vacant' + count) found → AreFirstPromotable short_keys stage threshold (vacancies stage.places + length back) keys
 first_keys stage threshold back found keys vacant' count vacancy many same first =
-    subst (AreFirstDue short_keys stage threshold (vacancies stage.places + length back)) (sym same)
-    (subst (λ (room : ℕ). AreFirstDue short_keys stage threshold room found) (ap (λ (v : ℕ). v + count) vacancy ∙ ap (λ (n : ℕ). vacancies stage.places + n) many) first)
+    subst (AreFirstPromotable short_keys stage threshold (vacancies stage.places + length back)) (sym same)
+    (subst (λ (room : ℕ). AreFirstPromotable short_keys stage threshold room found) (ap (λ (v : ℕ). v + count) vacancy ∙ ap (λ (n : ℕ). vacancies stage.places + n) many) first)

@@ -120,7 +120,7 @@ rest_can was now then' touches now_touches first rest can is same = record {
     stays path true here some = subst IsSome (ap was (same_path-true path first.path here) ∙ sym can.values.0) some
     stays path false there some = can.kept path some
 
--- ---- a shard whose chain was settled
+-- ---- a shard whose chain was rehashed
 
 one_of : (b : Bool) (value : Value) (o : Option Value) → IsSome o → IsSome (if b then Some value else o)
 one_of true value o some = refl

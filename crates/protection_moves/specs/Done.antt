@@ -1,4 +1,4 @@
--- Errands that are done one after another, as they are logged behind other commands.
+-- Transfers that are done one after another, as they are logged behind other commands.
 use Rattle.std.specs.Prelude.{◌≡◌, ℕ, Bool, List, [], ◌∷◌, ◌++◌, map}
 use Rattle.lamport_clocks.specs.Reading.{Reading}
 use Rattle.record_text.specs.declared.element.Element.{Element}
@@ -9,8 +9,8 @@ use Rattle.merkle_records.specs.Merkle.{Digest}
 use Rattle.host_shard.specs.Shard.{Shard}
 use Rattle.host_shard.specs.Content.{Content}
 use Rattle.protection_moves.specs.Stage.{Stage}
-use Rattle.protection_moves.specs.Errand.{Errand}
-use Rattle.protection_moves.specs.Trip.{Trip, AreTrips, done_by_each, commands_by_each}
+use Rattle.protection_moves.specs.Transfer.{Transfer}
+use Rattle.protection_moves.specs.Descent.{Descent, AreDescents, done_by_each, commands_by_each}
 
 -- a shard with these touches, beside these places and this clock
 abbrev pub stage_with : Shard → (List Bool → ℕ) → List Content → Reading → Stage
@@ -20,11 +20,11 @@ stage_with shard touches places clock = record { shard = record shard { touches 
 abbrev pub taking_in : Element → Command
 taking_in element = AddB element.path element.value element.stamp element.verifier
 
--- Errands from one stage to another: behind these commands theirs are logged, and then a last one.
-pub record AreDone (format : Format) (digest : Digest) (worker : ℕ) (old : Stage) (asked : List Errand) (before : List Command) (last : Command)
+-- Transfers from one stage to another: behind these commands theirs are logged, and then a last one.
+pub record AreDone (format : Format) (digest : Digest) (worker : ℕ) (old : Stage) (asked : List Transfer) (before : List Command) (last : Command)
     (after : List Command) (new : Stage) : Type 0 where
-  pub trips : List Trip
-  pub errands : map (λ trip. trip.errand) trips ≡ asked
-  pub ways : AreTrips format digest worker old trips
-  pub logged : after ≡ before ++ (commands_by_each format digest worker old trips ++ last ∷ [])
-  pub leaves : new ≡ done_by_each format digest worker old trips
+  pub descents : List Descent
+  pub transfers : map (λ descent. descent.transfer) descents ≡ asked
+  pub ways : AreDescents format digest worker old descents
+  pub logged : after ≡ before ++ (commands_by_each format digest worker old descents ++ last ∷ [])
+  pub leaves : new ≡ done_by_each format digest worker old descents

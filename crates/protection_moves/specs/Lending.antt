@@ -7,11 +7,11 @@ use Rattle.merkle_records.specs.Merkle.{Digest}
 use Rattle.host_shard.specs.declared.link.Link.{Link}
 use Rattle.host_shard.specs.declared.content.HotRecord.{HotRecord}
 use Rattle.host_shard.specs.Chain.{IsChain, last_value}
-use Rattle.host_shard.specs.Shard.{Shard, tree_of, settled}
+use Rattle.host_shard.specs.Shard.{Shard, tree_of, rehashed}
 use Rattle.host_shard.specs.Content.{key_path}
 use Rattle.record_text.specs.declared.value.Value.TheVariants as values
 use Rattle.host_shard.specs.Content.{pending_hot}
-use Rattle.protection_moves.specs.Trip.{visit_but_last, come_back, become_hot, data_of, shard_without, with_back}
+use Rattle.protection_moves.specs.Descent.{visit_but_last, come_back, become_hot, data_of, shard_without, with_back}
 use Rattle.protection_moves.specs.Turn.{shard_but}
 
 -- The record of a key becomes hot with this stamp. But for that record the shard is what it is without it.
@@ -28,4 +28,4 @@ pub record IsReturning (format : Format) (digest : Digest) (found : HotRecord) (
   pub links : List Link
   pub way : IsChain format (tree_of (with_back format old found)) (key_path format found.key) old.frontier old.value links
   pub commands : after ≡ before ++ visit_but_last old.frontier links (come_back (pending_hot format found))
-  pub shard : new ≡ settled format digest (with_back format old found) links (values.Blob found.value)
+  pub shard : new ≡ rehashed format digest (with_back format old found) links (values.Blob found.value)

@@ -1,12 +1,12 @@
 -- What the clauses on moves cite, in reading order.
 pub mod Stage
 pub mod Renewing
-pub mod Errand
-pub mod Trip
+pub mod Transfer
+pub mod Descent
 pub mod Move
 pub mod Shown
 pub mod Places
-pub mod Due
+pub mod Promotable
 pub mod Done
 pub mod Saving
 pub mod Turn

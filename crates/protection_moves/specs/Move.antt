@@ -8,8 +8,8 @@ use Rattle.host_plan.specs.Moments.{taking, giving}
 use Rattle.host_plan.specs.Visit.{between}
 use Rattle.protection_moves.specs.Stage.{Stage, touched_in}
 use Rattle.protection_moves.specs.Renewing.{renewed_places, renewing_each, renewing_commands}
-use Rattle.protection_moves.specs.Errand.{AreDue, errands_of, clock_needed}
-use Rattle.protection_moves.specs.Trip.{Trip, AreTrips, done_by_each, commands_by_each}
+use Rattle.protection_moves.specs.Transfer.{ArePromotable, transfers_of, clock_needed}
+use Rattle.protection_moves.specs.Descent.{Descent, AreDescents, done_by_each, commands_by_each}
 
 -- Once the touched hot records were renewed and the frontier is taken in. No touch is counted any more.
 abbrev pub begun : ℕ → Stage → Stage
@@ -29,29 +29,29 @@ handed_out worker stage = record {
   clock = giving stage.clock;
 }
 
--- the stage behind a move with these trips
-abbrev pub moved : Format → Digest → ℕ → Stage → List Trip → Stage
-moved format digest worker stage trips = handed_out worker (done_by_each format digest worker (begun worker stage) trips)
+-- the stage behind a move with these descents
+abbrev pub moved : Format → Digest → ℕ → Stage → List Descent → Stage
+moved format digest worker stage descents = handed_out worker (done_by_each format digest worker (begun worker stage) descents)
 
--- the commands of a move with these trips
-abbrev pub move_commands : Format → Digest → ℕ → Stage → List Trip → List Command
-move_commands format digest worker stage trips =
+-- the commands of a move with these descents
+abbrev pub move_commands : Format → Digest → ℕ → Stage → List Descent → List Command
+move_commands format digest worker stage descents =
     renewing_commands format stage.clock (touched_in stage.places)
-    ++ between (pending_shard stage.shard) (moved format digest worker stage trips).clock.at
-    (commands_by_each format digest worker (begun worker stage) trips)
+    ++ between (pending_shard stage.shard) (moved format digest worker stage descents).clock.at
+    (commands_by_each format digest worker (begun worker stage) descents)
 
 -- The move of a shard by this worker, for some threshold: its commands, and the stage that it leaves.
 pub record IsMove (format : Format) (digest : Digest) (worker : ℕ) (threshold : Option ℕ) (old : Stage) (logged : List Command) (new : Stage) : Type 0 where
-  pub due : List ℕ
-  pub are_due : AreDue format old threshold due
-  pub trips : List Trip
-  pub errands : map (λ trip. trip.errand) trips ≡ errands_of old due
-  pub ways : AreTrips format digest worker (begun worker old) trips
-  pub commands : logged ≡ move_commands format digest worker old trips
-  pub after : new ≡ moved format digest worker old trips
+  pub promotable : List ℕ
+  pub are_promotable : ArePromotable format old threshold promotable
+  pub descents : List Descent
+  pub transfers : map (λ descent. descent.transfer) descents ≡ transfers_of old promotable
+  pub ways : AreDescents format digest worker (begun worker old) descents
+  pub commands : logged ≡ move_commands format digest worker old descents
+  pub after : new ≡ moved format digest worker old descents
 
 -- the counters that a move takes pass the end
 pub record IsPastEnd (format : Format) (threshold : Option ℕ) (stage : Stage) : Type 0 where
-  pub due : List ℕ
-  pub are_due : AreDue format stage threshold due
-  pub past : stage.clock.end < (clock_needed stage due).at.counter
+  pub promotable : List ℕ
+  pub are_promotable : ArePromotable format stage threshold promotable
+  pub past : stage.clock.end < (clock_needed stage promotable).at.counter

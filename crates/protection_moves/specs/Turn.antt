@@ -1,4 +1,4 @@
--- The end of a trip's chain, and what the code works out along it.
+-- The end of a descent's chain, and what the code works out along it.
 use Rattle.std.specs.Prelude.{◌≡◌, Bool, List, [], ◌∷◌, ◌++◌}
 use Rattle.record_text.specs.declared.value.Value.{Value}
 use Rattle.record_text.specs.Format.{Format}
@@ -6,10 +6,10 @@ use Rattle.log_codec.specs.declared.command.Command.{Command}
 use Rattle.merkle_records.specs.Merkle.{Digest, pointer_to, deferred_pointer}
 use Rattle.host_shard.specs.declared.link.Link.{Link}
 use Rattle.host_shard.specs.Chain.{aimed, last_value}
-use Rattle.host_shard.specs.Shard.{Shard, settled}
-use Rattle.protection_moves.specs.declared.trips.Turn.{Turn}
-use Rattle.protection_moves.specs.declared.trips.Turn.TheVariants as turns
-use Rattle.protection_moves.specs.Trip.{come_back, become_hot, without_record}
+use Rattle.host_shard.specs.Shard.{Shard, rehashed}
+use Rattle.protection_moves.specs.declared.descents.Turn.{Turn}
+use Rattle.protection_moves.specs.declared.descents.Turn.TheVariants as turns
+use Rattle.protection_moves.specs.Descent.{come_back, become_hot, without_record}
 
 -- the commands of a turn
 abbrev pub turn_commands : Turn → List Bool → Link → List Command
@@ -25,13 +25,13 @@ last_path at (link ∷ links) = last_path link.path links
 abbrev pub deferring : Format → Digest → List Bool → Value → Link → Value
 deferring format digest at value link = aimed at value (deferred_pointer (pointer_to format digest link.path link.value))
 
--- The shard once the record at the chain's end is lent, while its own record is still kept: the chain is settled up to the
+-- The shard once the record at the chain's end is lent, while its own record is still kept: the chain is rehashed up to the
 -- link before, whose pointer is deferred.
 pub record IsLent (format : Format) (digest : Digest) (old : Shard) (links : List Link) (new : Shard) : Type 0 where
   pub above : List Link
   pub link : Link
   pub parts : links ≡ above ++ link ∷ []
-  pub settled : new ≡ settled format digest old above
+  pub rehashed : new ≡ rehashed format digest old above
       (deferring format digest (last_path old.frontier above) (last_value old.value above) link)
 
 -- the shard without the record of a path

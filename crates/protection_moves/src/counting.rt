@@ -3,7 +3,7 @@ ghost use Rattle.std.specs.Prelude.{◌≡◌, ◌<◌, ◌≤◌, ◌++◌, map
 ghost use Rattle.std.specs.List.{AllByRecursion};
 ghost use Rattle.lamport_clocks.specs.Clock.{is_open};
 ghost use Rattle.host_plan.specs.Moments.{taking, giving};
-ghost use Rattle.protection_moves.specs.Errand.{demotes, promotes, clock_by_each};
+ghost use Rattle.protection_moves.specs.Transfer.{demotes, promotes, clock_by_each};
 ghost use Rattle.protection_moves.specs.Renewing.{renewing_each};
 
 use host_plan::renewed;

@@ -13,20 +13,21 @@ ghost use Rattle.host_shard.specs.Mirrors.{IsShard, IsKeyOf};
 ghost use Rattle.host_shard.specs.Shard.{Shard as ShownShard};
 ghost use Rattle.host_shard.specs.Shown.{shown};
 ghost use Rattle.host_plan.specs.Moments.{giving};
-ghost use Rattle.protection_moves.specs.Errand.{demotes, promotes, clock_by_each};
+ghost use Rattle.protection_moves.specs.Transfer.{demotes, promotes, clock_by_each};
 ghost use Rattle.protection_moves.specs.Lending.{IsReturning};
 ghost use Rattle.protection_moves.specs.Done.{AreDone, stage_with};
-ghost use Rattle.protection_moves.specs.Due.{AreRising};
+ghost use Rattle.protection_moves.specs.Promotable.{AreRising};
 ghost use Rattle.protection_moves.specs.Places.{placed_each, vacated};
 ghost use Rattle.protection_moves.specs.Saving.{IsSavedOf};
-ghost use Rattle.protection_moves.specs.Trip.{with_back};
+ghost use Rattle.protection_moves.specs.Descent.{with_back};
 
 use crate::counting::taken;
+use crate::descents::{Turn, log_descent};
 use crate::hot_places::HOT_PLACES;
 use crate::promoting::promote_each;
 use crate::saving::{Saved, kept_of, restore, restore_one, save};
-use crate::trips::{Turn, log_trip};
 use arrayvec::ArrayVec;
+use base_words::Memory;
 use host_shard::{HotRecord, Shard, chain};
 use lamport_clocks::Clock;
 use log_codec::Command;
@@ -34,7 +35,6 @@ use record_hash::Digests;
 use record_text::Value;
 use std::alloc::Global;
 use tree_keys::Path;
-use want_of_memory::Memory;
 
 // Gives a hot record a place among the records of its shard. For want of memory all is as before.
 fn put_back(shard: &mut Shard, found: &HotRecord) -> Result<(), Memory>
@@ -56,8 +56,8 @@ fn take_away(shard: &mut Shard, found: &HotRecord, was: &Option<Value>)
     restore_one(&mut shard.records, &Path::of_key(found.key), was);
 }
 
-// Settles a shard behind the chain to a hot record that comes back, which has a place among its records already.
-fn settle_back<D: Digests>(
+// Rehashes a shard behind the chain to a hot record that comes back, which has a place among its records already.
+fn rehash_back<D: Digests>(
     alloc: Global,
     d: &D,
     shard: &mut Shard,
@@ -79,8 +79,8 @@ fn settle_back<D: Digests>(
     let along = links.as_slice();
     let saved = save(alloc, shard, along)?;
     let turn = Turn::ComesBack(found.pending());
-    log_trip(commands, &shard.frontier, along, &turn)?;
-    shard.settle(d, along, Value::Blob(found.value.copy()))?;
+    log_descent(commands, &shard.frontier, along, &turn)?;
+    shard.rehash(d, along, Value::Blob(found.value.copy()))?;
     Ok(saved)
 }
 
@@ -124,7 +124,7 @@ pub(crate) fn demote_each<D: Digests>(
     };
     let was = kept_of(&shard.records, &Path::of_key(found.key));
     put_back(shard, found)?;
-    let saved = match settle_back(alloc, d, shard, found, commands) {
+    let saved = match rehash_back(alloc, d, shard, found, commands) {
         Ok(saved) => saved,
         Err(memory) => {
             take_away(shard, found, &was);

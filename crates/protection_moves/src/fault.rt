@@ -2,7 +2,7 @@
 ghost use Rattle.std.specs.Prelude.{◌≡◌};
 ghost use Rattle.protection_moves.specs.declared.fault.MoveFault.TheVariants as faults;
 
-use want_of_memory::Memory;
+use base_words::Memory;
 
 /// Why a shard was not moved.
 #[derive(Clone, Copy, Debug, PartialEq, Eq)]

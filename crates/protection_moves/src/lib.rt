@@ -6,14 +6,14 @@
 
 mod counting;
 mod demoting;
-mod due;
+mod descents;
 mod fault;
 mod hot_places;
 mod migrating;
+mod promotable;
 mod promoting;
 mod renewing;
 mod saving;
-mod trips;
 
 pub use fault::MoveFault;
 pub use hot_places::HOT_PLACES;

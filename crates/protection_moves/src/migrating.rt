@@ -14,9 +14,9 @@ ghost use Rattle.protection_moves.specs.Shown.{shown_stage};
 
 use crate::counting::{begun, ended};
 use crate::demoting::demote_each;
-use crate::due::due_keys;
 use crate::fault::MoveFault;
 use crate::hot_places::{place_each, touched_in, untouched_in, vacancies, vacate};
+use crate::promotable::promotable_keys;
 use crate::renewing::{begin, renew_places};
 use host_plan::Commands;
 use host_shard::{Content, Shard};
@@ -57,8 +57,8 @@ pub fn migrate<D: Digests>(
     let touched = staying.as_slice();
     let returning = untouched_in(hot);
     let back = returning.as_slice();
-    let due = due_keys(shard, hot, threshold, vacancies(hot) + back.len());
-    let keys = due.as_slice();
+    let promotable = promotable_keys(shard, hot, threshold, vacancies(hot) + back.len());
+    let keys = promotable.as_slice();
     let between = match begun(clock, touched, shard.stamp) {
         Some(between) => between,
         None => return Err(MoveFault::ClockEnd),

@@ -9,20 +9,21 @@ ghost use Rattle.host_shard.specs.Content.{Content, key_path};
 ghost use Rattle.host_shard.specs.Mirrors.{IsShard, IsKeyOf};
 ghost use Rattle.host_shard.specs.Shown.{shown};
 ghost use Rattle.host_plan.specs.Moments.{giving};
-ghost use Rattle.protection_moves.specs.Errand.{promotes, clock_by_each};
+ghost use Rattle.protection_moves.specs.Transfer.{promotes, clock_by_each};
 ghost use Rattle.protection_moves.specs.Lending.{IsLending};
 ghost use Rattle.protection_moves.specs.Done.{AreDone, stage_with};
-ghost use Rattle.protection_moves.specs.Due.{AreRising};
+ghost use Rattle.protection_moves.specs.Promotable.{AreRising};
 ghost use Rattle.protection_moves.specs.Places.{placed_each};
 ghost use Rattle.protection_moves.specs.Saving.{IsSavedOf};
-ghost use Rattle.protection_moves.specs.Trip.{data_of};
+ghost use Rattle.protection_moves.specs.Descent.{data_of};
 ghost use Rattle.protection_moves.specs.Turn.{IsLent, last_path, deferring};
 
 use crate::counting::given;
+use crate::descents::{Turn, log_descent};
 use crate::hot_places::HOT_PLACES;
 use crate::saving::{Saved, restore, save};
-use crate::trips::{Turn, log_trip};
 use arrayvec::ArrayVec;
+use base_words::Memory;
 use host_shard::{HotRecord, Link, Shard, chain, last_value};
 use lamport_clocks::{Clock, Stamp};
 use log_codec::Command;
@@ -31,7 +32,6 @@ use record_hash::Digests;
 use record_text::{Blob, Pointer, Value};
 use std::alloc::Global;
 use tree_keys::Path;
-use want_of_memory::Memory;
 
 /// A record that became hot, and what its shard kept before.
 #[derive(Drop)]
@@ -69,7 +69,7 @@ fn deferring<D: Digests>(d: &D, at: &Path, value: &Value, link: &Link) -> Value
     }
 }
 
-// Settles a shard behind a chain whose last record is lent. Its own record stays. For want of memory all is as before.
+// Rehashes a shard behind a chain whose last record is lent. Its own record stays. For want of memory all is as before.
 fn lend<D: Digests>(d: &D, shard: &mut Shard, links: &[Link]) -> Result<(), Memory>
     requires some { 0 < length links.now }
     ensures lent { OnOk result (IsLent short_keys (D.functions d.now).digest (shown shard.old) links.now (shown shard.new)) }
@@ -81,7 +81,7 @@ fn lend<D: Digests>(d: &D, shard: &mut Shard, links: &[Link]) -> Result<(), Memo
     };
     let at = last_path(&shard.frontier, above);
     let value = deferring(d, &at, last_value(&shard.value, above), link);
-    shard.settle(d, above, value)
+    shard.rehash(d, above, value)
 }
 
 // What data a value is.
@@ -119,7 +119,7 @@ fn promote<D: Digests>(
     let along = links.as_slice();
     let saved = save(alloc, shard, along)?;
     let value = data_of(last_value(&shard.value, along));
-    log_trip(commands, &shard.frontier, along, &Turn::BecomesHot(stamp))?;
+    log_descent(commands, &shard.frontier, along, &Turn::BecomesHot(stamp))?;
     lend(d, shard, along)?;
     let hot = HotRecord {
         key,

@@ -12,15 +12,15 @@ ghost use Rattle.protection_moves.specs.Renewing.{renewing_commands, renewing_ea
 ghost use Rattle.protection_moves.specs.Done.{taking_in};
 
 use crate::hot_places::replace;
+use base_words::Memory;
 use host_plan::renewed;
 use host_shard::{Content, HotRecord};
 use lamport_clocks::{Clock, Stamp};
 use log_codec::Command;
 use record_text::Element;
 use std::alloc::Global;
-use want_of_memory::Memory;
 
-// The commands that renew these records and then take an element in. There is room for the rest of a move without errands.
+// The commands that renew these records and then take an element in. There is room for the rest of a move without transfers.
 pub(crate) fn begin(
     alloc: Global,
     clock: &Clock,

@@ -1,4 +1,4 @@
-//! What is kept of a shard while an errand is done, so that for want of memory the shard is as before.
+//! What is kept of a shard while a transfer is done, so that for want of memory the shard is as before.
 ghost use Rattle.std.specs.Prelude.{◌≡◌, IfOk, IsSome, None};
 ghost use Rattle.host_shard.specs.Records.{values_of, touches_of};
 ghost use Rattle.host_shard.specs.Shown.{shown};
@@ -6,11 +6,11 @@ ghost use Rattle.host_shard.specs.Tree.{Tree};
 ghost use Rattle.host_shard.specs.Shard.{Shard as ShownShard};
 ghost use Rattle.protection_moves.specs.Saving.{saved_along, with_value, CanRestore, IsSavedOf};
 
+use base_words::Memory;
 use host_shard::{Link, Records, Shard};
 use record_text::Value;
 use std::alloc::Global;
 use tree_keys::Path;
-use want_of_memory::Memory;
 
 /// What a shard kept of a path.
 #[derive(Drop)]

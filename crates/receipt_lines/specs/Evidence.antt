@@ -5,7 +5,7 @@ use Rattle.std.specs.Option.{option_and_then}
 use Rattle.std.specs.Result.{result_ok}
 use Rattle.std.specs.Str.{bytes_eq}
 use Rattle.hex.specs.Hex.{decode_of}
-use Rattle.step_words.specs.Steps.{test, need, and_then}
+use Rattle.base_words.specs.Steps.{test, need, and_then}
 use Rattle.record_text.specs.declared.cause.Cause.{Cause}
 use Rattle.record_text.specs.declared.cause.Cause.TheVariants.{Shape, Hex}
 use Rattle.script_text.specs.Lines.{lines_of, words_of}

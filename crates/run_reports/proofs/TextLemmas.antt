@@ -1,6 +1,6 @@
 -- Logs whose commands have texts are read back, and none of them is refused.
 use Rattle.std.proofs.Common.{◌≡◌, ℕ, zero, suc, ◌+◌, ◌<◌, false, List, [], ◌∷◌, map, length, replicate, get_or, min, Option, None, refl, sym, ◌∙◌, ap, subst, nat_lt, if◌then◌else◌, arith}
-use Rattle.step_words.specs.Traced.{traced}
+use Rattle.base_words.specs.Traced.{traced}
 use Rattle.std.specs.List.{flat_map, AllByRecursion}
 use Rattle.std.specs.Option.{option_map, option_or}
 use Rattle.std.proofs.lemmas.Bool.Decides.{nat_tests}

@@ -6,7 +6,7 @@ use Rattle.std.specs.Option.{ForSome, option_map}
 use Rattle.std.proofs.lemmas.Bool.{and_parts}
 use Rattle.std.proofs.lemmas.List.Elements.{All-nil, All-cons, All-append}
 use Rattle.hex.specs.Hex.{IsBytes}
-use Rattle.step_words.specs.Steps.{and_then}
+use Rattle.base_words.specs.Steps.{and_then}
 use Rattle.script_text.specs.declared.task.Task.{Task}
 use Rattle.script_text.specs.declared.task.Line.{Line}
 use Rattle.script_text.specs.declared.task.Line.TheVariants as said

@@ -3,7 +3,7 @@ use Rattle.std.specs.Prelude.{◌≡◌, ℕ, ◌+◌, nat_lt, Bool, true, false
 use Rattle.std.specs.List.{onto_first}
 use Rattle.std.specs.Option.{option_map}
 use Rattle.std.specs.Str.{bytes_eq}
-use Rattle.step_words.specs.Steps.{need, and_then}
+use Rattle.base_words.specs.Steps.{need, and_then}
 use Rattle.record_text.specs.declared.cause.Cause.{Cause}
 use Rattle.record_text.specs.declared.cause.Cause.TheVariants.{Shape, Worker, Key, Hex}
 use Rattle.script_text.specs.declared.fault.ScriptFault.{ScriptFault}

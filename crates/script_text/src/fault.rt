@@ -1,6 +1,6 @@
 //! Why a script is not read.
+use base_words::Memory;
 use record_text::Cause;
-use want_of_memory::Memory;
 
 /// Why a script is not read.
 #[derive(Clone, Copy, Debug, PartialEq, Eq)]

@@ -7,9 +7,9 @@ ghost use Rattle.script_text.specs.Generator.{next_draw, key_for, request_for, t
 use crate::requests::Requests;
 use crate::shape::Shape;
 use crate::task::{Line, Task};
+use base_words::Memory;
 use record_text::{Blob, Request};
 use std::alloc::Global;
-use want_of_memory::Memory;
 
 // The numbers of the generator, by Knuth's multiplier and increment.
 const MULTIPLIER: u64 = 6_364_136_223_846_793_005;

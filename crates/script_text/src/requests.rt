@@ -7,10 +7,10 @@ use crate::fault::ScriptFault;
 use crate::line::read_line;
 use crate::splitting::split_line;
 use crate::task::{Line, Task};
+use base_words::Memory;
 use std::alloc::Global;
 use std::marker::Model;
 use std::mem;
-use want_of_memory::Memory;
 
 /// What workers are asked: phases, at least one, each a list of tasks. Between two phases an epoch closes.
 /// Contracts see the list of the phases.

@@ -6,9 +6,9 @@ ghost use Rattle.script_text.specs.Text.{value_word, request_words, task_text, p
 
 use crate::requests::Requests;
 use crate::task::Task;
+use base_words::Memory;
 use record_text::{LONGEST_BLOB, Request};
 use std::alloc::Global;
-use want_of_memory::Memory;
 
 /// The script of these phases. It is read as them.
 pub fn write_script(alloc: Global, requests: &Requests) -> Result<Vec<u8>, Memory>

@@ -4,7 +4,7 @@ use Rattle.std.specs.Option.{option_map}
 use Rattle.std.proofs.lemmas.Bool.{false≢true, true≢false}
 use Rattle.tree_keys.specs.Path.{side, same_path}
 use Rattle.tree_keys.proofs.PathLaws.{same_path-true}
-use Rattle.step_words.specs.Steps.{test, need}
+use Rattle.base_words.specs.Steps.{test, need}
 use Rattle.record_text.specs.declared.value.Pointer.{Pointer}
 use Rattle.record_text.specs.declared.value.Node.{Node}
 use Rattle.record_text.specs.declared.value.Value.{Value}

@@ -1,7 +1,7 @@
 -- The events of one log: how the clock moves with each, that they stand in the order of their moments, and that each
 -- is of the log's verifier and of an epoch from the header's first on.
 use Rattle.std.proofs.Common.{◌≡◌, ℕ, suc, ◌≤◌, inl, inr, false, List, [], ◌∷◌, Ok, Err, refl, sym, ◌∙◌, ap, subst, append-nil, add-one, arith}
-use Rattle.step_words.specs.Traced.{traced}
+use Rattle.base_words.specs.Traced.{traced}
 use Rattle.merkle_records.specs.Scheme.{Scheme}
 use Rattle.std.specs.List.{AllByRecursion}
 use Rattle.std.proofs.lemmas.Bool.Decides.{nat_tests}

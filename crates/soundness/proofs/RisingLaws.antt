@@ -9,7 +9,7 @@ use Rattle.lamport_clocks.specs.declared.stamp.Stamp.{Stamp}
 use Rattle.lamport_clocks.specs.Stamp.{IsLater}
 use Rattle.lamport_clocks.specs.Reading.{Reading}
 use Rattle.lamport_clocks.specs.Clock.{received, sent, advanced}
-use Rattle.step_words.proofs.StepLaws.{test-ok}
+use Rattle.base_words.proofs.StepLaws.{test-ok}
 use Rattle.lamport_clocks.proofs.StampLaws.{IsLater-cmp}
 use Rattle.lamport_clocks.proofs.ClockLaws.{sent-above, sent-at}
 use Rattle.record_text.specs.declared.element.Element.{Element}
@@ -18,7 +18,7 @@ use Rattle.log_codec.specs.declared.command.Command.TheVariants.{AddM, EvictM, A
 use Rattle.stamp_order.proofs.InOrderLaws.{every-weaker, every-append}
 use Rattle.verifier_cache.specs.Entry.{has_kid}
 use Rattle.verifier_cache.specs.Cache.{entry_of}
-use Rattle.step_words.specs.Traced.{traced}
+use Rattle.base_words.specs.Traced.{traced}
 use Rattle.verifier_commands.specs.declared.state.State.{State}
 use Rattle.verifier_commands.specs.State.{opening}
 use Rattle.verifier_commands.specs.Change.{Change, did_add_m, did_evict_m, did_add_b, did_evict_b, did_evict_bm, did_get, did_put, did_next_epoch}

@@ -4,9 +4,9 @@ ghost use Rattle.stamp_order.specs.Merged.{up_to};
 ghost use Rattle.stamp_order.specs.Operations.{moment_of, merged_up_to};
 
 use crate::moment::Moment;
+use base_words::Memory;
 use record_text::Operation;
 use std::alloc::Global;
-use want_of_memory::Memory;
 
 /// All operations up to an epoch, in one order: by the clock, then the verifier, then the number in its log.
 /// A verifier's operations stay in the order of its log.

@@ -4,11 +4,11 @@ ghost use Rattle.std.specs.Map.{update};
 ghost use Rattle.stamp_order.specs.Serial.{none_everywhere};
 ghost use Rattle.stamp_order.specs.PlainMap.{value_at};
 
+use base_words::Memory;
 use record_text::Blob;
 use std::alloc::Global;
 use std::collections::BTreeMap;
 use std::marker::Model;
-use want_of_memory::Memory;
 
 /// A map from keys to data values, none at every key at first. Contracts see it as its entries, and read them
 /// as a function by `value_at`.

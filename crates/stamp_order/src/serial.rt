@@ -3,9 +3,9 @@ ghost use Rattle.std.specs.Prelude.{◌↔◌, IsTrue, IfOk};
 ghost use Rattle.stamp_order.specs.Serial.{IsSerial};
 
 use crate::plain_map::PlainMap;
+use base_words::Memory;
 use record_text::Operation;
 use std::alloc::Global;
-use want_of_memory::Memory;
 
 /// Whether each get has the value of the last put to its key before it, or none where there is none.
 pub fn is_serial(alloc: Global, operations: &[Operation]) -> Result<bool, Memory>

@@ -13,7 +13,7 @@ use Rattle.host_shard.specs.Content.{pending}
 use Rattle.host_shard.specs.Shown.{shown_content}
 use Rattle.host_plan.specs.Plan.{Owns}
 use Rattle.host_table.specs.declared.hand.Hand.{Hand}
-use Rattle.host_table.specs.declared.told.Entry.{Entry}
+use Rattle.host_table.specs.declared.told.Service.{Service}
 use Rattle.host_table.specs.Calls.{AreAll, IsNew}
 use Rattle.host_table.specs.Terms.{Terms, IsMaking, IsPlaceOf, IsClockOf, IsStamped, IsStampOf, epoch_in}
 use Rattle.host_table.specs.Told.{TakesUp}
@@ -91,7 +91,7 @@ can_attempt terms z hands d start header all new =
       free = all.free 0 d there;
       going = (new 0 d there).stop;
       clock_is = clock_of terms start header;
-      chained = subst (λ (es : List Entry). TakesUp es (opening_reading 0 16777215)) (sym (new 0 d there).entries) tt;
+      chained = subst (λ (es : List Service). TakesUp es (opening_reading 0 16777215)) (sym (new 0 d there).services) tt;
     }
 
 -- the one hand of a list

@@ -10,7 +10,7 @@ use Rattle.host_shard.specs.Content.{Content, pending}
 use Rattle.host_shard.specs.Shown.{shown_content}
 use Rattle.host_plan.specs.Plan.{Owns}
 use Rattle.host_table.specs.declared.hand.Hand.{Hand}
-use Rattle.host_table.specs.Hands.{entries, stop, IsFree}
+use Rattle.host_table.specs.Hands.{services, stop, IsFree}
 use Rattle.host_table.specs.Terms.{Terms, IsClockOf, IsPlaceOf}
 use Rattle.host_table.specs.Told.{TakesUp}
 
@@ -39,4 +39,4 @@ pub record CanAttempt (terms : Terms) (table : TableId) (hand : Hand) (clock : R
   pub free : IsFree table hand
   pub going : stop hand ≡ None
   pub clock_is : IsClockOf terms clock
-  pub chained : TakesUp (entries hand) clock
+  pub chained : TakesUp (services hand) clock

@@ -1,7 +1,7 @@
 //! What a try of a call tells.
+use base_words::Memory;
 use bundle_rows::RowFault;
 use std::alloc::{AllocError, AllocFailed};
-use want_of_memory::Memory;
 
 /// How a call went that came out as it should.
 #[derive(Clone, Copy, Debug, PartialEq, Eq)]

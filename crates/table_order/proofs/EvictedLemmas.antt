@@ -32,7 +32,7 @@ ticks_end old new (did_evict_m parent after child) is = ap (λ (r : Reading). r.
 ticks_end old new (did_add_b child element) is = (received-bounds old new element.stamp is).end
 ticks_end old new (did_evict_b child element) is = (sent-bounds old new element.stamp is).end
 ticks_end old new (did_evict_bm parent after child element) is = (sent-bounds old new element.stamp is).end
-ticks_end old new (did_get entry) is = ap (λ (r : Reading). r.end) is
+ticks_end old new (did_get service) is = ap (λ (r : Reading). r.end) is
 ticks_end old new (did_put before after) is = ap (λ (r : Reading). r.end) is
 ticks_end old new (did_next_epoch sealed) is = (advanced-bounds old new sealed is).end
 
@@ -43,7 +43,7 @@ evicted_within old new (did_evict_m parent after child) is = tt
 evicted_within old new (did_add_b child element) is = tt
 evicted_within old new (did_evict_b child element) is = ((sent-ok old new element.stamp is).2, tt)
 evicted_within old new (did_evict_bm parent after child element) is = ((sent-ok old new element.stamp is).2, tt)
-evicted_within old new (did_get entry) is = tt
+evicted_within old new (did_get service) is = tt
 evicted_within old new (did_put before after) is = tt
 evicted_within old new (did_next_epoch sealed) is = tt
 

@@ -6,7 +6,7 @@ use Rattle.std.proofs.lemmas.List.Elements.{All-from_recursion, recursion_from_A
 use Rattle.std.proofs.lemmas.List.Sorted.{All-permutation}
 use Rattle.std.proofs.lemmas.Option.{none-some, same_Some}
 use Rattle.stamp_order.proofs.InOrderLaws.{every-append}
-use Rattle.host_table.specs.declared.told.Entry.{Entry}
+use Rattle.host_table.specs.declared.told.Service.{Service}
 use Rattle.host_table.specs.Told.{joined_from}
 
 -- ---- what holds of each
@@ -46,7 +46,7 @@ pub all-map : {A B : Type 0} (P : B → Type 0) (f : A → B) (xs : List A) → 
 all-map P f [] all = tt
 all-map P f (x ∷ xs) all = (all.0, all-map P f xs all.1)
 
-module _ (P : Entry → Type 0) (lists : ℕ → List Entry) where
+module _ (P : Service → Type 0) (lists : ℕ → List Service) where
   -- of the lists of numbers from one on
   pub all-joined : (number count : ℕ) → ((i : ℕ) → number ≤ i → i < number + count → AllByRecursion P (lists i)) → AllByRecursion P (joined_from number count lists)
   all-joined number zero all = tt
@@ -65,7 +65,7 @@ module _ (P : Entry → Type 0) (lists : ℕ → List Entry) where
 
 -- ---- lists of numbers, cut in two
 
-pub joined_cut : (lists : ℕ → List Entry) (number a b n m : ℕ) → n ≡ a + b → m ≡ number + a
+pub joined_cut : (lists : ℕ → List Service) (number a b n m : ℕ) → n ≡ a + b → m ≡ number + a
     → joined_from number n lists ≡ joined_from number a lists ++ joined_from m b lists
 joined_cut lists number zero b n m count from =
     λ k. joined_from (from' k) (count' k) lists
@@ -77,5 +77,5 @@ joined_cut lists number zero b n m count from =
     count' = omega (arith, count)
 joined_cut lists number (suc a) b zero m count from = absurd (omega (arith, count))
 joined_cut lists number (suc a) b (suc n) m count from =
-    ap (λ (zs : List Entry). lists number ++ zs) (joined_cut lists (suc number) a b n m (omega (arith, count)) (omega (arith, from)))
+    ap (λ (zs : List Service). lists number ++ zs) (joined_cut lists (suc number) a b n m (omega (arith, count)) (omega (arith, from)))
     ∙ sym (append_assoc (lists number) (joined_from (suc number) a lists) (joined_from m b lists))

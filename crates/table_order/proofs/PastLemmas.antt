@@ -1,4 +1,4 @@
--- The past of a place: each entry there is what the shipped host does, since the content that it finds mirrors.
+-- The past of a place: each service there is what the shipped host does, since the content that it finds mirrors.
 use Rattle.std.proofs.Common.{◌≡◌, ◌⊎◌, ℕ, ◌^◌, ◌/◌, ◌%◌, ◌<◌, ◌≤◌, Bool, false, List, [], ◌∷◌, length, refl, sym, ◌∙◌, ap, subst, inl, inr}
 use Rattle.std.specs.List.{AllByRecursion}
 use Rattle.std.proofs.lemmas.Bool.{cases_lt}
@@ -17,10 +17,10 @@ use Rattle.host_shard.specs.declared.link.Link.{Link}
 use Rattle.host_shard.specs.Content.{Content, cold, hot, vacant, key_path}
 use Rattle.host_shard.specs.Shown.{shown_content}
 use Rattle.host_plan.specs.Plan.{Owns, CanServe, IsPlan, clock_after, content_after}
-use Rattle.host_mirrors.specs.Mirroring.{ContentMirrors, IsCold}
-use Rattle.host_mirrors.proofs.MirrorLaws.{plan_mirrors, mirrors_serve}
+use Rattle.host_laws.specs.Mirroring.{ContentMirrors, IsCold}
+use Rattle.host_laws.proofs.MirrorLaws.{plan_mirrors, mirrors_serve}
 use Rattle.protection_moves.specs.Stage.{hot_paths}
-use Rattle.host_table.specs.declared.told.Entry.{Entry}
+use Rattle.host_table.specs.declared.told.Service.{Service}
 use Rattle.host_table.specs.Terms.{Terms, place_count, first_at, IsPlaceOf}
 use Rattle.host_table.specs.Told as told
 use Rattle.host_world.specs.declared.settings.Settings.{Settings}
@@ -36,29 +36,29 @@ use Rattle.table_order.proofs.PlaceLemmas.{shard_there, is_place, owns_there}
 -- ---- what a history says
 
 -- what it leaves
-pub behind_leads : (terms : Terms) (place : ℕ) (x y : code.Content) (entries : List Entry) → told.Leads terms place x entries y
-    → content_behind (shown_content x) (servings_of entries) ≡ shown_content y
+pub behind_leads : (terms : Terms) (place : ℕ) (x y : code.Content) (services : List Service) → told.Leads terms place x services y
+    → content_behind (shown_content x) (servings_of services) ≡ shown_content y
 behind_leads terms place x y [] leads = sym leads
-behind_leads terms place x y (entry ∷ entries) leads = behind_leads terms place entry.after y entries leads.3
+behind_leads terms place x y (service ∷ services) leads = behind_leads terms place service.after y services leads.3
 
 -- that it is a chain
-pub chain_leads : (terms : Terms) (place : ℕ) (x y : code.Content) (entries : List Entry) → told.Leads terms place x entries y
-    → IsPlaceChain (shown_content x) (servings_of entries)
+pub chain_leads : (terms : Terms) (place : ℕ) (x y : code.Content) (services : List Service) → told.Leads terms place x services y
+    → IsPlaceChain (shown_content x) (servings_of services)
 chain_leads terms place x y [] leads = tt
-chain_leads terms place x y (entry ∷ entries) leads = (leads.1, chain_leads terms place entry.after y entries leads.3)
+chain_leads terms place x y (service ∷ services) leads = (leads.1, chain_leads terms place service.after y services leads.3)
 
 -- that all is at the place
-pub place_leads : (terms : Terms) (place : ℕ) (x y : code.Content) (entries : List Entry) → told.Leads terms place x entries y
-    → AllByRecursion (λ serving. serving.place ≡ place_of place) (servings_of entries)
+pub place_leads : (terms : Terms) (place : ℕ) (x y : code.Content) (services : List Service) → told.Leads terms place x services y
+    → AllByRecursion (λ serving. serving.place ≡ place_of place) (servings_of services)
 place_leads terms place x y [] leads = tt
-place_leads terms place x y (entry ∷ entries) leads = (ap place_of leads.0, place_leads terms place entry.after y entries leads.3)
+place_leads terms place x y (service ∷ services) leads = (ap place_of leads.0, place_leads terms place service.after y services leads.3)
 
 -- a content that the place has had
-pub had_shown : (x had : code.Content) (entries : List Entry) → told.IsHad x entries had
-    → IsHad (shown_content x) (servings_of entries) (shown_content had)
+pub had_shown : (x had : code.Content) (services : List Service) → told.IsHad x services had
+    → IsHad (shown_content x) (servings_of services) (shown_content had)
 had_shown x had [] is = is
-had_shown x had (entry ∷ entries) (inl is) = inl is
-had_shown x had (entry ∷ entries) (inr is) = inr (had_shown entry.after had entries is)
+had_shown x had (service ∷ services) (inl is) = inl is
+had_shown x had (service ∷ services) (inr is) = inr (had_shown service.after had services is)
 
 -- ---- what stays of a place
 
@@ -115,36 +115,36 @@ still_after functions worker vacant (cold shard) links request clock same = same
 still_after functions worker vacant (hot found) links request clock same = same
 still_after functions worker vacant vacant links request clock same = same
 
--- ---- the entries of a place
+-- ---- the services of a place
 
 -- the key has no more than 64 bits
-abbrev pub IsSmall : Entry → Type 0
-IsSmall entry = entry.request.key < 2 ^ 64
+abbrev pub IsSmall : Service → Type 0
+IsSmall service = service.request.key < 2 ^ 64
 
 module _ (functions : DigestFunctions) (settings : Settings) (script : List (List Task)) (world : World Content)
     (orderly : IsOrderly functions settings script world) (terms : Terms) (made : AreTermsOf (shipped_host functions settings script) world terms)
     (digests : GivesDigests functions.digest) (does : DoesPlans functions settings script)
     (running : (worker : ℕ) → worker < length world.workers → (worker_at (shipped_host functions settings script) world worker).stopped ≡ false) where
-  -- An entry is what the host does, where it can be served at the content that it finds.
-  entry_served : (entry : Entry) → told.IsServed terms entry → CanServe short_keys functions.digest (shown_content entry.before) entry.request.key
-      → IsServed (shipped_host functions settings script) world (serving_of entry)
-  entry_served entry served can =
-      let by : entry.worker < length world.workers = subst (λ (n : ℕ). entry.worker < n) made.workers served.by in
-      let plan = subst (λ (digest : _). IsPlan short_keys digest entry.worker (shown_content entry.before) entry.request entry.clock entry.plan (shown_content entry.after) entry.later) made.digest served.plan in
+  -- A service is what the host does, where it can be served at the content that it finds.
+  service_served : (service : Service) → told.IsServed terms service → CanServe short_keys functions.digest (shown_content service.before) service.request.key
+      → IsServed (shipped_host functions settings script) world (serving_of service)
+  service_served service served can =
+      let by : service.worker < length world.workers = subst (λ (n : ℕ). service.worker < n) made.workers served.by in
+      let plan = subst (λ (digest : _). IsPlan short_keys digest service.worker (shown_content service.before) service.request service.clock service.plan (shown_content service.after) service.later) made.digest served.plan in
       record {
         may = record {
           there = by;
-          at = is_place functions settings script world orderly terms made entry.place served.at.there;
-          running = running entry.worker by;
-          owns = owns_there functions settings script world orderly terms made entry.place served.at.there entry.request served.at served.value;
+          at = is_place functions settings script world orderly terms made service.place served.at.there;
+          running = running service.worker by;
+          owns = owns_there functions settings script world orderly terms made service.place served.at.there service.request served.at served.value;
         };
-        serves = does entry.worker (shown_content entry.before) (shown_content entry.after) entry.request entry.clock entry.later entry.plan can plan
-            (within (cases_lt entry.clock.end (clock_after (shown_content entry.before) entry.clock).at.counter));
+        serves = does service.worker (shown_content service.before) (shown_content service.after) service.request service.clock service.later service.plan can plan
+            (within (cases_lt service.clock.end (clock_after (shown_content service.before) service.clock).at.counter));
       }
     where
-      within : (entry.clock.end < (clock_after (shown_content entry.before) entry.clock).at.counter)
-          ⊎ ((clock_after (shown_content entry.before) entry.clock).at.counter ≤ entry.clock.end)
-          → (clock_after (shown_content entry.before) entry.clock).at.counter ≤ entry.clock.end
+      within : (service.clock.end < (clock_after (shown_content service.before) service.clock).at.counter)
+          ⊎ ((clock_after (shown_content service.before) service.clock).at.counter ≤ service.clock.end)
+          → (clock_after (shown_content service.before) service.clock).at.counter ≤ service.clock.end
       within (inl past) = absurd (served.within past)
       within (inr less) = less
 
@@ -155,31 +155,31 @@ module _ (functions : DigestFunctions) (settings : Settings) (script : List (Lis
     abbrev first : Content
     first = shown_content (first_at terms place)
 
-    -- the first content of the place can serve the entry's request
-    first_serves : (entry : Entry) → entry.place ≡ place → told.IsServed terms entry → IsSmall entry → SeatServes short_keys functions.digest hot_keys first entry.request
-    first_serves entry at served small =
-        let is_at : IsPlaceOf terms place entry.request.key = subst (λ (n : ℕ). IsPlaceOf terms n entry.request.key) at served.at in
-        subst (λ (c : Content). SeatServes short_keys functions.digest hot_keys c entry.request) (made.contents place there)
+    -- the first content of the place can serve the service's request
+    first_serves : (service : Service) → service.place ≡ place → told.IsServed terms service → IsSmall service → SeatServes short_keys functions.digest hot_keys first service.request
+    first_serves service at served small =
+        let is_at : IsPlaceOf terms place service.request.key = subst (λ (n : ℕ). IsPlaceOf terms n service.request.key) at served.at in
+        subst (λ (c : Content). SeatServes short_keys functions.digest hot_keys c service.request) (made.contents place there)
         (seat_serves short_keys functions.digest (shard_at world (place / 5)).contents
         (orderly.shards (place / 5) (shard_there functions settings script world orderly terms made place there)).mirrors
-        (place % 5) entry.request small
-        (owns_there functions settings script world orderly terms made place there entry.request is_at served.value))
+        (place % 5) service.request small
+        (owns_there functions settings script world orderly terms made place there service.request is_at served.value))
 
-    from_mirrored : (x y : code.Content) (entries : List Entry) → IsStill first (shown_content x) → ContentMirrors short_keys functions.digest hot_keys (shown_content x)
-        → told.Leads terms place x entries y → AllByRecursion IsSmall entries
-        → AllByRecursion (λ entry. IsServed (shipped_host functions settings script) world (serving_of entry)) entries
+    from_mirrored : (x y : code.Content) (services : List Service) → IsStill first (shown_content x) → ContentMirrors short_keys functions.digest hot_keys (shown_content x)
+        → told.Leads terms place x services y → AllByRecursion IsSmall services
+        → AllByRecursion (λ service. IsServed (shipped_host functions settings script) world (serving_of service)) services
     from_mirrored x y [] same mirrors leads small = tt
-    from_mirrored x y (entry ∷ entries) same mirrors leads small =
-        (entry_served entry leads.2 can, from_mirrored entry.after y entries same_after mirrors_after leads.3 small.1)
+    from_mirrored x y (service ∷ services) same mirrors leads small =
+        (service_served service leads.2 can, from_mirrored service.after y services same_after mirrors_after leads.3 small.1)
       where
         before : Content
-        before = shown_content entry.before
+        before = shown_content service.before
 
-        serves : SeatServes short_keys functions.digest hot_keys first entry.request
-        serves = first_serves entry leads.0 leads.2 small.0
+        serves : SeatServes short_keys functions.digest hot_keys first service.request
+        serves = first_serves service leads.0 leads.2 small.0
 
-        plan : IsPlan short_keys functions.digest entry.worker before entry.request entry.clock entry.plan (shown_content entry.after) entry.later
-        plan = subst (λ (digest : _). IsPlan short_keys digest entry.worker before entry.request entry.clock entry.plan (shown_content entry.after) entry.later) made.digest leads.2.plan
+        plan : IsPlan short_keys functions.digest service.worker before service.request service.clock service.plan (shown_content service.after) service.later
+        plan = subst (λ (digest : _). IsPlan short_keys digest service.worker before service.request service.clock service.plan (shown_content service.after) service.later) made.digest leads.2.plan
 
         same_before : IsStill first before
         same_before = subst (IsStill first) (sym leads.1) same
@@ -187,25 +187,25 @@ module _ (functions : DigestFunctions) (settings : Settings) (script : List (Lis
         mirrors_before : ContentMirrors short_keys functions.digest hot_keys before
         mirrors_before = subst (ContentMirrors short_keys functions.digest hot_keys) (sym leads.1) mirrors
 
-        own : Owns short_keys before entry.request.key
-        own = owns_still functions hot_keys first before entry.request.key same_before mirrors_before serves.own
+        own : Owns short_keys before service.request.key
+        own = owns_still functions hot_keys first before service.request.key same_before mirrors_before serves.own
 
-        apart : IsCold short_keys hot_keys before entry.request.key
-        apart = cold_still hot_keys first before entry.request.key same_before serves.cold_there
+        apart : IsCold short_keys hot_keys before service.request.key
+        apart = cold_still hot_keys first before service.request.key same_before serves.cold_there
 
-        can : CanServe short_keys functions.digest before entry.request.key
-        can = mirrors_serve short_keys functions.digest hot_keys before entry.request.key mirrors_before own apart
+        can : CanServe short_keys functions.digest before service.request.key
+        can = mirrors_serve short_keys functions.digest hot_keys before service.request.key mirrors_before own apart
 
-        same_after : IsStill first (shown_content entry.after)
-        same_after = subst (IsStill first) (sym plan.content) (still_after functions entry.worker first before plan.links entry.request entry.clock same_before)
+        same_after : IsStill first (shown_content service.after)
+        same_after = subst (IsStill first) (sym plan.content) (still_after functions service.worker first before plan.links service.request service.clock same_before)
 
-        mirrors_after : ContentMirrors short_keys functions.digest hot_keys (shown_content entry.after)
-        mirrors_after = plan_mirrors short_keys functions.digest entry.worker hot_keys before (shown_content entry.after) entry.request entry.clock entry.later entry.plan
+        mirrors_after : ContentMirrors short_keys functions.digest hot_keys (shown_content service.after)
+        mirrors_after = plan_mirrors short_keys functions.digest service.worker hot_keys before (shown_content service.after) service.request service.clock service.later service.plan
             digests leads.2.value mirrors_before own apart plan
 
-    -- Each entry of the place's past is what the host does.
-    pub past_served : (y : code.Content) (entries : List Entry) → told.Leads terms place (first_at terms place) entries y → AllByRecursion IsSmall entries
-        → AllByRecursion (λ entry. IsServed (shipped_host functions settings script) world (serving_of entry)) entries
+    -- Each service of the place's past is what the host does.
+    pub past_served : (y : code.Content) (services : List Service) → told.Leads terms place (first_at terms place) services y → AllByRecursion IsSmall services
+        → AllByRecursion (λ service. IsServed (shipped_host functions settings script) world (serving_of service)) services
     past_served y [] leads small = tt
-    past_served y (entry ∷ entries) leads small =
-        from_mirrored (first_at terms place) y (entry ∷ entries) (still first) (first_serves entry leads.0 leads.2 small.0).mirrors leads small
+    past_served y (service ∷ services) leads small =
+        from_mirrored (first_at terms place) y (service ∷ services) (still first) (first_serves service leads.0 leads.2 small.0).mirrors leads small

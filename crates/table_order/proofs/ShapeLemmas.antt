@@ -9,7 +9,7 @@ use Rattle.host_core.specs.World.{Place}
 use Rattle.host_shard.specs.Content.{Content}
 use Rattle.host_order.specs.Serving.{Serving}
 use Rattle.host_order.specs.Told.{joined, joined_pasts, list_of, past_of}
-use Rattle.host_table.specs.declared.told.Entry.{Entry}
+use Rattle.host_table.specs.declared.told.Service.{Service}
 use Rattle.host_table.specs.declared.views.Row.{Row}
 use Rattle.host_table.specs.Made.{new_row}
 use Rattle.host_table.specs.Phase.{row_at}
@@ -24,18 +24,18 @@ pub list_is : (rows : List Row) (i : ℕ) → list_of (lists_of rows) i ≡ serv
 list_is rows i = get_or-map (λ (row : Row). servings_of row.list) rows i new_row
 
 -- what all workers served
-abbrev pub entries_in : List Row → List Entry
-entries_in rows = flat_map (λ row. row.list) rows
+abbrev pub services_in : List Row → List Service
+services_in rows = flat_map (λ row. row.list) rows
 
-pub lists_joined : (rows : List Row) → joined (lists_of rows) ≡ servings_of (entries_in rows)
+pub lists_joined : (rows : List Row) → joined (lists_of rows) ≡ servings_of (services_in rows)
 lists_joined [] = refl
 lists_joined (row ∷ rows) =
     ap (λ (zs : List (Serving Content Request)). servings_of row.list ++ zs) (lists_joined rows)
-    ∙ sym (map-append serving_of row.list (entries_in rows))
+    ∙ sym (map-append serving_of row.list (services_in rows))
 
 -- ---- places
 
-module _ (past : ℕ → List Entry) where
+module _ (past : ℕ → List Service) where
   at_joined : (place count : ℕ) → joined (pasts_at place count past) ≡ servings_of (joined_from place count past)
   at_joined place zero = refl
   at_joined place (suc count) =
@@ -50,7 +50,7 @@ module _ (past : ℕ → List Entry) where
       let rest : ℕ = shards * places_each in
       (λ k. at_joined place places_each k ++ from_joined (place + places_each) shards rest refl k)
       ∙ sym (map-append serving_of (joined_from place places_each past) (joined_from (place + places_each) rest past))
-      ∙ ap (λ (es : List Entry). servings_of es) (sym (joined_cut past place places_each rest count (place + places_each) (omega (arith, is)) refl))
+      ∙ ap (λ (es : List Service). servings_of es) (sym (joined_cut past place places_each rest count (place + places_each) (omega (arith, is)) refl))
 
   pub pasts_joined : (shards count : ℕ) → count ≡ shards * places_each → joined_pasts (pasts_of shards past) ≡ servings_of (joined_from 0 count past)
   pasts_joined shards count is = from_joined 0 shards count is

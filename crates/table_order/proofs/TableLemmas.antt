@@ -20,7 +20,7 @@ use Rattle.host_shard.specs.declared.content.Content as code
 use Rattle.host_shard.specs.declared.content.Content.TheVariants.{Vacant}
 use Rattle.host_shard.specs.Content.{Content}
 use Rattle.host_shard.specs.Shown.{shown_content}
-use Rattle.host_table.specs.declared.told.Entry.{Entry}
+use Rattle.host_table.specs.declared.told.Service.{Service}
 use Rattle.host_table.specs.declared.told.Stop.{Stop}
 use Rattle.host_table.specs.declared.views.Row.{Row}
 use Rattle.host_table.specs.Made.{new_row}
@@ -37,7 +37,7 @@ use Rattle.table_order.specs.Servings.{serving_of, servings_of, lists_of, pasts_
 use Rattle.table_order.specs.Phases.{first_clock, IsTableOf}
 use Rattle.table_order.proofs.Keeping.{DoesPlans, EndsClocks}
 use Rattle.table_order.proofs.ListLemmas.{all-moved, all-flat, all-part, all-map, all-joined, all-numbered}
-use Rattle.table_order.proofs.ShapeLemmas.{list_is, entries_in, lists_joined, pasts_joined, number_of, past_is, past_cases}
+use Rattle.table_order.proofs.ShapeLemmas.{list_is, services_in, lists_joined, pasts_joined, number_of, past_is, past_cases}
 use Rattle.table_order.proofs.PlaceLemmas.{place_back, is_place, owns_there}
 use Rattle.table_order.proofs.PastLemmas.{behind_leads, chain_leads, place_leads, had_shown, IsSmall, past_served}
 use Rattle.table_order.proofs.TurnLemmas.{worker_chain, stop_clock, next_small, all-stops, stops_apart}
@@ -54,9 +54,9 @@ module _ (functions : DigestFunctions) (settings : Settings) (script : List (Lis
   abbrev pasts : List (List (List (Serving Content Request)))
   pasts = pasts_of (length world.shards) phase.past
 
-  -- the entry is what the host does
-  abbrev IsDone : Entry → Type 0
-  IsDone entry = IsServed host world (serving_of entry)
+  -- the service is what the host does
+  abbrev IsDone : Service → Type 0
+  IsDone service = IsServed host world (serving_of service)
 
   running : (worker : ℕ) → worker < length world.workers → (worker_at host world worker).stopped ≡ false
   running worker there = (is.turns worker there).running
@@ -68,9 +68,9 @@ module _ (functions : DigestFunctions) (settings : Settings) (script : List (Lis
   known : (worker : ℕ) → worker < length world.workers → worker < terms.workers
   known worker there = omega (arith, there, is.made.workers)
 
-  -- ---- the entries
+  -- ---- the services
 
-  rows_small : AllByRecursion IsSmall (entries_in rows)
+  rows_small : AllByRecursion IsSmall (services_in rows)
   rows_small = all-flat IsSmall (λ (row : Row). row.list) new_row rows
       (λ i there. next_small functions settings script is.behind.keys world.phase i (worker_at host world i).served (row_at rows i).list
       (is.turns i (omega (arith, there, rows_are))).next)
@@ -80,13 +80,13 @@ module _ (functions : DigestFunctions) (settings : Settings) (script : List (Lis
       let there : place < place_count terms = omega (arith, below) in
       past_served functions settings script world orderly terms is.made is.digests does running place there (get_or after place Vacant) (phase.past place) (phase.leads place there)
       (all-numbered IsSmall phase.past 0 (place_count terms) place from below
-      (all-moved IsSmall (entries_in rows) (joined_from 0 (place_count terms) phase.past) phase.same rows_small)))
+      (all-moved IsSmall (services_in rows) (joined_from 0 (place_count terms) phase.past) phase.same rows_small)))
 
-  rows_done : AllByRecursion IsDone (entries_in rows)
-  rows_done = all-moved IsDone (joined_from 0 (place_count terms) phase.past) (entries_in rows)
-      (IsPermutation-sym (entries_in rows) (joined_from 0 (place_count terms) phase.past) phase.same) pasts_done
+  rows_done : AllByRecursion IsDone (services_in rows)
+  rows_done = all-moved IsDone (joined_from 0 (place_count terms) phase.past) (services_in rows)
+      (IsPermutation-sym (services_in rows) (joined_from 0 (place_count terms) phase.past) phase.same) pasts_done
 
-  -- Each entry of a worker's list is what the host does.
+  -- Each service of a worker's list is what the host does.
   pub list_done : (worker : ℕ) → worker < length world.workers → AllByRecursion IsDone (row_at rows worker).list
   list_done worker there = all-part IsDone (λ (row : Row). row.list) new_row rows worker (omega (arith, there, rows_are)) rows_done
 
@@ -175,13 +175,13 @@ module _ (functions : DigestFunctions) (settings : Settings) (script : List (Lis
   pub same_servings : IsPermutation (joined lists) (joined_pasts pasts)
   same_servings =
       subst (λ (xs : List (Serving Content Request)). IsPermutation xs (joined_pasts pasts)) (sym (lists_joined rows))
-      (subst (IsPermutation (servings_of (entries_in rows))) (sym (pasts_joined phase.past (length world.shards) (place_count terms) is.made.places))
-      (IsPermutation-map serving_of (entries_in rows) (joined_from 0 (place_count terms) phase.past) phase.same))
+      (subst (IsPermutation (servings_of (services_in rows))) (sym (pasts_joined phase.past (length world.shards) (place_count terms) is.made.places))
+      (IsPermutation-map serving_of (services_in rows) (joined_from 0 (place_count terms) phase.past) phase.same))
 
   -- What a table tells of a phase is told as it is asked.
   pub are_told : AreTold host world lists pasts
   are_told = record {
-    served = subst (AllByRecursion (IsServed host world)) (sym (lists_joined rows)) (all-map (IsServed host world) serving_of (entries_in rows) rows_done);
+    served = subst (AllByRecursion (IsServed host world)) (sym (lists_joined rows)) (all-map (IsServed host world) serving_of (services_in rows) rows_done);
     same = same_servings;
     own_worker = own_list;
     own_place = own_past;
@@ -217,9 +217,9 @@ module _ (functions : DigestFunctions) (settings : Settings) (script : List (Lis
       noted : told.IsStop terms (phase.past stop.place) (row_at rows worker).list stop
       noted = phase.ended worker stop (known worker there) stops
 
-      as_many : (entries : List Entry) → length (servings_of entries) ≡ length entries
+      as_many : (services : List Service) → length (servings_of services) ≡ length services
       as_many [] = refl
-      as_many (entry ∷ entries) = ap (λ (n : ℕ). suc n) (as_many entries)
+      as_many (service ∷ services) = ap (λ (n : ℕ). suc n) (as_many services)
 
       clock_is : clock_behind (worker_at host world worker).clock (list_of lists worker) ≡ stop.clock
       clock_is =

@@ -11,7 +11,7 @@ use Rattle.host_core.specs.Host.{Host, asked}
 use Rattle.host_shard.specs.Content.{Content}
 use Rattle.host_order.specs.Serving.{IsWorkerChain, clock_behind}
 use Rattle.host_order.specs.Told as order
-use Rattle.host_table.specs.declared.told.Entry.{Entry}
+use Rattle.host_table.specs.declared.told.Service.{Service}
 use Rattle.host_table.specs.declared.told.Stop.{Stop}
 use Rattle.host_table.specs.declared.views.Row.{Row}
 use Rattle.host_table.specs.Phase.{row_at}
@@ -28,39 +28,39 @@ use Rattle.table_order.proofs.PastLemmas.{IsSmall}
 -- ---- a list
 
 module _ (host : Host Content Request) (phase worker : ℕ) where
-  continues_chain : (clock later : Reading) (served : ℕ) (entries : List Entry) → Continues clock entries later → AreNext host phase worker served entries
-      → IsWorkerChain host phase worker clock served (servings_of entries)
+  continues_chain : (clock later : Reading) (served : ℕ) (services : List Service) → Continues clock services later → AreNext host phase worker served services
+      → IsWorkerChain host phase worker clock served (servings_of services)
   continues_chain clock later served [] goes next = tt
-  continues_chain clock later served (entry ∷ entries) goes next =
-      (goes.0, next.0, continues_chain entry.later later (suc served) entries goes.1 next.1)
+  continues_chain clock later served (service ∷ services) goes next =
+      (goes.0, next.0, continues_chain service.later later (suc served) services goes.1 next.1)
 
   -- A worker's list is a chain from the clock at which it begins.
-  pub worker_chain : (clock later : Reading) (served : ℕ) (entries : List Entry) (stop : Option Stop) → TakesUp entries later
-      → ForSome (first_clock entries stop) (λ first. first ≡ clock) → AreNext host phase worker served entries
-      → IsWorkerChain host phase worker clock served (servings_of entries)
+  pub worker_chain : (clock later : Reading) (served : ℕ) (services : List Service) (stop : Option Stop) → TakesUp services later
+      → ForSome (first_clock services stop) (λ first. first ≡ clock) → AreNext host phase worker served services
+      → IsWorkerChain host phase worker clock served (servings_of services)
   worker_chain clock later served [] stop takes begins next = tt
-  worker_chain clock later served (entry ∷ entries) stop takes begins next =
-      (begins entry.clock refl, next.0, continues_chain entry.later later (suc served) entries takes next.1)
+  worker_chain clock later served (service ∷ services) stop takes begins next =
+      (begins service.clock refl, next.0, continues_chain service.later later (suc served) services takes next.1)
 
-continues_behind : (clock later : Reading) (entries : List Entry) → Continues clock entries later → clock_behind clock (servings_of entries) ≡ later
+continues_behind : (clock later : Reading) (services : List Service) → Continues clock services later → clock_behind clock (servings_of services) ≡ later
 continues_behind clock later [] goes = sym goes
-continues_behind clock later (entry ∷ entries) goes = continues_behind entry.later later entries goes.1
+continues_behind clock later (service ∷ services) goes = continues_behind service.later later services goes.1
 
 -- Behind it the worker's clock is that of its stop.
-pub stop_clock : (clock : Reading) (entries : List Entry) (stop : Stop) → TakesUp entries stop.clock
-    → ForSome (first_clock entries (Some stop)) (λ first. first ≡ clock) → clock_behind clock (servings_of entries) ≡ stop.clock
+pub stop_clock : (clock : Reading) (services : List Service) (stop : Stop) → TakesUp services stop.clock
+    → ForSome (first_clock services (Some stop)) (λ first. first ≡ clock) → clock_behind clock (servings_of services) ≡ stop.clock
 stop_clock clock [] stop takes begins = sym (begins stop.clock refl)
-stop_clock clock (entry ∷ entries) stop takes begins = continues_behind entry.later stop.clock entries takes
+stop_clock clock (service ∷ services) stop takes begins = continues_behind service.later stop.clock services takes
 
 -- ---- keys
 
 -- Of what the script asks each key has no more than 64 bits.
-pub next_small : (functions : DigestFunctions) (settings : Settings) (script : List (List Task)) → AreInRange script → (phase worker served : ℕ) (entries : List Entry)
-    → AreNext (shipped_host functions settings script) phase worker served entries → AllByRecursion IsSmall entries
+pub next_small : (functions : DigestFunctions) (settings : Settings) (script : List (List Task)) → AreInRange script → (phase worker served : ℕ) (services : List Service)
+    → AreNext (shipped_host functions settings script) phase worker served services → AllByRecursion IsSmall services
 next_small functions settings script keys phase worker served [] next = tt
-next_small functions settings script keys phase worker served (entry ∷ entries) next = (
-  all-got InRange (asked (shipped_host functions settings script) worker) served (phase, entry.request) (in_phases worker 0 script keys) next.0,
-  next_small functions settings script keys phase worker (suc served) entries next.1,
+next_small functions settings script keys phase worker served (service ∷ services) next = (
+  all-got InRange (asked (shipped_host functions settings script) worker) served (phase, service.request) (in_phases worker 0 script keys) next.0,
+  next_small functions settings script keys phase worker (suc served) services next.1,
 )
 
 -- ---- stops

@@ -12,7 +12,7 @@ use Rattle.host_order.specs.Serving.{content_at}
 use Rattle.host_order.specs.Told.{IsAtRest}
 use Rattle.host_shard.specs.Content.{Content}
 use Rattle.host_shard.specs.Shown.{shown_content}
-use Rattle.host_table.specs.declared.told.Entry.{Entry}
+use Rattle.host_table.specs.declared.told.Service.{Service}
 use Rattle.host_table.specs.declared.told.Stop.{Stop}
 use Rattle.host_table.specs.declared.views.Row.{Row}
 use Rattle.host_table.specs.Phase.{row_at}
@@ -30,17 +30,17 @@ pub record AreTermsOf (host : Host Content Request) (world : World Content) (ter
   pub places : place_count terms ≡ length world.shards * places_each
   pub contents : (place : ℕ) → place < place_count terms → content_at host world (place_of place) ≡ shown_content (first_at terms place)
 
--- the clock of a worker's first entry, or where it has none that of its stop
-abbrev pub first_clock : List Entry → Option Stop → Option Reading
-first_clock (entry ∷ entries) stop = Some entry.clock
+-- the clock of a worker's first service, or where it has none that of its stop
+abbrev pub first_clock : List Service → Option Stop → Option Reading
+first_clock (service ∷ services) stop = Some service.clock
 first_clock [] (Some stop) = Some stop.clock
 first_clock [] None = None
 
--- each entry is of the next request that the script asks of the worker in the phase
-abbrev pub AreNext : Host Content Request → ℕ → ℕ → ℕ → List Entry → Type 0
+-- each service is of the next request that the script asks of the worker in the phase
+abbrev pub AreNext : Host Content Request → ℕ → ℕ → ℕ → List Service → Type 0
 AreNext host phase worker served [] = Unit {0}
-AreNext host phase worker served (entry ∷ entries) =
-    (slice_get (asked host worker) served ≡ Some (phase, entry.request)) × AreNext host phase worker (suc served) entries
+AreNext host phase worker served (service ∷ services) =
+    (slice_get (asked host worker) served ≡ Some (phase, service.request)) × AreNext host phase worker (suc served) services
 
 -- What a worker did in the phase: it was running, began at its clock and took up its next requests in order, and where its
 -- clock ended that was at the request behind them.

@@ -5,24 +5,24 @@ use Rattle.host_shard.specs.Content.{Content}
 use Rattle.host_shard.specs.Shown.{shown_content}
 use Rattle.host_order.specs.Serving.{Serving}
 use Rattle.host_order.specs.Told as order
-use Rattle.host_table.specs.declared.told.Entry.{Entry}
+use Rattle.host_table.specs.declared.told.Service.{Service}
 use Rattle.host_table.specs.declared.told.Stop.{Stop}
 use Rattle.host_table.specs.declared.views.Row.{Row}
 use Rattle.host_world.specs.Places.{places_each, place_of}
 
--- the entry, at the place of its number, with the contents that it shows
-abbrev pub serving_of : Entry → Serving Content Request
-serving_of entry = record {
-  place = place_of entry.place;
-  worker = entry.worker;
-  clock = entry.clock;
-  before = shown_content entry.before;
-  request = entry.request;
-  done = record { commands = entry.plan.commands; after = shown_content entry.after; clock = entry.later };
+-- the service, at the place of its number, with the contents that it shows
+abbrev pub serving_of : Service → Serving Content Request
+serving_of service = record {
+  place = place_of service.place;
+  worker = service.worker;
+  clock = service.clock;
+  before = shown_content service.before;
+  request = service.request;
+  done = record { commands = service.plan.commands; after = shown_content service.after; clock = service.later };
 }
 
-abbrev pub servings_of : List Entry → List (Serving Content Request)
-servings_of entries = map serving_of entries
+abbrev pub servings_of : List Service → List (Serving Content Request)
+servings_of services = map serving_of services
 
 -- ---- by workers
 
@@ -46,15 +46,15 @@ stops_of rows = stops_from 0 rows
 -- ---- by places
 
 -- what was served at so many places, from one on
-abbrev pub pasts_at : ℕ → ℕ → (ℕ → List Entry) → List (List (Serving Content Request))
+abbrev pub pasts_at : ℕ → ℕ → (ℕ → List Service) → List (List (Serving Content Request))
 pasts_at place zero past = []
 pasts_at place (suc count) past = servings_of (past place) ∷ pasts_at (suc place) count past
 
 -- the same of so many shards, the first of which begins at a place
-abbrev pub pasts_from : ℕ → ℕ → (ℕ → List Entry) → List (List (List (Serving Content Request)))
+abbrev pub pasts_from : ℕ → ℕ → (ℕ → List Service) → List (List (List (Serving Content Request)))
 pasts_from place zero past = []
 pasts_from place (suc shards) past = pasts_at place places_each past ∷ pasts_from (place + places_each) shards past
 
 -- what was served at the places of so many shards
-abbrev pub pasts_of : ℕ → (ℕ → List Entry) → List (List (List (Serving Content Request)))
+abbrev pub pasts_of : ℕ → (ℕ → List Service) → List (List (List (Serving Content Request)))
 pasts_of shards past = pasts_from 0 shards past

@@ -29,14 +29,14 @@ use host_fits::{
 };
 use host_world::worlds_are_orderly;
 
-/// Each entry of a worker's list is what the shipped host does for its request, at a place that owns it, from its clock and
+/// Each service of a worker's list is what the shipped host does for its request, at a place that owns it, from its clock and
 /// its content.
-pub fn entries_are_what_the_host_does()
+pub fn services_are_what_the_host_does()
     ensures served { (functions : DigestFunctions) (settings : Settings) (script : List (List Task)) (world : World Content)
         (terms : Terms) (after : List code.Content) (rows : List Row)
         → IsTableOf functions settings script world terms rows → IsPhase terms after rows
         → (worker : ℕ) → worker < length world.workers
-        → AllByRecursion (λ entry. IsServed (shipped_host functions settings script) world (serving_of entry)) (row_at rows worker).list }
+        → AllByRecursion (λ service. IsServed (shipped_host functions settings script) world (serving_of service)) (row_at rows worker).list }
 {
     worlds_are_orderly();
     plans_are_what_the_host_does();

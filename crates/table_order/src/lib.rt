@@ -9,6 +9,6 @@
 mod laws;
 
 pub use laws::{
-    a_phase_of_a_table_has_one_order, entries_are_what_the_host_does, tables_tell_of_a_phase,
+    a_phase_of_a_table_has_one_order, services_are_what_the_host_does, tables_tell_of_a_phase,
     worlds_make_tables,
 };

@@ -39,7 +39,7 @@ module _ (terms : Terms) (z : TableId) (turns : List Turn) where
               record {
                 free = subst (IsFree z) (at i d) (all.free i (hand_of d) inside);
                 clock = subst (IsClockOf terms) (sym begun.at) is_clock;
-                chained = subst (λ es. TakesUp es (get_or turns i d).clock) (sym fresh.entries) tt;
+                chained = subst (λ es. TakesUp es (get_or turns i d).clock) (sym fresh.services) tt;
                 going = λ _. fresh.stop;
               };
           numbers = λ i d below. ap worker_of (sym (at i d)) ∙ all.numbers i (hand_of d) (omega (arith, below, count));

@@ -6,19 +6,19 @@ use Rattle.atomic_table.specs.Seated.{TableId}
 use Rattle.host_table.specs.declared.hand.Hand.{Hand}
 use Rattle.host_table.specs.Terms.{Terms, IsClockOf, place_count}
 use Rattle.host_table.specs.Told.{TakesUp}
-use Rattle.host_table.specs.Hands.{worker_of, entries, stop, IsFree}
+use Rattle.host_table.specs.Hands.{worker_of, services, stop, IsFree}
 use Rattle.table_tests.specs.Ready.{AreReady}
 use Rattle.table_tests.specs.declared.turns.Turn.{Turn}
 
--- the worker holds no place, its clock is the one that its last entry left, and it goes on as long as its clock didn't end
+-- the worker holds no place, its clock is the one that its last service left, and it goes on as long as its clock didn't end
 pub record IsTurn (terms : Terms) (table : TableId) (turn : Turn) : Type 0 where
   pub free : IsFree table turn.hand
   pub clock : IsClockOf terms turn.clock
-  pub chained : TakesUp (entries turn.hand) turn.clock
+  pub chained : TakesUp (services turn.hand) turn.clock
   pub going : turn.ended ≡ false → stop turn.hand ≡ None
 
 -- the same worker, and it is its turn still
-pub record Toils (terms : Terms) (table : TableId) (old new : Turn) : Type 0 where
+pub record Works (terms : Terms) (table : TableId) (old new : Turn) : Type 0 where
   pub turn : IsTurn terms table new
   pub worker : worker_of new.hand ≡ worker_of old.hand
 
@@ -28,7 +28,7 @@ pub record AreTurns (terms : Terms) (table : TableId) (turns : List Turn) : Type
   pub numbers : (i : ℕ) (d : Turn) → i < length turns → worker_of (slice_index_or turns i d).hand ≡ i
 
 -- what a worker asks of its turn
-pub record CanToil (digest : Digest) (terms : Terms) (table : TableId) (bits : ℕ) (frontiers : List (List Bool)) (turn : Turn) : Type 0 where
+pub record CanWork (digest : Digest) (terms : Terms) (table : TableId) (bits : ℕ) (frontiers : List (List Bool)) (turn : Turn) : Type 0 where
   pub digests : digest ≡ terms.digest
   pub few : (0 < bits) × (bits ≤ 6)
   pub ready : AreReady frontiers terms.contents

@@ -2,9 +2,9 @@
 ghost use Rattle.std.specs.Prelude.{◌≡◌, ◌<◌, ◌≤◌, map};
 ghost use Rattle.table_tests.specs.Turns.{hand_of};
 
-use crate::crew::{set_up, toiled};
-use crate::replaying::{Entries, number_of, replay};
+use crate::replaying::{Services, number_of, replay};
 use crate::shards::shards;
+use crate::table_workers::{set_up, worked};
 use crate::turns::{Served, Turn};
 use host_shard::Content;
 use host_table::Hand;
@@ -41,7 +41,7 @@ fn phase<R: Threads + Abort + Sync, D: Digests + Sync>(
     let Ok((records, frontiers, turns)) = set_up(alloc, d, workers, bits, places, end) else {
         panic!(rt; "no table");
     };
-    let turns = toiled(
+    let turns = worked(
         rt,
         alloc,
         d,
@@ -52,10 +52,10 @@ fn phase<R: Threads + Abort + Sync, D: Digests + Sync>(
         1,
         turns,
     );
-    let mut entries = Entries::new(alloc);
-    let (tally, hands) = tell(rt, alloc, turns, &mut entries);
+    let mut services = Services::new(alloc);
+    let (tally, hands) = tell(rt, alloc, turns, &mut services);
     let closed = records.close(hands);
-    compare(rt, alloc, d, bits, places, &closed, &entries);
+    compare(rt, alloc, d, bits, places, &closed, &services);
     tally
 }
 
@@ -64,7 +64,7 @@ fn tell(
     rt: &impl Abort,
     alloc: Global,
     turns: Vec<Turn>,
-    entries: &mut Entries,
+    services: &mut Services,
 ) -> (Tally, Vec<Hand>)
     ensures hands { result.1.items ≡ map hand_of turns.items }
 {
@@ -75,14 +75,14 @@ fn tell(
     };
     let mut hands = Vec::new(alloc);
     for turn in turns {
-        let hand = tell_one(rt, turn, &mut tally, entries);
+        let hand = tell_one(rt, turn, &mut tally, services);
         hands.push(hand).expect(rt, "memory");
     }
     (tally, hands)
 }
 
 // Counts what a worker tells, and gives its hand.
-fn tell_one(rt: &impl Abort, turn: Turn, tally: &mut Tally, entries: &mut Entries) -> Hand
+fn tell_one(rt: &impl Abort, turn: Turn, tally: &mut Tally, services: &mut Services) -> Hand
     ensures hand { result ≡ hand_of turn }
 {
     let Turn {
@@ -97,20 +97,20 @@ fn tell_one(rt: &impl Abort, turn: Turn, tally: &mut Tally, entries: &mut Entrie
     tally.busy = tally.busy.saturating_add(busy);
     tally.ended = tally.ended.saturating_add(u64::from(ended));
     tally.served = tally.served.saturating_add(log.len() as u64);
-    enter(rt, entries, log);
+    enter(rt, services, log);
     hand
 }
 
-fn enter(rt: &impl Abort, entries: &mut Entries, log: Vec<Served>) {
+fn enter(rt: &impl Abort, services: &mut Services, log: Vec<Served>) {
     for served in log {
-        let entered: Result<_, _> = entries.insert(number_of(&served), served);
+        let entered: Result<_, _> = services.insert(number_of(&served), served);
         if entered.is_err() {
             panic!(rt; "no memory");
         }
     }
 }
 
-// Served again in new shards, the entries leave the same elements waiting: so their records have the same digests.
+// Served again in new shards, the services leave the same elements waiting: so their records have the same digests.
 fn compare<D: Digests>(
     rt: &impl Abort,
     alloc: Global,
@@ -118,7 +118,7 @@ fn compare<D: Digests>(
     bits: u8,
     places: usize,
     closed: &[Content],
-    entries: &Entries,
+    services: &Services,
 )
     requires few { (0 < bits) × (bits ≤ 6) × (places ≤ 64) }
 {
@@ -131,7 +131,7 @@ fn compare<D: Digests>(
         d,
         frontiers.as_slice(),
         again.as_mut_slice(),
-        entries,
+        services,
     );
     assert_same(rt, closed, again.as_slice());
 }

@@ -16,26 +16,26 @@ use std::process::Abort;
 use tree_keys::Path;
 
 /// What was served, by the stamps of the evicts and then by worker.
-pub(crate) type Entries = BTreeMap<u64, Served>;
+pub(crate) type Services = BTreeMap<u64, Served>;
 
-/// The number of an entry in that order.
+/// The number of a service in that order.
 pub(crate) fn number_of(served: &Served) -> u64 {
     u64::from(served.later.at().counter) << 16 | u64::from(served.worker)
 }
 
-/// Serves all entries again, in their order, and looks that each has the plan that it had. Else the test ends.
+/// Serves all services again, in their order, and looks that each has the plan that it had. Else the test ends.
 pub(crate) fn replay<D: Digests>(
     rt: &impl Abort,
     alloc: Global,
     d: &D,
     frontiers: &[Path],
     contents: &mut [Content],
-    entries: &Entries,
+    services: &Services,
 )
     requires owners { AreOwners frontiers.now contents.old }
     ensures owners { AreOwners frontiers.now contents.new }
 {
-    for (_, served) in entries {
+    for (_, served) in services {
         replay_one(rt, alloc, d, frontiers, contents, served);
     }
 }

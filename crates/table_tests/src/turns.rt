@@ -37,10 +37,10 @@ pub struct Turn {
 }
 
 impl Turn {
-    ghost use Rattle.table_tests.specs.Turns.{CanPass, IsTurn, Toils};
+    ghost use Rattle.table_tests.specs.Turns.{CanPass, IsTurn, Works};
 
     /// Tries so often, first at the place of the worker's number, and each time so many places further.
-    pub(crate) fn toil<D: Digests>(
+    pub(crate) fn work<D: Digests>(
         &mut self,
         alloc: Global,
         d: &D,
@@ -55,7 +55,7 @@ impl Turn {
         requires ready { AreReady frontiers.now (terms D.functions records.now).contents }
         requires some { 0 < length frontiers.now }
         requires turn { IsTurn (terms D.functions records.now) (table records.now) self.old }
-        ensures toils { Toils (terms D.functions records.now) (table records.now) self.old self.new }
+        ensures works { Works (terms D.functions records.now) (table records.now) self.old self.new }
     {
         let first = usize::from(self.hand.worker());
         for round in 0..rounds {
@@ -70,7 +70,7 @@ impl Turn {
     /// Takes the place of the worker's number so often, and gives it back as it is.
     pub(crate) fn pass<D: Digests>(&mut self, records: &Records<D>, places: usize, rounds: u64)
         requires can { CanPass (terms D.functions records.now) (table records.now) places self.old }
-        ensures toils { Toils (terms D.functions records.now) (table records.now) self.old self.new }
+        ensures works { Works (terms D.functions records.now) (table records.now) self.old self.new }
     {
         if self.ended {
             return;
@@ -85,7 +85,7 @@ impl Turn {
         requires place { place < place_count (terms D.functions records.now) }
         requires turn { IsTurn (terms D.functions records.now) (table records.now) self.old }
         requires going { self.old.ended ≡ false }
-        ensures toils { Toils (terms D.functions records.now) (table records.now) self.old self.new }
+        ensures works { Works (terms D.functions records.now) (table records.now) self.old self.new }
         ensures going { self.new.ended ≡ false }
     {
         match records.try_take(&mut self.hand, place) {
@@ -110,7 +110,7 @@ impl Turn {
         requires ready { IsOpenBelow (terms D.functions records.now) place frontier.now }
         requires turn { IsTurn (terms D.functions records.now) (table records.now) self.old }
         requires going { self.old.ended ≡ false }
-        ensures toils { Toils (terms D.functions records.now) (table records.now) self.old self.new }
+        ensures works { Works (terms D.functions records.now) (table records.now) self.old self.new }
     {
         let request = request_of(place, bits, round);
         if !Path::of_key(request.key).is_below(frontier) {

@@ -4,12 +4,12 @@ ghost use Rattle.std.specs.List.{flat_map};
 ghost use Rattle.bundle_frames.specs.Progress.{position};
 
 use crate::rows::{bytes_of, field, number, same, same_bytes};
+use base_words::Memory;
 use bundle_frames::{Fed, Found, Splitter, WholeBundle, read_pieces, write_frame, write_header};
 use fv_outside::{Failed, MemorySink};
 use lamport_clocks::Header;
 use std::alloc::Global;
 use std::process::Abort;
-use want_of_memory::Memory;
 
 // What a host of one verifier and two shards writes for an empty script: a header, and two frames.
 const SETUP: &str = "

@@ -4,13 +4,13 @@ ghost use Rattle.std.specs.List.{IsDistinct};
 ghost use Rattle.epoch_gather.specs.Parts.{is_same_part};
 ghost use Rattle.epoch_book.specs.Passes.{AreAllPassesOf, IsPassOf, number_of, part_of};
 
+use base_words::Memory;
 use epoch_book::{EpochBook, Pass};
 use epoch_gather::{Verdict, verdict};
 use multiset_sum::{Part, Sum};
 use std::alloc::Global;
 use std::test::Fail;
 use std::thread::{Threads, for_each_mut};
-use want_of_memory::Memory;
 
 const VERIFIERS: u16 = 64;
 

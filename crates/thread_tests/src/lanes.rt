@@ -2,13 +2,13 @@
 ghost use Rattle.std.specs.Prelude.{◌≡◌};
 ghost use Rattle.log_rings.specs.Lanes.{SameSender, SameReceiver};
 
+use base_words::Memory;
 use host_log::LogBuffer;
 use log_codec::Command;
 use log_rings::{Lane, Parcel, Receiver, Sender, Settled};
 use std::alloc::Global;
 use std::test::Fail;
 use std::thread::join_mut;
-use want_of_memory::Memory;
 
 // A parcel whose buffer has the one byte of a next epoch.
 fn parcel(alloc: Global, number: u64, last: bool) -> Result<Parcel, Memory> {

@@ -10,12 +10,12 @@ use crate::entry::{Entry, Hold};
 use crate::search::Hint;
 use crate::steps::Steps;
 use crate::table::Table;
+use base_words::Memory;
 use record_text::Value;
 use std::alloc::Global;
 use std::marker::{Brand, Model};
 use std::sync::ledger::{Blank, Ledger};
 use tree_keys::Path;
-use want_of_memory::Memory;
 
 /// The records that a verifier holds at one time: no path twice, and no more than there is room for.
 #[derive(Debug, Drop)]

@@ -5,9 +5,9 @@
 ghost use Rattle.std.specs.Prelude.{◌≡◌, ◌≢◌, ℕ, ◌+◌, ◌-◌, ◌*◌, ◌/◌, ◌<◌, ◌≤◌, length, IfOk};
 ghost use Rattle.verifier_cache.specs.Index.{lies, seen, mark_at, count_of, most_of, IsSound};
 
+use base_words::Memory;
 use std::alloc::Global;
 use tree_keys::Path;
-use want_of_memory::Memory;
 
 /// The marks of a block.
 const BLOCK: usize = 256;

@@ -13,11 +13,11 @@ use crate::entry::Entry;
 use crate::index::{Index, Mark};
 use crate::search::{Hint, hint_of, search, search_near};
 use crate::steps::Steps;
+use base_words::Memory;
 use record_text::Value;
 use std::alloc::Global;
 use std::sync::ledger::{Blank, Ledger};
 use tree_keys::Path;
-use want_of_memory::Memory;
 
 /// So many gaps may lie among a few entries before they are closed.
 const FEW_GAPS: usize = 64;
@@ -163,7 +163,7 @@ impl Table {
         ensures entries { standing self.new.stored.items ≡ standing self.old.stored.items }
         ensures none { length self.new.stored.items ≡ length (standing self.old.stored.items) }
     {
-        let kept = settle(&mut self.stored, &mut self.targets);
+        let kept = compact(&mut self.stored, &mut self.targets);
         relocate_all(&mut self.index, &self.targets);
         self.stored.truncate(kept);
     }
@@ -190,7 +190,7 @@ impl Table {
 
 // Moves the entries that are there still to the front, in their order, and notes for each place how many of them
 // lay before it. Returns how many they are.
-fn settle(stored: &mut Vec<Stored>, targets: &mut Vec<usize>) -> usize
+fn compact(stored: &mut Vec<Stored>, targets: &mut Vec<usize>) -> usize
     requires room { length stored.old.items ≤ vec_capacity targets.old }
     ensures kept { take result stored.new.items ≡ filter is_live stored.old.items }
     ensures count { result ≡ length (filter is_live stored.old.items) }

@@ -1,7 +1,7 @@
 -- In a step that was taken each part that it needed was there. (That it met none of its tests, `test-ok` tells.)
 use Rattle.std.proofs.Common.{◌≡◌, Option, Some, None, Result, Ok, Err, refl}
 use Rattle.lamport_clocks.specs.declared.clock.ClockFault.{ClockFault}
-use Rattle.step_words.specs.Steps.{need, and_then}
+use Rattle.base_words.specs.Steps.{need, and_then}
 use Rattle.record_text.specs.declared.refusal.Refusal.{Refusal}
 use Rattle.verifier_commands.specs.Transition.{timed}
 

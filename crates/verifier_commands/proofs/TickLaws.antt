@@ -6,7 +6,7 @@ use Rattle.lamport_clocks.specs.Stamp.{IsLater}
 use Rattle.lamport_clocks.specs.Reading.{Reading}
 use Rattle.lamport_clocks.specs.Clock.{received, sent, advanced}
 use Rattle.lamport_clocks.proofs.ClockLaws.{received-later, received-bounds, sent-later, sent-bounds, advanced-later, advanced-bounds}
-use Rattle.step_words.proofs.StepLaws.{test-ok}
+use Rattle.base_words.proofs.StepLaws.{test-ok}
 use Rattle.record_text.specs.Same.{same_value}
 use Rattle.log_codec.specs.declared.command.Command.{Command}
 use Rattle.log_codec.specs.declared.command.Command.TheVariants.{AddM, EvictM, AddB, EvictB, EvictBM, Get, Put, NextEpoch}

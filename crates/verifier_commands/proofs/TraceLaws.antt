@@ -1,6 +1,6 @@
 -- A verifier's answer to a command tells what it has done, and it accepts as many as there are events.
 use Rattle.std.proofs.Common.{◌≡◌, suc, ◌+◌, List, [], ◌∷◌, length, Ok, Err, refl, sym, ◌∙◌, ap, add-zero, arith}
-use Rattle.step_words.specs.Traced.{traced}
+use Rattle.base_words.specs.Traced.{traced}
 use Rattle.std.proofs.lemmas.Result.{IfOk-at_ok}
 use Rattle.log_codec.specs.declared.command.Command.{Command}
 use Rattle.merkle_records.specs.Scheme.{Scheme}

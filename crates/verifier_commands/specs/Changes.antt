@@ -2,7 +2,7 @@
 -- entries are looked up is no part of it.
 use Rattle.std.specs.Prelude.{ℕ, Bool, true, false, not, ◌||◌, List, Option, Some, None, Result, Ok, Err}
 use Rattle.tree_keys.specs.Path.{side, same_path}
-use Rattle.step_words.specs.Steps.{test, need}
+use Rattle.base_words.specs.Steps.{test, need}
 use Rattle.record_text.specs.declared.value.Pointer.{Pointer}
 use Rattle.record_text.specs.declared.value.Node.{Node}
 use Rattle.record_text.specs.declared.value.Value.{Value}

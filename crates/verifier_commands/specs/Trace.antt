@@ -1,6 +1,6 @@
 -- What the commands of a verifier come to. The history of a log is read from it, and what a run hands out.
 use Rattle.std.specs.Prelude.{List, map, Result, Ok, Err}
-use Rattle.step_words.specs.Traced.{Traced, traced, traced_behind}
+use Rattle.base_words.specs.Traced.{Traced, traced, traced_behind}
 use Rattle.record_text.specs.declared.refusal.Refusal.{Refusal}
 use Rattle.log_codec.specs.declared.command.Command.{Command}
 use Rattle.merkle_records.specs.Scheme.{Scheme}

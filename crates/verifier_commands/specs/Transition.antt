@@ -4,7 +4,7 @@ use Rattle.std.specs.Prelude.{ℕ, ◌==◌, nat_le, Bool, true, false, not, Lis
 use Rattle.lamport_clocks.specs.declared.stamp.Stamp.{Stamp}
 use Rattle.lamport_clocks.specs.declared.clock.ClockFault.{ClockFault}
 use Rattle.lamport_clocks.specs.declared.clock.ClockFault.TheVariants as faults
-use Rattle.step_words.specs.Steps.{test, need, and_then}
+use Rattle.base_words.specs.Steps.{test, need, and_then}
 use Rattle.lamport_clocks.specs.Clock.{received, sent, advanced}
 use Rattle.record_text.specs.declared.value.Value.{Value}
 use Rattle.record_text.specs.declared.element.Element.{Element}

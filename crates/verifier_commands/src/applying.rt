@@ -1,6 +1,6 @@
 //! Each command by its kind, and what its outcome answers.
 ghost use Rattle.std.specs.Prelude.{IfOk};
-ghost use Rattle.step_words.specs.Follows.{Follows};
+ghost use Rattle.base_words.specs.Follows.{Follows};
 ghost use Rattle.merkle_records.specs.Scheme.{scheme_of};
 ghost use Rattle.verifier_commands.specs.Transition.{transition};
 ghost use Rattle.verifier_commands.specs.Outcome.{told};

@@ -1,6 +1,6 @@
 //! The commands that come and go with a stamp: their records are checked by the sums of an epoch.
 ghost use Rattle.std.specs.Prelude.{◌≡◌, ◌≢◌, IsSome, IfSome, IfOk};
-ghost use Rattle.step_words.specs.Follows.{Follows};
+ghost use Rattle.base_words.specs.Follows.{Follows};
 ghost use Rattle.verifier_commands.specs.Transition.{add_b, evict_b, evict_bm};
 ghost use Rattle.verifier_cache.specs.Cache.{entry_of, without, replaced};
 ghost use Rattle.verifier_commands.specs.Changes.{is_by_stamp};

@@ -1,6 +1,6 @@
 //! The Merkle commands, which come and go by digests: the records that the sparse Merkle tree protects.
 ghost use Rattle.std.specs.Prelude.{IfOk};
-ghost use Rattle.step_words.specs.Follows.{Follows};
+ghost use Rattle.base_words.specs.Follows.{Follows};
 ghost use Rattle.record_text.specs.Format.{short_keys};
 ghost use Rattle.verifier_commands.specs.Transition.{add_m, evict_m};
 ghost use Rattle.verifier_commands.specs.Outcome.{told};

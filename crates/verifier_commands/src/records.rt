@@ -1,6 +1,6 @@
 //! The commands on data values, and the step to the next epoch.
 ghost use Rattle.std.specs.Prelude.{◌≡◌, IsSome, IfSome, IfOk};
-ghost use Rattle.step_words.specs.Follows.{Follows};
+ghost use Rattle.base_words.specs.Follows.{Follows};
 ghost use Rattle.verifier_commands.specs.Transition.{get, put, next_epoch};
 ghost use Rattle.record_text.specs.Format.{short_keys};
 ghost use Rattle.verifier_cache.specs.Entry.{with_value};

@@ -3,12 +3,12 @@ ghost use Rattle.std.specs.Prelude.{◌≡◌, ◌≤◌, IfOk};
 ghost use Rattle.record_text.specs.Same.{same_bytes, same_value};
 ghost use Rattle.verifier_commands.specs.Transition.{is_root, clock_refusal};
 
+use base_words::Memory;
 use lamport_clocks::{Clock, ClockFault, Header};
 use record_text::{Node, Refusal, Value};
 use std::alloc::Global;
 use tree_keys::Path;
 use verifier_cache::{Cache, Hold};
-use want_of_memory::Memory;
 
 /// The cache and the clock of a verifier.
 #[derive(Drop)]

@@ -1,6 +1,6 @@
 //! A verifier: its state and its sums, stepped command by command.
 ghost use Rattle.std.specs.Prelude.{◌≡◌, ◌<◌, ◌^◌, IfOk};
-ghost use Rattle.step_words.specs.Follows.{Follows};
+ghost use Rattle.base_words.specs.Follows.{Follows};
 ghost use Rattle.lamport_clocks.specs.Header.{IsHeader};
 ghost use Rattle.record_text.specs.Format.{format_of};
 ghost use Rattle.log_codec.specs.Command.{IsCommand};
@@ -12,6 +12,7 @@ use crate::effect::Effect;
 use crate::outcome::Outcome;
 use crate::state::State;
 use crate::sums::Sums;
+use base_words::Memory;
 use lamport_clocks::{Clock, Header, Stamp};
 use log_codec::Command;
 use multiset_sum::Part;
@@ -21,7 +22,6 @@ use std::alloc::Global;
 use std::marker::Model;
 use tree_keys::Path;
 use verifier_cache::{Cache, Hold};
-use want_of_memory::Memory;
 
 /// One verifier: contracts see it as a `Machine`.
 #[derive(Drop)]

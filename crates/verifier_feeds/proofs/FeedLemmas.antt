@@ -14,9 +14,9 @@ use Rattle.verifier_run.specs.Kept.{keeps_operations}
 use Rattle.verifier_run.specs.Progress.{Progress, fed}
 use Rattle.certified_epochs.specs.declared.fed_run.FedRun.{FedRun}
 use Rattle.log_rings.specs.declared.parcel.Parcel.{Parcel}
-use Rattle.host_rounds.specs.Feeding.{Takes}
+use Rattle.host_rounds.specs.Feeding.{Reads}
 use Rattle.verifier_feeds.specs.declared.inbox.Inbox.{Inbox}
-use Rattle.verifier_feeds.specs.Feeds.{HasTaken, GoesOnBy, TakesOn, bytes_of, run_of, is_wanting}
+use Rattle.verifier_feeds.specs.Feeds.{HasRead, GoesOnBy, ReadsOn, bytes_of, run_of, is_wanting}
 
 -- bytes that are fed in two pieces come to what they come to as one
 abbrev pub PiecesJoin : Type 0
@@ -25,16 +25,16 @@ PiecesJoin = (scheme : Scheme) (progress : Progress Operation) (piece more : Lis
 
 module _ (functions : DigestFunctions) where
   -- a run has taken nothing
-  pub none-taken : (run : FedRun) → HasTaken functions [] run run
+  pub none-taken : (run : FedRun) → HasRead functions [] run run
   none-taken run = record { header = refl; goes_on = λ more. refl }
 
   -- an inbox that takes nothing
-  pub takes-none : (inbox : Inbox) → TakesOn functions [] inbox inbox
+  pub takes-none : (inbox : Inbox) → ReadsOn functions [] inbox inbox
   takes-none inbox = λ first bytes before going.
-      subst (λ (all : List ℕ). HasTaken functions all first (run_of inbox)) (sym (append-nil bytes)) (before going)
+      subst (λ (all : List ℕ). HasRead functions all first (run_of inbox)) (sym (append-nil bytes)) (before going)
 
   -- one piece,
-  pub takes-one : PiecesJoin → (piece : List ℕ) (old new : Inbox) → (is_wanting new ≡ false → GoesOnBy functions piece old new) → TakesOn functions piece old new
+  pub takes-one : PiecesJoin → (piece : List ℕ) (old new : Inbox) → (is_wanting new ≡ false → GoesOnBy functions piece old new) → ReadsOn functions piece old new
   takes-one join piece old new step = λ first bytes before going.
       let one = step going in
       let has = before one.went in
@@ -50,31 +50,31 @@ module _ (functions : DigestFunctions) where
       }
 
   -- and then more
-  pub takes-then : (some more : List ℕ) (old middle new : Inbox) → TakesOn functions some old middle → TakesOn functions more middle new
-      → TakesOn functions (some ++ more) old new
+  pub takes-then : (some more : List ℕ) (old middle new : Inbox) → ReadsOn functions some old middle → ReadsOn functions more middle new
+      → ReadsOn functions (some ++ more) old new
   takes-then some more old middle new one two = λ first bytes before going.
-      subst (λ (all : List ℕ). HasTaken functions all first (run_of new)) (append_assoc bytes some more)
+      subst (λ (all : List ℕ). HasRead functions all first (run_of new)) (append_assoc bytes some more)
       (two first (bytes ++ some) (λ middle_going. one first bytes before middle_going) going)
 
   -- one parcel more
-  pub takes-parcel : PiecesJoin → (parcels : List Parcel) (parcel : Parcel) (piece : List ℕ) (old middle new : Inbox) → TakesOn functions (bytes_of parcels) old middle
-      → piece ≡ parcel.buffer → (is_wanting new ≡ false → GoesOnBy functions piece middle new) → TakesOn functions (bytes_of (parcels ++ parcel ∷ [])) old new
+  pub takes-parcel : PiecesJoin → (parcels : List Parcel) (parcel : Parcel) (piece : List ℕ) (old middle new : Inbox) → ReadsOn functions (bytes_of parcels) old middle
+      → piece ≡ parcel.buffer → (is_wanting new ≡ false → GoesOnBy functions piece middle new) → ReadsOn functions (bytes_of (parcels ++ parcel ∷ [])) old new
   takes-parcel join parcels parcel piece old middle new so_far is step =
-      subst (λ (all : List ℕ). TakesOn functions all old new)
+      subst (λ (all : List ℕ). ReadsOn functions all old new)
       (ap (λ (xs : List ℕ). bytes_of parcels ++ xs) (sym (append-nil parcel.buffer)) ∙ sym (flat_map-append (λ (p : Parcel). p.buffer) parcels (parcel ∷ [])))
       (takes-then (bytes_of parcels) parcel.buffer old middle new so_far
       (takes-one join parcel.buffer middle new (λ going. subst (λ (bytes : List ℕ). GoesOnBy functions bytes middle new) is (step going))))
 
   -- the same by another name of what came in all
   pub takes-received : PiecesJoin → (parcels all : List Parcel) (parcel : Parcel) (piece : List ℕ) (old middle new : Inbox) → all ≡ parcels ++ parcel ∷ []
-      → TakesOn functions (bytes_of parcels) old middle → piece ≡ parcel.buffer → (is_wanting new ≡ false → GoesOnBy functions piece middle new)
-      → TakesOn functions (bytes_of all) old new
+      → ReadsOn functions (bytes_of parcels) old middle → piece ≡ parcel.buffer → (is_wanting new ≡ false → GoesOnBy functions piece middle new)
+      → ReadsOn functions (bytes_of all) old new
   takes-received join parcels all parcel piece old middle new are so_far is step =
-      subst (λ (ps : List Parcel). TakesOn functions (bytes_of ps) old new) (sym are) (takes-parcel join parcels parcel piece old middle new so_far is step)
+      subst (λ (ps : List Parcel). ReadsOn functions (bytes_of ps) old new) (sym are) (takes-parcel join parcels parcel piece old middle new so_far is step)
 
   -- the last piece: what the run has come to
-  pub takes-last : (bytes piece : List ℕ) (first : FedRun) (old new : Inbox) → (is_wanting old ≡ false → HasTaken functions bytes first (run_of old))
-      → GoesOnBy functions piece old new → Takes functions (bytes ++ piece) first (run_of new)
+  pub takes-last : (bytes piece : List ℕ) (first : FedRun) (old new : Inbox) → (is_wanting old ≡ false → HasRead functions bytes first (run_of old))
+      → GoesOnBy functions piece old new → Reads functions (bytes ++ piece) first (run_of new)
   takes-last bytes piece first old new before one =
       let has = before one.went in
       record {

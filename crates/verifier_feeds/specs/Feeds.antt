@@ -35,8 +35,8 @@ abbrev pub SameOutbox : Outbox → Outbox → Type 0
 SameOutbox old new = SameSender old.sender new.sender
 
 -- how many parcels can be sent at least before the other end has taken one
-abbrev pub free_slots : Outbox → ℕ
-free_slots outbox = lanes.room outbox.sender
+abbrev pub free_room : Outbox → ℕ
+free_room outbox = lanes.room outbox.sender
 
 -- All that was put in is in parcels, and the last of these is marked as the worker's last of the round.
 pub record HasEnded (outbox : Outbox) : Type 0 where
@@ -65,7 +65,7 @@ abbrev pub HasRoom : Inbox → Type 0
 HasRoom inbox = weight inbox.fed.run ≤ inbox.bytes
 
 -- The run took these bytes: whatever comes next, it makes of it what the old one makes of these bytes and that.
-pub record HasTaken (functions : DigestFunctions) (bytes : List ℕ) (old new : FedRun) : Type 0 where
+pub record HasRead (functions : DigestFunctions) (bytes : List ℕ) (old new : FedRun) : Type 0 where
   pub header : new.run.course.machine.header ≡ old.run.course.machine.header
   pub goes_on : (more : List ℕ) → fed keeps_operations (scheme_of functions old.run.course.machine.header) new.run more
       ≡ fed keeps_operations (scheme_of functions old.run.course.machine.header) old.run (bytes ++ more)
@@ -78,10 +78,10 @@ pub record GoesOnBy (functions : DigestFunctions) (piece : List ℕ) (old new : 
   pub taken : new.fed.run ≡ fed keeps_operations (scheme_of functions old.fed.run.course.machine.header) old.fed.run piece
 
 -- What an inbox took in all, with these bytes behind what it had taken before, where memory is wanting for none.
-abbrev pub TakesOn : DigestFunctions → List ℕ → Inbox → Inbox → Type 0
-TakesOn functions more old new =
-    (first : FedRun) (bytes : List ℕ) → (is_wanting old ≡ false → HasTaken functions bytes first (run_of old))
-    → is_wanting new ≡ false → HasTaken functions (bytes ++ more) first (run_of new)
+abbrev pub ReadsOn : DigestFunctions → List ℕ → Inbox → Inbox → Type 0
+ReadsOn functions more old new =
+    (first : FedRun) (bytes : List ℕ) → (is_wanting old ≡ false → HasRead functions bytes first (run_of old))
+    → is_wanting new ≡ false → HasRead functions (bytes ++ more) first (run_of new)
 
 -- ---- both
 
@@ -93,7 +93,7 @@ AreEndsOfOne outbox inbox = AreEnds outbox.sender inbox.receiver
 pub record IsOpen (run : FedRun) (outbox : Outbox) (inbox : Inbox) : Type 0 where
   pub ends : AreEndsOfOne outbox inbox
   pub empty : put_in outbox ≡ []
-  pub slots : free_slots outbox ≡ 16
+  pub capacity : free_room outbox ≡ 16
   pub fresh : received_by inbox.receiver ≡ []
   pub run_is : run_of inbox ≡ run
   pub room : HasRoom inbox

@@ -1,6 +1,7 @@
 //! The verifier's end of a feed.
 ghost use Rattle.std.specs.Prelude.{◌≡◌};
 
+use base_words::Memory;
 use certified_epochs::FedRun;
 use fv_outside::Gate;
 use host_rounds::with_more;
@@ -10,7 +11,6 @@ use record_text::Operation;
 use std::sync::Wait;
 use std::thread::yield_now;
 use verifier_run::pieces_do_not_matter;
-use want_of_memory::Memory;
 
 /// So many polls in a row that find nothing end a verifier's watch.
 const MOST_EMPTY_POLLS: u32 = 1_024;
@@ -28,7 +28,7 @@ pub struct Inbox {
 impl Inbox {
     ghost use Rattle.std.specs.Prelude.{◌≡◌, [], length, true, false, IfOk, OnOk, OnErr};
     ghost use Rattle.log_rings.specs.Lanes.{received_by, waiting};
-    ghost use Rattle.verifier_feeds.specs.Feeds.{HasRoom, SameInbox, HasTaken, GoesOnBy, TakesOn, bytes_of, run_of, is_wanting};
+    ghost use Rattle.verifier_feeds.specs.Feeds.{HasRoom, SameInbox, HasRead, GoesOnBy, ReadsOn, bytes_of, run_of, is_wanting};
 
     /// Feeds the run what comes through the lane, until that is its worker's last parcel of the round, or until 1,024 polls in a
     /// row found nothing. Before each poll it enters the gate, by this number.
@@ -38,7 +38,7 @@ impl Inbox {
         ensures room { HasRoom self.new }
         ensures lane { SameInbox self.old self.new }
         ensures taken { is_wanting self.new ≡ false
-            → HasTaken (D.functions d.now) (bytes_of (received_by self.new.receiver)) (run_of self.old) (run_of self.new) }
+            → HasRead (D.functions d.now) (bytes_of (received_by self.new.receiver)) (run_of self.old) (run_of self.new) }
     {
         pieces_do_not_matter::<Operation>();
         let mut polls = 0;
@@ -71,7 +71,7 @@ impl Inbox {
         requires room { HasRoom self.old }
         requires left { left ≡ length (waiting self.old.receiver) }
         ensures room { HasRoom self.new }
-        ensures taken { TakesOn (D.functions d.now) (bytes_of (waiting self.old.receiver)) self.old self.new }
+        ensures taken { ReadsOn (D.functions d.now) (bytes_of (waiting self.old.receiver)) self.old self.new }
     {
         pieces_do_not_matter::<Operation>();
         for _ in 0..left {

@@ -5,12 +5,12 @@ ghost use Rattle.verifier_feeds.specs.Feeds.{IsOpen};
 
 use crate::inbox::Inbox;
 use crate::outbox::Outbox;
+use base_words::Memory;
 use certified_epochs::FedRun;
 use host_log::LogBuffer;
 use log_rings::Lane;
 use std::alloc::Global;
 use std::collections::VecDeque;
-use want_of_memory::Memory;
 
 /// So many parcels a lane holds.
 const LANE_CAPACITY: usize = 16;

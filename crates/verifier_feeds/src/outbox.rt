@@ -1,11 +1,11 @@
 //! The worker's end of a feed.
 ghost use Rattle.std.specs.Prelude.{◌≡◌};
 
+use base_words::Memory;
 use host_log::LogBuffer;
 use log_codec::Command;
 use log_rings::{Parcel, Sender};
 use std::collections::VecDeque;
-use want_of_memory::Memory;
 
 /// From so many bytes on a parcel is sent.
 const LEAST_PARCEL: usize = 4_096;

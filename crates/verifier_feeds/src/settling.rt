@@ -2,8 +2,8 @@
 ghost use Rattle.std.specs.Prelude.{◌≡◌, false};
 ghost use Rattle.certified_epochs.specs.declared.fed_run.FedRun.{FedRun};
 ghost use Rattle.log_rings.specs.Lanes.{received_by};
-ghost use Rattle.host_rounds.specs.Feeding.{Takes};
-ghost use Rattle.verifier_feeds.specs.Feeds.{AreEndsOfOne, HasRoom, HasTaken, TakesOn, bytes_of, is_wanting, put_in, run_of};
+ghost use Rattle.host_rounds.specs.Feeding.{Reads};
+ghost use Rattle.verifier_feeds.specs.Feeds.{AreEndsOfOne, HasRoom, HasRead, ReadsOn, bytes_of, is_wanting, put_in, run_of};
 
 use crate::inbox::Inbox;
 use crate::outbox::Outbox;
@@ -17,9 +17,9 @@ pub fn settle<D: Digests>(outbox: &mut Outbox, inbox: &mut Inbox, d: &D)
     requires ends { AreEndsOfOne outbox.old inbox.old }
     requires room { HasRoom inbox.old }
     ensures all { (first : FedRun)
-        → (is_wanting inbox.old ≡ false → HasTaken (D.functions d.now) (bytes_of (received_by inbox.old.receiver)) first (run_of inbox.old))
+        → (is_wanting inbox.old ≡ false → HasRead (D.functions d.now) (bytes_of (received_by inbox.old.receiver)) first (run_of inbox.old))
         → is_wanting inbox.new ≡ false
-        → Takes (D.functions d.now) (put_in outbox.old) first (run_of inbox.new) }
+        → Reads (D.functions d.now) (put_in outbox.old) first (run_of inbox.new) }
     ensures room { HasRoom inbox.new }
 {
     let settled = Lane::settle(&mut outbox.sender, &mut inbox.receiver);
@@ -32,7 +32,7 @@ pub fn settle<D: Digests>(outbox: &mut Outbox, inbox: &mut Inbox, d: &D)
 fn take_waiting<D: Digests>(outbox: &mut Outbox, inbox: &mut Inbox, d: &D)
     requires room { HasRoom inbox.old }
     ensures room { HasRoom inbox.new }
-    ensures taken { TakesOn (D.functions d.now) (bytes_of outbox.old.backlog.items) inbox.old inbox.new }
+    ensures taken { ReadsOn (D.functions d.now) (bytes_of outbox.old.backlog.items) inbox.old inbox.new }
     ensures rest { outbox.new.buffer ≡ outbox.old.buffer }
 {
     pieces_do_not_matter::<Operation>();

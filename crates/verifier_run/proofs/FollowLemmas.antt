@@ -15,16 +15,16 @@ use Rattle.verifier_run.specs.Progress.{Progress, between_commands, progress_ove
 use Rattle.verifier_run.proofs.CourseLemmas.{over-joined, over-empty, over-refused, over-malformed, over-cut, over-text}
 
 -- so many bytes of a piece have brought a course here, with no cut command
-pub record HasTaken {A : Type 0} (keeps : Event → List A) (scheme : Scheme) (start : Course A) (bytes : List ℕ) (taken : ℕ) (now : Course A) : Type 0 where
+pub record HasRead {A : Type 0} (keeps : Event → List A) (scheme : Scheme) (start : Course A) (bytes : List ℕ) (taken : ℕ) (now : Course A) : Type 0 where
   pub within : taken ≤ length bytes
   pub accepted : now.machine.accepted ≤ start.machine.accepted + taken
   pub done : progress_over keeps scheme start (take taken bytes) ≡ between_commands now
 
-pub none_taken : {A : Type 0} (keeps : Event → List A) (scheme : Scheme) (start : Course A) (bytes : List ℕ) → HasTaken keeps scheme start bytes 0 start
+pub none_taken : {A : Type 0} (keeps : Event → List A) (scheme : Scheme) (start : Course A) (bytes : List ℕ) → HasRead keeps scheme start bytes 0 start
 none_taken keeps scheme start bytes = record { within = omega arith; accepted = omega arith; done = over-empty keeps scheme start }
 
 -- what the rest of the bytes makes of the course is what all of them make
-pub rest_of_piece : {A : Type 0} (keeps : Event → List A) (scheme : Scheme) (start : Course A) (bytes : List ℕ) (taken : ℕ) (now : Course A) → HasTaken keeps scheme start bytes taken now → progress_over keeps scheme start bytes ≡ progress_over keeps scheme now (drop taken bytes)
+pub rest_of_piece : {A : Type 0} (keeps : Event → List A) (scheme : Scheme) (start : Course A) (bytes : List ℕ) (taken : ℕ) (now : Course A) → HasRead keeps scheme start bytes taken now → progress_over keeps scheme start bytes ≡ progress_over keeps scheme now (drop taken bytes)
 rest_of_piece {A = A} keeps scheme start bytes taken now so_far =
     ap (progress_over keeps scheme start) (sym (take-append-drop taken bytes))
     ∙ (sym (over-joined keeps scheme start (take taken bytes) (drop taken bytes))
@@ -32,9 +32,9 @@ rest_of_piece {A = A} keeps scheme start bytes taken now so_far =
 
 -- a command more
 pub more_taken : {A : Type 0} (keeps : Event → List A) (scheme : Scheme) (wide : IsWideFor scheme.format) (start : Course A) (bytes : List ℕ) (taken len : ℕ) (now after : Course A) (command : Command)
-    → HasTaken keeps scheme start bytes taken now → now.refused ≡ None → IsCommand scheme.format command → take len (drop taken bytes) ≡ command_text scheme.format command
+    → HasRead keeps scheme start bytes taken now → now.refused ≡ None → IsCommand scheme.format command → take len (drop taken bytes) ≡ command_text scheme.format command
     → taken + len ≤ length bytes → after ≡ after_command keeps scheme now command → after.machine.accepted ≤ start.machine.accepted + (taken + len)
-    → HasTaken keeps scheme start bytes (taken + len) after
+    → HasRead keeps scheme start bytes (taken + len) after
 more_taken {A = A} keeps scheme wide start bytes taken len now after command so_far none is spelled within is_after accepted = record {
   within = within;
   accepted = accepted;
@@ -51,14 +51,14 @@ all_taken : {A : Type 0} (course : Course A) (bytes : List ℕ) → between_comm
 all_taken course bytes = ap (λ (held : List ℕ). record { course = course; held = held }) (sym (drop-length bytes))
 
 pub refused_there : {A : Type 0} (keeps : Event → List A) (scheme : Scheme) (start : Course A) (bytes : List ℕ) (taken : ℕ) (now : Course A) (at : ℕ × Refusal)
-    → HasTaken keeps scheme start bytes taken now → now.refused ≡ Some at
+    → HasRead keeps scheme start bytes taken now → now.refused ≡ Some at
     → progress_over keeps scheme start bytes ≡ record { course = now; held = drop (length bytes) bytes }
 refused_there keeps scheme start bytes taken now at so_far is =
     rest_of_piece keeps scheme start bytes taken now so_far
     ∙ (over-refused keeps scheme now (drop taken bytes) at is ∙ all_taken now bytes)
 
 pub malformed_there : {A : Type 0} (keeps : Event → List A) (scheme : Scheme) (start : Course A) (bytes : List ℕ) (taken : ℕ) (now after : Course A)
-    → HasTaken keeps scheme start bytes taken now → now.refused ≡ None → command_at scheme.format (drop taken bytes) ≡ Err faults.Malformed → after ≡ refuse now refusals.Malformed
+    → HasRead keeps scheme start bytes taken now → now.refused ≡ None → command_at scheme.format (drop taken bytes) ≡ Err faults.Malformed → after ≡ refuse now refusals.Malformed
     → progress_over keeps scheme start bytes ≡ record { course = after; held = drop (length bytes) bytes }
 malformed_there keeps scheme start bytes taken now after so_far none is is_after =
     rest_of_piece keeps scheme start bytes taken now so_far
@@ -66,7 +66,7 @@ malformed_there keeps scheme start bytes taken now after so_far none is is_after
     ∙ (ap between_commands (sym is_after) ∙ all_taken after bytes))
 
 pub cut_there : {A : Type 0} (keeps : Event → List A) (scheme : Scheme) (start : Course A) (bytes : List ℕ) (taken : ℕ) (now : Course A)
-    → HasTaken keeps scheme start bytes taken now → now.refused ≡ None → command_at scheme.format (drop taken bytes) ≡ Err faults.Truncated
+    → HasRead keeps scheme start bytes taken now → now.refused ≡ None → command_at scheme.format (drop taken bytes) ≡ Err faults.Truncated
     → progress_over keeps scheme start bytes ≡ record { course = now; held = drop taken bytes }
 cut_there keeps scheme start bytes taken now so_far none is =
     rest_of_piece keeps scheme start bytes taken now so_far ∙ over-cut keeps scheme now (drop taken bytes) none is

@@ -1,6 +1,6 @@
 -- A run over a whole log against what the log's commands come to.
 use Rattle.std.proofs.Common.{◌≡◌, ℕ, zero, suc, ◌<◌, ◌≤◌, List, [], ◌∷◌, ◌++◌, length, Option, Some, None, Result, Ok, Err, refl, sym, ap, ◌∙◌, append-nil, append_assoc, arith}
-use Rattle.step_words.specs.Traced.{traced, traced_behind}
+use Rattle.base_words.specs.Traced.{traced, traced_behind}
 use Rattle.multiset_sum.specs.declared.part.Part.{Part}
 use Rattle.record_text.specs.declared.refusal.Refusal.{Refusal}
 use Rattle.record_text.specs.declared.reader.TextFault.TheVariants as faults

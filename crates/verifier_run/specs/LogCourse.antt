@@ -1,6 +1,6 @@
 -- What a log comes to: what is kept of its commands, and how it ends.
 use Rattle.std.specs.Prelude.{ℕ, suc, List, [], ◌∷◌, Option, Some, None}
-use Rattle.step_words.specs.Traced.{Traced}
+use Rattle.base_words.specs.Traced.{Traced}
 use Rattle.std.specs.Option.{option_map}
 use Rattle.lamport_clocks.specs.declared.header.Header.{Header}
 use Rattle.record_text.specs.declared.refusal.Refusal.{Refusal}

@@ -7,10 +7,10 @@ ghost use Rattle.verifier_run.specs.LogCourse.{log_course, courses_keeping};
 
 use crate::kept::Kept;
 use crate::run::Run;
+use base_words::Memory;
 use lamport_clocks::Header;
 use record_hash::Digests;
 use std::alloc::Global;
-use want_of_memory::Memory;
 
 /// The run of the verifier of this number over a whole log.
 pub fn run_log<T: Kept, D: Digests>(

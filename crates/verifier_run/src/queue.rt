@@ -1,8 +1,8 @@
 //! Items that come at the end and are taken from the front.
 ghost use Rattle.std.specs.Prelude.{◌≡◌, ◌≤◌, ◌++◌, ◌∷◌, [], length, drop, vec_len, OnOk};
 
+use base_words::Memory;
 use std::alloc::Global;
-use want_of_memory::Memory;
 
 /// Items in order, of which the first `gone` were taken. What was taken is dropped once it is more than half of all, so
 /// that taking costs no more than what is taken.

@@ -10,6 +10,7 @@ ghost use Rattle.verifier_run.specs.Taken.{taken_by, left_of};
 use crate::kept::Kept;
 use crate::tracer::Tracer;
 use arrayvec::ArrayVec;
+use base_words::Memory;
 use lamport_clocks::Header;
 use log_codec::{Decoded, LONGEST_COMMAND_TEXT, read};
 use multiset_sum::Part;
@@ -17,7 +18,6 @@ use record_hash::Digests;
 use record_text::{Operation, Refusal};
 use std::alloc::Global;
 use std::marker::Model;
-use want_of_memory::Memory;
 
 /// Want of memory in the middle of a piece: so many of its bytes are done, and the rest can be fed again.
 #[derive(Clone, Copy, Debug, PartialEq, Eq)]

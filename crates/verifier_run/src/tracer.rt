@@ -12,6 +12,7 @@ ghost use Rattle.verifier_run.specs.Queue.{queued, HasRoom};
 
 use crate::kept::Kept;
 use crate::queue::Queue;
+use base_words::Memory;
 use lamport_clocks::Header;
 use log_codec::Command;
 use multiset_sum::Part;
@@ -20,7 +21,6 @@ use record_text::{Operation, Refusal};
 use std::alloc::Global;
 use std::marker::Model;
 use verifier_commands::Verifier;
-use want_of_memory::Memory;
 
 /// A verifier, and the course of its commands. The two queues are all that grows.
 #[derive(Drop)]

@@ -19,7 +19,7 @@ use Rattle.host_world.specs.Shown.{shown_world, digests_of, requests_of}
 use Rattle.host_world.specs.Behind.{StandsBehind, AreOfOneHost, host_of}
 use Rattle.host_serving.specs.Leading.{Leads, first_of}
 use Rattle.certified_epochs.specs.declared.fed_run.FedRun.{FedRun}
-use Rattle.host_rounds.specs.Feeding.{AllTake}
+use Rattle.host_rounds.specs.Feeding.{AllRead}
 use Rattle.host_rounds.specs.Round.{logs_with}
 use Rattle.host_rounds.specs.SoFar.{RunsSoFar, Keeps, HaveRun, AllCounted, lines_counted, lines_due, with_runs}
 use Rattle.verifier_threads.specs.declared.runner.Runner.{Runner}
@@ -92,11 +92,11 @@ rounds-back old lent back runs before one two three =
 
 -- what the runs took is what the workers of the later world logged
 pub took-round : {D : Type 0} (functions : D → DigestFunctions) (old middle : code.World D) (lent back : RunsSoFar) (before after : List FedRun) → AreOfOneHost old middle
-    → back ≡ with_runs after lent → AllTake (functions (digests_of old)) (texts_of (logs_of (shown_world middle))) before after
-    → AllTake (functions (digests_of middle)) (texts_of (logs_of (shown_world middle))) before back.runs
+    → back ≡ with_runs after lent → AllRead (functions (digests_of old)) (texts_of (logs_of (shown_world middle))) before after
+    → AllRead (functions (digests_of middle)) (texts_of (logs_of (shown_world middle))) before back.runs
 took-round {D} functions old middle lent back before after same is takes =
-    subst (λ (d : D). AllTake (functions d) (texts_of (logs_of (shown_world middle))) before back.runs) (sym same.digests)
-    (subst (λ (r : RunsSoFar). AllTake (functions (digests_of old)) (texts_of (logs_of (shown_world middle))) before r.runs) (sym is) takes)
+    subst (λ (d : D). AllRead (functions d) (texts_of (logs_of (shown_world middle))) before back.runs) (sym same.digests)
+    (subst (λ (r : RunsSoFar). AllRead (functions (digests_of old)) (texts_of (logs_of (shown_world middle))) before r.runs) (sym is) takes)
 
 -- ---- runners
 

@@ -20,7 +20,7 @@ use Rattle.host_serving.specs.Leading.{Leads, CanDoNoMore}
 use Rattle.host_serving.specs.Standing.{IsServedUpTo, IsServedOut, NoneStopped, SomeStopped, IsLowest, IsAllServed}
 use Rattle.worker_threads.specs.Phase.{first_stopped}
 use Rattle.certified_epochs.specs.declared.fed_run.FedRun.{FedRun}
-use Rattle.host_rounds.specs.Feeding.{AllTake}
+use Rattle.host_rounds.specs.Feeding.{AllRead}
 use Rattle.host_rounds.specs.SoFar.{RunsSoFar, Keeps, AllCounted, lines_counted, with_runs}
 use Rattle.verifier_threads.specs.declared.runner.Runner.{Runner}
 use Rattle.verifier_threads.specs.Serving.{Outputs, texts_of}
@@ -75,15 +75,15 @@ abbrev pub with_runs_of : {D : Type 0} → List FedRun → Runner D → Runner D
 with_runs_of runs runner = record runner { rounds = with_runs runs runner.rounds }
 
 -- its verifiers' runs took what its workers logged since that was last handed out, and were these before
-abbrev pub HaveTakenRound : {D : Type 0} → (D → DigestFunctions) → List FedRun → Runner D → Type 0
-HaveTakenRound functions before runner =
-    AllTake (functions (digests_of runner.world)) (texts_of (machine.logs_of (shown_world runner.world))) before runner.rounds.runs
+abbrev pub HaveReadRound : {D : Type 0} → (D → DigestFunctions) → List FedRun → Runner D → Type 0
+HaveReadRound functions before runner =
+    AllRead (functions (digests_of runner.world)) (texts_of (machine.logs_of (shown_world runner.world))) before runner.rounds.runs
 
 -- so it runs, but that its verifiers' runs have taken what its workers logged and the vault doesn't have that yet
 abbrev pub IsFedUnderWay : {D : Type 0} → (D → DigestFunctions) → Runner D → Option (List ℕ) → Type 0
 IsFedUnderWay functions runner held =
     (receipts : Bool) × (outputs : Outputs) × (before : List FedRun) × Runs receipts functions (with_runs_of before runner) outputs
-    × HaveTakenRound functions before runner × (outputs.vault_after ≡ held)
+    × HaveReadRound functions before runner × (outputs.vault_after ≡ held)
 
 -- the same with receipts, or without, where the sink now holds this
 abbrev pub IsUnderWayWith : Bool → {D : Type 0} → (D → DigestFunctions) → Runner D → Option (List ℕ) → Option (List ℕ) → Type 0

@@ -8,10 +8,10 @@ ghost use Rattle.host_world.specs.Behind.{AreOfOneHost};
 ghost use Rattle.verifier_threads.specs.Running.{all_handed_out};
 ghost use Rattle.verifier_threads.specs.Serving.{texts_of};
 
+use base_words::Memory;
 use host_log::LogBuffer;
 use host_world::World;
 use record_hash::Digests;
-use want_of_memory::Memory;
 
 /// Each buffer takes what its worker logged since it was last handed out, and nothing else, and the world forgets it.
 pub(crate) fn hand_out_all<D: Digests>(

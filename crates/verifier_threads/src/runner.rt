@@ -15,12 +15,13 @@ ghost use Rattle.host_serving.specs.Leading.{first_of};
 ghost use Rattle.host_serving.specs.Standing.{turns_of};
 ghost use Rattle.verifier_threads.specs.Serving.{Outputs, IsServed, IsCutOff, IsCutAtEnd, end_by};
 ghost use Rattle.verifier_threads.specs.Summing.{IsSummed, IsCutInSummary};
-ghost use Rattle.verifier_threads.specs.Running.{Runs, RunsWhole, IsUnderWay, IsUnderWayWith, IsUnderWayWhole, IsFedUnderWay, HaveTakenRound, IsAtPhase, IsAtClose, IsAtEnd, all_handed_out, with_runs_of};
+ghost use Rattle.verifier_threads.specs.Running.{Runs, RunsWhole, IsUnderWay, IsUnderWayWith, IsUnderWayWhole, IsFedUnderWay, HaveReadRound, IsAtPhase, IsAtClose, IsAtEnd, all_handed_out, with_runs_of};
 
 use crate::ending::RunEnd;
 use crate::handing::hand_out_all;
 use crate::laws::{a_header_begins_the_bundle, what_is_due_stays_due};
 use crate::loads::Load;
+use base_words::Memory;
 use certified_epochs::Telling;
 use epoch_gather::Verdict;
 use fv_outside::{Gate, Sink};
@@ -34,7 +35,6 @@ use run_reports::a_check_of_the_logs_ends_as_the_host_promises;
 use std::alloc::Global;
 use std::sync::Wait;
 use std::thread::Threads;
-use want_of_memory::Memory;
 use worker_threads::serve_phase_at_once;
 
 /// A run of a script: the world, what the verifiers have come to over its logs, a buffer for the log of each worker, and
@@ -160,7 +160,7 @@ impl<'a, D: Digests> Runner<'a, D> {
     fn set_down<V: Sink>(&mut self, vault: &mut V) -> Result<(), RoundStop>
         requires runs { IsFedUnderWay D.functions self.old (V.held vault.old) }
         ensures runs { (receipts : Bool) (outputs : Outputs) (before : List FedRun) → Runs receipts D.functions (with_runs_of before self.old) outputs
-            → HaveTakenRound D.functions before self.old → outputs.vault_after ≡ V.held vault.old
+            → HaveReadRound D.functions before self.old → outputs.vault_after ≡ V.held vault.old
             → OnOk result (Runs receipts D.functions self.new (record outputs { vault_after = V.held vault.new })) }
         ensures handed { OnOk result (shown_world self.new.world ≡ all_handed_out (shown_world self.old.world)) }
         ensures end { self.new.end ≡ self.old.end }

@@ -9,7 +9,7 @@ use Rattle.record_text.specs.declared.request.Request.{Request}
 use Rattle.script_text.specs.declared.task.Task.{Task}
 use Rattle.host_core.specs.Host.{Host, asked_in, asked_from, asked}
 use Rattle.host_shard.specs.Content.{Content}
-use Rattle.host_table.specs.declared.told.Entry.{Entry}
+use Rattle.host_table.specs.declared.told.Service.{Service}
 use Rattle.host_table.specs.declared.told.Stop.{Stop}
 use Rattle.host_world.specs.declared.settings.Settings.{Settings}
 use Rattle.host_world.specs.ShippedHost.{turn_of, shipped_host}
@@ -50,10 +50,10 @@ asked_pairs i phase (task ∷ tasks) = go (task.worker == i) (asked_pairs i phas
 -- ---- what was done
 
 -- As many are done as were asked, where no clock ended.
-pub all_done : (asks : List Request) (entries : List Entry) → AreDone asks entries None → length entries ≡ length asks
+pub all_done : (asks : List Request) (services : List Service) → AreDone asks services None → length services ≡ length asks
 all_done asks [] done = ap (λ (xs : List Request). length xs) (sym done)
-all_done asks (entry ∷ entries) done =
-    ap suc (all_done done.0 entries done.2) ∙ ap (λ (xs : List Request). length xs) (sym done.1)
+all_done asks (service ∷ services) done =
+    ap suc (all_done done.0 services done.2) ∙ ap (λ (xs : List Request). length xs) (sym done.1)
 
 module _ (functions : DigestFunctions) (settings : Settings) (script : List (List Task)) (phase i : ℕ) (there : phase < length script) where
   abbrev host : Host Content Request
@@ -109,32 +109,32 @@ module _ (functions : DigestFunctions) (settings : Settings) (script : List (Lis
       let here : served + 0 ≡ served = omega arith in
       ap (slice_get (asked host i)) (sym here) ∙ left 0 request (ap (λ (xs : List Request). slice_get xs 0) is)
 
-  next_from : (served : ℕ) (asks : List Request) (entries : List Entry) (stop : Option Stop) → AreDone asks entries stop → Left served asks
-      → AreNext host phase i served entries
+  next_from : (served : ℕ) (asks : List Request) (services : List Service) (stop : Option Stop) → AreDone asks services stop → Left served asks
+      → AreNext host phase i served services
   next_from served asks [] stop done left = tt
-  next_from served asks (entry ∷ entries) stop done left = (
-    left_now served asks done.0 entry.request done.1 left,
-    next_from (suc served) done.0 entries stop done.2 (left_behind served asks done.0 entry.request done.1 left),
+  next_from served asks (service ∷ services) stop done left = (
+    left_now served asks done.0 service.request done.1 left,
+    next_from (suc served) done.0 services stop done.2 (left_behind served asks done.0 service.request done.1 left),
   )
 
-  last_from : (served : ℕ) (asks : List Request) (entries : List Entry) (stop : Stop) → AreDone asks entries (Some stop) → Left served asks
-      → slice_get (asked host i) (served + length entries) ≡ Some (phase, stop.request)
+  last_from : (served : ℕ) (asks : List Request) (services : List Service) (stop : Stop) → AreDone asks services (Some stop) → Left served asks
+      → slice_get (asked host i) (served + length services) ≡ Some (phase, stop.request)
   last_from served asks [] stop done left =
       let here : served + 0 ≡ served = omega arith in
       ap (slice_get (asked host i)) here ∙ left_now served asks done.0 stop.request done.1 left
-  last_from served asks (entry ∷ entries) stop done left =
-      let one : served + suc (length entries) ≡ suc served + length entries = omega arith in
+  last_from served asks (service ∷ services) stop done left =
+      let one : served + suc (length services) ≡ suc served + length services = omega arith in
       ap (slice_get (asked host i)) one
-      ∙ last_from (suc served) done.0 entries stop done.2 (left_behind served asks done.0 entry.request done.1 left)
+      ∙ last_from (suc served) done.0 services stop done.2 (left_behind served asks done.0 service.request done.1 left)
 
-  module _ (served : ℕ) (entries : List Entry) (stop : Option Stop) (begins : served ≡ asked_by host i phase 0) (done : AreDone (asked_of i tasks) entries stop) where
+  module _ (served : ℕ) (services : List Service) (stop : Option Stop) (begins : served ≡ asked_by host i phase 0) (done : AreDone (asked_of i tasks) services stop) where
     left_all : Left served (asked_of i tasks)
     left_all = λ k request is. ap (λ (n : ℕ). slice_get (asked host i) (n + k)) begins ∙ asked_there k request is
 
-    -- Each entry is of the worker's next request,
-    pub are_next : AreNext host phase i served entries
-    are_next = next_from served (asked_of i tasks) entries stop done left_all
+    -- Each service is of the worker's next request,
+    pub are_next : AreNext host phase i served services
+    are_next = next_from served (asked_of i tasks) services stop done left_all
 
     -- and so is the stop.
-    pub last_next : ForSome stop (λ s. slice_get (asked host i) (served + length entries) ≡ Some (phase, s.request))
-    last_next s is = last_from served (asked_of i tasks) entries s (subst (AreDone (asked_of i tasks) entries) is done) left_all
+    pub last_next : ForSome stop (λ s. slice_get (asked host i) (served + length services) ≡ Some (phase, s.request))
+    last_next s is = last_from served (asked_of i tasks) services s (subst (AreDone (asked_of i tasks) services) is done) left_all

@@ -19,7 +19,7 @@ use Rattle.host_plan.specs.Plan.{clock_after}
 use Rattle.protection_moves.specs.Move.{begun}
 use Rattle.protection_moves.specs.Stage.{Stage, touched_in}
 use Rattle.protection_moves.proofs.RenewingLaws.{renewing_each-end}
-use Rattle.move_laws.proofs.TripLaws.{each-end}
+use Rattle.move_laws.proofs.DescentLaws.{each-end}
 use Rattle.host_world.specs.declared.settings.Settings.{Settings}
 use Rattle.host_world.specs.Behind.{IsBehindSetup}
 use Rattle.host_world.specs.Moving.{stage_of, move_seats}
@@ -67,7 +67,7 @@ move_end : (digest : Digest) (worker : ℕ) (threshold : Option ℕ) (stage : St
 move_end digest worker threshold stage done is =
     ap (λ (clock : Reading). clock.end) is.clock
     ∙ ap (λ (s : Stage). s.clock.end) is.is.after
-    ∙ each-end short_keys digest worker (begun worker stage) is.is.trips
+    ∙ each-end short_keys digest worker (begun worker stage) is.is.descents
     ∙ renewing_each-end stage.clock (touched_in stage.places)
 
 -- ---- what happens in a world

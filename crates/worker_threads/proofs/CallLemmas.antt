@@ -34,7 +34,7 @@ use Rattle.host_serving.proofs.LeadingLaws.{leads-with}
 use Rattle.table_order.specs.Phases.{AreTermsOf}
 use Rattle.worker_threads.specs.Parts.{asked_of, ArePlaces, HasDone}
 use Rattle.worker_threads.specs.Phase.{IsPlaceFor, ArePlacesFor, IsServedAtOnce}
-use Rattle.worker_threads.specs.Posts.{AreToServe, HaveServed}
+use Rattle.worker_threads.specs.Participants.{AreToServe, HaveServed}
 use Rattle.worker_threads.proofs.FilledLemmas.{filled_again, filled_count}
 
 -- ---- lists

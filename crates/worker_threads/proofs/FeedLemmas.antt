@@ -10,8 +10,8 @@ use Rattle.log_codec.specs.Log.{log_text}
 use Rattle.verifier_run.specs.Progress.{weight}
 use Rattle.certified_epochs.specs.declared.fed_run.FedRun.{FedRun}
 use Rattle.host_core.specs.World.{Worker}
-use Rattle.host_rounds.specs.Feeding.{Takes, AllTake}
-use Rattle.worker_threads.specs.Posts.{HaveTakenLogs}
+use Rattle.host_rounds.specs.Feeding.{Reads, AllRead}
+use Rattle.worker_threads.specs.Participants.{HaveReadLogs}
 
 -- what is logged with one deed more
 pub logged-more : (deeds : List (List Command)) (commands : List Command)
@@ -21,13 +21,13 @@ logged-more deeds commands =
     ∙ flat_map-append (command_text short_keys) (flat_map (λ c. c) deeds) commands
 
 -- the runs of all verifiers took what is in their workers' logs
-pub all_take : (functions : DigestFunctions) (workers : List Worker) (old new : List FedRun) → HaveTakenLogs functions workers old new
-    → AllTake functions (map (log_text short_keys) (map (λ worker. worker.log) workers)) old new
+pub all_take : (functions : DigestFunctions) (workers : List Worker) (old new : List FedRun) → HaveReadLogs functions workers old new
+    → AllRead functions (map (log_text short_keys) (map (λ worker. worker.log) workers)) old new
 all_take functions workers old new took = go workers old new took.olds took.news took.each
   where
     go : (workers : List Worker) (old new : List FedRun) → length old ≡ length workers → length new ≡ length workers
-        → ((i : ℕ) (d : Worker) (run : FedRun) → i < length workers → Takes functions (log_text short_keys (get_or workers i d).log) (get_or old i run) (get_or new i run))
-        → AllTake functions (map (log_text short_keys) (map (λ worker. worker.log) workers)) old new
+        → ((i : ℕ) (d : Worker) (run : FedRun) → i < length workers → Reads functions (log_text short_keys (get_or workers i d).log) (get_or old i run) (get_or new i run))
+        → AllRead functions (map (log_text short_keys) (map (λ worker. worker.log) workers)) old new
     go [] [] [] olds news each = tt
     go [] [] (run ∷ new) olds news each = absurd (omega (arith, news))
     go [] (run ∷ old) new olds news each = absurd (omega (arith, olds))

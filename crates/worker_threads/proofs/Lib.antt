@@ -1,6 +1,6 @@
 -- How the phases of workers in threads are proved, in reading order: one worker, what the script asks, what turns do to a world,
 -- the law of a phase, and the code.
-mod ToilLemmas
+mod WorkerStateLemmas
 mod AskedLemmas
 mod ShapeLemmas
 mod FilledLemmas
@@ -14,6 +14,6 @@ mod PromiseLemmas
 mod SeatLemmas
 mod MakingLemmas
 mod TableLemmas
-mod PostLemmas
+mod ThreadLemmas
 mod FeedLemmas
 mod CallLemmas

@@ -29,7 +29,7 @@ use Rattle.host_world.specs.Seated.{SeatsMirror}
 use Rattle.host_world.specs.ShippedHost.{shipped_host, serves_key, is_blob}
 use Rattle.host_world.proofs.PlaceLaws.{waits_there}
 use Rattle.host_world.proofs.SeatLaws.{seat_serves, stage_mirrors, stage_at}
-use Rattle.move_laws.proofs.TripLaws.{apart_by_number}
+use Rattle.move_laws.proofs.DescentLaws.{apart_by_number}
 use Rattle.table_order.specs.Phases.{AreTermsOf}
 use Rattle.worker_threads.specs.Phase.{IsPlaceFor}
 use Rattle.worker_threads.proofs.BoundLemmas.{IsBounded}

@@ -9,8 +9,8 @@ use Rattle.host_shard.specs.declared.content.HotRecord.{HotRecord}
 use Rattle.host_shard.specs.Shard.{Shard}
 use Rattle.host_shard.specs.Content.{Content, cold, hot, vacant, key_path}
 use Rattle.protection_moves.specs.Stage.{hot_records, is_hot_at}
-use Rattle.errand_laws.specs.Stages.{IsOne}
-use Rattle.errand_laws.proofs.PlaceLaws.{AreApart, one_of-all}
+use Rattle.move_laws.specs.Stages.{IsOne}
+use Rattle.move_laws.proofs.PlaceLaws.{AreApart, one_of-all}
 use Rattle.host_world.specs.ShippedHost.{serves_key}
 use Rattle.host_world.proofs.PlaceLaws.{hot_there}
 

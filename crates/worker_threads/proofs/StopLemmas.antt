@@ -8,7 +8,7 @@ use Rattle.host_core.specs.World.{Worker}
 use Rattle.host_order.specs.Serving.{clock_behind, commands_in}
 use Rattle.host_order.specs.Told as order
 use Rattle.host_order.specs.Told.{stops_by}
-use Rattle.host_table.specs.declared.told.Entry.{Entry}
+use Rattle.host_table.specs.declared.told.Service.{Service}
 use Rattle.host_table.specs.declared.told.Stop.{Stop}
 use Rattle.host_table.specs.declared.views.Row.{Row}
 use Rattle.host_table.specs.Phase.{row_at}
@@ -17,15 +17,15 @@ use Rattle.table_order.specs.Servings.{servings_of, stop_of, stops_from}
 use Rattle.worker_threads.specs.Parts.{commands_of, last_clock}
 use Rattle.worker_threads.specs.Phase.{first_stopped}
 
--- ---- what entries come to
+-- ---- what services come to
 
-pub commands_told : (entries : List Entry) → commands_in (servings_of entries) ≡ commands_of entries
+pub commands_told : (services : List Service) → commands_in (servings_of services) ≡ commands_of services
 commands_told [] = refl
-commands_told (entry ∷ entries) = ap (λ (rest : List Command). entry.plan.commands ++ rest) (commands_told entries)
+commands_told (service ∷ services) = ap (λ (rest : List Command). service.plan.commands ++ rest) (commands_told services)
 
-pub clock_told : (clock : Reading) (entries : List Entry) → clock_behind clock (servings_of entries) ≡ last_clock clock entries
+pub clock_told : (clock : Reading) (services : List Service) → clock_behind clock (servings_of services) ≡ last_clock clock services
 clock_told clock [] = refl
-clock_told clock (entry ∷ entries) = clock_told entry.later entries
+clock_told clock (service ∷ services) = clock_told service.later services
 
 -- ---- who is stopped
 

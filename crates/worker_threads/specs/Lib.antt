@@ -1,7 +1,7 @@
 -- What the clauses on workers in threads cite, in reading order.
 pub mod Parts
-pub mod Toil
-pub mod Stations
-pub mod Posts
+pub mod WorkerState
+pub mod Pairs
+pub mod Participants
 pub mod Phase
 pub use Rattle.host_serving.specs

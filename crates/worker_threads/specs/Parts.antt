@@ -10,7 +10,7 @@ use Rattle.log_codec.specs.Log.{log_text}
 use Rattle.atomic_table.specs.Seated.{TableId}
 use Rattle.script_text.specs.declared.task.Task.{Task}
 use Rattle.host_core.specs.World.{Worker}
-use Rattle.host_table.specs.declared.told.Entry.{Entry}
+use Rattle.host_table.specs.declared.told.Service.{Service}
 use Rattle.host_table.specs.declared.told.Stop.{Stop}
 use Rattle.host_table.specs.declared.views.Row.{Row}
 use Rattle.host_table.specs.Calls.{IsNew, told_by}
@@ -18,7 +18,7 @@ use Rattle.host_table.specs.Hands.{worker_of, IsFree}
 use Rattle.host_table.specs.Terms.{Terms, IsClockOf, IsPlaceOf}
 use Rattle.table_order.specs.Phases.{first_clock}
 use Rattle.verifier_feeds.specs.Feeds.{SameOutbox, put_in}
-use Rattle.worker_threads.specs.declared.post.Post.{Post}
+use Rattle.worker_threads.specs.declared.worker_thread.WorkerThread.{WorkerThread}
 
 -- ---- what is asked
 
@@ -37,19 +37,19 @@ ArePlaces terms (task ∷ tasks) [] = ⊥
 -- ---- what is done
 
 -- the commands of what was served
-abbrev pub commands_of : List Entry → List Command
-commands_of entries = flat_map (λ entry. entry.plan.commands) entries
+abbrev pub commands_of : List Service → List Command
+commands_of services = flat_map (λ service. service.plan.commands) services
 
 -- the clock behind what was served
-abbrev pub last_clock : Reading → List Entry → Reading
+abbrev pub last_clock : Reading → List Service → Reading
 last_clock clock [] = clock
-last_clock clock (entry ∷ entries) = last_clock entry.later entries
+last_clock clock (service ∷ services) = last_clock service.later services
 
 -- What is asked is served in order: all of it, or up to a request at which the clock ended.
-abbrev pub AreDone : List Request → List Entry → Option Stop → Type 0
+abbrev pub AreDone : List Request → List Service → Option Stop → Type 0
 AreDone asked [] None = asked ≡ []
 AreDone asked [] (Some stop) = (more : List Request) × (asked ≡ stop.request ∷ more)
-AreDone asked (entry ∷ entries) stop = (more : List Request) × (asked ≡ entry.request ∷ more) × AreDone more entries stop
+AreDone asked (service ∷ services) stop = (more : List Request) × (asked ≡ service.request ∷ more) × AreDone more services stop
 
 -- The worker did what it was asked, from its clock on: it logged the commands, its clock is behind them, and where the clock
 -- ended it is stopped.
@@ -63,24 +63,24 @@ pub record HasDone (asked : List Request) (row : Row) (old new : Worker) : Type 
   pub holds : new.holds ≡ old.holds
   pub stuck : new.stuck ≡ old.stuck
 
--- ---- a worker at its post
+-- ---- a worker at its thread
 
 -- A worker before the phase: it runs, its clock stands in the phase, its hand has done nothing, and its outbox is empty.
-pub record IsPosted (terms : Terms) (table : TableId) (post : Post) : Type 0 where
-  pub free : IsFree table post.hand
-  pub new : IsNew post.hand
-  pub running : post.worker.stopped ≡ false
-  pub clock : IsClockOf terms post.worker.clock
-  pub empty : put_in post.outbox ≡ []
-  pub served : post.wanting ≡ false
+pub record IsReady (terms : Terms) (table : TableId) (thread : WorkerThread) : Type 0 where
+  pub free : IsFree table thread.hand
+  pub new : IsNew thread.hand
+  pub running : thread.worker.stopped ≡ false
+  pub clock : IsClockOf terms thread.worker.clock
+  pub empty : put_in thread.outbox ≡ []
+  pub served : thread.wanting ≡ false
 
 -- A worker behind it: where memory was not wanting it has done its part.
-pub record IsThrough (table : TableId) (tasks : List Task) (old new : Post) : Type 0 where
+pub record IsThrough (table : TableId) (tasks : List Task) (old new : WorkerThread) : Type 0 where
   pub free : IsFree table new.hand
   pub number : worker_of new.hand ≡ worker_of old.hand
   pub part : new.wanting ≡ false → HasDone (asked_of (worker_of old.hand) tasks) (told_by new.hand) old.worker new.worker
 
 -- Where memory was not wanting its outbox has just what is in its log.
-pub record HasPutAll (old new : Post) : Type 0 where
+pub record HasPutAll (old new : WorkerThread) : Type 0 where
   pub put : new.wanting ≡ false → put_in new.outbox ≡ log_text short_keys new.worker.log
   pub lane : SameOutbox old.outbox new.outbox

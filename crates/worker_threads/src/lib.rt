@@ -7,14 +7,14 @@
 #![tactic(auto)]
 
 mod laws;
+mod pairing;
 mod phases;
-mod post;
-mod posting;
 mod serving;
-mod shift;
-mod station;
-mod toil;
+mod shared_phase;
+mod worker_pair;
+mod worker_state;
+mod worker_thread;
 
 pub use phases::serve_phase_at_once;
-pub use post::Post;
-pub use station::Station;
+pub use worker_pair::WorkerPair;
+pub use worker_thread::WorkerThread;

@@ -6,7 +6,7 @@ ghost use Rattle.log_codec.specs.declared.command.Command.{Command};
 ghost use Rattle.log_codec.specs.Log.{log_text};
 ghost use Rattle.verifier_run.specs.Progress.{weight};
 ghost use Rattle.host_core.specs.World.{logs_of};
-ghost use Rattle.host_rounds.specs.Feeding.{AllTake};
+ghost use Rattle.host_rounds.specs.Feeding.{AllRead};
 ghost use Rattle.host_world.specs.Behind.{host_of, StandsBehind, StandsWith, AreOfOneHost};
 ghost use Rattle.host_world.specs.Shown.{shown_world, digests_of, requests_of, settings_of};
 ghost use Rattle.host_serving.specs.Leading.{Leads};
@@ -17,8 +17,9 @@ use crate::laws::{
     digests_have_32_bytes, phases_at_once_are_lists_of_events, tables_are_of_their_worlds,
     tables_can_be_made,
 };
-use crate::posting::{Crew, serve_at_table};
-use crate::shift::Shift;
+use crate::pairing::{Participants, serve_at_table};
+use crate::shared_phase::SharedPhase;
+use base_words::Memory;
 use certified_epochs::FedRun;
 use fv_outside::Gate;
 use host_table::Records;
@@ -29,7 +30,6 @@ use std::alloc::Global;
 use std::mem;
 use std::sync::Wait;
 use std::thread::Threads;
-use want_of_memory::Memory;
 
 // The place at which each request is served.
 fn places_for<D: Digests>(
@@ -101,7 +101,7 @@ pub fn serve_phase_at_once<R: Threads + Wait + Sync, D: Digests + Sync, G: Gate 
     ensures behind { OnOk result (StandsBehind (D.functions (digests_of world.new)) world.new) }
     ensures goes_on { OnOk result ((logs : List (List Command)) → StandsWith (D.functions (digests_of world.old)) world.old logs
         → StandsWith (D.functions (digests_of world.new)) world.new logs) }
-    ensures taken { OnOk result (AllTake (D.functions (digests_of world.old)) (map (log_text short_keys) (logs_of (shown_world world.new)))
+    ensures taken { OnOk result (AllRead (D.functions (digests_of world.old)) (map (log_text short_keys) (logs_of (shown_world world.new)))
         runs.old.items runs.new.items) }
 {
     tables_can_be_made();
@@ -117,7 +117,7 @@ pub fn serve_phase_at_once<R: Threads + Wait + Sync, D: Digests + Sync, G: Gate 
     let Ok((records, hands)) = Records::make(alloc, d, &header, contents, header.verifiers) else {
         return Err(Memory);
     };
-    let shift = Shift {
+    let shared = SharedPhase {
         alloc,
         d,
         tasks,
@@ -125,12 +125,12 @@ pub fn serve_phase_at_once<R: Threads + Wait + Sync, D: Digests + Sync, G: Gate 
         records: &records,
         workers: header.verifiers,
     };
-    let crew = Crew {
+    let participants = Participants {
         workers,
         hands,
         runs: mem::replace(runs, Vec::new(alloc)),
     };
-    let left = serve_at_table(rt, &shift, gate, crew, bytes)?;
+    let left = serve_at_table(rt, &shared, gate, participants, bytes)?;
     let end = first_end_of(left.workers.as_slice());
     *runs = left.runs;
     world.take_back(records.close(left.hands));

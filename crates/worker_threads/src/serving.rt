@@ -1,13 +1,13 @@
 //! All workers serve at once, each with its verifier beside it.
 ghost use Rattle.std.specs.Prelude.{◌≡◌, ℕ, ◌<◌, All, length, slice_index_or};
 ghost use Rattle.host_table.specs.Table.{table, terms};
-ghost use Rattle.worker_threads.specs.declared.station.Station.{Station};
+ghost use Rattle.worker_threads.specs.declared.worker_pair.WorkerPair.{WorkerPair};
 ghost use Rattle.worker_threads.specs.Parts.{IsThrough};
-ghost use Rattle.worker_threads.specs.Stations.{IsManned, CanMeet, HasFed};
-ghost use Rattle.worker_threads.specs.Toil.{IsShift};
+ghost use Rattle.worker_threads.specs.Pairs.{IsPairReady, CanMeet, HasFed};
+ghost use Rattle.worker_threads.specs.WorkerState.{IsSharedPhase};
 
-use crate::shift::Shift;
-use crate::station::Station;
+use crate::shared_phase::SharedPhase;
+use crate::worker_pair::WorkerPair;
 use fv_outside::Gate;
 use record_hash::Digests;
 use std::sync::Wait;
@@ -17,27 +17,27 @@ use std::thread::{Threads, for_each_mut};
 /// one can be made.
 pub(crate) fn serve_all<R: Threads + Wait + Sync, D: Digests + Sync, G: Gate + Sync>(
     rt: &R,
-    shift: &Shift<'_, D>,
+    shared: &SharedPhase<'_, D>,
     gate: &G,
-    stations: &mut [Station],
+    pairs: &mut [WorkerPair],
 )
-    requires shift { IsShift D.functions shift.now }
-    requires manned { All (IsManned (terms D.functions shift.now.records.now) (table shift.now.records.now)) stations.old }
-    ensures count { length stations.new ≡ length stations.old }
-    ensures through { (i : ℕ) (d : Station) → i < length stations.old
-        → IsThrough (table shift.now.records.now) shift.now.tasks.now (slice_index_or stations.old i d).post (slice_index_or stations.new i d).post }
-    ensures fed { (i : ℕ) (d : Station) → i < length stations.old
-        → HasFed (D.functions shift.now.d.now) (slice_index_or stations.old i d) (slice_index_or stations.new i d) }
+    requires shared { IsSharedPhase D.functions shared.now }
+    requires ready { All (IsPairReady (terms D.functions shared.now.records.now) (table shared.now.records.now)) pairs.old }
+    ensures count { length pairs.new ≡ length pairs.old }
+    ensures through { (i : ℕ) (d : WorkerPair) → i < length pairs.old
+        → IsThrough (table shared.now.records.now) shared.now.tasks.now (slice_index_or pairs.old i d).thread (slice_index_or pairs.new i d).thread }
+    ensures fed { (i : ℕ) (d : WorkerPair) → i < length pairs.old
+        → HasFed (D.functions shared.now.d.now) (slice_index_or pairs.old i d) (slice_index_or pairs.new i d) }
 {
-    let threads = stations.len().max(1);
+    let threads = pairs.len().max(1);
     for_each_mut(
         rt,
-        stations,
+        pairs,
         threads,
-        &|_: usize, station: &mut Station|
-            requires { CanMeet D.functions shift.now station.now }
-            ensures { IsThrough (table shift.entry.now.records.now) shift.entry.now.tasks.now station.entry.now.post station.exit.now.post
-                × HasFed (D.functions shift.entry.now.d.now) station.entry.now station.exit.now }
-        { station.meet(rt, shift, gate) },
+        &|_: usize, pair: &mut WorkerPair|
+            requires { CanMeet D.functions shared.now pair.now }
+            ensures { IsThrough (table shared.entry.now.records.now) shared.entry.now.tasks.now pair.entry.now.thread pair.exit.now.thread
+                × HasFed (D.functions shared.entry.now.d.now) pair.entry.now pair.exit.now }
+        { pair.meet(rt, shared, gate) },
     );
 }

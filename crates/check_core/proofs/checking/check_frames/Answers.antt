@@ -2,7 +2,7 @@ use Rattle.std.proofs.Common.{◌≡◌, Bool, Option, ◌+◌, ◌-◌, ◌≤�
 use Rattle.std.specs.Prelude.{IsErrAnd}
 use Rattle.std.specs.List.{AllByRecursion}
 use Rattle.std.proofs.lemmas.List.{take_all, drop_all}
-use Rattle.want_of_memory.specs.declared.memory.Memory.{Memory}
+use Rattle.base_words.specs.declared.memory.Memory.{Memory}
 use Rattle.fv_outside.specs.Written.{Grows, GrowsByFront}
 use Rattle.fv_outside.proofs.WrittenLaws.{Grows-nil, Grows-then, GrowsByFront-none, GrowsByFront-then}
 use Rattle.record_hash.specs.Functions.{DigestFunctions}
@@ -17,7 +17,7 @@ use Rattle.report_text.specs.Answer.{Reading, Writing, AnswersTo}
 use Rattle.bundle_report.specs.declared.judged.Judged.{Judged}
 use Rattle.bundle_report.specs.Logs.{empty_logs, joined_from}
 use Rattle.bundle_report.specs.Judged.{none_judged}
-use Rattle.bundle_report.specs.SoFar.{HaveTaken}
+use Rattle.bundle_report.specs.SoFar.{HaveRead}
 use Rattle.bundle_report.specs.Report.{EpochText}
 use Rattle.bundle_report.specs.Answer.{check_answer, answer_by}
 use Rattle.bundle_report.proofs.DueLaws.{taken-none, lines-due}
@@ -93,7 +93,7 @@ memory_before receipts functions verifiers reader left_now faults_now wrote resu
     subst (λ (r : Result BundleEnd CheckStop). AnswersTo (check_answer receipts functions) reading_end reader.limit (check_status reader.limit r) read wrote)
     (sym (handed_on result checks.Memory is))
     (memory_answers receipts functions reader.limit reader.taken reader.taken left _ faults _ (empty_logs verifiers) reader wrote
-    come.means (omega arith) come.took within (stops_near _ _ _ reading_end come.took come.near)
+    come.means (omega arith) come.having_read within (stops_near _ _ _ reading_end come.having_read come.near)
     (λ more. subst (λ (after : Option (List ℕ)). GrowsByFront wrote.held after (answer_by receipts functions (behind_at (empty_logs verifiers) reader more)).due) same
     (GrowsByFront-none wrote.held (answer_by receipts functions (behind_at (empty_logs verifiers) reader more)).due)))
 
@@ -121,8 +121,8 @@ batches-init g c =
     record {
       logs = logs;
       checked =
-          subst (λ (so_far : Judged). HaveTaken (scheme_of functions header) header logs so_far (map (λ fed. fed.run) runs)) (sym c.new-certifier.ensures.none)
-          (subst (HaveTaken (scheme_of functions header) header logs none_judged) (sym c.in_ok-runs.ensures.opening) (taken-none (scheme_of functions header) header c.requires.header));
+          subst (λ (so_far : Judged). HaveRead (scheme_of functions header) header logs so_far (map (λ fed. fed.run) runs)) (sym c.new-certifier.ensures.none)
+          (subst (HaveRead (scheme_of functions header) header logs none_judged) (sym c.in_ok-runs.ensures.opening) (taken-none (scheme_of functions header) header c.requires.header));
       written =
           subst (λ (so_far : Judged). Grows held held (lines_counted (text_by g.D.Digests.functions c.new-telling.result) functions header logs so_far)) (sym c.new-certifier.ensures.none) (Grows-nil held);
       weights = opening_weights header _ runs c.in_ok-runs.ensures.opening;
@@ -155,7 +155,7 @@ returns-in_err-filled g c = record {
       let new = c.fill.new.reader in
       let now = inv.come left faults come in
       let sum : new.taken ≡ old.taken + (new.taken - old.taken) = omega (arith, fill.rises) in
-      let took = HasRead-then _ _ _ _ _ _ now.took (fill.took (no_stop c.fill.result c.in_err-filled.field-0.0 c.in_err-filled.was)) sum in
+      let having_read = HasRead-then _ _ _ _ _ _ now.having_read (fill.having_read (no_stop c.fill.result c.in_err-filled.field-0.0 c.in_err-filled.was)) sum in
       let read : Reading = record {
         left = left;
         left_after = g.S.Source.left c.fill.new.source;
@@ -171,8 +171,8 @@ returns-in_err-filled g c = record {
       subst (λ (r : Result BundleEnd CheckStop). AnswersTo (check_answer c.args.receipts functions) reading_end c.args.reader.now.limit (check_status c.args.reader.now.limit r) read wrote)
       (sym (handed_on c.from_residual-in_err-filled.result checks.Memory c.from_residual-in_err-filled.ensures.1))
       (memory_answers c.args.receipts functions c.args.reader.now.limit old.taken new.taken left _ faults _ inv.logs old wrote
-      now.means fill.rises took (omega (arith, fill.within, fill.same_limit, inv.limit))
-      (stops_near _ _ _ reading_end took (near-then _ _ _ _ _ _ _ _ _ now.took now.extent fill.rises refl now.near fill.near))
+      now.means fill.rises having_read (omega (arith, fill.within, fill.same_limit, inv.limit))
+      (stops_near _ _ _ reading_end having_read (near-then _ _ _ _ _ _ _ _ _ now.having_read now.extent fill.rises refl now.near fill.near))
       (counted_front c.args.receipts functions c.args.header.now inv.logs old inv.known c.batches.certifier c.batches.runs.items _ _ inv.checked
       (subst (λ (tell : EpochText). Grows (g.O.Sink.held c.args.out.now) (g.O.Sink.held c.batches.out) (lines_counted tell functions c.args.header.now inv.logs c.batches.certifier))
       c.new-telling.ensures.text inv.written)));
@@ -209,7 +209,7 @@ returns-in_err-take_batch g c = record {
       (stop_answers c.args.receipts functions header limit left (g.S.Source.left c.fill.new.source) faults (g.S.Source.faults c.fill.new.source) (joined_from 0 inv.logs frames) new
       (on.header ∙ inv.known) (means-more left _ faults _ inv.logs old new now fill.rises header frames inv.known on) wrote c.in_err-take_batch.field-0.0
       (took_batch limit left _ _ faults _ inv.logs old new now fill.rises (fill.same_limit ∙ inv.limit) fill.within fill.near
-      c.fill.result c.in_ok-filled.filled c.in_ok-filled.was fill.took fill.limit fill.full fill.beyond)
+      c.fill.result c.in_ok-filled.filled c.in_ok-filled.was fill.having_read fill.limit fill.full fill.beyond)
       c.requires.header (taken-more (scheme_of functions header) header inv.logs c.batches.certifier _ frames inv.checked).whole
       (subst (λ (tell : EpochText). GrowsByFront (g.O.Sink.held c.args.out.now) (g.O.Sink.held c.take_batch.new.out) (lines_due tell functions header (joined_from 0 inv.logs frames)))
       c.new-telling.ensures.text (c.in_err-take_batch.ensures.front header inv.logs (g.O.Sink.held c.args.out.now) checked inv.written))
@@ -255,7 +255,7 @@ batches-preserved g c =
       few = inv.few;
       come = λ left faults come.
           let now = inv.come left faults come in
-          come-more left _ faults _ inv.logs old new now fill.rises all _ _ (fill.took (whole_no_stop c.fill.result whole))
+          come-more left _ faults _ inv.logs old new now fill.rises all _ _ (fill.having_read (whole_no_stop c.fill.result whole))
           (means-more left _ faults _ inv.logs old new now fill.rises header frames inv.known on) on.extent fill.near fill.never_falls;
       known = on.header ∙ inv.known;
       due = fill.due whole;
@@ -299,16 +299,16 @@ returns-in-Stopped g c = record {
       subst (λ (stop : CheckStop). AnswersTo (check_answer c.args.receipts functions) reading_end limit (checking_stopped limit stop) read wrote) (sym c.from.ensures)
       (cut_answers c.args.receipts functions limit left (g.S.Source.left c.fill.new.source) faults (g.S.Source.faults c.fill.new.source) new wrote c.in-Stopped.stop
       (took_batch limit left _ _ faults _ inv.logs old new now fill.rises same fill.within fill.near
-      c.fill.result c.in_ok-filled.filled c.in_ok-filled.was fill.took fill.limit fill.full fill.beyond)
+      c.fill.result c.in_ok-filled.filled c.in_ok-filled.was fill.having_read fill.limit fill.full fill.beyond)
       (due_taken c.args.receipts functions header limit left (g.S.Source.left c.fill.new.source) faults (g.S.Source.faults c.fill.new.source) all new
       (on.header ∙ inv.known) (means-more left _ faults _ inv.logs old new now fill.rises header frames inv.known on) wrote
       (c.in_ok-filled.ensures.spent (stopped_not_whole c.in_ok-filled.filled c.in-Stopped.stop c.in-Stopped.is)).no_frames (joined_none 0 all)
       (subst (λ (tell : EpochText). Grows (g.O.Sink.held c.args.out.now) (g.O.Sink.held c.take_batch.new.out) (lines_due tell functions header all))
       c.new-telling.ensures.text (c.in_ok-take_batch.ensures.due header inv.logs (g.O.Sink.held c.args.out.now) checked inv.written)))
       (λ is. rose_before _ _ _ now.never_falls (fill.fault (stopped ∙ ap stopped_at is)))
-      (λ is. TookAtMost-from_read new.taken limit _ _ (HasRead-then _ _ _ _ _ _ now.took (fill.took (fault_no_limit c.fill.result (stopped ∙ ap stopped_at is))) sum)
+      (λ is. TookAtMost-from_read new.taken limit _ _ (HasRead-then _ _ _ _ _ _ now.having_read (fill.having_read (fault_no_limit c.fill.result (stopped ∙ ap stopped_at is))) sum)
       (omega (arith, fill.within, same)))
-      (λ is. TookJust-from_read (limit + 1) _ _ (HasRead-then _ _ _ _ _ _ now.took (fill.limit (stopped ∙ ap stopped_at is)) sum'))
+      (λ is. TookJust-from_read (limit + 1) _ _ (HasRead-then _ _ _ _ _ _ now.having_read (fill.limit (stopped ∙ ap stopped_at is)) sum'))
       (λ is. ends_behind limit left (g.S.Source.left c.batches.source) (g.S.Source.left c.fill.new.source) faults _ inv.logs old new now fill.rises same fill.within fill.near (fill.beyond (stopped ∙ ap stopped_at is))));
 }
 
@@ -333,7 +333,7 @@ returns-in_err-finish g c = record {
       let taken = subst (λ (runs : List FedRun). AreChecked functions header all c.take_batch.new.certifier runs) (sym (c.deref_mut-2.ensures.value ∙ back))
       (c.in_ok-take_batch.ensures.checked header inv.logs checked) in
       let sum : new.taken ≡ old.taken + (new.taken - old.taken) = omega (arith, fill.rises) in
-      let took = HasRead-then _ _ _ _ _ _ now.took (fill.took (end_no_stop c.fill.result ended)) sum in
+      let having_read = HasRead-then _ _ _ _ _ _ now.having_read (fill.having_read (end_no_stop c.fill.result ended)) sum in
       let spent = c.in_ok-filled.ensures.spent (end_not_whole c.in_ok-filled.filled c.in-End.is) in
       let whole = (taken-more scheme header inv.logs c.batches.certifier _ frames inv.checked).whole in
       let read : Reading = record {
@@ -352,10 +352,10 @@ returns-in_err-finish g c = record {
       (sym (handed_on c.from_residual-in_err-finish.result (stop_by_writing c.in_err-finish.field-0.0) c.from_residual-in_err-finish.ensures.1
       ∙ ap Err (no_memory c.in_err-finish.field-0.0 (λ is. c.finish.ensures.stop (c.in_err-finish.was ∙ ap Err is)))))
       (last_answers c.args.receipts functions header limit left (g.S.Source.left c.fill.new.source) faults (g.S.Source.faults c.fill.new.source) all new
-      (on.header ∙ inv.known) (means-more left _ faults _ inv.logs old new now fill.rises header frames inv.known on) wrote c.bad.result took
+      (on.header ∙ inv.known) (means-more left _ faults _ inv.logs old new now fill.rises header frames inv.known on) wrote c.bad.result having_read
       (omega (arith, fill.within, fill.same_limit, inv.limit))
       (joined_end all new _ (Some header) c.bad.result (fill.end ended) (sym (on.header ∙ inv.known)) (c.bad.ensures.ahead spent.unread) whole)
-      (stops_near _ _ _ reading_end took (near-then _ _ _ _ _ _ _ _ _ now.took now.extent fill.rises refl now.near fill.near))
+      (stops_near _ _ _ reading_end having_read (near-then _ _ _ _ _ _ _ _ _ now.having_read now.extent fill.rises refl now.near fill.near))
       (GrowsByFront-then _ _ _ _ _ (subst (λ (tell : EpochText). Grows (g.O.Sink.held c.args.out.now) (g.O.Sink.held c.take_batch.new.out) (lines_due tell functions header all))
       c.new-telling.ensures.text (c.in_ok-take_batch.ensures.due header inv.logs (g.O.Sink.held c.args.out.now) checked inv.written))
       (c.in_err-finish.ensures.front scheme header all taken (c.in_ok-take_batch.ensures.all header inv.logs checked)))
@@ -383,7 +383,7 @@ returns g c = record {
       let taken = subst (λ (runs : List FedRun). AreChecked functions header all c.take_batch.new.certifier runs) (sym (c.deref_mut-2.ensures.value ∙ back))
       (c.in_ok-take_batch.ensures.checked header inv.logs checked) in
       let sum : new.taken ≡ old.taken + (new.taken - old.taken) = omega (arith, fill.rises) in
-      let took = HasRead-then _ _ _ _ _ _ now.took (fill.took (end_no_stop c.fill.result ended)) sum in
+      let having_read = HasRead-then _ _ _ _ _ _ now.having_read (fill.having_read (end_no_stop c.fill.result ended)) sum in
       let spent = c.in_ok-filled.ensures.spent (end_not_whole c.in_ok-filled.filled c.in-End.is) in
       let whole = (taken-more scheme header inv.logs c.batches.certifier _ frames inv.checked).whole in
       let end = c.in_ok-finish.field-0 in
@@ -396,12 +396,12 @@ returns g c = record {
         faults = g.O.Sink.faults c.args.out.now;
         faults_after = g.O.Sink.faults c.finish.new.out;
       })
-      c.bad.result end took
+      c.bad.result end having_read
       (omega (arith, fill.within, fill.same_limit, inv.limit))
       (joined_end all new _ (Some header) c.bad.result (fill.end ended) (sym (on.header ∙ inv.known)) (c.bad.ensures.ahead spent.unread) whole)
-      (took_to_end new.taken left (g.S.Source.left c.fill.new.source) reading_end (end_ahead new) took
+      (took_to_end new.taken left (g.S.Source.left c.fill.new.source) reading_end (end_ahead new) having_read
       (extent-more left _ faults _ inv.logs old new now fill.rises on.extent) (fill.reached ended))
-      (stops_near _ _ _ reading_end took (near-then _ _ _ _ _ _ _ _ _ now.took now.extent fill.rises refl now.near fill.near))
+      (stops_near _ _ _ reading_end having_read (near-then _ _ _ _ _ _ _ _ _ now.having_read now.extent fill.rises refl now.near fill.near))
       (ap status_of end_is)
       (Grows-then _ _ _ _ _ (subst (λ (tell : EpochText). Grows (g.O.Sink.held c.args.out.now) (g.O.Sink.held c.take_batch.new.out) (lines_due tell functions header all))
       c.new-telling.ensures.text (c.in_ok-take_batch.ensures.due header inv.logs (g.O.Sink.held c.args.out.now) checked inv.written))

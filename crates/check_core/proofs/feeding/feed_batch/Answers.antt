@@ -1,7 +1,7 @@
 use Rattle.std.proofs.Common.{◌≡◌, ℕ, ◌+◌, List, get_or, subst, arith}
 use Rattle.bundle_frames.specs.Bundle.{Frame}
 use Rattle.certified_epochs.specs.declared.fed_run.FedRun.{FedRun}
-use Rattle.check_core.specs.Feeding.{Takes}
+use Rattle.check_core.specs.Feeding.{Reads}
 use Rattle.check_core.proofs.FeedingLemmas.{all_take, taken_by_all, headers_of_all, weights_of_all}
 use Rattle.check_core.proofs.feeding.feed_batch.Goals as goal
 
@@ -16,10 +16,10 @@ returns-clause-taken g c =
     (λ i d within.
     let k = (c.for_each_mut.ensures i d within).1 in
     let first : i ≡ 0 + i = omega arith in
-    subst (λ (n : ℕ). Takes functions n frames (get_or olds i d) (get_or news i d)) first
-    (subst (λ (new : FedRun). Takes functions i frames (get_or olds i d) new) k.left
-    (subst (λ (old : FedRun). Takes functions i frames old k.after_call.now) k.argument_is
-    (subst (λ (fs : List Frame). Takes functions i fs k.argument.now k.after_call.now) c.slots-slots.ensures.frames k.call)))))
+    subst (λ (n : ℕ). Reads functions n frames (get_or olds i d) (get_or news i d)) first
+    (subst (λ (new : FedRun). Reads functions i frames (get_or olds i d) new) k.left
+    (subst (λ (old : FedRun). Reads functions i frames old k.after_call.now) k.argument_is
+    (subst (λ (fs : List Frame). Reads functions i fs k.argument.now k.after_call.now) c.holders-holders.ensures.frames k.call)))))
     same fine
 
 pub returns-clause-headers : goal.returns-clause-headers
@@ -33,10 +33,10 @@ returns-clause-headers g c =
     (λ i d within.
     let k = (c.for_each_mut.ensures i d within).1 in
     let first : i ≡ 0 + i = omega arith in
-    subst (λ (n : ℕ). Takes functions n frames (get_or olds i d) (get_or news i d)) first
-    (subst (λ (new : FedRun). Takes functions i frames (get_or olds i d) new) k.left
-    (subst (λ (old : FedRun). Takes functions i frames old k.after_call.now) k.argument_is
-    (subst (λ (fs : List Frame). Takes functions i fs k.argument.now k.after_call.now) c.slots-slots.ensures.frames k.call)))))
+    subst (λ (n : ℕ). Reads functions n frames (get_or olds i d) (get_or news i d)) first
+    (subst (λ (new : FedRun). Reads functions i frames (get_or olds i d) new) k.left
+    (subst (λ (old : FedRun). Reads functions i frames old k.after_call.now) k.argument_is
+    (subst (λ (fs : List Frame). Reads functions i fs k.argument.now k.after_call.now) c.holders-holders.ensures.frames k.call)))))
     same
 
 pub returns-clause-weight : goal.returns-clause-weight
@@ -50,8 +50,8 @@ returns-clause-weight g c =
     (λ i d within.
     let k = (c.for_each_mut.ensures i d within).1 in
     let first : i ≡ 0 + i = omega arith in
-    subst (λ (n : ℕ). Takes functions n frames (get_or olds i d) (get_or news i d)) first
-    (subst (λ (new : FedRun). Takes functions i frames (get_or olds i d) new) k.left
-    (subst (λ (old : FedRun). Takes functions i frames old k.after_call.now) k.argument_is
-    (subst (λ (fs : List Frame). Takes functions i fs k.argument.now k.after_call.now) c.slots-slots.ensures.frames k.call)))))
+    subst (λ (n : ℕ). Reads functions n frames (get_or olds i d) (get_or news i d)) first
+    (subst (λ (new : FedRun). Reads functions i frames (get_or olds i d) new) k.left
+    (subst (λ (old : FedRun). Reads functions i frames old k.after_call.now) k.argument_is
+    (subst (λ (fs : List Frame). Reads functions i fs k.argument.now k.after_call.now) c.holders-holders.ensures.frames k.call)))))
     within_bound

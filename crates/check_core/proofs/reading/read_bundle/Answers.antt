@@ -36,7 +36,7 @@ frames-init g c =
       within = omega arith;
       position = subst (λ (r : Reading). position r.progress ≤ r.taken) (sym is) (omega arith);
       header = sym (ap (λ (r : Reading). r.progress.header) is);
-      took = HasRead-none _ _ none;
+      having_read = HasRead-none _ _ none;
       means = ReadsAs-none _ _ _ _ none (λ more. opening_joined c.args.limit _ _ more (ap (map (λ log. log.items)) c.new-2.ensures.items) is);
       extent = ReadsAs-none _ _ _ _ none (λ more. end_opening c.args.limit more ∙ ap (λ (r : Reading). end_ahead r more) (sym is));
       near = λ some. absurd (omega arith);
@@ -61,14 +61,14 @@ frames-preserved g c =
       within = omega (arith, next.within, next.same_limit, last.limit);
       position = next.split;
       header = c.in_ok-more.ensures.header ∙ ap (header_then (Ok c.in-Ok.next)) last.header ∙ sym next.header;
-      took = HasRead-then _ _ _ _ _ _ last.took (next.took (λ is. true≢false (ap is_ok is))) sum;
-      means = ReadsAs-then _ _ _ _ _ _ _ _ last.took last.means
+      having_read = HasRead-then _ _ _ _ _ _ last.having_read (next.having_read (λ is. true≢false (ap is_ok is))) sum;
+      means = ReadsAs-then _ _ _ _ _ _ _ _ last.having_read last.means
           (reads_next _ _ (logs_in c.frames.intake) (logs_in c.join.new.intake) c.frames.reader c.next.new.self c.in-Ok.next c.next.new.self.progress.body next.means next.header
           (λ header is. (next.head header (ap Ok is)).0) (λ verifier is. next.frame verifier (ap Ok is))
           (logs_counted (λ log. log.items) logs.items c.frames.reader.progress.header logs.len (omega (arith, logs.ok)) (c.frames.intake.count ∙ ap log_count last.header))
           (c.in_ok-more.ensures.logs ∙ ap (λ (body : List ℕ). logs_then c.in-Ok.next body (logs_in c.frames.intake)) c.body.ensures.value)) sum;
-      extent = ReadsAs-then _ _ _ _ _ _ _ _ last.took last.extent next.extent sum;
-      near = near-then _ _ _ _ _ _ _ _ _ last.took last.extent next.rises refl last.near next.near;
+      extent = ReadsAs-then _ _ _ _ _ _ _ _ last.having_read last.extent next.extent sum;
+      near = near-then _ _ _ _ _ _ _ _ _ last.having_read last.extent next.rises refl last.near next.near;
       faults = omega (arith, last.faults, next.never_falls);
     }
 
@@ -77,15 +77,15 @@ returns-in_err-more-clause-within g c = λ other.
     let last = c.frames.invariant in
     let next = c.in-Ok.ensures in
     let sum : c.next.new.self.taken ≡ c.frames.reader.taken + (c.next.new.self.taken - c.frames.reader.taken) = omega (arith, next.rises) in
-    TookAtMost-from_read _ _ _ _ (HasRead-then _ _ _ _ _ _ last.took (next.took (λ is. true≢false (ap is_ok is))) sum) (omega (arith, next.within, next.same_limit, last.limit))
+    TookAtMost-from_read _ _ _ _ (HasRead-then _ _ _ _ _ _ last.having_read (next.having_read (λ is. true≢false (ap is_ok is))) sum) (omega (arith, next.within, next.same_limit, last.limit))
 
 pub returns-in_err-more-clause-stops : goal.returns-in_err-more-clause-stops
 returns-in_err-more-clause-stops g c =
     let last = c.frames.invariant in
     let next = c.in-Ok.ensures in
     let sum : c.next.new.self.taken ≡ c.frames.reader.taken + (c.next.new.self.taken - c.frames.reader.taken) = omega (arith, next.rises) in
-    stops_near _ _ _ reading_end (HasRead-then _ _ _ _ _ _ last.took (next.took (λ is. true≢false (ap is_ok is))) sum)
-    (near-then _ _ _ _ _ _ _ _ _ last.took last.extent next.rises refl last.near next.near)
+    stops_near _ _ _ reading_end (HasRead-then _ _ _ _ _ _ last.having_read (next.having_read (λ is. true≢false (ap is_ok is))) sum)
+    (near-then _ _ _ _ _ _ _ _ _ last.having_read last.extent next.rises refl last.near next.near)
 
 pub returns-in-Err-clause-limit : goal.returns-in-Err-clause-limit
 returns-in-Err-clause-limit g c = λ is.
@@ -94,7 +94,7 @@ returns-in-Err-clause-limit g c = λ is.
     let full = stop_is c.from.result InputLimit is in
     let same = stop_input _ _ c.from.ensures full in
     let sum : c.args.limit + 1 ≡ c.frames.reader.taken + (c.next.new.self.limit + 1 - c.frames.reader.taken) = omega (arith, next.same_limit, last.limit, last.within) in
-    TookJust-from_read _ _ _ (HasRead-then _ _ _ _ _ _ last.took (next.limit (ap Err same)) sum)
+    TookJust-from_read _ _ _ (HasRead-then _ _ _ _ _ _ last.having_read (next.limit (ap Err same)) sum)
 
 pub returns-in-Err-clause-within : goal.returns-in-Err-clause-within
 returns-in-Err-clause-within g c = λ other.
@@ -102,7 +102,7 @@ returns-in-Err-clause-within g c = λ other.
     let next = c.in-Err.ensures in
     let sum : c.next.new.self.taken ≡ c.frames.reader.taken + (c.next.new.self.taken - c.frames.reader.taken) = omega (arith, next.rises) in
     let apart = λ (is : c.in-Err.stop ≡ sources.InputLimit). other (ap Err (c.from.ensures ∙ ap stop_of is)) in
-    TookAtMost-from_read _ _ _ _ (HasRead-then _ _ _ _ _ _ last.took (next.took (λ is. apart cc)) sum) (omega (arith, next.within, next.same_limit, last.limit))
+    TookAtMost-from_read _ _ _ _ (HasRead-then _ _ _ _ _ _ last.having_read (next.having_read (λ is. apart cc)) sum) (omega (arith, next.within, next.same_limit, last.limit))
 
 pub returns-in-Err-clause-stops : goal.returns-in-Err-clause-stops
 returns-in-Err-clause-stops g c =
@@ -111,10 +111,10 @@ returns-in-Err-clause-stops g c =
     let sum : c.next.new.self.taken ≡ c.frames.reader.taken + (c.next.new.self.taken - c.frames.reader.taken) = omega (arith, next.rises) in
     let sum' : c.args.limit + 1 ≡ c.frames.reader.taken + (c.next.new.self.limit + 1 - c.frames.reader.taken) = omega (arith, next.same_limit, last.limit, last.within) in
     stops_stopped c.in-Err.stop c.next.new.self.taken c.args.limit _ _ reading_end
-    (λ other. HasRead-then _ _ _ _ _ _ last.took (next.took (λ is. other cc)) sum)
-    (λ same. HasRead-then _ _ _ _ _ _ last.took (next.limit (ap Err same)) sum')
-    (near-then _ _ _ _ _ _ _ _ _ last.took last.extent next.rises refl last.near next.near)
-    (λ same. ReadsAs-back (λ (end : ℕ). c.args.limit < end) _ _ _ _ _ last.took last.extent
+    (λ other. HasRead-then _ _ _ _ _ _ last.having_read (next.having_read (λ is. other cc)) sum)
+    (λ same. HasRead-then _ _ _ _ _ _ last.having_read (next.limit (ap Err same)) sum')
+    (near-then _ _ _ _ _ _ _ _ _ last.having_read last.extent next.rises refl last.near next.near)
+    (λ same. ReadsAs-back (λ (end : ℕ). c.args.limit < end) _ _ _ _ _ last.having_read last.extent
     (subst (λ (limit : ℕ). IfSome (g.S.Source.left c.frames.source) (λ bytes. limit < end_ahead c.frames.reader bytes)) (next.same_limit ∙ last.limit) (next.beyond (ap Err same))))
 
 pub returns-in-Err-clause-beyond : goal.returns-in-Err-clause-beyond
@@ -123,7 +123,7 @@ returns-in-Err-clause-beyond g c = λ is.
     let next = c.in-Err.ensures in
     let full = stop_is c.from.result InputLimit is in
     let same = stop_input _ _ c.from.ensures full in
-    ReadsAs-back (λ (end : ℕ). c.args.limit < end) _ _ _ _ _ last.took last.extent
+    ReadsAs-back (λ (end : ℕ). c.args.limit < end) _ _ _ _ _ last.having_read last.extent
     (subst (λ (limit : ℕ). IfSome (g.S.Source.left c.frames.source) (λ bytes. limit < end_ahead c.frames.reader bytes)) (next.same_limit ∙ last.limit) (next.beyond (ap Err same)))
 
 pub returns-clause-bundle : goal.returns-clause-bundle
@@ -136,8 +136,8 @@ returns-clause-bundle g c =
     let old : Reading = c.frames.reader in
     let new : Reading = c.next.new.self in
     let sum : new.taken ≡ old.taken + (new.taken - old.taken) = omega (arith, next.rises) in
-    let read = HasRead-then old.taken _ new.taken _ _ _ last.took (next.took (λ is. true≢false (ap is_ok is))) sum in
-    let means = ReadsAs-then old.taken _ new.taken _ _ logged_of (behind_at (logs_in c.frames.intake) old) (behind_at (logs_in c.join.new.intake) new) last.took last.means
+    let read = HasRead-then old.taken _ new.taken _ _ _ last.having_read (next.having_read (λ is. true≢false (ap is_ok is))) sum in
+    let means = ReadsAs-then old.taken _ new.taken _ _ logged_of (behind_at (logs_in c.frames.intake) old) (behind_at (logs_in c.join.new.intake) new) last.having_read last.means
     (reads_next _ _ (logs_in c.frames.intake) (logs_in c.join.new.intake) old new c.in-Ok.next new.progress.body next.means next.header
     (λ header is. (next.head header (ap Ok is)).0) (λ verifier is. next.frame verifier (ap Ok is))
     (logs_counted (λ log. log.items) had.items old.progress.header had.len (omega (arith, had.ok)) (c.frames.intake.count ∙ ap log_count last.header))
@@ -153,20 +153,20 @@ returns-clause-within g c = λ other.
     let last = c.frames.invariant in
     let next = c.in-Ok.ensures in
     let sum : c.next.new.self.taken ≡ c.frames.reader.taken + (c.next.new.self.taken - c.frames.reader.taken) = omega (arith, next.rises) in
-    TookAtMost-from_read _ _ _ _ (HasRead-then _ _ _ _ _ _ last.took (next.took (λ is. true≢false (ap is_ok is))) sum) (omega (arith, next.within, next.same_limit, last.limit))
+    TookAtMost-from_read _ _ _ _ (HasRead-then _ _ _ _ _ _ last.having_read (next.having_read (λ is. true≢false (ap is_ok is))) sum) (omega (arith, next.within, next.same_limit, last.limit))
 
 pub returns-clause-reached : goal.returns-clause-reached
 returns-clause-reached g c =
     let last = c.frames.invariant in
     let next = c.in-Ok.ensures in
     let sum : c.next.new.self.taken ≡ c.frames.reader.taken + (c.next.new.self.taken - c.frames.reader.taken) = omega (arith, next.rises) in
-    took_to_end _ _ _ reading_end (end_ahead c.next.new.self) (HasRead-then _ _ _ _ _ _ last.took (next.took (λ is. true≢false (ap is_ok is))) sum)
-    (ReadsAs-then _ _ _ _ _ _ _ _ last.took last.extent next.extent sum) (next.reached (ap Ok (c.in_ok-more.ensures.end (ap Ok c.if-not-more.true))))
+    took_to_end _ _ _ reading_end (end_ahead c.next.new.self) (HasRead-then _ _ _ _ _ _ last.having_read (next.having_read (λ is. true≢false (ap is_ok is))) sum)
+    (ReadsAs-then _ _ _ _ _ _ _ _ last.having_read last.extent next.extent sum) (next.reached (ap Ok (c.in_ok-more.ensures.end (ap Ok c.if-not-more.true))))
 
 pub returns-clause-stops : goal.returns-clause-stops
 returns-clause-stops g c =
     let last = c.frames.invariant in
     let next = c.in-Ok.ensures in
     let sum : c.next.new.self.taken ≡ c.frames.reader.taken + (c.next.new.self.taken - c.frames.reader.taken) = omega (arith, next.rises) in
-    stops_near _ _ _ reading_end (HasRead-then _ _ _ _ _ _ last.took (next.took (λ is. true≢false (ap is_ok is))) sum)
-    (near-then _ _ _ _ _ _ _ _ _ last.took last.extent next.rises refl last.near next.near)
+    stops_near _ _ _ reading_end (HasRead-then _ _ _ _ _ _ last.having_read (next.having_read (λ is. true≢false (ap is_ok is))) sum)
+    (near-then _ _ _ _ _ _ _ _ _ last.having_read last.extent next.rises refl last.near next.near)

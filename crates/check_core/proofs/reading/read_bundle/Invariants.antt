@@ -15,7 +15,7 @@ invariant-frames g l = record {
   within : l.reader.taken ≤ l.limit;
   position : position l.reader.progress ≤ l.reader.taken;
   header : l.intake.header ≡ l.reader.progress.header;
-  took : HasRead l.reader.taken (g.S.Source.left l.fn.source) (g.S.Source.left l.source);
+  having_read : HasRead l.reader.taken (g.S.Source.left l.fn.source) (g.S.Source.left l.source);
   means : ReadsAs l.reader.taken (g.S.Source.left l.fn.source) logged_of (behind_at (logs_in l.intake) l.reader);
   extent : ReadsAs l.reader.taken (g.S.Source.left l.fn.source) reading_end (end_ahead l.reader);
   near : 0 < l.reader.taken → IfSome (g.S.Source.left l.fn.source) (λ bytes. l.reader.taken ≤ reading_end bytes + most_behind);

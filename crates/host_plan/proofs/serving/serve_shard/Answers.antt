@@ -13,7 +13,7 @@ use Rattle.host_shard.specs.Shard.{Shard, tree_of, touched}
 use Rattle.host_shard.specs.Shown.{shown}
 use Rattle.host_shard.proofs.ChainLaws.{frontier_kind, last_kind}
 use Rattle.host_plan.proofs.OwnLemmas.{served_is, served_owns}
-use Rattle.host_plan.proofs.TypedLemmas.{chain_typed, settled_there}
+use Rattle.host_plan.proofs.TypedLemmas.{chain_typed, rehashed_there}
 use Rattle.host_plan.proofs.serving.serve_shard.Goals as goal
 
 pub answer_of-answer-requires : goal.answer_of-answer-requires
@@ -28,11 +28,11 @@ answer_of-answer-requires g c =
 
 pub touch-requires : goal.touch-requires
 touch-requires g c = record {
-  there = settled_there short_keys (g.D.Digests.functions c.args.d.now).digest (shown c.args.shard.now) (shown c.settle.new.self) (key_path short_keys c.args.request.now.key)
+  there = rehashed_there short_keys (g.D.Digests.functions c.args.d.now).digest (shown c.args.shard.now) (shown c.rehash.new.self) (key_path short_keys c.args.request.now.key)
       c.as_slice-3.result.now (values.Blob c.copy.result) c.requires.own.1.below
       (subst (λ (links : List Link). IsChain short_keys (tree_of (shown c.args.shard.now)) (key_path short_keys c.args.request.now.key) c.args.shard.now.frontier c.args.shard.now.value links)
       (sym c.as_slice-3.ensures.value) c.in_ok-links.ensures.chain)
-      c.in_ok-settle.ensures.settled;
+      c.in_ok-rehash.ensures.rehashed;
 }
 
 pub returns-clause-typed : goal.returns-clause-typed
@@ -57,12 +57,12 @@ returns-clause-owns g c key own =
     let chain = subst (λ (ls : List Link). IsChain short_keys (tree_of shard) mine shard.frontier shard.value ls) (sym c.as_slice-3.ensures.value) c.in_ok-links.ensures.chain in
     let end : IsOf short_keys mine (values.Blob c.copy.result) =
     subst (λ (blob : Option (List ℕ)). IsOf short_keys mine (values.Blob blob)) (sym c.copy.ensures.value) c.command_of-command.ensures.kind in
-    let touches = touched (shown c.settle.new.self).touches mine in (
-      served_is short_keys digest shard (shown c.settle.new.self) (shown c.touch.new.self) mine links (values.Blob c.copy.result) touches _ _
-          (λ text. (g.met.D.Digests.text_digest_shape c.args.d.now text).size) c.requires.own.0 c.requires.own.1 end chain c.in_ok-settle.ensures.settled c.touch.ensures.touched,
+    let touches = touched (shown c.rehash.new.self).touches mine in (
+      served_is short_keys digest shard (shown c.rehash.new.self) (shown c.touch.new.self) mine links (values.Blob c.copy.result) touches _ _
+          (λ text. (g.met.D.Digests.text_digest_shape c.args.d.now text).size) c.requires.own.0 c.requires.own.1 end chain c.in_ok-rehash.ensures.rehashed c.touch.ensures.touched,
       record {
         whole = own.1.whole;
-        below = served_owns short_keys digest shard (shown c.settle.new.self) (shown c.touch.new.self) (key_path short_keys key) links (values.Blob c.copy.result) touches
-            c.in_ok-settle.ensures.settled c.touch.ensures.touched own.1;
+        below = served_owns short_keys digest shard (shown c.rehash.new.self) (shown c.touch.new.self) (key_path short_keys key) links (values.Blob c.copy.result) touches
+            c.in_ok-rehash.ensures.rehashed c.touch.ensures.touched own.1;
       },
     )

@@ -1,6 +1,6 @@
 use Rattle.std.proofs.Common.{◌≡◌, ℕ, suc, ◌<◌, length, Option, None, Result, OnOk, IfOk, IfSome, sym, ap, subst, ◌∙◌, arith}
 use Rattle.std.proofs.lemmas.Bool.{false≢true}
-use Rattle.want_of_memory.specs.declared.memory.Memory.{Memory}
+use Rattle.base_words.specs.declared.memory.Memory.{Memory}
 use Rattle.record_text.specs.declared.request.Request.{Request}
 use Rattle.host_core.specs.Host.{Host}
 use Rattle.host_core.specs.World.{World, worker_at}

@@ -10,7 +10,7 @@ use Rattle.host_shard.specs.declared.content.Content.TheVariants.{Vacant}
 use Rattle.host_shard.specs.Shown.{shown_content}
 use Rattle.host_plan.specs.Plan.{IsPastEnd}
 use Rattle.host_table.specs.declared.views.Held.TheVariants.{Has}
-use Rattle.host_table.specs.Hands.{entries, losses, stop, content, history}
+use Rattle.host_table.specs.Hands.{services, losses, stop, content, history}
 use Rattle.host_table.specs.Made.{terms_of}
 use Rattle.host_table.specs.Plays.{Sat, Draft, stopped}
 use Rattle.host_table.specs.Rule.{IsKept}
@@ -29,15 +29,15 @@ load-requires g c =
     let p : ℕ = c.args.place in
     let slots : ℕ = shared.table_id.slots in
     let draft : Draft = g.N.Told.draft in
-    let me : Sat = known i (Has p (content hand) (history hand)) (entries hand) (stop hand) (losses hand) ((p, Vacant) ∷ []) in
+    let me : Sat = known i (Has p (content hand) (history hand)) (services hand) (stop hand) (losses hand) ((p, Vacant) ∷ []) in
     let clock = sym c.requires.draft.0 in
     let request = sym c.requires.draft.1 in
     let lemma : Allows (IsKept terms) slots hand.seat.id me p (λ n. n) (stopped draft (step {S = Content} slots p 0 0 none) me) =
-    ends terms hand.seat.id i p slots (entries hand) (losses hand) (content hand) (history hand) (stop hand) draft ((p, Vacant) ∷ [])
+    ends terms hand.seat.id i p slots (services hand) (losses hand) (content hand) (history hand) (stop hand) draft ((p, Vacant) ∷ [])
     (subst (λ (q : Request). IsPlaceOf terms p q.key) request c.requires.place)
     (subst (λ (q : Request). IsBlob short_keys q.value) request c.requires.value)
     (subst (IsClockOf terms) clock c.requires.clock)
-    (subst (TakesUp (entries hand)) clock c.requires.chained)
+    (subst (TakesUp (services hand)) clock c.requires.chained)
     (subst (λ (t : Reading). IsPastEnd (shown_content (content hand)) t) clock c.requires.past) in (
       c.requires.holds.0,
       c.requires.word,

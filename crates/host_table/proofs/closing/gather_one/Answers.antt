@@ -2,7 +2,7 @@ use Rattle.std.proofs.Common.{◌≡◌, suc, ◌+◌, ap, sym, subst, ◌∙◌
 use Rattle.atomic_table.specs.Table.{Joins}
 use Rattle.host_table.specs.declared.views.View.{View}
 use Rattle.host_table.specs.declared.views.View.TheVariants.{Spent}
-use Rattle.host_table.specs.Hands.{entries, losses, stop}
+use Rattle.host_table.specs.Hands.{services, losses, stop}
 use Rattle.host_table.specs.Made.{terms_of}
 use Rattle.host_table.specs.Plays.{rack, rows_in, gathered}
 use Rattle.host_table.specs.Rule.{IsKept}
@@ -22,5 +22,5 @@ join_seat-requires g c =
       ap (λ m. m.1) c.requires.free.1,
       c.requires.words,
       subst (λ (t : View × View). Joins (IsKept terms) seat.id t.0 hand.seat.id t.1 (gathered t.0 t.1) Spent) (λ i. (seat_is i, hand_is i))
-          (gathers terms seat.id hand.seat.id hand.number (rows_in seat.me.0) (entries hand) (stop hand) (losses hand)),
+          (gathers terms seat.id hand.seat.id hand.number (rows_in seat.me.0) (services hand) (stop hand) (losses hand)),
     )

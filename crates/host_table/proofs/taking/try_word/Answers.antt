@@ -4,7 +4,7 @@ use prog.Atomic.{either}
 use Rattle.atomic_table.specs.Table.{Allows, step}
 use Rattle.host_shard.specs.declared.content.Content.{Content}
 use Rattle.host_table.specs.declared.views.Held.TheVariants.{Idle}
-use Rattle.host_table.specs.Hands.{entries, losses, stop}
+use Rattle.host_table.specs.Hands.{services, losses, stop}
 use Rattle.host_table.specs.Made.{terms_of}
 use Rattle.host_table.specs.Plays.{Sat, tried}
 use Rattle.host_table.specs.Rule.{IsKept}
@@ -24,10 +24,10 @@ compare_exchange-requires g c =
     let read : c.from-own.result ≡ i = search rules in
     let a : ℕ = c.from-own.result + 1 in
     let own : suc i ≡ a = omega (arith, read) in
-    let me : Sat = known i Idle (entries hand) (stop hand) (losses hand) [] in
+    let me : Sat = known i Idle (services hand) (stop hand) (losses hand) [] in
     let lemma : Allows (IsKept terms) slots hand.seat.id me p (λ n. either (eqb n 0) a n) (tried terms (step {S = Content} slots p 0 a none) me) =
     subst (λ (b : ℕ). Allows (IsKept terms) slots hand.seat.id me p (λ n. either (eqb n 0) b n) (tried terms (step {S = Content} slots p 0 b none) me)) own
-    (tries terms hand.seat.id i p slots (entries hand) (losses hand) (stop hand) c.requires.place) in (
+    (tries terms hand.seat.id i p slots (services hand) (losses hand) (stop hand) c.requires.place) in (
       c.requires.free.0,
       c.requires.word,
       subst (λ (t : Terms × Sat). Allows (IsKept terms) slots hand.seat.id t.1 p (λ n. either (eqb n 0) a n) (tried t.0 (step {S = Content} slots p 0 a none) t.1))

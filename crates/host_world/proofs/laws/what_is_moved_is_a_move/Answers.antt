@@ -1,4 +1,4 @@
-use Rattle.host_world.proofs.TripLaws.{done_is_move}
+use Rattle.host_world.proofs.DescentLaws.{done_is_move}
 use Rattle.host_world.proofs.laws.what_is_moved_is_a_move.Goals as goal
 
 pub returns : goal.returns

@@ -1,5 +1,5 @@
 use Rattle.std.proofs.Common.{ℕ, map, arith}
-use Rattle.protection_moves.specs.Errand.{promotes}
+use Rattle.protection_moves.specs.Transfer.{promotes}
 use Rattle.protection_moves.proofs.CountingLemmas.{clock_by_each-up}
 use Rattle.protection_moves.proofs.counting.+handed_out.Goals as goal
 

@@ -7,13 +7,13 @@ use Rattle.host_shard.specs.Mirrors.{IsKeyOf, IsShard}
 use Rattle.host_shard.specs.Records.{record_at, values_of}
 use Rattle.host_shard.specs.Shard.{Shard}
 use Rattle.host_shard.specs.Shown.{shown}
-use Rattle.protection_moves.specs.Errand.{promotes}
+use Rattle.protection_moves.specs.Transfer.{promotes}
 use Rattle.protection_moves.specs.Saving.{IsSavedOf}
-use Rattle.protection_moves.specs.Trip.{with_back}
-use Rattle.protection_moves.proofs.CountingLemmas.{past_by_first_errand}
+use Rattle.protection_moves.specs.Descent.{with_back}
+use Rattle.protection_moves.proofs.CountingLemmas.{past_by_first_transfer}
 use Rattle.protection_moves.proofs.SavingLemmas.{no_touches}
-use Rattle.protection_moves.proofs.TripLemmas.{back_is}
-use Rattle.protection_moves.proofs.DoneLemmas.{rest_own, rest_own_back, rest_open, rest_within_back, errands_returned}
+use Rattle.protection_moves.proofs.DescentLemmas.{back_is}
+use Rattle.protection_moves.proofs.DoneLemmas.{rest_own, rest_own_back, rest_open, rest_within_back, transfers_returned}
 use Rattle.protection_moves.proofs.demoting.+demote_each.Goals as goal
 
 pub unreachable-requires : goal.unreachable-requires
@@ -21,11 +21,11 @@ unreachable-requires g t c =
     absurd (omega (
       arith,
       c.requires.within,
-      past_by_first_errand c.args.clock.now c.args.back.now c.in-Some.parts.1.now c.in-Some.parts.0.now (map (λ (k : ℕ). promotes k) c.args.keys.now) c.in-Some.ensures.cases.0 c.in-None-taken.ensures.past,
+      past_by_first_transfer c.args.clock.now c.args.back.now c.in-Some.parts.1.now c.in-Some.parts.0.now (map (λ (k : ℕ). promotes k) c.args.keys.now) c.in-Some.ensures.cases.0 c.in-None-taken.ensures.past,
     ))
 
-pub settle_back-requires-clause-fits : goal.settle_back-requires-clause-fits
-settle_back-requires-clause-fits g t c =
+pub rehash_back-requires-clause-fits : goal.rehash_back-requires-clause-fits
+rehash_back-requires-clause-fits g t c =
     subst (IsShard short_keys) (sym c.in_ok-put_back.ensures.back)
     (back_is short_keys (shown c.args.shard.now) c.in-Some.parts.0.now c.requires.fits
     (subst (AllByRecursion (λ (f : HotRecord). IsKeyOf short_keys (shown c.args.shard.now) (key_path short_keys f.key))) c.in-Some.ensures.cases.0 c.requires.own_back).0
@@ -40,7 +40,7 @@ returns-in-Err-clause-as_before g t c =
 pub demote_each-requires : goal.demote_each-requires
 demote_each-requires g t c κs within =
     let old : Shard = shown c.args.shard.now in
-    let new : Shard = shown c.settle_back.new.shard in
+    let new : Shard = shown c.rehash_back.new.shard in
     let back : List HotRecord = c.args.back.now in
     let rest : List HotRecord = c.in-Some.parts.1.now in
     let found : HotRecord = c.in-Some.parts.0.now in
@@ -74,8 +74,8 @@ demote_each-requires g t c κs within =
 pub returns-in-Ok-demote_each-clause-done : goal.returns-in-Ok-demote_each-clause-done
 returns-in-Ok-demote_each-clause-done g t c touches places =
     let digest = (g.D.Digests.functions c.args.d.now).digest in
-    errands_returned digest c.args.worker (shown c.args.shard.now) (shown c.settle_back.new.shard) (shown c.demote_each.new.shard) c.in-Some.parts.0.now c.in-Some.parts.1.now c.args.back.now
-    (map (λ (k : ℕ). promotes k) c.args.keys.now) c.in-Ok-demote_each.hot.items c.args.clock.now c.in-Some-taken.next c.args.commands.now.items c.settle_back.new.commands.items c.demote_each.new.commands.items
+    transfers_returned digest c.args.worker (shown c.args.shard.now) (shown c.rehash_back.new.shard) (shown c.demote_each.new.shard) c.in-Some.parts.0.now c.in-Some.parts.1.now c.args.back.now
+    (map (λ (k : ℕ). promotes k) c.args.keys.now) c.in-Ok-demote_each.hot.items c.args.clock.now c.in-Some-taken.next c.args.commands.now.items c.rehash_back.new.commands.items c.demote_each.new.commands.items
     c.in-Some.ensures.cases.0 (c.in-Ok.ensures.back (shown c.args.shard.now) c.in_ok-put_back.ensures.back) c.in-Some-taken.ensures.taken
     (c.in-Ok.ensures.frontier ∙ ap (λ (s : Shard). s.frontier) c.in_ok-put_back.ensures.back) c.in-Ok-demote_each.ensures.done touches places
 
@@ -87,5 +87,5 @@ returns-clause-as_before g t c =
     c.take_away-in-Err-demote_each.ensures.as_before (shown c.args.shard.now)
     (c.restore.ensures.restored back
     (subst (λ (s : Shard). IsSavedOf back c.in-Ok.saved s) (sym c.in-Err-demote_each.ensures.as_before)
-    (subst (λ (s : Shard). IsSavedOf s c.in-Ok.saved (shown c.settle_back.new.shard)) c.in_ok-put_back.ensures.back c.in-Ok.ensures.saved))) was
+    (subst (λ (s : Shard). IsSavedOf s c.in-Ok.saved (shown c.rehash_back.new.shard)) c.in_ok-put_back.ensures.back c.in-Ok.ensures.saved))) was
     (λ none. no_touches (record_at c.args.shard.now.records) (key_path short_keys found.key) (sym was ∙ none))

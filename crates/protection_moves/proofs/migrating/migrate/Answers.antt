@@ -14,11 +14,11 @@ use Rattle.host_shard.specs.Shard.{Shard}
 use Rattle.host_shard.specs.Shown.{shown, shown_content}
 use Rattle.host_shard.proofs.ChainLaws.{frontier_kind}
 use Rattle.host_plan.specs.Moments.{giving}
-use Rattle.protection_moves.specs.Errand.{demotes, promotes, clock_by_each}
+use Rattle.protection_moves.specs.Transfer.{demotes, promotes, clock_by_each}
 use Rattle.protection_moves.specs.Stage.{Stage, touched_in, untouched_in, vacancies}
 use Rattle.protection_moves.specs.Renewing.{renewed_places, renewing_commands}
 use Rattle.protection_moves.specs.Done.{taking_in}
-use Rattle.protection_moves.specs.Due.{AreFirstDue}
+use Rattle.protection_moves.specs.Promotable.{AreFirstPromotable}
 use Rattle.protection_moves.specs.Places.{placed_each, vacated}
 use Rattle.protection_moves.specs.Move.{IsMove}
 use Rattle.protection_moves.specs.Shown.{shown_stage}
@@ -40,9 +40,9 @@ returns-in-None-clause-clock_end g c =
     let touched : List HotRecord = c.as_slice-touched.result.now in
     let returning : back ≡ untouched_in stage.places = c.as_slice-back.ensures.value ∙ c.untouched_in-returning.ensures.records in
     let staying : touched ≡ touched_in stage.places = c.as_slice-touched.ensures.value ∙ c.touched_in-staying.ensures.records in
-    let first : AreFirstDue short_keys stage c.args.threshold (vacancies stage.places + length back) keys =
-    first_keys stage c.args.threshold back c.due_keys-due.result.items keys c.vacancies.result (length back)
-    c.vacancies.ensures.value refl c.as_slice-keys.ensures.value (c.due_keys-due.ensures.first c.args.clock.now) in
+    let first : AreFirstPromotable short_keys stage c.args.threshold (vacancies stage.places + length back) keys =
+    first_keys stage c.args.threshold back c.promotable_keys-promotable.result.items keys c.vacancies.result (length back)
+    c.vacancies.ensures.value refl c.as_slice-keys.ensures.value (c.promotable_keys-promotable.ensures.first c.args.clock.now) in
     (λ same. past_at_start stage c.args.threshold back keys returning first touched staying c.in-None.ensures.past, λ past. refl)
 
 pub ended-requires : goal.ended-requires
@@ -60,9 +60,9 @@ returns-in-None-ended-clause-clock_end g c =
     let touched : List HotRecord = c.as_slice-touched.result.now in
     let returning : back ≡ untouched_in stage.places = c.as_slice-back.ensures.value ∙ c.untouched_in-returning.ensures.records in
     let staying : touched ≡ touched_in stage.places = c.as_slice-touched.ensures.value ∙ c.touched_in-staying.ensures.records in
-    let first : AreFirstDue short_keys stage c.args.threshold (vacancies stage.places + length back) keys =
-    first_keys stage c.args.threshold back c.due_keys-due.result.items keys c.vacancies.result (length back)
-    c.vacancies.ensures.value refl c.as_slice-keys.ensures.value (c.due_keys-due.ensures.first c.args.clock.now) in (
+    let first : AreFirstPromotable short_keys stage c.args.threshold (vacancies stage.places + length back) keys =
+    first_keys stage c.args.threshold back c.promotable_keys-promotable.result.items keys c.vacancies.result (length back)
+    c.vacancies.ensures.value refl c.as_slice-keys.ensures.value (c.promotable_keys-promotable.ensures.first c.args.clock.now) in (
       λ same. is_past stage c.args.threshold back keys returning first touched staying
           (subst (λ (end : ℕ). end < (end_clock stage c.args.threshold back keys returning first touched staying).at.counter)
           (ap (λ (clock : Reading). clock.end) c.in-Some.ensures.begun ∙ renewing_each-end c.args.clock.now touched)
@@ -88,9 +88,9 @@ returns-in_err-commands-clause-clock_end g c =
     let touched : List HotRecord = c.as_slice-touched.result.now in
     let returning : back ≡ untouched_in stage.places = c.as_slice-back.ensures.value ∙ c.untouched_in-returning.ensures.records in
     let staying : touched ≡ touched_in stage.places = c.as_slice-touched.ensures.value ∙ c.touched_in-staying.ensures.records in
-    let first : AreFirstDue short_keys stage c.args.threshold (vacancies stage.places + length back) keys =
-    first_keys stage c.args.threshold back c.due_keys-due.result.items keys c.vacancies.result (length back)
-    c.vacancies.ensures.value refl c.as_slice-keys.ensures.value (c.due_keys-due.ensures.first c.args.clock.now) in
+    let first : AreFirstPromotable short_keys stage c.args.threshold (vacancies stage.places + length back) keys =
+    first_keys stage c.args.threshold back c.promotable_keys-promotable.result.items keys c.vacancies.result (length back)
+    c.vacancies.ensures.value refl c.as_slice-keys.ensures.value (c.promotable_keys-promotable.ensures.first c.args.clock.now) in
     let later : c.in-Some-ended.later ≡ end_clock stage c.args.threshold back keys returning first touched staying =
     c.in-Some-ended.ensures.ended
     ∙ ap (λ (clock : Reading). giving (clock_by_each clock (map (λ (f : HotRecord). demotes f) back ++ map (λ (k : ℕ). promotes k) keys))) c.in-Some.ensures.begun in (
@@ -112,7 +112,7 @@ demote_each-requires-clause-own_back g c =
 
 pub demote_each-requires-clause-own : goal.demote_each-requires-clause-own
 demote_each-requires-clause-own g c =
-    subst (AllByRecursion (λ (k : ℕ). IsKeyOf short_keys (shown c.args.shard.now) (key_path short_keys k))) (sym c.as_slice-keys.ensures.value) c.due_keys-due.ensures.own
+    subst (AllByRecursion (λ (k : ℕ). IsKeyOf short_keys (shown c.args.shard.now) (key_path short_keys k))) (sym c.as_slice-keys.ensures.value) c.promotable_keys-promotable.ensures.own
 
 pub demote_each-requires-clause-open : goal.demote_each-requires-clause-open
 demote_each-requires-clause-open g c =
@@ -128,9 +128,9 @@ returns-in_err-new-clause-clock_end g c =
     let touched : List HotRecord = c.as_slice-touched.result.now in
     let returning : back ≡ untouched_in stage.places = c.as_slice-back.ensures.value ∙ c.untouched_in-returning.ensures.records in
     let staying : touched ≡ touched_in stage.places = c.as_slice-touched.ensures.value ∙ c.touched_in-staying.ensures.records in
-    let first : AreFirstDue short_keys stage c.args.threshold (vacancies stage.places + length back) keys =
-    first_keys stage c.args.threshold back c.due_keys-due.result.items keys c.vacancies.result (length back)
-    c.vacancies.ensures.value refl c.as_slice-keys.ensures.value (c.due_keys-due.ensures.first c.args.clock.now) in
+    let first : AreFirstPromotable short_keys stage c.args.threshold (vacancies stage.places + length back) keys =
+    first_keys stage c.args.threshold back c.promotable_keys-promotable.result.items keys c.vacancies.result (length back)
+    c.vacancies.ensures.value refl c.as_slice-keys.ensures.value (c.promotable_keys-promotable.ensures.first c.args.clock.now) in
     let later : c.in-Some-ended.later ≡ end_clock stage c.args.threshold back keys returning first touched staying =
     c.in-Some-ended.ensures.ended
     ∙ ap (λ (clock : Reading). giving (clock_by_each clock (map (λ (f : HotRecord). demotes f) back ++ map (λ (k : ℕ). promotes k) keys))) c.in-Some.ensures.begun in (
@@ -158,9 +158,9 @@ returns-clause-moved g c =
     let touched : List HotRecord = c.as_slice-touched.result.now in
     let returning : back ≡ untouched_in stage.places = c.as_slice-back.ensures.value ∙ c.untouched_in-returning.ensures.records in
     let staying : touched ≡ touched_in stage.places = c.as_slice-touched.ensures.value ∙ c.touched_in-staying.ensures.records in
-    let first : AreFirstDue short_keys stage c.args.threshold (vacancies stage.places + length back) keys =
-    first_keys stage c.args.threshold back c.due_keys-due.result.items keys c.vacancies.result (length back)
-    c.vacancies.ensures.value refl c.as_slice-keys.ensures.value (c.due_keys-due.ensures.first c.args.clock.now) in
+    let first : AreFirstPromotable short_keys stage c.args.threshold (vacancies stage.places + length back) keys =
+    first_keys stage c.args.threshold back c.promotable_keys-promotable.result.items keys c.vacancies.result (length back)
+    c.vacancies.ensures.value refl c.as_slice-keys.ensures.value (c.promotable_keys-promotable.ensures.first c.args.clock.now) in
     let digest = (g.D.Digests.functions c.args.d.now).digest in
     let left : Shard = shown c.demote_each.new.shard in
     let renewed : List Content = renewed_places c.args.worker c.args.clock.now stage.places touched in
@@ -193,9 +193,9 @@ returns-clause-clock_end g c =
     let touched : List HotRecord = c.as_slice-touched.result.now in
     let returning : back ≡ untouched_in stage.places = c.as_slice-back.ensures.value ∙ c.untouched_in-returning.ensures.records in
     let staying : touched ≡ touched_in stage.places = c.as_slice-touched.ensures.value ∙ c.touched_in-staying.ensures.records in
-    let first : AreFirstDue short_keys stage c.args.threshold (vacancies stage.places + length back) keys =
-    first_keys stage c.args.threshold back c.due_keys-due.result.items keys c.vacancies.result (length back)
-    c.vacancies.ensures.value refl c.as_slice-keys.ensures.value (c.due_keys-due.ensures.first c.args.clock.now) in
+    let first : AreFirstPromotable short_keys stage c.args.threshold (vacancies stage.places + length back) keys =
+    first_keys stage c.args.threshold back c.promotable_keys-promotable.result.items keys c.vacancies.result (length back)
+    c.vacancies.ensures.value refl c.as_slice-keys.ensures.value (c.promotable_keys-promotable.ensures.first c.args.clock.now) in
     let later : c.in-Some-ended.later ≡ end_clock stage c.args.threshold back keys returning first touched staying =
     c.in-Some-ended.ensures.ended
     ∙ ap (λ (clock : Reading). giving (clock_by_each clock (map (λ (f : HotRecord). demotes f) back ++ map (λ (k : ℕ). promotes k) keys))) c.in-Some.ensures.begun in (

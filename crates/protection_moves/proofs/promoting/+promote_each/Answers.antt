@@ -7,14 +7,14 @@ use Rattle.host_shard.specs.Records.{record_at, values_of, touches_of}
 use Rattle.host_shard.specs.Shard.{Shard}
 use Rattle.host_shard.specs.Shown.{shown}
 use Rattle.host_shard.specs.Tree.{Tree}
-use Rattle.protection_moves.specs.Errand.{promotes}
-use Rattle.protection_moves.specs.Due.{AreRising}
+use Rattle.protection_moves.specs.Transfer.{promotes}
+use Rattle.protection_moves.specs.Promotable.{AreRising}
 use Rattle.protection_moves.specs.Saving.{IsSavedOf}
-use Rattle.protection_moves.specs.Trip.{without_record}
+use Rattle.protection_moves.specs.Descent.{without_record}
 use Rattle.protection_moves.proofs.CountingLemmas.{clock_by_each-up}
 use Rattle.protection_moves.proofs.SavingLemmas.{dropped_values}
-use Rattle.protection_moves.proofs.TripLemmas.{but_is}
-use Rattle.protection_moves.proofs.DoneLemmas.{all_fit, rest_own, rest_within, errands_promoted}
+use Rattle.protection_moves.proofs.DescentLemmas.{but_is}
+use Rattle.protection_moves.proofs.DoneLemmas.{all_fit, rest_own, rest_within, transfers_promoted}
 use Rattle.protection_moves.proofs.promoting.+promote_each.Goals as goal
 
 pub unreachable-requires : goal.unreachable-requires
@@ -44,7 +44,7 @@ returns-in-Ok-clause-done g t c touches places =
     let values : values_of c.remove.new.self ≡ without_record rest_shard.records (key_path short_keys key) =
     dropped_values (record_at c.promote_each.new.shard.records) (record_at c.remove.new.self) c.of_key.result c.remove.ensures.removed
     ∙ ap (λ (path : List Bool). without_record rest_shard.records path) c.of_key.ensures.bits in
-    errands_promoted digest c.args.worker (shown c.args.shard.now) (shown c.promote.new.shard) rest_shard
+    transfers_promoted digest c.args.worker (shown c.args.shard.now) (shown c.promote.new.shard) rest_shard
     (record rest_shard { records = values_of c.remove.new.self; touches = touches_of c.remove.new.self }) key c.in-Some-split_first.parts.1.now c.args.keys.now c.in_ok-hot.field-0.hot c.in-Ok.others.items c.insert.new.self.items
     c.args.clock.now c.in-Some.next c.at-2.result c.args.commands.now.items c.promote.new.commands.items c.promote_each.new.commands.items
     c.in-Some-split_first.ensures.cases.0 c.in_ok-hot.ensures.lending c.in-Some.ensures.given c.at-2.ensures.value (all_fit c.args.keys.now c.type_inv.keys) c.requires.rising c.in_ok-hot.ensures.frontier

@@ -1,6 +1,6 @@
 use Rattle.std.proofs.Common.{sym, ◌∙◌, ap}
 use Rattle.std.specs.Option.{option_copied}
-use Rattle.protection_moves.proofs.TripLemmas.{last_path_of}
+use Rattle.protection_moves.proofs.DescentLemmas.{last_path_of}
 use Rattle.protection_moves.proofs.promoting.last_path.Goals as goal
 
 pub returns-in-Some : goal.returns-in-Some

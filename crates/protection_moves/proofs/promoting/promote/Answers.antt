@@ -9,10 +9,10 @@ use Rattle.host_shard.specs.Content.{key_path}
 use Rattle.host_shard.specs.Records.{record_at}
 use Rattle.host_shard.specs.Shard.{Shard, tree_of}
 use Rattle.host_shard.specs.Shown.{shown}
-use Rattle.protection_moves.specs.Trip.{data_of}
+use Rattle.protection_moves.specs.Descent.{data_of}
 use Rattle.protection_moves.specs.Turn.{last_path, deferring}
 use Rattle.protection_moves.proofs.SavingLemmas.{no_touches}
-use Rattle.protection_moves.proofs.TripLemmas.{hot_typed, saved_of, lent_shard, lent_is, front_of}
+use Rattle.protection_moves.proofs.DescentLemmas.{hot_typed, saved_of, lent_shard, lent_is, front_of}
 use Rattle.protection_moves.proofs.promoting.promote.Goals as goal
 
 pub returns-clause-lending : goal.returns-clause-lending
@@ -25,7 +25,7 @@ returns-clause-lending g c =
     record {
       links = along;
       way = way;
-      commands = c.in_ok-log_trip.ensures.logged;
+      commands = c.in_ok-log_descent.ensures.logged;
       record' = ap (λ (value : Option (List ℕ)). let hot : HotRecord = record { key = c.args.key; value = value; stamp = c.args.stamp; evictor = c.args.worker; touches = 0 } in hot)
           (c.data_of-value.ensures.value ∙ ap data_of c.last_value.ensures.value);
       shard = lent_shard short_keys digest now (shown c.lend.new.shard) c.args.key along way c.in_ok-lend.ensures.lent;
@@ -39,16 +39,16 @@ returns-clause-saved g c =
     saved_of short_keys digest now (shown c.lend.new.shard) c.as_slice-along.result.now lent.above
     (deferring short_keys digest (last_path now.frontier lent.above) (last_value now.value lent.above) lent.link) c.in_ok-saved.saved
     c.in_ok-saved.ensures.value c.in_ok-saved.ensures.records (λ path none. no_touches (record_at c.args.shard.now.records) path none)
-    (λ k all. front_of (λ (link : Link). same_path k link.path ≡ false) lent.above lent.link (subst (AllByRecursion (λ (link : Link). same_path k link.path ≡ false)) lent.parts all)) lent.settled
+    (λ k all. front_of (λ (link : Link). same_path k link.path ≡ false) lent.above lent.link (subst (AllByRecursion (λ (link : Link). same_path k link.path ≡ false)) lent.parts all)) lent.rehashed
 
 pub returns-clause-typed : goal.returns-clause-typed
 returns-clause-typed g c =
     let now : Shard = shown c.args.shard.now in
     let path : List Bool = key_path short_keys c.args.key in
-    hot_typed short_keys now path c.as_slice-along.result.now c.args.stamp c.args.commands.now.items c.log_trip.new.commands.items
+    hot_typed short_keys now path c.as_slice-along.result.now c.args.stamp c.args.commands.now.items c.log_descent.new.commands.items
     c.requires.fits c.requires.own.whole
     (subst (λ (ls : List Link). IsChain short_keys (tree_of now) path now.frontier now.value ls) (sym c.as_slice-along.ensures.value) c.in_ok-links.ensures.chain)
-    (search rules) c.in_ok-log_trip.ensures.logged
+    (search rules) c.in_ok-log_descent.ensures.logged
 
 pub returns-clause-fits : goal.returns-clause-fits
 returns-clause-fits g c =

@@ -1,7 +1,7 @@
 use Rattle.std.proofs.Common.{◌≡◌, ◌++◌, ℕ, List, refl, sym, ◌∙◌, ap, subst}
 use Rattle.log_rings.specs.declared.parcel.Parcel.{Parcel}
 use Rattle.log_rings.specs.Lanes.{received_by, waiting, sent}
-use Rattle.host_rounds.specs.Feeding.{Takes}
+use Rattle.host_rounds.specs.Feeding.{Reads}
 use Rattle.verifier_feeds.specs.Feeds.{bytes_of, run_of}
 use Rattle.verifier_feeds.proofs.FeedLemmas.{takes-last, all-put}
 use Rattle.verifier_feeds.proofs.settling.settle.Goals as goal
@@ -17,7 +17,7 @@ returns-clause-all g c = λ first before going.
     let is : received ++ left ≡ sent outbox.sender =
     ap (λ (ps : List Parcel). ps ++ left) (sym c.settle-settled.ensures.received) ∙ c.settle-settled.ensures.all ∙ c.settle-settled.ensures.sent in
     let rest = c.bytes.ensures.value ∙ c.take_waiting.ensures.rest in
-    subst (λ (all : List ℕ). Takes functions all first (run_of c.take.new.self))
+    subst (λ (all : List ℕ). Reads functions all first (run_of c.take.new.self))
     (ap (λ (piece : List ℕ). bytes ++ piece) rest ∙ all-put received left (sent outbox.sender) backlog outbox.buffer is)
     (takes-last functions bytes c.bytes.result.now first c.take_waiting.new.inbox c.take.new.self
     (c.take_waiting.ensures.taken first (bytes_of received ++ bytes_of left) (c.take_left.ensures.taken first (bytes_of received) before))

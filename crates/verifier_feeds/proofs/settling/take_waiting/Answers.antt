@@ -1,6 +1,6 @@
 use Rattle.std.proofs.Common.{◌≡◌, ◌++◌, ◌∷◌, [], List, sym, ◌∙◌, ap, subst, append_assoc, append-nil, arith, rules}
 use Rattle.log_rings.specs.declared.parcel.Parcel.{Parcel}
-use Rattle.verifier_feeds.specs.Feeds.{TakesOn, bytes_of}
+use Rattle.verifier_feeds.specs.Feeds.{ReadsOn, bytes_of}
 use Rattle.verifier_feeds.proofs.FeedLemmas.{takes-parcel, none-left, oldest}
 use Rattle.verifier_feeds.proofs.settling.take_waiting.Goals as goal
 
@@ -26,4 +26,4 @@ returns-clause-taken g c =
     let none : c.loop-parcel.outbox.backlog.items ≡ [] = search rules in
     let all : c.args.outbox.now.backlog.items ≡ inv.some =
     inv.were ∙ ap (λ (ps : List Parcel). inv.some ++ ps) none ∙ append-nil inv.some in
-    subst (λ (ps : List Parcel). TakesOn (g.D.Digests.functions c.args.d.now) (bytes_of ps) c.args.inbox.now c.loop-parcel.inbox) (sym all) inv.taken
+    subst (λ (ps : List Parcel). ReadsOn (g.D.Digests.functions c.args.d.now) (bytes_of ps) c.args.inbox.now c.loop-parcel.inbox) (sym all) inv.taken

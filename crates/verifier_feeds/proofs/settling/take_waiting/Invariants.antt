@@ -1,6 +1,6 @@
 use Rattle.std.proofs.Common.{◌≡◌, ◌++◌, List, length}
 use Rattle.log_rings.specs.declared.parcel.Parcel.{Parcel}
-use Rattle.verifier_feeds.specs.Feeds.{HasRoom, TakesOn, bytes_of}
+use Rattle.verifier_feeds.specs.Feeds.{HasRoom, ReadsOn, bytes_of}
 use Rattle.verifier_feeds.proofs.settling.take_waiting.Given as goal
 
 -- the oldest parcels of those that waited are taken
@@ -9,7 +9,7 @@ invariant-loop-parcel g l = record {
   room : HasRoom l.inbox;
   some : List Parcel;
   were : l.initial.outbox.backlog.items ≡ some ++ l.outbox.backlog.items;
-  taken : TakesOn (g.D.Digests.functions l.d) (bytes_of some) l.initial.inbox l.inbox;
+  taken : ReadsOn (g.D.Digests.functions l.d) (bytes_of some) l.initial.inbox l.inbox;
   rest : l.outbox.buffer ≡ l.initial.outbox.buffer;
 }
 

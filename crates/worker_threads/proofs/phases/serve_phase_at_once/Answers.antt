@@ -18,7 +18,7 @@ use Rattle.host_world.specs.Shown.{shown_world, digests_of, requests_of}
 use Rattle.host_serving.specs.Leading.{Leads}
 use Rattle.worker_threads.specs.Parts.{ArePlaces}
 use Rattle.worker_threads.specs.Phase.{ArePlacesFor, first_stopped}
-use Rattle.worker_threads.specs.Posts.{HaveTakenLogs}
+use Rattle.worker_threads.specs.Participants.{HaveReadLogs}
 use Rattle.worker_threads.proofs.CallLemmas.{phase_places, lent_count, later_is, to_serve, served_at_once, goes_on, hosts_then, no_end}
 use Rattle.worker_threads.proofs.FeedLemmas.{all_take, few_all}
 use Rattle.worker_threads.proofs.ServedLemmas.{none_stopped, some_stopped}
@@ -44,8 +44,8 @@ make-requires g c =
           stands.1.behind c.requires.counters c.requires.begins c.in_ok-contents.ensures.lent));
     }
 
-pub serve_at_table-requires-clause-shift : goal.serve_at_table-requires-clause-shift
-serve_at_table-requires-clause-shift g c κs within =
+pub serve_at_table-requires-clause-shared : goal.serve_at_table-requires-clause-shared
+serve_at_table-requires-clause-shared g c κs within =
     let old = c.args.world.now in
     let functions = g.D.Digests.functions (digests_of old) in
     let stands = c.requires.behind in
@@ -163,11 +163,11 @@ returns g c =
     (hosts_then old c.lend_workers-workers.new.self c.take_back.new.self (hosts_then old c.lend.new.self c.lend_workers-workers.new.self c.lend.ensures.host c.lend_workers-workers.ensures.host)
     c.take_back.ensures.host) c.take_workers.ensures.host in
     let on = goes_on g.D.Digests.functions old new c.first_end_of-end.result one_host at_once.count way in
-    let took : HaveTakenLogs functions (shown_world new).workers c.args.runs.now.items c.in_ok-left.left.runs.items =
-    subst (λ d. HaveTakenLogs (g.D.Digests.functions d) (shown_world new).workers c.args.runs.now.items c.in_ok-left.left.runs.items) c.digests-d.ensures.value
-    (subst (λ (runs : List FedRun). HaveTakenLogs (g.D.Digests.functions c.digests-d.result.now) (shown_world new).workers runs c.in_ok-left.left.runs.items)
+    let took : HaveReadLogs functions (shown_world new).workers c.args.runs.now.items c.in_ok-left.left.runs.items =
+    subst (λ d. HaveReadLogs (g.D.Digests.functions d) (shown_world new).workers c.args.runs.now.items c.in_ok-left.left.runs.items) c.digests-d.ensures.value
+    (subst (λ (runs : List FedRun). HaveReadLogs (g.D.Digests.functions c.digests-d.result.now) (shown_world new).workers runs c.in_ok-left.left.runs.items)
     (ap (λ rs. rs.items) c.replace.ensures.value)
-    (subst (λ (workers : List Worker). HaveTakenLogs (g.D.Digests.functions c.digests-d.result.now) workers c.replace.result.items c.in_ok-left.left.runs.items) (sym workers_are)
+    (subst (λ (workers : List Worker). HaveReadLogs (g.D.Digests.functions c.digests-d.result.now) workers c.replace.result.items c.in_ok-left.left.runs.items) (sym workers_are)
     c.in_ok-left.ensures.taken)) in
     record {
       leads = way;

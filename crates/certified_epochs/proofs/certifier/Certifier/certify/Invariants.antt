@@ -6,7 +6,7 @@ use Rattle.load_summary.specs.Counting.{counted_of}
 use Rattle.report_text.specs.Page.{Passes}
 use Rattle.bundle_report.specs.Report.{operations_told}
 use Rattle.bundle_report.specs.RunReport.{courses_of}
-use Rattle.bundle_report.specs.SoFar.{HaveTaken, HaveLogs, lines_from}
+use Rattle.bundle_report.specs.SoFar.{HaveRead, HaveLogs, lines_from}
 use Rattle.certified_epochs.specs.Telling.{text_by}
 use Rattle.certified_epochs.specs.Turn.{AreFed, parts_left}
 use Rattle.certified_epochs.proofs.certifier.Certifier.certify.Given as goal
@@ -19,14 +19,14 @@ invariant-epochs g l = record {
   even : l.self.unbalanced ≡ None;
   logs : HaveLogs l.self (map (λ fed. fed.run) l.runs);
   taken : (scheme : Scheme) (header : Header) (logs : List (List ℕ))
-      → HaveTaken scheme header logs l.fn.self (map (λ fed. fed.run) l.fn.runs)
-      → HaveTaken scheme header logs l.self (map (λ fed. fed.run) l.runs);
+      → HaveRead scheme header logs l.fn.self (map (λ fed. fed.run) l.fn.runs)
+      → HaveRead scheme header logs l.self (map (λ fed. fed.run) l.runs);
   lines : (scheme : Scheme) (header : Header) (logs : List (List ℕ))
-      → HaveTaken scheme header logs l.fn.self (map (λ fed. fed.run) l.fn.runs)
+      → HaveRead scheme header logs l.fn.self (map (λ fed. fed.run) l.fn.runs)
       → text ≡ lines_from (text_by g.D.Digests.functions l.fn.telling) (courses_of scheme header logs) (header.first + l.fn.self.count) (l.self.count - l.fn.self.count);
   operations : List Operation;
   operations_are : (scheme : Scheme) (header : Header) (logs : List (List ℕ))
-      → HaveTaken scheme header logs l.fn.self (map (λ fed. fed.run) l.fn.runs)
+      → HaveRead scheme header logs l.fn.self (map (λ fed. fed.run) l.fn.runs)
       → operations ≡ lines_from operations_told (courses_of scheme header logs) (header.first + l.fn.self.count) (l.self.count - l.fn.self.count);
   summed : (workers : ℕ) (before : List Operation)
       → l.fn.summary ≡ counted_of workers before → l.summary ≡ counted_of workers (before ++ operations);

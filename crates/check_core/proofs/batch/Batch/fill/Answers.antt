@@ -4,7 +4,7 @@ use Rattle.bundle_frames.specs.declared.coming.SourceStop.TheVariants as sources
 use Rattle.bundle_frames.specs.Bundle.{IsFrame, Frame}
 use Rattle.bundle_frames.specs.Reading.{Reading}
 use Rattle.bundle_frames.proofs.ReadingLaws.{HasRead-then, ReadsAs-then, ReadsAs-kept, ReadsAs-back, near-then}
-use Rattle.want_of_memory.specs.declared.memory.Memory.{Memory}
+use Rattle.base_words.specs.declared.memory.Memory.{Memory}
 use Rattle.check_core.specs.declared.batch.Filled.{Filled}
 use Rattle.check_core.specs.declared.batch.Filled.TheVariants.{Stopped}
 use Rattle.check_core.proofs.BatchLemmas.{bytes_kept, more_kept, all_kept, known_frame, known_bounded, no_header, frame_not_end, frame_keeps, end_keeps, end_adds_none, whole_not_end, stopped_not_end, stopped_not_whole, end_not_stopped, stop_is, handed_over, reads_frame, reads_none}
@@ -19,38 +19,38 @@ returns-in-Err-clause-goes_on g c =
     let last = c.frames.invariant in
     let next = c.in-Err.ensures in
     record {
-      means = ReadsAs-then _ _ _ _ _ _ _ _ last.took last.means (reads_none _ _ c.frames.self c.frames.reader c.next.new.self (Err c.in-Err.stop) next.means (λ rest. refl)) (omega (arith, next.rises, last.rises));
-      extent = ReadsAs-then _ _ _ _ _ _ _ _ last.took last.extent next.extent (omega (arith, next.rises, last.rises));
+      means = ReadsAs-then _ _ _ _ _ _ _ _ last.having_read last.means (reads_none _ _ c.frames.self c.frames.reader c.next.new.self (Err c.in-Err.stop) next.means (λ rest. refl)) (omega (arith, next.rises, last.rises));
+      extent = ReadsAs-then _ _ _ _ _ _ _ _ last.having_read last.extent next.extent (omega (arith, next.rises, last.rises));
       header = next.header ∙ last.header;
       bytes = omega (arith, last.bytes, next.onward);
     }
 
-pub returns-in-Err-clause-took : goal.returns-in-Err-clause-took
-returns-in-Err-clause-took g c = λ other.
+pub returns-in-Err-clause-having_read : goal.returns-in-Err-clause-having_read
+returns-in-Err-clause-having_read g c = λ other.
     let last = c.frames.invariant in
     let next = c.in-Err.ensures in
     let apart = λ (is : c.in-Err.stop ≡ sources.InputLimit). other (ap stopped is) in
-    HasRead-then _ _ _ _ _ _ last.took (next.took (λ is. apart cc)) (omega (arith, next.rises, last.rises))
+    HasRead-then _ _ _ _ _ _ last.having_read (next.having_read (λ is. apart cc)) (omega (arith, next.rises, last.rises))
 
 pub returns-in-Err-clause-limit : goal.returns-in-Err-clause-limit
 returns-in-Err-clause-limit g c = λ is.
     let last = c.frames.invariant in
     let next = c.in-Err.ensures in
     let same = stop_is c.in-Err.stop sources.InputLimit is in
-    HasRead-then _ _ _ _ _ _ last.took (next.limit (ap Err same)) (omega (arith, next.rises, next.within, last.rises))
+    HasRead-then _ _ _ _ _ _ last.having_read (next.limit (ap Err same)) (omega (arith, next.rises, next.within, last.rises))
 
 pub returns-in-Err-clause-near : goal.returns-in-Err-clause-near
 returns-in-Err-clause-near g c =
     let last = c.frames.invariant in
     let next = c.in-Err.ensures in
-    near-then _ _ _ _ _ _ _ _ _ last.took last.extent next.rises refl last.near next.near
+    near-then _ _ _ _ _ _ _ _ _ last.having_read last.extent next.rises refl last.near next.near
 
 pub returns-in-Err-clause-beyond : goal.returns-in-Err-clause-beyond
 returns-in-Err-clause-beyond g c = λ is.
     let last = c.frames.invariant in
     let next = c.in-Err.ensures in
     let same = stop_is c.in-Err.stop sources.InputLimit is in
-    ReadsAs-back (λ (end : ℕ). c.next.new.self.limit < end) _ _ _ _ _ last.took last.extent (next.beyond (ap Err same))
+    ReadsAs-back (λ (end : ℕ). c.next.new.self.limit < end) _ _ _ _ _ last.having_read last.extent (next.beyond (ap Err same))
 
 pub returns-in-Err-clause-whole : goal.returns-in-Err-clause-whole
 returns-in-Err-clause-whole g c = λ is. absurd (stopped_not_whole _ is)
@@ -102,12 +102,12 @@ frames-preserved g c =
       limit = same.limit ∙ next.same_limit ∙ last.limit;
       rises = omega (arith, same.taken, next.rises, last.rises);
       read = λ some. (omega (arith, same.taken, same.limit, next.within), omega (arith, same.taken, next.split, same.position));
-      took = HasRead-then _ _ _ _ _ _ last.took (next.took (λ is. true≢false (ap is_ok is))) (omega (arith, same.taken, next.rises, last.rises));
-      means = ReadsAs-then _ _ _ _ _ _ _ _ last.took last.means
+      having_read = HasRead-then _ _ _ _ _ _ last.having_read (next.having_read (λ is. true≢false (ap is_ok is))) (omega (arith, same.taken, next.rises, last.rises));
+      means = ReadsAs-then _ _ _ _ _ _ _ _ last.having_read last.means
           (reads_frame _ _ c.frames.self c.keep.new.self c.in-Frame.verifier c.frames.reader new c.keep.new.reader (Ok c.in-Ok.next) next.means came handed kept)
           (omega (arith, same.taken, next.rises, last.rises));
-      extent = ReadsAs-kept _ _ _ _ _ (ReadsAs-then _ _ _ _ _ _ _ _ last.took last.extent next.extent (omega (arith, same.taken, next.rises, last.rises))) same.extent;
-      near = near-then _ _ _ _ _ _ _ _ _ last.took last.extent next.rises same.taken last.near next.near;
+      extent = ReadsAs-kept _ _ _ _ _ (ReadsAs-then _ _ _ _ _ _ _ _ last.having_read last.extent next.extent (omega (arith, same.taken, next.rises, last.rises))) same.extent;
+      near = near-then _ _ _ _ _ _ _ _ _ last.having_read last.extent next.rises same.taken last.near next.near;
       bytes =
           let all = bytes_kept c.frames.self c.keep.new.self frame kept in
           omega (arith, all, last.bytes, next.bytes c.in-Frame.verifier came, same.offset);
@@ -119,44 +119,44 @@ frames-preserved g c =
 pub frames-smaller : goal.frames-smaller
 frames-smaller g c = more_kept _ _ _ c.in_ok-keep-in-Frame.ensures.kept (c.frames-test.ensures.room refl)
 
-pub returns-in_err-keep-in-Frame-clause-took : goal.returns-in_err-keep-in-Frame-clause-took
-returns-in_err-keep-in-Frame-clause-took g c = λ other.
+pub returns-in_err-keep-in-Frame-clause-having_read : goal.returns-in_err-keep-in-Frame-clause-having_read
+returns-in_err-keep-in-Frame-clause-having_read g c = λ other.
     let last = c.frames.invariant in
     let next = c.in-Ok.ensures in
     let taken = ap (λ (r : Reading). r.taken) c.in_err-keep-in-Frame.ensures.reader in
-    HasRead-then _ _ _ _ _ _ last.took (next.took (λ is. true≢false (ap is_ok is))) (omega (arith, taken, next.rises, last.rises))
+    HasRead-then _ _ _ _ _ _ last.having_read (next.having_read (λ is. true≢false (ap is_ok is))) (omega (arith, taken, next.rises, last.rises))
 
 pub returns-in_err-keep-in-Frame-clause-near : goal.returns-in_err-keep-in-Frame-clause-near
 returns-in_err-keep-in-Frame-clause-near g c =
     let last = c.frames.invariant in
     let next = c.in-Ok.ensures in
     let taken = ap (λ (r : Reading). r.taken) c.in_err-keep-in-Frame.ensures.reader in
-    near-then _ _ _ _ _ _ _ _ _ last.took last.extent next.rises taken last.near next.near
+    near-then _ _ _ _ _ _ _ _ _ last.having_read last.extent next.rises taken last.near next.near
 
 pub returns-in-End-clause-goes_on : goal.returns-in-End-clause-goes_on
 returns-in-End-clause-goes_on g c =
     let last = c.frames.invariant in
     let next = c.in-Ok.ensures in
     record {
-      means = ReadsAs-then _ _ _ _ _ _ _ _ last.took last.means
+      means = ReadsAs-then _ _ _ _ _ _ _ _ last.having_read last.means
           (reads_none _ _ c.frames.self c.frames.reader c.next.new.self (Ok c.in-Ok.next) next.means
           (end_adds_none _ _ c.in-End.is)) (omega (arith, next.rises, last.rises));
-      extent = ReadsAs-then _ _ _ _ _ _ _ _ last.took last.extent next.extent (omega (arith, next.rises, last.rises));
+      extent = ReadsAs-then _ _ _ _ _ _ _ _ last.having_read last.extent next.extent (omega (arith, next.rises, last.rises));
       header = next.header ∙ end_keeps _ _ c.in-End.is ∙ last.header;
       bytes = omega (arith, last.bytes, next.onward);
     }
 
-pub returns-in-End-clause-took : goal.returns-in-End-clause-took
-returns-in-End-clause-took g c = λ other.
+pub returns-in-End-clause-having_read : goal.returns-in-End-clause-having_read
+returns-in-End-clause-having_read g c = λ other.
     let last = c.frames.invariant in
     let next = c.in-Ok.ensures in
-    HasRead-then _ _ _ _ _ _ last.took (next.took (λ is. true≢false (ap is_ok is))) (omega (arith, next.rises, last.rises))
+    HasRead-then _ _ _ _ _ _ last.having_read (next.having_read (λ is. true≢false (ap is_ok is))) (omega (arith, next.rises, last.rises))
 
 pub returns-in-End-clause-near : goal.returns-in-End-clause-near
 returns-in-End-clause-near g c =
     let last = c.frames.invariant in
     let next = c.in-Ok.ensures in
-    near-then _ _ _ _ _ _ _ _ _ last.took last.extent next.rises refl last.near next.near
+    near-then _ _ _ _ _ _ _ _ _ last.having_read last.extent next.rises refl last.near next.near
 
 pub returns-in-Head : goal.returns-in-Head
 returns-in-Head g c = absurd (no_header _ _ c.frames.invariant.header c.requires.header (c.in-Ok.ensures.head _ (ap Ok c.in-Head.is)).0)

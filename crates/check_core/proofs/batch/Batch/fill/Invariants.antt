@@ -17,7 +17,7 @@ invariant-frames g l = record {
   limit : l.reader.limit ≡ l.fn.reader.limit;
   rises : l.fn.reader.taken ≤ l.reader.taken;
   read : 0 < length l.self → (l.reader.taken ≤ l.reader.limit) × (position l.reader.progress ≤ l.reader.taken);
-  took : HasRead (l.reader.taken - l.fn.reader.taken) (g.S.Source.left l.fn.source) (g.S.Source.left l.source);
+  having_read : HasRead (l.reader.taken - l.fn.reader.taken) (g.S.Source.left l.fn.source) (g.S.Source.left l.source);
   means : ReadsAs (l.reader.taken - l.fn.reader.taken) (g.S.Source.left l.fn.source) (ahead l.fn.reader) (λ more. with_frames l.self (ahead l.reader more));
   extent : ReadsAs (l.reader.taken - l.fn.reader.taken) (g.S.Source.left l.fn.source) (end_ahead l.fn.reader) (end_ahead l.reader);
   near : l.fn.reader.taken < l.reader.taken → IfSome (g.S.Source.left l.fn.source) (λ bytes. l.reader.taken ≤ end_ahead l.fn.reader bytes + most_behind);

@@ -7,7 +7,7 @@ use Rattle.bundle_report.specs.Judged.{none_judged}
 use Rattle.bundle_report.specs.Logs.{empty_logs}
 use Rattle.bundle_report.specs.Report.{operations_told}
 use Rattle.bundle_report.specs.RunReport.{courses_of}
-use Rattle.bundle_report.specs.SoFar.{HaveTaken, lines_from}
+use Rattle.bundle_report.specs.SoFar.{HaveRead, lines_from}
 use Rattle.load_summary.specs.Counting.{counted_of}
 use Rattle.bundle_report.proofs.DueLaws.{taken-none}
 use Rattle.bundle_frames.specs.Bundle.{header_text}
@@ -28,9 +28,9 @@ returns-clause-keeps g c = λ functions.
       runs = record {
         fed = c.in_ok-runs.ensures.fed;
         taken =
-            subst (λ (judged : Judged). HaveTaken scheme header (empty_logs header.verifiers) judged (map (λ fed. fed.run) c.in_ok-runs.runs.items))
+            subst (λ (judged : Judged). HaveRead scheme header (empty_logs header.verifiers) judged (map (λ fed. fed.run) c.in_ok-runs.runs.items))
             (sym c.new-2.ensures.none)
-            (subst (λ (runs : List (Progress Operation)). HaveTaken scheme header (empty_logs header.verifiers) none_judged runs) (sym c.in_ok-runs.ensures.opening)
+            (subst (λ (runs : List (Progress Operation)). HaveRead scheme header (empty_logs header.verifiers) none_judged runs) (sym c.in_ok-runs.ensures.opening)
             (taken-none scheme header c.requires.header));
         few = opening-few header 0 header.verifiers c.in_ok-runs.runs.items c.in_ok-runs.ensures.opening;
         summed =

@@ -6,7 +6,7 @@ use Rattle.verifier_run.specs.Progress.{weight}
 use Rattle.certified_epochs.specs.declared.fed_run.FedRun.{FedRun}
 use Rattle.host_log.specs.Frames.{pieces_text}
 use Rattle.host_rounds.specs.Round.{pieces_of}
-use Rattle.host_rounds.specs.Feeding.{AllTake}
+use Rattle.host_rounds.specs.Feeding.{AllRead}
 use Rattle.host_rounds.specs.SoFar.{RunsSoFar, HaveRun}
 use Rattle.host_rounds.specs.Sealing.{SealsOwn}
 use Rattle.host_rounds.proofs.SealingLemmas.{seals-own}
@@ -101,7 +101,7 @@ returns-clause-keeps g c = λ header before held keeps.
     let few : length round ≤ header.verifiers = omega (arith, c.requires.each, runs-length functions header before c.args.self.now keeps.runs) in
     let now : RunsSoFar = record { judged = inside.certifier; runs = inside.runs.items; bytes = inside.bytes; summary = inside.summary } in
     let have : HaveRun functions header before now = subst (HaveRun functions header before) (sym c.self.view_is) keeps.runs in
-    let takes = subst (λ (olds : List FedRun). AllTake functions round olds news) (ap items_in c.replace-runs.ensures.value) c.in_ok-runs.ensures.taken in
+    let takes = subst (λ (olds : List FedRun). AllRead functions round olds news) (ap items_in c.replace-runs.ensures.value) c.in_ok-runs.ensures.taken in
     record {
       vault = record {
         bytes = keeps.vault.bytes ++ text;

@@ -4,7 +4,7 @@ use Rattle.std.proofs.lemmas.Result.{err_from_is_err_and}
 use Rattle.fv_outside.proofs.WrittenLaws.{Grows-then, GrowsByFront-whole, GrowsByFront-then}
 use Rattle.certified_epochs.specs.declared.fed_run.FedRun.{FedRun}
 use Rattle.host_log.specs.Frames.{pieces_text}
-use Rattle.host_rounds.specs.Feeding.{AllTake}
+use Rattle.host_rounds.specs.Feeding.{AllRead}
 use Rattle.host_rounds.specs.Round.{logs_with, pieces_of}
 use Rattle.host_rounds.specs.SoFar.{RunsSoFar, HaveRun, with_runs}
 use Rattle.host_rounds.proofs.LendingLemmas.{round-length, takes-few}
@@ -65,7 +65,7 @@ returns-clause-keeps g c = λ functions header before held runs keeps takes.
     let text = pieces_text (pieces_of 0 round) in
     let now : RunsSoFar = record { judged = inside.certifier; runs = runs; bytes = inside.bytes; summary = inside.summary } in
     let have : HaveRun functions header before now = subst (λ (s : RunsSoFar). HaveRun functions header before (with_runs runs s)) (sym c.self.view_is) keeps.runs in
-    let took = subst (λ (s : RunsSoFar). AllTake functions round runs s.runs) (sym c.self.view_is) takes in
+    let took = subst (λ (s : RunsSoFar). AllRead functions round runs s.runs) (sym c.self.view_is) takes in
     let few : length round ≤ header.verifiers =
     let count = round-length functions round runs news took in omega (arith, count, runs-length functions header before now have) in
     let weights = takes-few c.pieces_do_not_matter.ensures.weight functions inside.bytes bytes round runs news took have.few c.in_ok-self-inside.ensures.all in

@@ -7,15 +7,15 @@ use Rattle.host_shard.specs.declared.content.Content.TheVariants.{Vacant}
 use Rattle.host_shard.specs.Content.{Content}
 use Rattle.host_shard.specs.Shown.{shown_content}
 use Rattle.host_plan.specs.Plan.{IsPlan, IsPastEnd}
-use Rattle.host_table.specs.declared.told.Entry.{Entry}
+use Rattle.host_table.specs.declared.told.Service.{Service}
 use Rattle.host_table.specs.declared.told.Stop.{Stop}
 use Rattle.host_table.specs.Calls.{IsAfter, clock_at}
-use Rattle.host_table.specs.Hands.{entries, stop, content, history}
+use Rattle.host_table.specs.Hands.{services, stop, content, history}
 use Rattle.host_table.specs.Plays.{Draft, stop_of}
 use Rattle.host_table.specs.Table.{terms}
 use Rattle.host_table.specs.Terms.{Terms, IsClockOf, first_at, phase_epoch}
 use Rattle.host_table.specs.Told.{IsHad, TakesUp}
-use Rattle.host_table.proofs.AttemptLemmas.{after_then, clock_told, entry_plan}
+use Rattle.host_table.proofs.AttemptLemmas.{after_then, clock_told, service_plan}
 use Rattle.host_table.proofs.ServedLemmas.{leads_owns, stamped_from, open_at}
 use Rattle.host_table.proofs.ToldLemmas.{leads_to_had, takes_more}
 use Rattle.host_table.proofs.records.Records.attempt.Goals as goal
@@ -34,15 +34,15 @@ plan-requires-clause-open g c =
     (stamped_from t making.few c.args.place (first_at t c.args.place) (history c.try_take.new.hand) c.in-Taken.content (making.stamped c.args.place c.requires.place.there) c.in-Taken.ensures.tries.3)
     c.requires.clock.epoch
 
-pub note-requires-clause-entry : goal.note-requires-clause-entry
-note-requires-clause-entry g c =
+pub note-requires-clause-service : goal.note-requires-clause-service
+note-requires-clause-service g c =
     let t : Terms = terms g.D.Digests.functions c.args.self.now in
     let hand = c.try_take.new.hand in
     let got = c.in-Taken.ensures.tries in
     let same : clock_at t c.at-before.result ≡ c.args.clock.now = clock_told t c.args.clock.now c.at-before.result c.requires.clock c.at-before.ensures.value in
     let found : shown_content (content hand) ≡ shown_content c.in-Taken.content = ap (λ (x : code.Content). shown_content x) got.2 in
     let within : IsPastEnd (shown_content c.in-Taken.content) c.args.clock.now → ⊥ = search rules in
-    let entry : Entry = record {
+    let service : Service = record {
       place = c.args.place;
       worker = hand.number;
       clock = clock_at t c.at-before.result;
@@ -52,7 +52,7 @@ note-requires-clause-entry g c =
       after = c.plan.new.content;
       later = c.plan.new.clock;
     } in (
-      entry,
+      service,
       record {
         place_is = refl;
         worker_is = refl;
@@ -76,20 +76,20 @@ pub returns-in-Ok-clause-attempts : goal.returns-in-Ok-clause-attempts
 returns-in-Ok-clause-attempts g c =
     let t : Terms = terms g.D.Digests.functions c.args.self.now in
     let got = c.in-Taken.ensures.tries in
-    let entry : Entry = c.note.ensures.entry.0 in
-    let is = c.note.ensures.entry.1 in
+    let service : Service = c.note.ensures.service.0 in
+    let is = c.note.ensures.service.1 in
     let same : clock_at t c.at-before.result ≡ c.args.clock.now = clock_told t c.args.clock.now c.at-before.result c.requires.clock c.at-before.ensures.value in
-    let after : IsAfter c.args.hand.now c.put_back.new.hand (entry ∷ []) [] (stop c.note.new.hand) =
-    after_then c.args.hand.now c.note.new.hand c.put_back.new.hand (entry ∷ []) [] [] [] None (stop c.note.new.hand)
-    (after_then c.args.hand.now c.try_take.new.hand c.note.new.hand [] (entry ∷ []) [] [] (stop c.args.hand.now) None got.0 c.note.ensures.entry.2)
+    let after : IsAfter c.args.hand.now c.put_back.new.hand (service ∷ []) [] (stop c.note.new.hand) =
+    after_then c.args.hand.now c.note.new.hand c.put_back.new.hand (service ∷ []) [] [] [] None (stop c.note.new.hand)
+    (after_then c.args.hand.now c.try_take.new.hand c.note.new.hand [] (service ∷ []) [] [] (stop c.args.hand.now) None got.0 c.note.ensures.service.2)
     c.put_back.ensures.after in
-    let going : stop c.note.new.hand ≡ stop c.args.hand.now = c.note.ensures.entry.2.stop ∙ sym c.requires.going in
-    let planned = entry_plan t (g.D.Digests.functions c.args.d.now).digest c.try_take.new.hand.number (shown_content c.in-Taken.content) c.args.request.now c.args.clock.now c.in-Ok.plan
-    (shown_content c.plan.new.content) c.plan.new.clock entry c.requires.digests (ap (λ (x : code.Content). shown_content x) (is.before_is ∙ got.2)) is.request_is (is.clock_is ∙ same)
+    let going : stop c.note.new.hand ≡ stop c.args.hand.now = c.note.ensures.service.2.stop ∙ sym c.requires.going in
+    let planned = service_plan t (g.D.Digests.functions c.args.d.now).digest c.try_take.new.hand.number (shown_content c.in-Taken.content) c.args.request.now c.args.clock.now c.in-Ok.plan
+    (shown_content c.plan.new.content) c.plan.new.clock service c.requires.digests (ap (λ (x : code.Content). shown_content x) (is.before_is ∙ got.2)) is.request_is (is.clock_is ∙ same)
     is.served.plan c.in-Ok.ensures.planned in
     record {
-      entry = entry;
-      after = subst (IsAfter c.args.hand.now c.put_back.new.hand (entry ∷ []) []) going after;
+      service = service;
+      after = subst (IsAfter c.args.hand.now c.put_back.new.hand (service ∷ []) []) going after;
       place_is = is.place_is;
       worker_is = is.worker_is ∙ got.0.worker;
       clock_is = is.clock_is ∙ same;
@@ -103,18 +103,18 @@ pub returns-in-Ok-clause-chained : goal.returns-in-Ok-clause-chained
 returns-in-Ok-clause-chained g c =
     let t : Terms = terms g.D.Digests.functions c.args.self.now in
     let got = c.in-Taken.ensures.tries in
-    let entry : Entry = c.note.ensures.entry.0 in
-    let is = c.note.ensures.entry.1 in
+    let service : Service = c.note.ensures.service.0 in
+    let is = c.note.ensures.service.1 in
     let same : clock_at t c.at-before.result ≡ c.args.clock.now = clock_told t c.args.clock.now c.at-before.result c.requires.clock c.at-before.ensures.value in
-    let after : IsAfter c.args.hand.now c.put_back.new.hand (entry ∷ []) [] (stop c.note.new.hand) =
-    after_then c.args.hand.now c.note.new.hand c.put_back.new.hand (entry ∷ []) [] [] [] None (stop c.note.new.hand)
-    (after_then c.args.hand.now c.try_take.new.hand c.note.new.hand [] (entry ∷ []) [] [] (stop c.args.hand.now) None got.0 c.note.ensures.entry.2)
+    let after : IsAfter c.args.hand.now c.put_back.new.hand (service ∷ []) [] (stop c.note.new.hand) =
+    after_then c.args.hand.now c.note.new.hand c.put_back.new.hand (service ∷ []) [] [] [] None (stop c.note.new.hand)
+    (after_then c.args.hand.now c.try_take.new.hand c.note.new.hand [] (service ∷ []) [] [] (stop c.args.hand.now) None got.0 c.note.ensures.service.2)
     c.put_back.ensures.after in
-    let planned = entry_plan t (g.D.Digests.functions c.args.d.now).digest c.try_take.new.hand.number (shown_content c.in-Taken.content) c.args.request.now c.args.clock.now c.in-Ok.plan
-    (shown_content c.plan.new.content) c.plan.new.clock entry c.requires.digests (ap (λ (x : code.Content). shown_content x) (is.before_is ∙ got.2)) is.request_is (is.clock_is ∙ same)
+    let planned = service_plan t (g.D.Digests.functions c.args.d.now).digest c.try_take.new.hand.number (shown_content c.in-Taken.content) c.args.request.now c.args.clock.now c.in-Ok.plan
+    (shown_content c.plan.new.content) c.plan.new.clock service c.requires.digests (ap (λ (x : code.Content). shown_content x) (is.before_is ∙ got.2)) is.request_is (is.clock_is ∙ same)
     is.served.plan c.in-Ok.ensures.planned in
-    subst (λ (p : List Entry × Reading). TakesUp p.0 p.1) (λ i. (sym after.entries i, planned.1 i))
-    (takes_more (entries c.args.hand.now) entry (subst (TakesUp (entries c.args.hand.now)) (sym (is.clock_is ∙ same)) c.requires.chained))
+    subst (λ (p : List Service × Reading). TakesUp p.0 p.1) (λ i. (sym after.services i, planned.1 i))
+    (takes_more (services c.args.hand.now) service (subst (TakesUp (services c.args.hand.now)) (sym (is.clock_is ∙ same)) c.requires.chained))
 
 pub returns-in-Err-ClockEnd-clause-attempts : goal.returns-in-Err-ClockEnd-clause-attempts
 returns-in-Err-ClockEnd-clause-attempts g c =
@@ -140,7 +140,7 @@ returns-in-Err-ClockEnd-clause-attempts g c =
           at = c.requires.place;
           value = c.value_fits.ensures.fits;
           clock = subst (IsClockOf t) (sym same) c.requires.clock;
-          behind = subst (TakesUp (entries c.args.hand.now)) (sym same) c.requires.chained;
+          behind = subst (TakesUp (services c.args.hand.now)) (sym same) c.requires.chained;
           had = subst (IsHad (first_at t c.args.place) (history hand)) (sym got.2) (leads_to_had t c.args.place (first_at t c.args.place) (history hand) c.in-Taken.content got.3);
           ends = subst (λ (p : Content × Reading). IsPastEnd p.0 p.1) (λ i. (ap (λ (x : code.Content). shown_content x) (sym got.2) i, sym same i)) past_end;
         };

@@ -17,7 +17,7 @@ use Rattle.host_world.specs.contracts.worker.Worker.{the_view}
 use Rattle.host_world.specs.Moving.{stage_of, seats_of, move_seats}
 use Rattle.host_world.proofs.ServeLemmas.{just_logged}
 use Rattle.host_world.proofs.TakenLemmas.{taken_in}
-use Rattle.host_world.proofs.TripLaws.{move_past, move_is_done}
+use Rattle.host_world.proofs.DescentLaws.{move_past, move_is_done}
 use Rattle.host_world.proofs.worker.Worker.move_seats.Goals as goal
 
 pub migrate-requires-clause-places : goal.migrate-requires-clause-places

@@ -2,7 +2,7 @@ use Rattle.std.proofs.Common.{◌≡◌, ◌++◌, ◌∷◌, [], List, length, 
 use Rattle.log_rings.specs.declared.parcel.Parcel.{Parcel}
 use Rattle.log_rings.specs.Lanes.{waiting}
 use Rattle.log_rings.specs.declared.lane.Receiver.{Receiver}
-use Rattle.verifier_feeds.specs.Feeds.{TakesOn, bytes_of}
+use Rattle.verifier_feeds.specs.Feeds.{ReadsOn, bytes_of}
 use Rattle.verifier_feeds.proofs.FeedLemmas.{takes-none, takes-parcel, none-left}
 use Rattle.verifier_feeds.proofs.inbox.Inbox.take_left.Goals as goal
 
@@ -44,4 +44,4 @@ returns-clause-taken g c =
     let all : waiting c.args.self.now.receiver ≡ inv.some =
     none-left inv.some (waiting c.args.self.now.receiver) rest inv.were
     (omega (arith, c.loop-test.false, inv.count, ap length inv.were, length-append inv.some rest, c.requires.left)) in
-    subst (λ (ps : List Parcel). TakesOn (g.D.Digests.functions c.args.d.now) (bytes_of ps) c.args.self.now c.loop.self) (sym all) inv.taken
+    subst (λ (ps : List Parcel). ReadsOn (g.D.Digests.functions c.args.d.now) (bytes_of ps) c.args.self.now c.loop.self) (sym all) inv.taken

@@ -1,7 +1,7 @@
 use Rattle.std.proofs.Common.{◌≡◌, ◌++◌, List, length}
 use Rattle.log_rings.specs.declared.parcel.Parcel.{Parcel}
 use Rattle.log_rings.specs.Lanes.{waiting}
-use Rattle.verifier_feeds.specs.Feeds.{HasRoom, TakesOn, bytes_of}
+use Rattle.verifier_feeds.specs.Feeds.{HasRoom, ReadsOn, bytes_of}
 use Rattle.verifier_feeds.proofs.inbox.Inbox.take_left.Given as goal
 
 -- so many parcels of those that waited are taken, and the others wait
@@ -11,5 +11,5 @@ invariant-loop g l = record {
   some : List Parcel;
   count : length some ≡ l.counter;
   were : waiting l.initial.self.receiver ≡ some ++ waiting l.self.receiver;
-  taken : TakesOn (g.D.Digests.functions l.d) (bytes_of some) l.initial.self l.self;
+  taken : ReadsOn (g.D.Digests.functions l.d) (bytes_of some) l.initial.self l.self;
 }

@@ -2,7 +2,7 @@ use Rattle.std.proofs.Common.{◌≡◌, ◌++◌, ◌∷◌, [], List, refl, sy
 use Rattle.log_rings.specs.declared.parcel.Parcel.{Parcel}
 use Rattle.log_rings.specs.declared.lane.Receiver.{Receiver}
 use Rattle.log_rings.specs.Lanes.{received_by}
-use Rattle.verifier_feeds.specs.Feeds.{TakesOn, bytes_of, run_of}
+use Rattle.verifier_feeds.specs.Feeds.{ReadsOn, bytes_of, run_of}
 use Rattle.verifier_feeds.proofs.FeedLemmas.{none-taken, takes-none, takes-received}
 use Rattle.verifier_feeds.proofs.inbox.Inbox.watch.Goals as goal
 
@@ -11,7 +11,7 @@ loop-init g c = record {
   few = search rules;
   room = c.requires.room;
   lane = search rules;
-  taken = subst (λ (ps : List Parcel). TakesOn (g.D.Digests.functions c.args.d.now) (bytes_of ps) c.args.self.now c.args.self.now) (sym c.requires.fresh)
+  taken = subst (λ (ps : List Parcel). ReadsOn (g.D.Digests.functions c.args.d.now) (bytes_of ps) c.args.self.now c.args.self.now) (sym c.requires.fresh)
       (takes-none (g.D.Digests.functions c.args.d.now) c.args.self.now);
 }
 
@@ -47,5 +47,5 @@ loop-preserved g c = record {
   few = omega (arith, c.if-empty_polls-ge-MOST_EMPTY_POLLS.false);
   room = c.loop.invariant.room;
   lane = search rules;
-  taken = subst (λ (ps : List Parcel). TakesOn (g.D.Digests.functions c.args.d.now) (bytes_of ps) c.args.self.now c.loop.self) (sym c.in-None-poll.ensures.none.0) c.loop.invariant.taken;
+  taken = subst (λ (ps : List Parcel). ReadsOn (g.D.Digests.functions c.args.d.now) (bytes_of ps) c.args.self.now c.loop.self) (sym c.in-None-poll.ensures.none.0) c.loop.invariant.taken;
 }

@@ -6,7 +6,7 @@ use Rattle.host_shard.specs.Content.{Content}
 use Rattle.script_text.specs.declared.task.Task.{Task}
 use Rattle.host_world.specs.declared.settings.Settings.{Settings}
 use Rattle.host_world.specs.Shown.{shown_world, digests_of}
-use Rattle.host_rounds.specs.Feeding.{AllTake}
+use Rattle.host_rounds.specs.Feeding.{AllRead}
 use Rattle.host_rounds.specs.SoFar.{RunsSoFar, Keeps, with_runs}
 use Rattle.bundle_report.specs.Report.{told_by}
 use Rattle.verifier_threads.specs.Serving.{texts_of}
@@ -61,7 +61,7 @@ returns-clause-runs g c = λ receipts outputs before runs took held.
     let items = with_items_is old.buffers c.hand_out_all.new.buffers (size ∙ sym runs.buffers ∙ sym old.buffers.ok.0) in
     let round_is : round ≡ texts_of (logs_of (shown_world old.world)) = c.as_slice.ensures.value ∙ items ∙ c.in_ok-hand_out_all.ensures.handed in
     let keeps = subst (λ (h : Option (List ℕ)). Keeps own header logs rounds outputs.vault h) held r.keeps in
-    let taken = subst (λ (all : List (List ℕ)). AllTake own all before old.rounds.runs) (sym round_is) took in
+    let taken = subst (λ (all : List (List ℕ)). AllRead own all before old.rounds.runs) (sym round_is) took in
     ok_both c.write.result (c.write.ensures.keeps own header logs outputs.vault before keeps taken)
     (c.write.ensures.lines (told_by receipts own header) own header logs before r.keeps.runs)
     (λ keeps' lines. record {

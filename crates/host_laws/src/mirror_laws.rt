@@ -1,0 +1,39 @@
+//! What follows from the definitions of the host's commands and of mirroring. These functions do nothing: their
+//! contracts are the laws.
+ghost use Rattle.std.specs.Prelude.{◌≡◌, ℕ, Bool, ◌<◌, List, []};
+ghost use Rattle.std.specs.List.{AllByRecursion};
+ghost use Rattle.lamport_clocks.specs.Reading.{Reading};
+ghost use Rattle.record_text.specs.declared.request.Request.{Request};
+ghost use Rattle.record_text.specs.Format.{Format, path_bits};
+ghost use Rattle.record_text.specs.Value.{IsBlob};
+ghost use Rattle.merkle_records.specs.Merkle.{Digest, GivesDigests};
+ghost use Rattle.soundness.specs.Typed.{IsTyped};
+ghost use Rattle.host_shard.specs.Content.{Content};
+ghost use Rattle.host_plan.specs.Plan.{Owns, CanServe, IsPlan};
+ghost use Rattle.host_plan.specs.Setup.{setup_contents};
+ghost use Rattle.host_plan.specs.declared.plans.Plan.{Plan};
+ghost use Rattle.host_laws.specs.Mirroring.{ContentMirrors, IsCold};
+
+/// A content mirrors again once it served a request, with the same keys hot. It is asked that digests have 32 bytes.
+pub fn a_plan_mirrors()
+    ensures mirrors { (format : Format) (digest : Digest) (worker : ℕ) (hot_keys : List (List Bool)) (content after : Content) (request : Request)
+        (clock later : Reading) (plan : Plan)
+        → GivesDigests digest → IsBlob format request.value → ContentMirrors format digest hot_keys content → Owns format content request.key → IsCold format hot_keys content request.key
+        → IsPlan format digest worker content request clock plan after later → ContentMirrors format digest hot_keys after }
+    ensures serves { (format : Format) (digest : Digest) (hot_keys : List (List Bool)) (content : Content) (key : ℕ)
+        → ContentMirrors format digest hot_keys content → Owns format content key → IsCold format hot_keys content key → CanServe format digest content key }
+{}
+
+/// The values that a plan's commands bring in are of their paths' kinds.
+pub fn a_plan_is_typed()
+    ensures typed { (format : Format) (digest : Digest) (worker : ℕ) (hot_keys : List (List Bool)) (content after : Content) (request : Request)
+        (clock later : Reading) (plan : Plan)
+        → IsBlob format request.value → ContentMirrors format digest hot_keys content → Owns format content request.key → IsCold format hot_keys content request.key
+        → IsPlan format digest worker content request clock plan after later → AllByRecursion (IsTyped format) plan.commands }
+{}
+
+/// The shards of a setup mirror, with no hot keys.
+pub fn new_shards_mirror()
+    ensures mirror { (format : Format) (digest : Digest) (first bits : ℕ) → 0 < bits → bits < path_bits format
+        → AllByRecursion (ContentMirrors format digest []) (setup_contents format first bits) }
+{}

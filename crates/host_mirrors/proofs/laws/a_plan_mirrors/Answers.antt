@@ -1,5 +1,0 @@
-use Rattle.host_mirrors.proofs.MirrorLaws.{plan_mirrors, mirrors_serve}
-use Rattle.host_mirrors.proofs.laws.a_plan_mirrors.Goals as goal
-
-pub returns : goal.returns
-returns c = record { mirrors = plan_mirrors; serves = mirrors_serve }

@@ -1,5 +1,0 @@
-use Rattle.host_mirrors.proofs.FirstLaws.{contents_mirror}
-use Rattle.host_mirrors.proofs.laws.new_shards_mirror.Goals as goal
-
-pub returns : goal.returns
-returns c = record { mirror = contents_mirror }

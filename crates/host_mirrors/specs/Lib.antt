@@ -1,2 +1,0 @@
--- What the laws of mirroring cite.
-pub mod Mirroring

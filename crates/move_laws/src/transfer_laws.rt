@@ -1,0 +1,39 @@
+//! What follows from the definitions of a transfer and of the transition. These functions do nothing: their contracts are
+//! the laws.
+ghost use Rattle.std.specs.Prelude.{ℕ, ◌<◌, List};
+ghost use Rattle.std.specs.List.{AllByRecursion};
+ghost use Rattle.record_text.specs.Format.{Format, path_bits};
+ghost use Rattle.merkle_records.specs.Merkle.{Digest, GivesDigests};
+ghost use Rattle.verifier_cache.specs.declared.entry.Entry.{Entry};
+ghost use Rattle.verifier_commands.specs.Transition.{Rules};
+ghost use Rattle.soundness.specs.Typed.{IsTyped};
+ghost use Rattle.host_shard.specs.declared.link.Link.{Link};
+ghost use Rattle.host_laws.specs.Served.{IsBare};
+ghost use Rattle.protection_moves.specs.Stage.{Stage};
+ghost use Rattle.protection_moves.specs.Transfer.{Transfer};
+ghost use Rattle.protection_moves.specs.Descent.{AreLinks, commands_by, done_by};
+ghost use Rattle.move_laws.specs.Stages.{StageMirrors};
+ghost use Rattle.move_laws.specs.Transfers.{CanDo, TransferRuns, IsFit};
+
+/// A verifier in whose cache the frontier stands, and but for the root nothing else, accepts the commands of a transfer along
+/// the links to its key. Nothing is asked of the digests.
+pub fn a_transfer_runs()
+    ensures runs { (rules : Rules) (entries : List Entry) (room : ℕ) (stage : Stage) (transfer : Transfer) (links : List Link)
+        → IsBare entries → path_bits rules.scheme.format < room → StageMirrors rules.scheme.format rules.scheme.digest stage
+        → IsFit rules.scheme.format stage transfer → CanDo rules stage transfer → AreLinks rules.scheme.format stage.shard transfer links
+        → TransferRuns rules entries room stage transfer links }
+{}
+
+/// A stage mirrors again behind a transfer. It is asked that digests have 32 bytes.
+pub fn a_transfer_mirrors()
+    ensures mirrors { (format : Format) (digest : Digest) (worker : ℕ) (stage : Stage) (transfer : Transfer) (links : List Link)
+        → GivesDigests digest → StageMirrors format digest stage → IsFit format stage transfer → AreLinks format stage.shard transfer links
+        → StageMirrors format digest (done_by format digest worker stage transfer links) }
+{}
+
+/// The values that a transfer's commands bring in are of their paths' kinds.
+pub fn a_transfer_is_typed()
+    ensures typed { (format : Format) (digest : Digest) (stage : Stage) (transfer : Transfer) (links : List Link)
+        → StageMirrors format digest stage → IsFit format stage transfer → AreLinks format stage.shard transfer links
+        → AllByRecursion (IsTyped format) (commands_by format stage transfer links) }
+{}

@@ -1,0 +1,122 @@
+-- A transfer along the links to its key, while the frontier of the shard stands in a cache.
+use Rattle.std.specs.Prelude.{ℕ, Bool, true, List, [], ◌∷◌, ◌++◌, Option, None, if◌then◌else◌}
+use Rattle.tree_keys.specs.Path.{same_path}
+use Rattle.lamport_clocks.specs.declared.stamp.Stamp.{Stamp}
+use Rattle.record_text.specs.declared.element.Element.{Element}
+use Rattle.record_text.specs.declared.value.Value.{Value}
+use Rattle.record_text.specs.declared.value.Value.TheVariants as values
+use Rattle.record_text.specs.Format.{Format}
+use Rattle.log_codec.specs.declared.command.Command.{Command}
+use Rattle.log_codec.specs.declared.command.Command.TheVariants.{AddM, EvictM, AddB, EvictBM}
+use Rattle.merkle_records.specs.Merkle.{Digest}
+use Rattle.host_shard.specs.declared.link.Link.{Link}
+use Rattle.host_shard.specs.declared.content.HotRecord.{HotRecord}
+use Rattle.host_shard.specs.Tree.{Tree, with_record}
+use Rattle.host_shard.specs.Chain.{IsChain, last_value, closed_value, closed_records}
+use Rattle.host_shard.specs.Shard.{Shard, tree_of, rehashed}
+use Rattle.host_shard.specs.Content.{key_path, pending_hot, vacant}
+use Rattle.host_plan.specs.Moments.{giving}
+use Rattle.protection_moves.specs.Stage.{Stage, replaced, placed}
+use Rattle.protection_moves.specs.Transfer.{Transfer, demotes, promotes, clock_by}
+
+-- a transfer, and the links from the frontier to its key
+pub record Descent : Type 0 where
+  pub transfer : Transfer
+  pub links : List Link
+
+-- the data of a value
+abbrev pub data_of : Value → Option (List ℕ)
+data_of (values.Blob blob) = blob
+data_of (values.Node node) = None
+
+-- the records without that of a path
+abbrev pub without_record : Tree → List Bool → Tree
+without_record tree path = λ k. if same_path k path then None else tree k
+
+-- the shard, with a record that comes back to it
+abbrev pub with_back : Format → Shard → HotRecord → Shard
+with_back format shard found =
+    record shard { records = with_record shard.records (key_path format found.key) (values.Blob found.value) }
+
+-- The links are the chain to the transfer's key. A record that comes back stands in the shard for that.
+abbrev pub AreLinks : Format → Shard → Transfer → List Link → Type 0
+AreLinks format shard (demotes found) links =
+    IsChain format (tree_of (with_back format shard found)) (key_path format found.key) shard.frontier shard.value links
+AreLinks format shard (promotes key) links =
+    IsChain format (tree_of shard) (key_path format key) shard.frontier shard.value links
+
+-- ---- the commands
+
+-- The paths of a chain are added, each under the one before, and evicted in reverse; only how the last one comes and
+-- leaves is told apart.
+abbrev pub visit_but_last : List Bool → List Link → (List Bool → Link → List Command) → List Command
+visit_but_last at [] last = []
+visit_but_last at (link ∷ []) last = last at link
+visit_but_last at (link ∷ next ∷ links) last =
+    AddM link.path link.value at ∷ (visit_but_last link.path (next ∷ links) last ++ EvictM link.path at ∷ [])
+
+-- a hot record comes by its element, and stays under its node
+abbrev pub come_back : Element → List Bool → Link → List Command
+come_back element at link = AddB element.path element.value element.stamp element.verifier ∷ EvictM link.path at ∷ []
+
+-- a record comes from under its node, and leaves with a stamp
+abbrev pub become_hot : Stamp → List Bool → Link → List Command
+become_hot stamp at link = AddM link.path link.value at ∷ EvictBM link.path at stamp ∷ []
+
+abbrev pub commands_by : Format → Stage → Transfer → List Link → List Command
+commands_by format stage (demotes found) links = visit_but_last stage.shard.frontier links (come_back (pending_hot format found))
+commands_by format stage (promotes key) links = visit_but_last stage.shard.frontier links (become_hot (giving stage.clock).at)
+
+-- ---- what they leave
+
+-- the record that becomes hot
+abbrev pub promoted_record : ℕ → Stage → ℕ → List Link → HotRecord
+promoted_record worker stage key links = record {
+  key = key;
+  value = data_of (last_value stage.shard.value links);
+  stamp = (giving stage.clock).at;
+  evictor = worker;
+  touches = 0;
+}
+
+-- The shard without a record that became hot: its pointer is deferred.
+abbrev pub shard_without : Format → Digest → Shard → ℕ → List Link → Shard
+shard_without format digest shard key links =
+    let last = last_value shard.value links in
+    record shard {
+      value = closed_value format digest true shard.frontier shard.value links last;
+      records = without_record (closed_records format digest true shard.records links last) (key_path format key);
+    }
+
+-- The place of a record that came back becomes vacant, and one that becomes hot takes the lowest vacant place.
+abbrev pub done_by : Format → Digest → ℕ → Stage → Transfer → List Link → Stage
+done_by format digest worker stage (demotes found) links = record {
+  shard = rehashed format digest (with_back format stage.shard found) links (values.Blob found.value);
+  places = replaced found.key vacant stage.places;
+  clock = clock_by stage.clock (demotes found);
+}
+done_by format digest worker stage (promotes key) links = record {
+  shard = shard_without format digest stage.shard key links;
+  places = placed (promoted_record worker stage key links) stage.places;
+  clock = clock_by stage.clock (promotes key);
+}
+
+-- ---- transfers one after another
+
+-- each with its links in the shard as the ones before leave it
+abbrev pub AreDescents : Format → Digest → ℕ → Stage → List Descent → Type 0
+AreDescents format digest worker stage [] = Unit {0}
+AreDescents format digest worker stage (descent ∷ descents) =
+    AreLinks format stage.shard descent.transfer descent.links
+    × AreDescents format digest worker (done_by format digest worker stage descent.transfer descent.links) descents
+
+abbrev pub done_by_each : Format → Digest → ℕ → Stage → List Descent → Stage
+done_by_each format digest worker stage [] = stage
+done_by_each format digest worker stage (descent ∷ descents) =
+    done_by_each format digest worker (done_by format digest worker stage descent.transfer descent.links) descents
+
+abbrev pub commands_by_each : Format → Digest → ℕ → Stage → List Descent → List Command
+commands_by_each format digest worker stage [] = []
+commands_by_each format digest worker stage (descent ∷ descents) =
+    commands_by format stage descent.transfer descent.links
+    ++ commands_by_each format digest worker (done_by format digest worker stage descent.transfer descent.links) descents

@@ -1,0 +1,47 @@
+-- The keys that are promotable, read off the records one by one.
+use Rattle.std.specs.Prelude.{◌≡◌, ℕ, ◌<◌, ◌==◌, ◌||◌, Bool, false, List, [], ◌∷◌, ◌++◌, take, length, Option, Some, None, is_none, nat_lt, if◌then◌else◌}
+use Rattle.std.specs.List.{AllByRecursion}
+use Rattle.tree_keys.specs.Bits.{number_of}
+use Rattle.tree_keys.specs.Path.{side, same_path}
+use Rattle.record_text.specs.Format.{Format, short_keys}
+use Rattle.host_shard.specs.declared.record.Record.{Record}
+use Rattle.host_shard.specs.Content.{Content, cold, hot, vacant, key_path}
+use Rattle.host_shard.specs.Records.{Listed}
+use Rattle.protection_moves.specs.Stage.{Stage}
+use Rattle.protection_moves.specs.Transfer.{ArePromotable}
+
+-- the key of this path has a hot place
+abbrev pub is_hot : List Bool → List Content → Bool
+is_hot path [] = false
+is_hot path (cold shard ∷ places) = is_hot path places
+is_hot path (hot found ∷ places) = same_path (key_path short_keys found.key) path || is_hot path places
+is_hot path (vacant ∷ places) = is_hot path places
+
+-- the key of a record, if it is promotable: it was touched so often, lies below the frontier, isn't hot, and is a whole key
+abbrev pub promotable_key : ℕ → List Bool → List Content → List Bool → Record → Option ℕ
+promotable_key least frontier places path kept =
+    if nat_lt kept.touches least then None
+    else if is_none (side frontier path) || is_hot path places then None
+    else if length path == 64 then Some (number_of path)
+    else None
+
+abbrev pub listed_key : Option ℕ → List ℕ
+listed_key None = []
+listed_key (Some key) = key ∷ []
+
+-- the keys of these records that are promotable, in the order of the records
+abbrev pub promotable_among : ℕ → List Bool → List Content → Listed → List ℕ
+promotable_among least frontier places [] = []
+promotable_among least frontier places (entry ∷ listed) =
+    listed_key (promotable_key least frontier places entry.0 entry.1) ++ promotable_among least frontier places listed
+
+-- each key is below those behind it
+abbrev pub AreRising : List ℕ → Type 0
+AreRising [] = Unit {0}
+AreRising (key ∷ keys) = AllByRecursion (λ other. key < other) keys × AreRising keys
+
+-- the first of the keys that are promotable, at most so many
+pub record AreFirstPromotable (format : Format) (stage : Stage) (threshold : Option ℕ) (room : ℕ) (keys : List ℕ) : Type 0 where
+  pub promotable : List ℕ
+  pub are_promotable : ArePromotable format stage threshold promotable
+  pub first : keys ≡ take room promotable

@@ -1,5 +1,0 @@
-use Rattle.want_of_memory.specs.declared.memory.Memory.{Memory}
-
--- the one value of the error
-abbrev pub memory : Memory
-memory = record {}

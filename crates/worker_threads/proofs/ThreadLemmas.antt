@@ -1,0 +1,232 @@
+-- Pairs, their workers, their hands and their verifiers' runs.
+use Rattle.std.proofs.Common.{◌≡◌, ℕ, suc, ◌<◌, ◌≤◌, false, Result, Ok, Err, IfOk, OnOk, List, [], ◌∷◌, ◌++◌, map, length, get_or, refl, sym, ◌∙◌, ap, subst, append-nil, append_assoc, length-append, All, arith}
+use Rattle.std.proofs.Math.ListN.{get_or-map}
+use Rattle.std.proofs.lemmas.List as lists
+use Rattle.std.proofs.lemmas.List.{length-map, map_push, get_or_default}
+use Rattle.std.proofs.lemmas.List.Elements.{All-push, All-get_or, All-from_get_or}
+use Rattle.record_hash.specs.Functions.{DigestFunctions}
+use Rattle.record_text.specs.Format.{short_keys}
+use Rattle.log_codec.specs.Log.{log_text}
+use Rattle.verifier_run.specs.Progress.{weight}
+use Rattle.certified_epochs.specs.declared.fed_run.FedRun.{FedRun}
+use Rattle.host_rounds.specs.Feeding.{Reads}
+use Rattle.atomic_table.specs.Seated.{TableId}
+use Rattle.script_text.specs.declared.task.Task.{Task}
+use Rattle.host_core.specs.World.{Worker}
+use Rattle.host_table.specs.declared.hand.Hand.{Hand}
+use Rattle.host_table.specs.declared.views.Row.{Row}
+use Rattle.host_table.specs.Calls.{IsNew, told_by}
+use Rattle.host_table.specs.Hands.{worker_of, IsFree}
+use Rattle.host_table.specs.Made.{new_row}
+use Rattle.host_table.specs.Phase.{row_at}
+use Rattle.host_table.specs.Terms.{Terms, IsClockOf}
+use Rattle.worker_threads.specs.declared.worker_pair.WorkerPair.{WorkerPair}
+use Rattle.worker_threads.specs.Parts.{asked_of, HasDone, IsThrough}
+use Rattle.worker_threads.specs.Pairs.{HasFed, IsPairReady, IsOpened, run_in}
+use Rattle.worker_threads.specs.Participants.{worker_in, hand_in, AreToServe, HaveAll, HaveServed, HaveReadLogs}
+
+-- ---- threads that are ready
+
+-- One worker more is at its thread,
+pub worker_ready : (threads after : List WorkerPair) (yielded : List Worker) (thread : WorkerPair) (worker : Worker) → map worker_in threads ≡ yielded → worker_in thread ≡ worker
+    → after ≡ threads ++ thread ∷ [] → map worker_in after ≡ yielded ++ worker ∷ []
+worker_ready threads after yielded thread worker so_far same pushed =
+    ap (map worker_in) pushed ∙ map_push worker_in threads thread
+    ∙ ap (λ (ws : List Worker). ws ++ worker_in thread ∷ []) so_far
+    ∙ ap (λ (w : Worker). yielded ++ w ∷ []) same
+
+-- and one hand or run more is there, of those that were left.
+pub part_ready : {X : Type 0} (part : WorkerPair → X) (threads after : List WorkerPair) (all rest left : List X) (thread : WorkerPair) (x : X) → map part threads ++ rest ≡ all
+    → rest ≡ x ∷ left → part thread ≡ x → after ≡ threads ++ thread ∷ [] → map part after ++ left ≡ all
+part_ready {X} part threads after all rest left thread x so_far is same pushed =
+    ap (λ (ps : List WorkerPair). map part ps ++ left) pushed
+    ∙ ap (λ (xs : List X). xs ++ left) (map_push part threads thread)
+    ∙ append_assoc (map part threads) (part thread ∷ []) left
+    ∙ ap (λ (y : X). map part threads ++ y ∷ left) same
+    ∙ ap (λ (xs : List X). map part threads ++ xs) (sym is)
+    ∙ so_far
+
+-- Once all workers are, none is left.
+pub all_ready : {X : Type 0} (part : WorkerPair → X) (threads : List WorkerPair) (workers : List Worker) (all rest : List X) → map worker_in threads ≡ workers
+    → length all ≡ length workers → map part threads ++ rest ≡ all → map part threads ≡ all
+all_ready part threads workers all [] workers_are many so_far = sym (append-nil (map part threads)) ∙ so_far
+all_ready {X} part threads workers all (x ∷ rest) workers_are many so_far =
+    let there = ap (λ (ws : List Worker). length ws) (sym workers_are) ∙ length-map threads worker_in in
+    let parts = sym (length-append (map part threads) (x ∷ rest)) ∙ ap (λ (xs : List X). length xs) so_far in
+    absurd (omega (arith, there, many, length-map threads part, parts))
+
+-- of runs that were fed so many bytes at most
+pub few_left : (bytes : ℕ) (runs left : List FedRun) (run : FedRun) → All (λ fed. weight fed.run ≤ bytes) runs → runs ≡ run ∷ left
+    → All (λ fed. weight fed.run ≤ bytes) left
+few_left bytes runs left run few is = λ i d there. subst (λ (rs : List FedRun). All (λ fed. weight fed.run ≤ bytes) rs) is few (suc i) d (omega (arith, there))
+
+pub few_first : (bytes : ℕ) (runs left : List FedRun) (run : FedRun) → All (λ fed. weight fed.run ≤ bytes) runs → runs ≡ run ∷ left → weight run.run ≤ bytes
+few_first bytes runs left run few is = subst (λ (rs : List FedRun). All (λ fed. weight fed.run ≤ bytes) rs) is few 0 run (omega arith)
+
+pub opened_all : (threads after : List WorkerPair) (thread : WorkerPair) → All IsOpened threads → IsOpened thread → after ≡ threads ++ thread ∷ [] → All IsOpened after
+opened_all threads after thread all one pushed = subst (All IsOpened) (sym pushed) (All-push IsOpened threads thread all one)
+
+-- ---- before they serve
+
+-- of a list that has a member
+first_of : {X : Type 0} (xs : List X) (i : ℕ) → i < length xs → X
+first_of [] i there = absurd (omega (arith, there))
+first_of (x ∷ xs) i there = x
+
+module _ (terms : Terms) (table : TableId) (threads : List WorkerPair) (workers : List Worker) (hands : List Hand)
+    (workers_are : map worker_in threads ≡ workers) (hands_are : map hand_in threads ≡ hands) where
+  worker_at : (i : ℕ) (d : WorkerPair) → get_or workers i d.thread.worker ≡ (get_or threads i d).thread.worker
+  worker_at i d = ap (λ (ws : List Worker). get_or ws i d.thread.worker) (sym workers_are) ∙ get_or-map worker_in threads i d
+
+  hand_at : (i : ℕ) (d : WorkerPair) → get_or hands i d.thread.hand ≡ (get_or threads i d).thread.hand
+  hand_at i d = ap (λ (hs : List Hand). get_or hs i d.thread.hand) (sym hands_are) ∙ get_or-map hand_in threads i d
+
+  threads_are : (length workers ≡ length threads) × (length hands ≡ length threads)
+  threads_are = (
+    ap (λ (ws : List Worker). length ws) (sym workers_are) ∙ length-map threads worker_in,
+    ap (λ (hs : List Hand). length hs) (sym hands_are) ∙ length-map threads hand_in,
+  )
+
+  -- Workers that are to serve are at their threads.
+  pub are_ready : AreToServe terms table workers hands → All IsOpened threads → All (IsPairReady terms table) threads
+  are_ready ready opened = go threads refl
+    where
+      one : (d : WorkerPair) (i : ℕ) → i < length threads → IsPairReady terms table (get_or threads i d)
+      one d i there =
+          let counts = threads_are in
+          let in_workers : i < length workers = omega (arith, there, counts.0) in
+          let in_hands : i < length hands = omega (arith, there, counts.1) in
+          let feed = All-get_or IsOpened threads i d there opened in
+          record {
+            ready = record {
+              free = subst (IsFree table) (hand_at i d) (All-get_or (IsFree table) hands i d.thread.hand in_hands ready.all.free);
+              new = subst IsNew (hand_at i d) (All-get_or IsNew hands i d.thread.hand in_hands ready.new);
+              running = subst (λ (w : Worker). w.stopped ≡ false) (worker_at i d) (All-get_or (λ w. w.stopped ≡ false) workers i d.thread.worker in_workers ready.running);
+              clock = subst (λ (w : Worker). IsClockOf terms w.clock) (worker_at i d) (All-get_or (λ w. IsClockOf terms w.clock) workers i d.thread.worker in_workers ready.clocks);
+              empty = feed.empty;
+              served = feed.served;
+            };
+            ends = feed.ends;
+            fresh = feed.fresh;
+            room = feed.room;
+          }
+
+      go : (ps : List WorkerPair) → threads ≡ ps → All (IsPairReady terms table) threads
+      go [] is = subst (All (IsPairReady terms table)) (sym is) (λ k d there. absurd (omega (arith, there)))
+      go (p ∷ ps) is = All-from_get_or (IsPairReady terms table) threads p (one p)
+
+  -- ---- behind it
+
+  module _ (later : List WorkerPair) (new : List Worker) (left : List Hand) (tasks : List Task) (new_are : new ≡ map worker_in later) (left_are : left ≡ map hand_in later)
+      (none : All HaveAll later) (many : length later ≡ length threads)
+      (through : (i : ℕ) (d : WorkerPair) → i < length threads → IsThrough table tasks (get_or threads i d).thread (get_or later i d).thread) (ready : AreToServe terms table workers hands) where
+    new_at : (i : ℕ) (d : WorkerPair) → get_or new i d.thread.worker ≡ (get_or later i d).thread.worker
+    new_at i d = ap (λ (ws : List Worker). get_or ws i d.thread.worker) new_are ∙ get_or-map worker_in later i d
+
+    left_at : (i : ℕ) (d : WorkerPair) → get_or left i d.thread.hand ≡ (get_or later i d).thread.hand
+    left_at i d = ap (λ (hs : List Hand). get_or hs i d.thread.hand) left_are ∙ get_or-map hand_in later i d
+
+    left_count : length left ≡ length threads
+    left_count = ap (λ (hs : List Hand). length hs) left_are ∙ length-map later hand_in ∙ many
+
+    -- the hand at a thread is that of its number
+    number_is : (i : ℕ) (d : WorkerPair) → i < length threads → worker_of (get_or threads i d).thread.hand ≡ i
+    number_is i d there =
+        ap worker_of (sym (hand_at i d)) ∙ ready.all.numbers i d.thread.hand (let counts = threads_are in omega (arith, there, counts.1))
+
+    numbers : (i : ℕ) (e : Hand) → i < length left → worker_of (get_or left i e) ≡ i
+    numbers i e within =
+        let there : i < length threads = omega (arith, within, left_count) in
+        let d = first_of threads i there in
+        ap worker_of (get_or_default left i e d.thread.hand within ∙ left_at i d) ∙ (through i d there).number ∙ number_is i d there
+
+    free : All (IsFree table) left
+    free i e within =
+        let there : i < length threads = omega (arith, within, left_count) in
+        let d = first_of threads i there in
+        subst (IsFree table) (sym (get_or_default left i e d.thread.hand within ∙ left_at i d)) (through i d there).free
+
+    parts : (i : ℕ) (e : Worker) → i < length workers
+        → HasDone (asked_of i tasks) (row_at (map told_by left) i) (get_or workers i e) (get_or new i e)
+    parts i e within =
+        let counts = threads_are in
+        let there : i < length threads = omega (arith, within, counts.0) in
+        let d = first_of threads i there in
+        let news : length new ≡ length threads = ap (λ (ws : List Worker). length ws) new_are ∙ length-map later worker_in ∙ many in
+        let done = (through i d there).part (All-get_or HaveAll later i d (omega (arith, there, many)) none).worker in
+        let row : row_at (map told_by left) i ≡ told_by (get_or later i d).thread.hand =
+        lists.get_or-map told_by left i d.thread.hand new_row (omega (arith, there, left_count)) ∙ ap told_by (left_at i d) in
+        subst (λ (w : Worker). HasDone (asked_of i tasks) (row_at (map told_by left) i) w (get_or new i e)) (sym (get_or_default workers i e d.thread.worker within ∙ worker_at i d))
+        (subst (λ (w : Worker). HasDone (asked_of i tasks) (row_at (map told_by left) i) (get_or threads i d).thread.worker w)
+        (sym (get_or_default new i e d.thread.worker (omega (arith, there, news)) ∙ new_at i d))
+        (subst (λ (r : Row). HasDone (asked_of i tasks) r (get_or threads i d).thread.worker (get_or later i d).thread.worker) (sym row)
+        (subst (λ (n : ℕ). HasDone (asked_of n tasks) (told_by (get_or later i d).thread.hand) (get_or threads i d).thread.worker (get_or later i d).thread.worker) (number_is i d there) done)))
+
+    -- They have served.
+    pub have_served : HaveServed terms table tasks workers new left
+    have_served =
+        let counts = threads_are in
+        let news : length new ≡ length threads = ap (λ (ws : List Worker). length ws) new_are ∙ length-map later worker_in ∙ many in
+        record {
+          all = record { count = left_count ∙ sym counts.1 ∙ ready.all.count; numbers = numbers; free = free };
+          count = news ∙ sym counts.0;
+          parts = parts;
+        }
+
+  -- The same where the threads were left well.
+  pub served_well : {X E : Type 0} (r : Result X E) (new_in : X → List Worker) (left_in : X → List Hand) (later seen : List WorkerPair) (tasks : List Task)
+      → seen ≡ later → IfOk r (λ x. new_in x ≡ map worker_in seen) → IfOk r (λ x. left_in x ≡ map hand_in seen)
+      → OnOk r (All HaveAll seen) → length later ≡ length threads
+      → ((i : ℕ) (d : WorkerPair) → i < length threads → IsThrough table tasks (get_or threads i d).thread (get_or later i d).thread) → AreToServe terms table workers hands
+      → IfOk r (λ x. HaveServed terms table tasks workers (new_in x) (left_in x))
+  served_well (Ok x) new_in left_in later seen tasks same new_are left_are none many through ready =
+      have_served later (new_in x) (left_in x) tasks (new_are ∙ ap (map worker_in) same) (left_are ∙ ap (map hand_in) same)
+      (subst (All HaveAll) same none) many through ready
+  served_well (Err fault) new_in left_in later seen tasks same new_are left_are none many through ready = tt
+
+-- ---- what the runs took
+
+module _ (functions : DigestFunctions) (threads later : List WorkerPair) (workers : List Worker) (old new : List FedRun) (olds_are : map run_in threads ≡ old)
+    (workers_are : workers ≡ map worker_in later) (news_are : new ≡ map run_in later) (none : All HaveAll later) (many : length later ≡ length threads)
+    (fed : (i : ℕ) (d : WorkerPair) → i < length threads → HasFed functions (get_or threads i d) (get_or later i d)) where
+  counts : (length old ≡ length threads) × (length workers ≡ length threads) × (length new ≡ length threads)
+  counts = (
+    ap (λ (rs : List FedRun). length rs) (sym olds_are) ∙ length-map threads run_in,
+    ap (λ (ws : List Worker). length ws) workers_are ∙ length-map later worker_in ∙ many,
+    ap (λ (rs : List FedRun). length rs) news_are ∙ length-map later run_in ∙ many,
+  )
+
+  each_took : (i : ℕ) (e : Worker) (run : FedRun) → i < length workers → Reads functions (log_text short_keys (get_or workers i e).log) (get_or old i run) (get_or new i run)
+  each_took i e run within =
+      let there : i < length threads = omega (arith, within, counts.1) in
+      let d = first_of threads i there in
+      let all = All-get_or HaveAll later i d (omega (arith, there, many)) none in
+      let worker : get_or workers i e ≡ (get_or later i d).thread.worker =
+      get_or_default workers i e d.thread.worker within ∙ ap (λ (ws : List Worker). get_or ws i d.thread.worker) workers_are ∙ get_or-map worker_in later i d in
+      let before : get_or old i run ≡ run_in (get_or threads i d) =
+      get_or_default old i run (run_in d) (omega (arith, there, counts.0)) ∙ ap (λ (rs : List FedRun). get_or rs i (run_in d)) (sym olds_are) ∙ get_or-map run_in threads i d in
+      let after : get_or new i run ≡ run_in (get_or later i d) =
+      get_or_default new i run (run_in d) (omega (arith, there, counts.2)) ∙ ap (λ (rs : List FedRun). get_or rs i (run_in d)) news_are ∙ get_or-map run_in later i d in
+      subst (λ (w : Worker). Reads functions (log_text short_keys w.log) (get_or old i run) (get_or new i run)) (sym worker)
+      (subst (λ (r : FedRun). Reads functions (log_text short_keys (get_or later i d).thread.worker.log) r (get_or new i run)) (sym before)
+      (subst (λ (r : FedRun). Reads functions (log_text short_keys (get_or later i d).thread.worker.log) (run_in (get_or threads i d)) r) (sym after)
+      (fed i d there all.worker all.verifier)))
+
+  -- Each took what is in its worker's log.
+  pub have_taken : HaveReadLogs functions workers old new
+  have_taken = record {
+    olds = counts.0 ∙ sym counts.1;
+    news = counts.2 ∙ sym counts.1;
+    each = each_took;
+  }
+
+-- The same where the pairs were left well.
+pub taken_well : {X E : Type 0} (functions : DigestFunctions) (threads : List WorkerPair) (old : List FedRun) (r : Result X E) (workers_in : X → List Worker) (runs_in : X → List FedRun)
+    (later seen : List WorkerPair) → map run_in threads ≡ old → seen ≡ later → IfOk r (λ x. workers_in x ≡ map worker_in seen) → IfOk r (λ x. runs_in x ≡ map run_in seen)
+    → OnOk r (All HaveAll seen) → length later ≡ length threads
+    → ((i : ℕ) (d : WorkerPair) → i < length threads → HasFed functions (get_or threads i d) (get_or later i d))
+    → IfOk r (λ x. HaveReadLogs functions (workers_in x) old (runs_in x))
+taken_well functions threads old (Ok x) workers_in runs_in later seen olds same workers_are news_are none many fed =
+    have_taken functions threads later (workers_in x) old (runs_in x) olds (workers_are ∙ ap (map worker_in) same) (news_are ∙ ap (map run_in) same)
+    (subst (All HaveAll) same none) many fed
+taken_well functions threads old (Err fault) workers_in runs_in later seen olds same workers_are news_are none many fed = tt

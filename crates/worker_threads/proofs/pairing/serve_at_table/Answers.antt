@@ -1,0 +1,39 @@
+use Rattle.std.proofs.Common.{map, ◌∙◌, ap, subst, sym, All}
+use Rattle.std.proofs.lemmas.List.{with_items_is}
+use Rattle.std.specs.Vec.{with_items}
+use Rattle.host_table.specs.Table.{table, terms}
+use Rattle.worker_threads.specs.Participants.{worker_in, hand_in}
+use Rattle.worker_threads.specs.Pairs.{IsOpened, run_in}
+use Rattle.worker_threads.proofs.ThreadLemmas.{are_ready, served_well, taken_well}
+use Rattle.worker_threads.proofs.pairing.serve_at_table.Goals as goal
+
+pub pair_up-requires-clause-hands : goal.pair_up-requires-clause-hands
+pair_up-requires-clause-hands g c = c.requires.ready.all.count ∙ sym c.requires.ready.count
+
+pub serve_all-requires-clause-ready : goal.serve_all-requires-clause-ready
+serve_all-requires-clause-ready g c κs within =
+    let records = c.args.shared.now.records.now in
+    let pairs = c.as_mut_slice.result.now in
+    are_ready (terms g.D.Digests.functions records) (table records) pairs c.args.participants.workers.items c.args.participants.hands.items
+    (ap (map worker_in) c.as_mut_slice.ensures.value ∙ c.in_ok-pairs.ensures.workers)
+    (ap (map hand_in) c.as_mut_slice.ensures.value ∙ c.in_ok-pairs.ensures.hands)
+    c.requires.ready
+    (subst (All IsOpened) (sym c.as_mut_slice.ensures.value) c.in_ok-pairs.ensures.opened)
+
+pub returns : goal.returns
+returns g c =
+    let records = c.args.shared.now.records.now in
+    let pairs = c.as_mut_slice.result.now in
+    let later = c.serve_all.new.pairs in
+    let seen = (with_items c.in_ok-pairs.pairs later).items in
+    let same = with_items_is c.in_ok-pairs.pairs later (c.serve_all.ensures.count ∙ c.as_mut_slice.ensures.len) in
+    record {
+      served = served_well (terms g.D.Digests.functions records) (table records) pairs c.args.participants.workers.items c.args.participants.hands.items
+          (ap (map worker_in) c.as_mut_slice.ensures.value ∙ c.in_ok-pairs.ensures.workers)
+          (ap (map hand_in) c.as_mut_slice.ensures.value ∙ c.in_ok-pairs.ensures.hands)
+          c.part.result (λ left. left.workers.items) (λ left. left.hands.items) later seen c.args.shared.now.tasks.now same
+          c.part.ensures.workers c.part.ensures.hands c.part.ensures.served c.serve_all.ensures.count c.serve_all.ensures.through c.requires.ready;
+      taken = taken_well (g.D.Digests.functions c.args.shared.now.d.now) pairs c.args.participants.runs.items c.part.result (λ left. left.workers.items) (λ left. left.runs.items)
+          later seen (ap (map run_in) c.as_mut_slice.ensures.value ∙ c.in_ok-pairs.ensures.runs) same
+          c.part.ensures.workers c.part.ensures.runs c.part.ensures.served c.serve_all.ensures.count c.serve_all.ensures.fed;
+    }

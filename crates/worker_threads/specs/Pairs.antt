@@ -1,0 +1,46 @@
+-- A worker at its thread and its verifier beside it, before a phase and behind it.
+use Rattle.std.specs.Prelude.{◌≡◌, ℕ, false, [], List}
+use Rattle.record_hash.specs.Functions.{DigestFunctions}
+use Rattle.record_text.specs.Format.{short_keys}
+use Rattle.log_codec.specs.Log.{log_text}
+use Rattle.atomic_table.specs.Seated.{TableId}
+use Rattle.certified_epochs.specs.declared.fed_run.FedRun.{FedRun}
+use Rattle.host_rounds.specs.Feeding.{Reads}
+use Rattle.log_rings.specs.Lanes.{received_by}
+use Rattle.host_table.specs.Table.{table, terms}
+use Rattle.host_table.specs.Terms.{Terms}
+use Rattle.verifier_feeds.specs.Feeds.{AreEndsOfOne, HasRoom, is_wanting, put_in, run_of}
+use Rattle.worker_threads.specs.declared.shared_phase.SharedPhase.{SharedPhase}
+use Rattle.worker_threads.specs.declared.worker_pair.WorkerPair.{WorkerPair}
+use Rattle.worker_threads.specs.Parts.{IsReady}
+use Rattle.worker_threads.specs.WorkerState.{IsSharedPhase}
+
+-- the run of the verifier
+abbrev pub run_in : WorkerPair → FedRun
+run_in pair = run_of pair.inbox
+
+-- A pair whose feed is open: nothing was put in, and nothing has come out.
+pub record IsOpened (pair : WorkerPair) : Type 0 where
+  pub served : pair.thread.wanting ≡ false
+  pub empty : put_in pair.thread.outbox ≡ []
+  pub ends : AreEndsOfOne pair.thread.outbox pair.inbox
+  pub fresh : received_by pair.inbox.receiver ≡ []
+  pub room : HasRoom pair.inbox
+
+-- A pair before the phase: the worker is at its thread, and nothing has come through the lane to the verifier.
+pub record IsPairReady (terms : Terms) (table : TableId) (pair : WorkerPair) : Type 0 where
+  pub ready : IsReady terms table pair.thread
+  pub ends : AreEndsOfOne pair.thread.outbox pair.inbox
+  pub fresh : received_by pair.inbox.receiver ≡ []
+  pub room : HasRoom pair.inbox
+
+-- A pair behind it: where memory was not wanting for either, the verifier's run took just what is in the worker's log.
+abbrev pub HasFed : DigestFunctions → WorkerPair → WorkerPair → Type 0
+HasFed functions old new =
+    new.thread.wanting ≡ false → is_wanting new.inbox ≡ false
+    → Reads functions (log_text short_keys new.thread.worker.log) (run_in old) (run_in new)
+
+-- what a pair asks of its phase
+pub record CanMeet {D : Type 0} (functions : D → DigestFunctions) (shared : SharedPhase D) (pair : WorkerPair) : Type 0 where
+  pub shared_is : IsSharedPhase functions shared
+  pub ready : IsPairReady (terms functions shared.records.now) (table shared.records.now) pair

@@ -1,0 +1,56 @@
+-- The workers, hands and runs of pairs, and what all workers did at a table.
+use Rattle.std.specs.Prelude.{◌≡◌, ℕ, ◌<◌, ◌≤◌, false, List, length, map, get_or, All}
+use Rattle.record_hash.specs.Functions.{DigestFunctions}
+use Rattle.record_text.specs.Format.{short_keys}
+use Rattle.log_codec.specs.Log.{log_text}
+use Rattle.atomic_table.specs.Seated.{TableId}
+use Rattle.script_text.specs.declared.task.Task.{Task}
+use Rattle.verifier_run.specs.Progress.{weight}
+use Rattle.certified_epochs.specs.declared.fed_run.FedRun.{FedRun}
+use Rattle.host_core.specs.World.{Worker}
+use Rattle.host_rounds.specs.Feeding.{Reads}
+use Rattle.host_table.specs.declared.hand.Hand.{Hand}
+use Rattle.host_table.specs.Calls.{AreAll, IsNew, told_by}
+use Rattle.host_table.specs.Phase.{row_at}
+use Rattle.host_table.specs.Terms.{Terms, IsClockOf}
+use Rattle.verifier_feeds.specs.Feeds.{is_wanting}
+use Rattle.worker_threads.specs.declared.worker_pair.WorkerPair.{WorkerPair}
+use Rattle.worker_threads.specs.Parts.{asked_of, HasDone}
+
+abbrev pub worker_in : WorkerPair → Worker
+worker_in pair = pair.thread.worker
+
+abbrev pub hand_in : WorkerPair → Hand
+hand_in pair = pair.thread.hand
+
+-- memory was wanting neither for the worker nor for its verifier
+pub record HaveAll (pair : WorkerPair) : Type 0 where
+  pub worker : pair.thread.wanting ≡ false
+  pub verifier : is_wanting pair.inbox ≡ false
+
+-- The workers and their hands as a phase begins: a hand for each, which has done nothing, and each runs, in the table's phase.
+pub record AreToServe (terms : Terms) (table : TableId) (workers : List Worker) (hands : List Hand) : Type 0 where
+  pub all : AreAll table terms.workers hands
+  pub count : length workers ≡ terms.workers
+  pub new : All IsNew hands
+  pub running : All (λ worker. worker.stopped ≡ false) workers
+  pub clocks : All (λ worker. IsClockOf terms worker.clock) workers
+
+-- The runs of their verifiers: one for each, which was fed so many bytes at most.
+pub record AreToWatch (workers : List Worker) (bytes : ℕ) (runs : List FedRun) : Type 0 where
+  pub count : length runs ≡ length workers
+  pub few : All (λ fed. weight fed.run ≤ bytes) runs
+
+-- The same behind it: each worker has done its part of the tasks.
+pub record HaveServed (terms : Terms) (table : TableId) (tasks : List Task) (old new : List Worker) (hands : List Hand) : Type 0 where
+  pub all : AreAll table terms.workers hands
+  pub count : length new ≡ length old
+  pub parts : (i : ℕ) (d : Worker) → i < length old
+      → HasDone (asked_of i tasks) (row_at (map told_by hands) i) (get_or old i d) (get_or new i d)
+
+-- Each verifier's run took just what is in its worker's log.
+pub record HaveReadLogs (functions : DigestFunctions) (workers : List Worker) (old new : List FedRun) : Type 0 where
+  pub olds : length old ≡ length workers
+  pub news : length new ≡ length workers
+  pub each : (i : ℕ) (d : Worker) (run : FedRun) → i < length workers
+      → Reads functions (log_text short_keys (get_or workers i d).log) (get_or old i run) (get_or new i run)

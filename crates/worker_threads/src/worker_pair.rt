@@ -1,0 +1,80 @@
+//! A worker at its thread, and its verifier beside it.
+ghost use Rattle.std.specs.Prelude.{◌≡◌};
+
+use crate::shared_phase::SharedPhase;
+use crate::worker_thread::WorkerThread;
+use fv_outside::Gate;
+use record_hash::Digests;
+use std::sync::Wait;
+use std::thread::{Threads, join_mut};
+use verifier_feeds::{Inbox, settle};
+
+/// A worker at its thread, and the inbox of its verifier.
+#[derive(Drop)]
+pub struct WorkerPair {
+    pub thread: WorkerThread,
+    pub inbox: Inbox,
+}
+
+impl WorkerPair {
+    ghost use Rattle.std.specs.Prelude.{◌≡◌, [], false};
+    ghost use Rattle.record_text.specs.Format.{short_keys};
+    ghost use Rattle.log_codec.specs.Log.{log_text};
+    ghost use Rattle.host_table.specs.Table.{table, terms};
+    ghost use Rattle.host_rounds.specs.Feeding.{Reads};
+    ghost use Rattle.log_rings.specs.Lanes.{received_by};
+    ghost use Rattle.verifier_feeds.specs.Feeds.{AreEndsOfOne, HasRoom, HasRead, SameInbox, bytes_of, is_wanting, run_of};
+    ghost use Rattle.worker_threads.specs.Parts.{HasPutAll, IsThrough};
+    ghost use Rattle.worker_threads.specs.Pairs.{IsPairReady, HasFed};
+    ghost use Rattle.worker_threads.specs.WorkerState.{CanServe, IsSharedPhase};
+
+    /// The worker does its part of the phase while its verifier is fed with what it logs, each in a thread of its own where one
+    /// can be made. Then the verifier is fed the rest.
+    pub(crate) fn meet<R: Threads + Wait + Sync, D: Digests + Sync, G: Gate + Sync>(
+        &mut self,
+        rt: &R,
+        shared: &SharedPhase<'_, D>,
+        gate: &G,
+    )
+        requires shared { IsSharedPhase D.functions shared.now }
+        requires ready { IsPairReady (terms D.functions shared.now.records.now) (table shared.now.records.now) self.old }
+        ensures through { IsThrough (table shared.now.records.now) shared.now.tasks.now self.old.thread self.new.thread }
+        ensures fed { HasFed (D.functions shared.now.d.now) self.old self.new }
+    {
+        self.work_and_watch(rt, shared, gate);
+        settle(&mut self.thread.outbox, &mut self.inbox, shared.d);
+    }
+
+    // The worker does its part of the phase while its verifier watches the lane.
+    fn work_and_watch<R: Threads + Wait + Sync, D: Digests + Sync, G: Gate + Sync>(
+        &mut self,
+        rt: &R,
+        shared: &SharedPhase<'_, D>,
+        gate: &G,
+    )
+        requires shared { IsSharedPhase D.functions shared.now }
+        requires ready { IsPairReady (terms D.functions shared.now.records.now) (table shared.now.records.now) self.old }
+        ensures through { IsThrough (table shared.now.records.now) shared.now.tasks.now self.old.thread self.new.thread }
+        ensures put { HasPutAll self.old.thread self.new.thread }
+        ensures ends { AreEndsOfOne self.new.thread.outbox self.new.inbox }
+        ensures room { HasRoom self.new.inbox }
+        ensures taken { is_wanting self.new.inbox ≡ false
+            → HasRead (D.functions shared.now.d.now) (bytes_of (received_by self.new.inbox.receiver)) (run_of self.old.inbox) (run_of self.new.inbox) }
+    {
+        let number = shared.workers.saturating_add(self.thread.hand.worker());
+        let thread = &mut self.thread;
+        let inbox = &mut self.inbox;
+        let mut watch = ||
+            requires { HasRoom inbox.now × (received_by inbox.now.receiver ≡ []) }
+            ensures { HasRoom inbox.exit.now × SameInbox inbox.entry.now inbox.exit.now
+                × (is_wanting inbox.exit.now ≡ false → HasRead (D.functions shared.entry.now.d.now)
+                (bytes_of (received_by inbox.exit.now.receiver)) (run_of inbox.entry.now) (run_of inbox.exit.now)) }
+        { inbox.watch(rt, shared.d, gate, number) };
+        let mut work = ||
+            requires { CanServe D.functions shared.now thread.now }
+            ensures { IsThrough (table shared.entry.now.records.now) shared.entry.now.tasks.now thread.entry.now thread.exit.now
+                × HasPutAll thread.entry.now thread.exit.now }
+        { thread.serve_own(rt, shared, gate) };
+        join_mut(rt, &mut watch, &mut work);
+    }
+}
