@@ -1,12 +1,4 @@
--- How the laws of moves are proved, in reading order.
-pub mod CounterLaws
-pub mod RenewLaws
-mod StageLemmas
-pub mod DescentLaws
-pub mod FitLaws
-pub mod MoveLaws
-mod EventLemmas
-pub mod DeedLaws
+-- How the laws of transfers and of moves are proved, in reading order.
 pub mod CountLaws
 pub mod PlaceLaws
 pub mod VacantLaws
@@ -19,3 +11,11 @@ pub mod AboveLaws
 mod BackLemmas
 mod HotLemmas
 pub mod TransferLaws
+pub mod CounterLaws
+pub mod RenewLaws
+mod StageLemmas
+pub mod DescentLaws
+pub mod FitLaws
+pub mod MoveLaws
+mod EventLemmas
+pub mod DeedLaws
