@@ -8,7 +8,7 @@ mod FamilyLemmas
 pub mod MomentLaws
 pub mod WorksLaws
 pub mod ForkLaws
-pub mod ChainLaws
+mod ChainLaws
 mod EndLemmas
 mod VisitLemmas
 pub mod BetweenLaws

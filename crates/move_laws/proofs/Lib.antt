@@ -1,13 +1,13 @@
 -- How the laws of transfers and of moves are proved, in reading order.
-pub mod CountLaws
+mod CountLaws
 pub mod PlaceLaws
 pub mod VacantLaws
 mod WayLemmas
 mod EndLemmas
-pub mod AroundLaws
+mod AroundLaws
 mod AlongLemmas
 mod ClosedLemmas
-pub mod AboveLaws
+mod AboveLaws
 mod BackLemmas
 mod HotLemmas
 pub mod TransferLaws
