@@ -9,7 +9,7 @@ use Rattle.std.specs.Prelude.{nat_eq}
 use Rattle.lamport_clocks.specs.declared.header.Header.{Header}
 use Rattle.bundle_frames.specs.declared.found.Found.{Found}
 use Rattle.bundle_frames.specs.declared.found.Found.TheVariants.{Nothing, Head, Frame, Bad}
-use Rattle.bundle_frames.specs.Bundle.{Bundle, Frames, magic, header_bytes, header_in, head_bytes, head_length, is_head, frame_in, frame_bytes, frames_behind, frames_up_to, frames_from, bundle_of, bundle_behind}
+use Rattle.bundle_frames.specs.Bundle.{Bundle, Frames, prefix, header_bytes, header_in, head_bytes, head_length, is_head, frame_in, frame_bytes, frames_behind, frames_up_to, frames_from, bundle_of, bundle_behind}
 use Rattle.bundle_frames.specs.Bundle as bundle
 use Rattle.bundle_frames.specs.Progress.{Progress, meaning_at, rest_of, position, is_partial, is_bad, field_bytes}
 use Rattle.bundle_frames.specs.Finds.{FindsIn, FindsNothing, progress_after}
@@ -281,7 +281,7 @@ unfinished-partial None held partial =
     let short : length held < header_bytes = ltb-true _ _ partial in
     record {
       short_header = λ _. omega arith;
-      no_header = λ _. cond-false _ _ _ (and_left (leb header_bytes (length held) && starts_with nat_eq held magic) _ (and_left (leb header_bytes (length held)) _ (lt-leb _ _ short)));
+      no_header = λ _. cond-false _ _ _ (and_left (leb header_bytes (length held) && starts_with nat_eq held prefix) _ (and_left (leb header_bytes (length held)) _ (lt-leb _ _ short)));
       short_frame = λ h is. absurd (cc);
     }
 unfinished-partial (Some header) held partial =

@@ -9,7 +9,7 @@ use Rattle.lamport_clocks.specs.declared.header.Header.{Header}
 use Rattle.lamport_clocks.specs.Header.{IsHeader, is_in_range}
 use Rattle.bundle_frames.specs.declared.found.Found.{Found}
 use Rattle.bundle_frames.specs.declared.found.Found.TheVariants.{Nothing, Head, Frame, Bad}
-use Rattle.bundle_frames.specs.Bundle.{Bundle, Frames, magic, header_bytes, header_numbers, header_in, head_bytes, head_verifier, head_length, is_head, frame_in, frame_bytes, frames_behind, frames_from, bundle_of, bundle_behind, bundle_from}
+use Rattle.bundle_frames.specs.Bundle.{Bundle, Frames, prefix, header_bytes, header_numbers, header_in, head_bytes, head_verifier, head_length, is_head, frame_in, frame_bytes, frames_behind, frames_from, bundle_of, bundle_behind, bundle_from}
 use Rattle.bundle_frames.specs.Bundle as bundle
 use Rattle.bundle_frames.specs.Progress.{Progress, meaning_at, rest_of, position, is_partial, is_bad, is_boundary}
 use Rattle.bundle_frames.specs.Finds.{FindsHead, FindsFrame, FindsBad, FindsIn, progress_after, found_then}
@@ -73,15 +73,19 @@ IsFrame-from_frame_in verifiers bytes frame is =
 -- a header that is read is in its ranges
 pub IsHeader-from_header_in : (bytes : List ℕ) (header : Header) → header_in bytes ≡ Some header → IsHeader header
 IsHeader-from_header_in bytes header is =
-    let found = some_if (leb header_bytes (length bytes) && starts_with nat_eq bytes magic && is_in_range (header_numbers bytes)) _ _ is in
+    let found = some_if (leb header_bytes (length bytes) && starts_with nat_eq bytes prefix && is_in_range (header_numbers bytes)) _ _ is in
     let good : is_in_range header ≡ true = ap is_in_range (sym found.1) ∙ (and_parts _ _ found.0).1 in
     let end = and_parts _ _ good in
     let some_end = and_parts _ _ end.0 in
     let cache = and_parts _ _ some_end.0 in
     let some_cache = and_parts _ _ cache.0 in
     let verifiers = and_parts _ _ some_cache.0 in
+    let some_verifiers = and_parts _ _ verifiers.0 in
+    let version = and_parts _ _ some_verifiers.0 in
     record {
-      some_verifiers = leb-true _ _ verifiers.0;
+      some_version = leb-true _ _ version.0;
+      version = leb-true _ _ version.1;
+      some_verifiers = leb-true _ _ some_verifiers.1;
       verifiers = leb-true _ _ verifiers.1;
       some_cache = leb-true _ _ some_cache.1;
       cache = leb-true _ _ cache.1;
@@ -92,7 +96,7 @@ IsHeader-from_header_in bytes header is =
 -- a header is no shorter than a header
 pub header_in-long : (bytes : List ℕ) (header : Header) → header_in bytes ≡ Some header → header_bytes ≤ length bytes
 header_in-long bytes header is =
-    let found = some_if (leb header_bytes (length bytes) && starts_with nat_eq bytes magic && is_in_range (header_numbers bytes)) _ _ is in
+    let found = some_if (leb header_bytes (length bytes) && starts_with nat_eq bytes prefix && is_in_range (header_numbers bytes)) _ _ is in
     leb-true _ _ (and_parts _ _ (and_parts _ _ found.0).0).0
 
 none_from : {A : Type 0} (o : Option A) → is_none o ≡ true → o ≡ None

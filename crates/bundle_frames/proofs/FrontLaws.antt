@@ -1,11 +1,11 @@
 -- What the fields of a header or a frame are does not depend on the bytes behind them.
-use Rattle.std.proofs.Common.{◌≡◌, ℕ, ◌-◌, ◌≤◌, leb, true, List, ◌++◌, length, take, drop, ap, ◌∙◌, refl, arith, length-append, length-drop}
-use Rattle.std.proofs.lemmas.List.{take-append-le, drop-append-le}
+use Rattle.std.proofs.Common.{◌≡◌, ℕ, ◌-◌, ◌≤◌, ◌<◌, leb, true, List, ◌++◌, length, take, drop, ap, ◌∙◌, refl, arith, length-append, length-drop}
+use Rattle.std.proofs.lemmas.List.{take-append-le, drop-append-le, get_or_append_left}
 use Rattle.std.specs.Prelude.{nat_eq}
-use Rattle.std.specs.List.{slice_range, starts_with}
+use Rattle.std.specs.List.{slice_index, slice_range, starts_with}
 use Rattle.std.specs.Int.{w16, w32, from_be_bytes}
 use Rattle.std.proofs.lemmas.Bool.{le-leb}
-use Rattle.bundle_frames.specs.Bundle.{magic, header_bytes, header_numbers, header_in, head_bytes, head_verifier, head_length, is_head}
+use Rattle.bundle_frames.specs.Bundle.{prefix, header_bytes, header_numbers, header_in, head_bytes, head_verifier, head_length, is_head}
 
 pub slice_range-front : (a b : ℕ) (xs ys : List ℕ) → a ≤ b → b ≤ length xs → slice_range (xs ++ ys) a b ≡ slice_range xs a b
 slice_range-front a b xs ys ordered within =
@@ -13,11 +13,15 @@ slice_range-front a b xs ys ordered within =
     let size : b - a ≤ length (drop a xs) = omega (arith, length-drop a xs) in
     ap (take (b - a)) (drop-append-le a xs ys start) ∙ take-append-le (b - a) (drop a xs) ys size
 
-starts_with-front : (xs ys : List ℕ) → 4 ≤ length xs → starts_with nat_eq (xs ++ ys) magic ≡ starts_with nat_eq xs magic
-starts_with-front xs ys long = rw (take-append-le 4 xs ys long) refl
+starts_with-front : (xs ys : List ℕ) → 3 ≤ length xs → starts_with nat_eq (xs ++ ys) prefix ≡ starts_with nat_eq xs prefix
+starts_with-front xs ys long = rw (take-append-le 3 xs ys long) refl
+
+slice_index-front : (i : ℕ) (xs ys : List ℕ) → i < length xs → slice_index (xs ++ ys) i ≡ slice_index xs i
+slice_index-front i xs ys within = get_or_append_left xs ys 0 i within
 
 pub header_numbers-front : (xs ys : List ℕ) → header_bytes ≤ length xs → header_numbers (xs ++ ys) ≡ header_numbers xs
 header_numbers-front xs ys long =
+    let e0 = slice_index-front 3 xs ys (omega arith) in
     let e1 = slice_range-front 4 6 xs ys (omega arith) (omega arith) in
     let e2 = slice_range-front 6 10 xs ys (omega arith) (omega arith) in
     let e3 = slice_range-front 10 14 xs ys (omega arith) (omega arith) in

@@ -115,6 +115,11 @@ frame_further old new front verifier after =
 
 -- ---- the end of a source
 
+-- what holds of any bytes holds of those that are left
+pub some_all : (P : List ℕ → Type 0) (x : Option (List ℕ)) → ((left : List ℕ) → P left) → IfSome x P
+some_all P None holds = tt
+some_all P (Some left) holds = holds left
+
 pub ahead_at_end : (p : Progress) (unread : List ℕ) (x : Option (List ℕ)) → IsAtEnd x → IfSome x (λ left. rest_of p (unread ++ left) ≡ rest_of p (unread ++ []))
 ahead_at_end p unread None ends = tt
 ahead_at_end p unread (Some bytes) ends = ap (λ (left : List ℕ). rest_of p (unread ++ left)) ends

@@ -1,17 +1,17 @@
 -- What is read as a header or as a frame is spelled by its text.
-use Rattle.std.proofs.Common.{◌≡◌, ℕ, ◌+◌, ◌<◌, ◌≤◌, leb, ◌&&◌, List, ◌++◌, length, get_or, take, drop, Some, sym, ap, ◌∙◌, refl, arith, inl, inr, length-drop, length-take}
+use Rattle.std.proofs.Common.{◌≡◌, ℕ, ◌+◌, ◌%◌, ◌<◌, ◌≤◌, leb, ◌&&◌, List, [], ◌∷◌, ◌++◌, length, get_or, take, drop, Some, sym, ap, subst, ◌∙◌, refl, arith, inl, inr, length-drop, length-take}
 use Rattle.std.proofs.Math.Seq.{take-add}
 use Rattle.std.proofs.lemmas.Bool.{and_parts, cases_lt, leb-true}
 use Rattle.std.proofs.lemmas.List.{length-take-le, get_or-drop, get_or-take, get_or_past}
 use Rattle.std.proofs.lemmas.Nat.{be_bytes_2, be_bytes_4}
 use Rattle.std.proofs.lemmas.Slice.Eq.{bytes_eq-Decides}
 use Rattle.std.specs.Prelude.{nat_eq, All}
-use Rattle.std.specs.Int.{w16, w32, to_be_bytes, from_be_bytes}
+use Rattle.std.specs.Int.{w8, w16, w32, to_be_bytes, from_be_bytes}
 use Rattle.std.specs.List.{starts_with}
 use Rattle.lamport_clocks.specs.declared.header.Header.{Header}
 use Rattle.lamport_clocks.specs.Header.{is_in_range}
-use Rattle.bundle_frames.specs.Bundle.{Frame, magic, header_bytes, header_text, header_numbers, header_in, head_bytes, head_length, frame_text, frame_in, frame_bytes}
-use Rattle.bundle_frames.proofs.FindsLaws.{some_if, IsFrameOf-from_frame_in}
+use Rattle.bundle_frames.specs.Bundle.{Frame, prefix, digit_zero, header_bytes, header_text, header_numbers, header_in, head_bytes, head_length, frame_text, frame_in, frame_bytes}
+use Rattle.bundle_frames.proofs.FindsLaws.{some_if, IsHeader-from_header_in, IsFrameOf-from_frame_in}
 
 abbrev AreBytes : List ℕ → Type 0
 AreBytes bytes = (i : ℕ) → get_or bytes i 0 < 256
@@ -48,22 +48,39 @@ joined : (bytes front text : List ℕ) (at n : ℕ) → take at bytes ≡ front 
 joined bytes front text at n first second =
     take-add at n bytes ∙ (ap (λ (xs : List ℕ). xs ++ take n (drop at bytes)) first ∙ ap (λ (xs : List ℕ). front ++ xs) second)
 
-numbers_spelled : (bytes : List ℕ) → AreBytes bytes → header_bytes ≤ length bytes → take 4 bytes ≡ magic → take header_bytes bytes ≡ header_text (header_numbers bytes)
-numbers_spelled bytes fits there is =
+one_byte : (xs : List ℕ) → length xs ≡ 1 → xs ≡ get_or xs 0 0 ∷ []
+one_byte [] is = absurd (omega arith)
+one_byte (x ∷ []) is = refl
+one_byte (x ∷ y ∷ ys) is = absurd (omega arith)
+
+-- so is a version by its digit, where that is above `0`
+digit_spelled : (bytes : List ℕ) → AreBytes bytes → header_bytes ≤ length bytes → 1 ≤ (header_numbers bytes).version
+    → take 1 (drop 3 bytes) ≡ to_be_bytes w8 (digit_zero + (header_numbers bytes).version)
+digit_spelled bytes fits there some =
+    let small = fits 3 in
+    let digit : get_or (take 1 (drop 3 bytes)) 0 0 ≡ get_or bytes 3 0 = get_or-take 1 (drop 3 bytes) 0 0 (omega arith) ∙ get_or-drop 3 bytes 0 0 in
+    let is : get_or bytes 3 0 ≡ (digit_zero + (header_numbers bytes).version) % 256 = omega arith in
+    one_byte (take 1 (drop 3 bytes)) (length-run 3 1 bytes (omega arith)) ∙ ap (λ (x : ℕ). x ∷ []) (digit ∙ is)
+
+numbers_spelled : (bytes : List ℕ) → AreBytes bytes → header_bytes ≤ length bytes → take 3 bytes ≡ prefix → 1 ≤ (header_numbers bytes).version
+    → take header_bytes bytes ≡ header_text (header_numbers bytes)
+numbers_spelled bytes fits there is some =
     joined bytes _ _ 14 4
     (joined bytes _ _ 10 4
     (joined bytes _ _ 6 4
-    (joined bytes _ _ 4 2 is (two_spelled 4 bytes fits (omega arith)))
+    (joined bytes _ _ 4 2 (joined bytes _ _ 3 1 is (digit_spelled bytes fits there some)) (two_spelled 4 bytes fits (omega arith)))
     (four_spelled 6 bytes fits (omega arith)))
     (four_spelled 10 bytes fits (omega arith)))
     (four_spelled 14 bytes fits (omega arith))
 
 pub header_spelled : (bytes : List ℕ) (header : Header) → All (λ byte. byte < 256) bytes → header_in bytes ≡ Some header → take header_bytes bytes ≡ header_text header
 header_spelled bytes header fits is =
-    let found = some_if (leb header_bytes (length bytes) && starts_with nat_eq bytes magic && is_in_range (header_numbers bytes)) _ _ is in
+    let found = some_if (leb header_bytes (length bytes) && starts_with nat_eq bytes prefix && is_in_range (header_numbers bytes)) _ _ is in
     let front = and_parts _ _ (and_parts _ _ found.0).0 in
-    let begins : take 4 bytes ≡ magic = sym ((bytes_eq-Decides magic (take 4 bytes)).0 front.1) in
-    numbers_spelled bytes (AreBytes-from_all bytes fits) (leb-true _ _ front.0) begins ∙ ap header_text found.1
+    let begins : take 3 bytes ≡ prefix = sym ((bytes_eq-Decides prefix (take 3 bytes)).0 front.1) in
+    let good = IsHeader-from_header_in bytes header is in
+    let some = subst (λ (h : Header). 1 ≤ h.version) (sym found.1) good.some_version in
+    numbers_spelled bytes (AreBytes-from_all bytes fits) (leb-true _ _ front.0) begins some ∙ ap header_text found.1
 
 pub frame_spelled : (verifiers : ℕ) (bytes : List ℕ) (frame : Frame) → All (λ byte. byte < 256) bytes → frame_in verifiers bytes ≡ Some frame
     → take (frame_bytes frame) bytes ≡ frame_text frame.verifier frame.body

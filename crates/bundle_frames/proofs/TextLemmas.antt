@@ -1,20 +1,20 @@
 -- What is written is read back.
-use Rattle.std.proofs.Common.{◌≡◌, ℕ, ◌+◌, ◌^◌, ◌≤◌, ◌<◌, leb, ltb, ◌&&◌, true, List, [], ◌∷◌, ◌++◌, length, take, drop, Some, None, sym, ap, ◌∙◌, refl, arith, length-append}
+use Rattle.std.proofs.Common.{◌≡◌, ℕ, ◌+◌, ◌-◌, ◌%◌, ◌^◌, ◌≤◌, ◌<◌, leb, ltb, ◌&&◌, true, List, [], ◌∷◌, ◌++◌, length, take, drop, Some, None, sym, ap, ◌∙◌, refl, arith, length-append}
 use Rattle.std.proofs.Math.Seq.{take-append_seam, drop-append_seam}
 use Rattle.std.proofs.lemmas.Nat.{from_be_bytes-to_be_bytes_2, from_be_bytes-to_be_bytes_4}
 use Rattle.std.proofs.lemmas.Bool.{cond-true, and_from, le-leb, lt-ltb}
 use Rattle.std.specs.Prelude.{nat_eq}
-use Rattle.std.specs.Int.{w32, to_be_bytes, from_be_bytes}
+use Rattle.std.specs.Int.{w16, w32, to_be_bytes, from_be_bytes}
 use Rattle.std.specs.List.{starts_with, flat_map, AllByRecursion}
 use Rattle.lamport_clocks.specs.declared.header.Header.{Header}
 use Rattle.lamport_clocks.specs.Header.{IsHeader, is_in_range}
-use Rattle.bundle_frames.specs.Bundle.{magic, header_bytes, header_text, header_numbers, header_in, head_verifier, head_length, longest_body, frame_text, frame_in, Frame, Frames, Bundle, IsFrame, frame_bytes, frames_behind, with_frame, frames_from, bundle_of, bundle_behind, bundle_text}
+use Rattle.bundle_frames.specs.Bundle.{prefix, digit_zero, header_bytes, header_text, header_numbers, header_in, head_verifier, head_length, longest_body, frame_text, frame_in, Frame, Frames, Bundle, IsFrame, frame_bytes, frames_behind, with_frame, frames_from, bundle_of, bundle_behind, bundle_text}
 use Rattle.bundle_frames.proofs.FrontLaws.{header_in-front}
 use Rattle.bundle_frames.proofs.BundleLaws.{frames_from-empty, frames_from-first}
 use Rattle.bundle_frames.proofs.PartLaws.{frame_in-whole, is_head-from}
 
-abbrev numbers : ℕ → ℕ → ℕ → ℕ → Header
-numbers v c f e = record { verifiers = v; cache = c; first = f; end = e }
+abbrev numbers : ℕ → ℕ → ℕ → ℕ → ℕ → Header
+numbers n v c f e = record { version = n; verifiers = v; cache = c; first = f; end = e }
 
 -- a number of four bytes, written and read
 abbrev read : ℕ → ℕ
@@ -23,7 +23,8 @@ read n = from_be_bytes w32 (to_be_bytes w32 n)
 -- the test of the ranges passes in the ranges
 pub is_in_range-true : (header : Header) → IsHeader header → is_in_range header ≡ true
 is_in_range-true h ok =
-    and_from _ _ (and_from _ _ (and_from _ _ (and_from _ _ (and_from _ _ (le-leb _ _ ok.some_verifiers) (le-leb _ _ ok.verifiers))
+    and_from _ _ (and_from _ _ (and_from _ _ (and_from _ _ (and_from _ _ (and_from _ _ (and_from _ _ (le-leb _ _ ok.some_version) (le-leb _ _ ok.version))
+    (le-leb _ _ ok.some_verifiers)) (le-leb _ _ ok.verifiers))
     (le-leb _ _ ok.some_cache)) (le-leb _ _ ok.cache)) (le-leb _ _ ok.some_end)) (le-leb _ _ ok.end)
 
 header_numbers-text : (header : Header) → IsHeader header → header.first < 2 ^ 32 → header_numbers (header_text header) ≡ header
@@ -31,18 +32,22 @@ header_numbers-text h ok first =
     let bound = ok.verifiers in
     let bound' = ok.cache in
     let bound'' = ok.end in
+    let bound''' = ok.version in
+    let n : (digit_zero + h.version) % 256 - digit_zero ≡ h.version = omega arith in
     let v = from_be_bytes-to_be_bytes_2 h.verifiers (omega arith) in
     let c = from_be_bytes-to_be_bytes_4 h.cache (omega arith) in
     let f = from_be_bytes-to_be_bytes_4 h.first (omega arith) in
     let e = from_be_bytes-to_be_bytes_4 h.end (omega arith) in
-    ap (λ x. numbers x (read h.cache) (read h.first) (read h.end)) v ∙ ap (λ x. numbers h.verifiers x (read h.first) (read h.end)) c
-    ∙ ap (λ x. numbers h.verifiers h.cache x (read h.end)) f ∙ ap (numbers h.verifiers h.cache h.first) e
+    ap (λ x. numbers x (from_be_bytes w16 (to_be_bytes w16 h.verifiers)) (read h.cache) (read h.first) (read h.end)) n
+    ∙ ap (λ x. numbers h.version x (read h.cache) (read h.first) (read h.end)) v
+    ∙ ap (λ x. numbers h.version h.verifiers x (read h.first) (read h.end)) c
+    ∙ ap (λ x. numbers h.version h.verifiers h.cache x (read h.end)) f ∙ ap (numbers h.version h.verifiers h.cache h.first) e
 
 pub header_in-text : (header : Header) (more : List ℕ) → IsHeader header → header.first < 2 ^ 32 → header_in (header_text header ++ more) ≡ Some header
 header_in-text header more ok first =
     let text = header_text header in
     let numbers_are = header_numbers-text header ok first in
-    let tests = and_from (leb header_bytes (length text) && starts_with nat_eq text magic) _ (and_from (leb header_bytes (length text)) _ refl refl) (ap is_in_range numbers_are ∙ is_in_range-true header ok) in
+    let tests = and_from (leb header_bytes (length text) && starts_with nat_eq text prefix) _ (and_from (leb header_bytes (length text)) _ refl refl) (ap is_in_range numbers_are ∙ is_in_range-true header ok) in
     header_in-front text more (omega arith) ∙ cond-true _ _ _ tests ∙ ap Some numbers_are
 
 pub frame_in-text : (verifiers verifier : ℕ) (body more : List ℕ) → verifier < verifiers → verifier < 2 ^ 16 → 1 ≤ length body → length body ≤ longest_body

@@ -1,36 +1,41 @@
 -- What bytes mean as a bundle: a header and then frames, each of which is a piece of one verifier's log.
 -- All numbers are big-endian.
-use Rattle.std.specs.Prelude.{ℕ, ◌<◌, ◌≤◌, zero, suc, ◌+◌, ◌==◌, ◌&&◌, nat_le, nat_lt, nat_eq, List, [], ◌∷◌, ◌++◌, length, take, drop, slice_range, Option, Some, None, if◌then◌else◌, Bool, codes}
-use Rattle.std.specs.Int.{w16, w32, to_be_bytes, from_be_bytes}
+use Rattle.std.specs.Prelude.{ℕ, ◌<◌, ◌≤◌, zero, suc, ◌+◌, ◌-◌, ◌==◌, ◌&&◌, nat_le, nat_lt, nat_eq, List, [], ◌∷◌, ◌++◌, length, take, drop, slice_index, slice_range, Option, Some, None, if◌then◌else◌, Bool, codes}
+use Rattle.std.specs.Int.{w8, w16, w32, to_be_bytes, from_be_bytes}
 use Rattle.std.specs.List.{starts_with, flat_map}
 use Rattle.lamport_clocks.specs.declared.header.Header.{Header}
 use Rattle.lamport_clocks.specs.Header.{is_in_range}
 
--- a bundle begins with these four bytes
-abbrev pub magic : List ℕ
-magic = codes "FVB1"
+-- a bundle begins with these three bytes
+abbrev pub prefix : List ℕ
+prefix = codes "FVB"
+
+-- and a fourth, the digit of its version: version 1 has the byte of `1`, which is 49
+abbrev pub digit_zero : ℕ
+digit_zero = 48
 
 -- the bytes of a header
 abbrev pub header_bytes : ℕ
 header_bytes = 18
 
--- the magic, the number of verifiers, the cache, the first epoch and the counter's end
+-- the prefix, the version's digit, the number of verifiers, the cache, the first epoch and the counter's end
 abbrev pub header_text : Header → List ℕ
-header_text header = magic ++ to_be_bytes w16 header.verifiers ++ to_be_bytes w32 header.cache ++ to_be_bytes w32 header.first ++ to_be_bytes w32 header.end
+header_text header = prefix ++ to_be_bytes w8 (digit_zero + header.version) ++ to_be_bytes w16 header.verifiers ++ to_be_bytes w32 header.cache ++ to_be_bytes w32 header.first ++ to_be_bytes w32 header.end
 
 -- the numbers that 18 bytes spell
 abbrev pub header_numbers : List ℕ → Header
 header_numbers bytes = record {
+  version = slice_index bytes 3 - digit_zero;
   verifiers = from_be_bytes w16 (slice_range bytes 4 6);
   cache = from_be_bytes w32 (slice_range bytes 6 10);
   first = from_be_bytes w32 (slice_range bytes 10 14);
   end = from_be_bytes w32 (slice_range bytes 14 18);
 }
 
--- a header: all 18 bytes are there, the magic first, and each number is in its range
+-- a header: all 18 bytes are there, the prefix first, and each number is in its range
 abbrev pub header_in : List ℕ → Option Header
 header_in bytes =
-    if nat_le header_bytes (length bytes) && starts_with nat_eq bytes magic && is_in_range (header_numbers bytes)
+    if nat_le header_bytes (length bytes) && starts_with nat_eq bytes prefix && is_in_range (header_numbers bytes)
     then Some (header_numbers bytes)
     else None
 

@@ -18,19 +18,20 @@ pub fn header_at(bytes: &[u8]) -> Option<Header>
     ensures value { result ≡ header_in bytes.now }
 {
     let header = numbers_at(bytes);
-    if bytes.starts_with(b"FVB1") && header.is_in_range() {
+    if bytes.starts_with(b"FVB") && header.is_in_range() {
         Some(header)
     } else {
         None
     }
 }
 
-// The numbers behind the magic of a header.
+// The numbers behind the prefix of a header. A byte below that of `0` gives version 0, which is none.
 fn numbers_at(bytes: &[u8]) -> Header
     requires whole { length bytes.now ≡ header_bytes }
     ensures value { result ≡ header_numbers bytes.now }
 {
     Header {
+        version: bytes[3].saturating_sub(b'0'),
         verifiers: number_of_two(&bytes[4..6]),
         cache: number_of_four(&bytes[6..10]),
         first: number_of_four(&bytes[10..14]),

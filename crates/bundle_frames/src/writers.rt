@@ -48,7 +48,7 @@ fn spell_header(h: &Header) -> [u8; HEADER_BYTES]
         b'F',
         b'V',
         b'B',
-        b'1',
+        b'0'.wrapping_add(h.version),
         verifiers[0],
         verifiers[1],
         cache[0],

@@ -21,12 +21,7 @@ const HEADER_BYTES: usize = 18;
 const LONGEST_BODY: usize = 65_536;
 
 // The header where rows name none of its numbers.
-const PLAIN_HEADER: Header = Header {
-    verifiers: 1,
-    cache: 4,
-    first: 0,
-    end: 16_777_215,
-};
+const PLAIN_HEADER: Header = Header::by_path(1, 4, 0, 16_777_215);
 
 /// The bytes of the bundle that these rows spell: a header, and frames of at most 2^20 bytes together.
 pub fn bundle_of(alloc: Global, rows: &str) -> Result<Vec<u8>, RowFault<'_>> {

@@ -13,6 +13,8 @@ some_touches (Some least) most holds = omega (arith, holds.0)
 pub settings_in_range : (numbers : HostNumbers) → AreHostNumbers numbers → IsSettings (settings_for numbers)
 settings_in_range numbers are = record {
   header = record {
+    some_version = omega arith;
+    version = omega arith;
     some_verifiers = are.some_verifiers;
     verifiers = omega (arith, are.verifiers);
     some_cache = omega arith;

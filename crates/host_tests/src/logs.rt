@@ -25,12 +25,7 @@ const SETUP: &str = "
 08
 ";
 
-const SETUP_HEADER: Header = Header {
-    verifiers: 1,
-    cache: 128,
-    first: 0,
-    end: 16_777_215,
-};
+const SETUP_HEADER: Header = Header::by_path(1, 128, 0, 16_777_215);
 
 // Its commands: those of the first round, and those of the last close.
 const FIRST_ROUND: &str = "

@@ -309,12 +309,7 @@ pub(crate) fn header() -> Header
     ensures header { IsHeader result }
     ensures one { result.verifiers ≡ 1 }
 {
-    Header {
-        verifiers: 1,
-        cache: 128,
-        first: 0,
-        end: 16_777_215,
-    }
+    Header::by_path(1, 128, 0, 16_777_215)
 }
 
 // A hot record of key 5.

@@ -9,12 +9,7 @@ use tree_keys::Path;
 
 // A header of one verifier whose counters end here.
 const fn header(end: u32) -> Header {
-    Header {
-        verifiers: 1,
-        cache: 128,
-        first: 0,
-        end,
-    }
+    Header::by_path(1, 128, 0, end)
 }
 
 // The bytes that a host of two shards logs first, written out by hand from the table of tags and fields.

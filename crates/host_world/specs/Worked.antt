@@ -1,6 +1,7 @@
 -- Logs that are worked out: what a host of two shards logs for small scripts.
 use Rattle.std.specs.Prelude.{ℕ, Bool, true, false, List, [], ◌∷◌, ◌++◌, Option, Some, None}
 use Rattle.lamport_clocks.specs.declared.stamp.Stamp.{Stamp}
+use Rattle.lamport_clocks.specs.Header.{header_by_path}
 use Rattle.record_hash.specs.Functions.{DigestFunctions}
 use Rattle.record_text.specs.declared.request.Request.{Request}
 use Rattle.record_text.specs.declared.value.Value.{Value}
@@ -21,7 +22,7 @@ use Rattle.host_world.specs.ShippedHost.{shipped_host}
 
 -- so many workers, whose counters end there, and two shards
 abbrev pub two_shards : ℕ → ℕ → Settings
-two_shards workers end = record { header = record { verifiers = workers; cache = 128; first = 0; end = end }; shards = 2; hot = None }
+two_shards workers end = record { header = header_by_path workers 128 0 end; shards = 2; hot = None }
 
 -- where counters end at most
 abbrev pub most : ℕ
@@ -202,4 +203,4 @@ ended_at epoch counter = Some (record { worker = 0; at = stamp epoch counter })
 
 -- one worker and two shards, where the first epoch is the last that there is
 abbrev pub in_last_epoch : Settings
-in_last_epoch = record { header = record { verifiers = 1; cache = 128; first = 4294967295; end = most }; shards = 2; hot = None }
+in_last_epoch = record { header = header_by_path 1 128 4294967295 most; shards = 2; hot = None }

@@ -1,5 +1,6 @@
 -- More logs that are worked out: workers at two shards, a key that is deleted, keys that part at their last bit, four shards.
 use Rattle.std.specs.Prelude.{ℕ, ◌+◌, Bool, true, false, List, [], ◌∷◌, ◌++◌, replicate, Option, Some, None}
+use Rattle.lamport_clocks.specs.Header.{header_by_path}
 use Rattle.record_hash.specs.Functions.{DigestFunctions}
 use Rattle.record_text.specs.declared.request.Request.{Request}
 use Rattle.record_text.specs.declared.value.Value.{Value}
@@ -148,7 +149,7 @@ parted_log functions =
 
 -- one worker, whose counters end at most, and four shards
 abbrev pub four_shards : Settings
-four_shards = record { header = record { verifiers = 1; cache = 128; first = 0; end = most }; shards = 4; hot = None }
+four_shards = record { header = header_by_path 1 128 0 most; shards = 4; hot = None }
 
 -- a frontier of two bits, and what is logged as it is set up
 abbrev pub at : Bool → Bool → List Bool

@@ -1,9 +1,15 @@
 -- The ranges of the numbers that a bundle begins with.
-use Rattle.std.specs.Prelude.{◌≤◌, nat_le, ◌&&◌, Bool}
+use Rattle.std.specs.Prelude.{ℕ, ◌≤◌, nat_le, ◌&&◌, Bool}
 use Rattle.lamport_clocks.specs.declared.header.Header.{Header}
 
--- each number is in its range: 1 to 64 verifiers, 4 to 65,536 entries, counters that end at 1 to 16,777,215
+-- the last version of the format: there is one so far
+abbrev pub last_version : ℕ
+last_version = 1
+
+-- each number is in its range: a version that there is, 1 to 64 verifiers, 4 to 65,536 entries, counters that end at 1 to 16,777,215
 pub record IsHeader (h : Header) : Type 0 where
+  pub some_version : 1 ≤ h.version
+  pub version : h.version ≤ last_version
   pub some_verifiers : 1 ≤ h.verifiers
   pub verifiers : h.verifiers ≤ 64
   pub some_cache : 4 ≤ h.cache
@@ -13,6 +19,11 @@ pub record IsHeader (h : Header) : Type 0 where
 
 -- the same as a test
 abbrev pub is_in_range : Header → Bool
-is_in_range h = nat_le 1 h.verifiers && nat_le h.verifiers 64
+is_in_range h = nat_le 1 h.version && nat_le h.version last_version
+    && nat_le 1 h.verifiers && nat_le h.verifiers 64
     && nat_le 4 h.cache && nat_le h.cache 65536
     && nat_le 1 h.end && nat_le h.end 16777215
+
+-- the header of a bundle of version 1, whose commands name paths: verifiers, cache, first epoch, the counters' end
+abbrev pub header_by_path : ℕ → ℕ → ℕ → ℕ → Header
+header_by_path verifiers cache first end = record { version = 1; verifiers = verifiers; cache = cache; first = first; end = end }

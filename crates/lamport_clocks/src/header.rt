@@ -1,6 +1,10 @@
 //! The numbers of a bundle's header, and their ranges.
 ghost use Rattle.std.specs.Prelude.{◌≡◌, ◌↔◌, IsTrue};
 
+// The first version of the format.
+const FIRST_VERSION: u8 = 1;
+// The last version of the format that is read and written.
+const LAST_VERSION: u8 = 1;
 // The fewest verifiers of a bundle.
 const LEAST_VERIFIERS: u16 = 1;
 // The most verifiers of a bundle.
@@ -18,6 +22,8 @@ const MOST_END: u32 = 16_777_215;
 /// The numbers that a bundle begins with. They hold for each of its verifiers.
 #[derive(Clone, Copy, Debug, PartialEq, Eq)]
 pub struct Header {
+    /// The version of the format: in version 1 commands name paths.
+    pub version: u8,
     /// How many verifiers there are; they are numbered from 0.
     pub verifiers: u16,
     /// How many entries the cache of one verifier may hold.
@@ -29,14 +35,29 @@ pub struct Header {
 }
 
 impl Header {
-    ghost use Rattle.lamport_clocks.specs.Header.{IsHeader, is_in_range};
+    ghost use Rattle.lamport_clocks.specs.Header.{IsHeader, is_in_range, header_by_path};
+
+    /// The header of a bundle of version 1, whose commands name paths.
+    pub const fn by_path(verifiers: u16, cache: u32, first: u32, end: u32) -> Header
+        ensures value { result ≡ header_by_path verifiers cache first end }
+    {
+        Header {
+            version: FIRST_VERSION,
+            verifiers,
+            cache,
+            first,
+            end,
+        }
+    }
 
     /// Whether each number is in its range.
     pub fn is_in_range(&self) -> bool
         ensures value { result ≡ is_in_range self.now }
         ensures ranges { IsTrue result ↔ IsHeader self.now }
     {
-        LEAST_VERIFIERS <= self.verifiers
+        FIRST_VERSION <= self.version
+            && self.version <= LAST_VERSION
+            && LEAST_VERIFIERS <= self.verifiers
             && self.verifiers <= MOST_VERIFIERS
             && LEAST_CACHE <= self.cache
             && self.cache <= MOST_CACHE

@@ -170,26 +170,30 @@ fn counters_may_end_at_the_last_number(rt: HostRuntime) {
     );
 }
 
-// Verifiers, cache, end, whether it is a header.
+// Version, verifiers, cache, end, whether it is a header.
 const HEADERS: &str = "
-1 | 4 | 1 | true
-64 | 65536 | 16777215 | true
-0 | 4 | 1 | false
-65 | 4 | 1 | false
-1 | 3 | 1 | false
-1 | 65537 | 1 | false
-1 | 4 | 0 | false
-1 | 4 | 16777216 | false
+1 | 1 | 4 | 1 | true
+1 | 64 | 65536 | 16777215 | true
+0 | 1 | 4 | 1 | false
+2 | 1 | 4 | 1 | false
+1 | 0 | 4 | 1 | false
+1 | 65 | 4 | 1 | false
+1 | 1 | 3 | 1 | false
+1 | 1 | 65537 | 1 | false
+1 | 1 | 4 | 0 | false
+1 | 1 | 4 | 16777216 | false
 ";
 
 #[test]
 fn headers_have_ranges(rt: HostRuntime) {
     for row in HEADERS.trim().lines() {
-        let verifiers = field(&rt, row, 0);
-        let cache = field(&rt, row, 1);
-        let end = field(&rt, row, 2);
-        let want = field(&rt, row, 3);
+        let version = field(&rt, row, 0);
+        let verifiers = field(&rt, row, 1);
+        let cache = field(&rt, row, 2);
+        let end = field(&rt, row, 3);
+        let want = field(&rt, row, 4);
         let header = Header {
+            version: version.parse().expect(&rt, "a number"),
             verifiers: verifiers.parse().expect(&rt, "a number"),
             cache: cache.parse().expect(&rt, "a number"),
             first: LAST,

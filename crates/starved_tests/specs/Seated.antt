@@ -1,6 +1,7 @@
 -- A table of one place for one worker.
 use Rattle.std.specs.Prelude.{◌≡◌, ℕ, ◌≤◌, List, [], ◌∷◌, Some, None}
 use Rattle.lamport_clocks.specs.declared.header.Header.{Header}
+use Rattle.lamport_clocks.specs.Header.{header_by_path}
 use Rattle.lamport_clocks.specs.Reading.{Reading}
 use Rattle.record_text.specs.declared.element.Element.{Element}
 use Rattle.record_text.specs.Format.{short_keys}
@@ -16,7 +17,7 @@ use Rattle.host_table.specs.Told.{TakesUp}
 
 -- the numbers of the table's bundle
 abbrev pub table_header : Header
-table_header = record { verifiers = 1; cache = 128; first = 0; end = 16777215 }
+table_header = header_by_path 1 128 0 16777215
 
 -- the content waits with an element of epoch 0 that verifier 0 evicted
 pub record IsWaiting (content : Content) : Type 0 where

@@ -33,12 +33,7 @@ pub fn attempt(alloc: Global) -> Result<Outcome, Fault> {
 fn header() -> Header
     ensures value { result ≡ table_header }
 {
-    Header {
-        verifiers: 1,
-        cache: 128,
-        first: 0,
-        end: END,
-    }
+    Header::by_path(1, 128, 0, END)
 }
 
 // The shard with a record, if a table may be made of it in which key 1 is put.

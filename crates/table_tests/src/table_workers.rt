@@ -4,6 +4,7 @@ ghost use Rattle.host_table.specs.Table.{table, terms};
 ghost use Rattle.host_table.specs.Calls.{AreAll, IsNew};
 ghost use Rattle.host_table.specs.Terms.{IsClockOf, place_count};
 ghost use Rattle.lamport_clocks.specs.Clock.{opening_reading};
+ghost use Rattle.lamport_clocks.specs.Header.{header_by_path};
 ghost use Rattle.table_tests.specs.Ready.{AreReady};
 ghost use Rattle.table_tests.specs.Turns.{AreTurns, CanPass, CanWork, IsAtStart, Works, hand_of};
 
@@ -49,14 +50,9 @@ pub fn set_up<D: Digests>(
 
 // The numbers of the tests' bundle, whose counters end here.
 fn header(end: u32) -> Header
-    ensures value { result ≡ record { verifiers = 64; cache = 128; first = 1; end = end } }
+    ensures value { result ≡ header_by_path 64 128 1 end }
 {
-    Header {
-        verifiers: 64,
-        cache: 128,
-        first: 1,
-        end,
-    }
+    Header::by_path(64, 128, 1, end)
 }
 
 // The workers with these hands, each with a clock at its start.

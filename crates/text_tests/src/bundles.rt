@@ -41,12 +41,7 @@ const ONE_KEY: &str = "
 08
 ";
 
-const ONE_KEY_HEADER: Header = Header {
-    verifiers: 1,
-    cache: 4,
-    first: 0,
-    end: 16_777_215,
-};
+const ONE_KEY_HEADER: Header = Header::by_path(1, 4, 0, 16_777_215);
 
 // The bytes in pieces of a size.
 fn cut(alloc: Global, bytes: &[u8], size: usize) -> Result<Vec<Vec<u8>>, Memory>
@@ -97,12 +92,7 @@ fn assert_read(rt: &impl Abort, bundle: &WholeBundle, header: Header, frames: us
     same(rt, "bundle.frames.len()", &bundle.frames.len(), &frames);
 }
 
-const SETUP_HEADER: Header = Header {
-    verifiers: 1,
-    cache: 128,
-    first: 0,
-    end: 16_777_215,
-};
+const SETUP_HEADER: Header = Header::by_path(1, 128, 0, 16_777_215);
 
 // The bundle of the setup in pieces of a size.
 fn assert_setup(rt: &impl Abort, alloc: Global, bytes: &[u8], size: usize)
@@ -174,7 +164,11 @@ const BAD_HEADERS: &str = "
 46564231 0001 00010001 00000000 00000001 | a cache of 65,537
 46564231 0001 00000004 00000000 00000000 | an end of 0
 46564231 0001 00000004 00000000 01000000 | an end of 16,777,216
-46564232 0001 00000004 00000000 00000001 | another magic
+46564230 0001 00000004 00000000 00000001 | version 0
+46564232 0001 00000004 00000000 00000001 | version 2
+4656422f 0001 00000004 00000000 00000001 | no digit
+46564201 0001 00000004 00000000 00000001 | a version that is no digit
+46564331 0001 00000004 00000000 00000001 | another prefix
 ";
 
 // An answer that is bad at this offset, once so many bytes were taken.
@@ -210,12 +204,12 @@ const GOOD_HEADERS: &str = "
 
 // The header of a row.
 fn header_of(rt: &impl Abort, row: &str) -> Header {
-    Header {
-        verifiers: number(rt, row, 1),
-        cache: number(rt, row, 2),
-        first: number(rt, row, 3),
-        end: number(rt, row, 4),
-    }
+    Header::by_path(
+        number(rt, row, 1),
+        number(rt, row, 2),
+        number(rt, row, 3),
+        number(rt, row, 4),
+    )
 }
 
 #[test]

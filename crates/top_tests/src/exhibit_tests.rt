@@ -42,12 +42,7 @@ next
 
 // What an audit of this log of one verifier shows over so many epochs.
 fn audited(rt: &impl Abort, alloc: Global, rows: &str, epochs: u64) -> Exhibit {
-    let header = Header {
-        verifiers: 1,
-        cache: 4,
-        first: 0,
-        end: 0xff_ffff,
-    };
+    let header = Header::by_path(1, 4, 0, 0xff_ffff);
     let logs = vec![in alloc; log_of(alloc, rows).expect(rt, "memory")].expect(rt, "memory");
     audit(alloc, &ToyDigests, &header, &logs, epochs).expect(rt, "memory")
 }

@@ -16,12 +16,7 @@ fn header() -> Header
     ensures header { IsHeader result }
     ensures one { result.verifiers ≡ 1 }
 {
-    Header {
-        verifiers: 1,
-        cache: 128,
-        first: 0,
-        end: 16777215,
-    }
+    Header::by_path(1, 128, 0, 16_777_215)
 }
 
 // A record is added, put, evicted, added again and got, and the next epoch begins twice.

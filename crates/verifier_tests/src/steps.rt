@@ -18,12 +18,7 @@ fn opened(rt: &impl Abort, alloc: Global, number: u16, first: u32) -> Verifier
     requires number { number < 2 }
     ensures unstepped { result.accepted ≡ 0 }
 {
-    let header = Header {
-        verifiers: 2,
-        cache: 4,
-        first,
-        end: 5,
-    };
+    let header = Header::by_path(2, 4, first, 5);
     Verifier::new(alloc, number, &header).expect(rt, "memory")
 }
 

@@ -1,13 +1,13 @@
 use Rattle.std.proofs.Common.{◌≡◌, ◌<◌, ℕ, Option, Some, Err, Ok, is_ok, true≢false, sym, ap, subst, ◌∙◌, refl, arith}
 use Rattle.std.specs.Prelude.{IsSomeAnd}
 use Rattle.lamport_clocks.specs.declared.header.Header.{Header}
-use Rattle.bundle_frames.specs.declared.coming.Next.TheVariants.{Frame}
+use Rattle.bundle_frames.specs.declared.coming.Next.TheVariants.{Frame, End}
 use Rattle.bundle_frames.specs.declared.coming.SourceStop.TheVariants.{InputLimit}
 use Rattle.bundle_frames.specs.Bundle.{IsFrame}
 use Rattle.bundle_frames.specs.Progress.{Progress, position}
 use Rattle.bundle_frames.specs.Extent.{IsDue}
 use Rattle.bundle_frames.proofs.ReadingLaws.{HasRead-none, HasRead-then, ReadsAs-none, ReadsAs-then, ReadsAs-kept, ReadsAs-back, near-then}
-use Rattle.bundle_frames.proofs.ReaderLemmas.{over_at_end, spent_due}
+use Rattle.bundle_frames.proofs.ReaderLemmas.{some_all, over_at_end, spent_due}
 use Rattle.bundle_frames.proofs.reader.BundleReader.next.Goals as goal
 
 pub pieces-init : goal.pieces-init
@@ -135,3 +135,13 @@ returns-in-Some-clause-frame g c = λ verifier is.
     subst (λ (known : Option Header). IsSomeAnd known (λ header. IsFrame header.verifiers (record { verifier = verifier; body = c.split.new.self.progress.body })))
     (ap (λ (p : Progress). p.header) c.fill.ensures.progress ∙ c.pieces.invariant.header)
     (c.in-Some.ensures.frame verifier (ap Some same))
+
+pub returns-in-Some-clause-end : goal.returns-in-Some-clause-end
+returns-in-Some-clause-end g c = λ is.
+    let same : c.in-Some.next ≡ End = cc in
+    some_all _ _ (c.in-Some.ensures.last (ap Some same))
+
+pub returns-in-Some-clause-reached : goal.returns-in-Some-clause-reached
+returns-in-Some-clause-reached g c = λ is.
+    let same : c.in-Some.next ≡ End = cc in
+    some_all _ _ (c.in-Some.ensures.over (ap Some same))
