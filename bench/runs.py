@@ -48,6 +48,13 @@ def script_of(folder, keys, requests):
     return path
 
 
+def run_anew(vault, measured, *of):
+    """What a measure of a run says, which makes its vault anew."""
+    if os.path.exists(vault):
+        os.remove(vault)
+    return measured(*of)
+
+
 def timed(words, given):
     """The wall time in seconds. A status other than 0 ends the benchmark."""
     with open(given, "rb") as file:
@@ -68,8 +75,9 @@ def measure(program, folder, keys, requests):
     """Prints a line of a script; the seconds of a run, and of a check."""
     script, vault = script_of(folder, keys, requests), os.path.join(folder, "vault")
     run, check = [program, "run"] + HOST + ["--logs", vault], [program, "check"] + KEY
-    turns = [(timed(run, script), timed(check, vault)) for _ in range(3)]
-    (ran, checked), peak, size = map(min, zip(*turns)), peak_memory(run, script), os.path.getsize(vault)
+    turns = [(run_anew(vault, timed, run, script), timed(check, vault)) for _ in range(3)]
+    (ran, checked), peak = map(min, zip(*turns)), run_anew(vault, peak_memory, run, script)
+    size = os.path.getsize(vault)
     print(f"{keys:8} {requests:8} {size:11} {ran:8.3f} {requests / ran:10.0f} {peak:9} {checked:8.3f} {ran / checked:9.2f}", flush=True)
     os.remove(vault)
     return ran, checked

@@ -10,10 +10,11 @@ use std::fs::File;
 use std::marker::Model;
 use std::rt::Files;
 
-/// A vault over a file, which is created at the path that names it, and emptied if it was there.
-/// A vault that was never named drops what it is given. It tells neither its bytes nor its name.
+/// A vault over a new file, which is made at the path that names it. Where something is at that path
+/// already, naming fails and leaves it as it is. A vault that was never named drops what it is given.
+/// It tells neither its bytes nor its name.
 ///
-/// Each error counts as a fault, and so does each write that took nothing. Creating a file takes
+/// Each error counts as a fault, and so does each write that took nothing. Making a file takes
 /// memory for a moment: want of it is a fault too.
 #[derive(Drop)]
 pub struct FileVault<R: Files> {
@@ -33,7 +34,7 @@ impl<R: Files> Model for FileVault<R> {
 }
 
 impl<R: Files> FileVault<R> {
-    /// A vault that will create its file by `files`.
+    /// A vault that will make its file by `files`.
     pub fn new(files: R) -> FileVault<R>
         ensures made { result ≡ new_file_vault }
     {
@@ -89,7 +90,7 @@ impl<R: Files> Vault for FileVault<R> {
 
         ensures after { self.new ≡ record self.old { is_named = is_ok result; faults = faults_after self.old.faults result } }
     {
-        match File::create(&self.files, path) {
+        match File::create_new(&self.files, path) {
             Ok(file) => {
                 self.file = Some(file);
                 Ok(())

@@ -205,6 +205,28 @@ fn file_vault_writes_to_the_file_that_it_is_named_by(rt: HostRuntime) {
         "abc".as_bytes(),
     );
     fs::remove_file(&rt, path).expect(&rt, "memory");
+}
+
+#[test]
+fn file_vault_leaves_a_file_that_is_there_as_it_is(rt: HostRuntime) {
+    let path = "leaf_tests_kept";
+    fs::write(&rt, path, "abc").expect(&rt, "memory");
+    let mut vault = FileVault::new(&rt);
+    same(&rt, "vault.name(path)", &vault.name(path), &Err(Failed));
+    same(&rt, "vault.faults()", &vault.faults(), &1);
+    same_bytes(
+        &rt,
+        "fs::read_to_string(&rt, path)?.as_str()",
+        fs::read_to_string(&rt, path)
+            .expect(&rt, "memory")
+            .as_bytes(),
+        "abc".as_bytes(),
+    );
+    fs::remove_file(&rt, path).expect(&rt, "memory");
+}
+
+#[test]
+fn file_vault_without_a_file_drops_what_it_is_given(rt: HostRuntime) {
     let mut unnamed = FileVault::new(&rt);
     same(
         &rt,

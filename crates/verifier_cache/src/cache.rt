@@ -80,6 +80,7 @@ impl Cache {
             ≡ option_map (λ entry. entry.value) (entry_of k.now self.now.entries) }
         ensures steps { 2 ^ (steps.new - steps.old) ≤ 2 * length self.now.entries + 1 }
         ensures rise { steps.old ≤ steps.new }
+        ensures counts { 0 < length self.now.entries → steps.old < steps.new }
     {
         match self.table.entry(k, steps) {
             Some(entry) => Some(&entry.value),

@@ -53,6 +53,7 @@ pub(crate) fn search<L: Ledger>(
     ensures gap { IfErr result (IsGapFor k.now index.now) }
     ensures steps { 2 ^ (steps.new - steps.old) ≤ 2 * count_of index.now + 1 }
     ensures rise { steps.old ≤ steps.new }
+    ensures counts { 0 < count_of index.now → steps.old < steps.new }
 {
     let mut low = 0;
     let mut high = index.len();

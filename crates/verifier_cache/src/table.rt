@@ -71,6 +71,7 @@ impl Table {
         ensures path { IfSome result (λ entry. entry.now.path ≡ k.now) }
         ensures steps { 2 ^ (steps.new - steps.old) ≤ 2 * length (standing self.now.stored.items) + 1 }
         ensures rise { steps.old ≤ steps.new }
+        ensures counts { 0 < length (standing self.now.stored.items) → steps.old < steps.new }
     {
         match search(&self.index, k, steps) {
             Ok(rank) => Some(&self.stored[self.index.mark(rank).at].entry),

@@ -20,6 +20,7 @@ halving-preserved-in-Less g c =
         | inr (inr high) ↦ omega (arith, seen, c.in-Less.ensures.order, c.requires.rises middle i high less)
       ];
       rise = omega (arith, c.in-Less.ensures.step, c.halving.invariant.rise);
+      counts = inl (omega (arith, c.in-Less.ensures.step, c.halving.invariant.rise));
       halved = subst (λ (s : ℕ). Halved (s - c.args.steps.now) (middle - c.halving.low) (count_of c.args.index.now)) (sym c.in-Less.ensures.step)
           (Halved-step c.halving.steps c.args.steps.now (c.halving.high - c.halving.low) (middle - c.halving.low) (count_of c.args.index.now) c.halving.invariant.rise c.halving.invariant.halved (omega (arith, c.halving-test.true)) (omega (arith, c.halving-test.true)));
     }
@@ -39,6 +40,7 @@ halving-preserved g c =
       ];
       behind = c.halving.invariant.behind;
       rise = omega (arith, c.in-Greater.ensures.step, c.halving.invariant.rise);
+      counts = inl (omega (arith, c.in-Greater.ensures.step, c.halving.invariant.rise));
       halved = subst (λ (s : ℕ). Halved (s - c.args.steps.now) (c.halving.high - (middle + 1)) (count_of c.args.index.now)) (sym c.in-Greater.ensures.step)
           (Halved-step c.halving.steps c.args.steps.now (c.halving.high - c.halving.low) (c.halving.high - (middle + 1)) (count_of c.args.index.now) c.halving.invariant.rise c.halving.invariant.halved (omega (arith, c.halving-test.true)) (omega (arith, c.halving-test.true)));
     }

@@ -1,10 +1,11 @@
-use Rattle.std.proofs.Common.{ℕ, ◌-◌, ◌<◌, ◌≤◌}
+use Rattle.std.proofs.Common.{◌≡◌, ℕ, ◌-◌, ◌<◌, ◌≤◌, ◌⊎◌}
 use Rattle.verifier_cache.specs.Order.{order_of}
 use Rattle.verifier_cache.specs.Index.{mark_at, count_of}
 use Rattle.verifier_cache.proofs.HalvingLemmas.{Halved}
 use Rattle.verifier_cache.proofs.search.search.Given as goal
 
--- what comes before the range and behind it lies so to the path, and the range was halved by each step
+-- what comes before the range and behind it lies so to the path, the range was halved by each step, and before the first
+-- step it is the whole
 abbrev pub invariant-halving : goal.invariant-halving
 invariant-halving g l = record {
   order : l.low ≤ l.high;
@@ -12,6 +13,7 @@ invariant-halving g l = record {
   before : (i : ℕ) → i < l.low → order_of (mark_at l.index i).path < order_of l.k;
   behind : (i : ℕ) → l.high ≤ i → i < count_of l.index → order_of l.k < order_of (mark_at l.index i).path;
   rise : l.fn.steps ≤ l.steps;
+  counts : (l.fn.steps < l.steps) ⊎ ((l.low ≡ 0) × (l.high ≡ count_of l.index));
   halved : Halved (l.steps - l.fn.steps) (l.high - l.low) (count_of l.index);
 }
 
