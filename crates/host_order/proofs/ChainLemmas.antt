@@ -1,15 +1,16 @@
 -- Servings in a row, replayed: where each worker's part and each place's part is a chain, all of it is enabled.
-use Rattle.std.proofs.Common.{◌≡◌, ◌⊎◌, ℕ, ◌+◌, ◌==◌, Bool, true, false, List, [], ◌∷◌, ◌++◌, length, filter, refl, sym, ◌∙◌, ap, subst, inl, inr, append_assoc, append-nil, arith}
+use Rattle.std.proofs.Common.{◌≡◌, ◌⊎◌, ℕ, ◌+◌, ◌==◌, Bool, true, false, List, [], ◌∷◌, ◌++◌, length, filter, Some, refl, sym, ◌∙◌, ap, subst, inl, inr, append_assoc, append-nil, arith}
 use Rattle.std.specs.List.{AllByRecursion}
 use Rattle.std.proofs.lemmas.Bool.{cases_eq, cond-true, cond-false, eqb-true, eq-eqb, ne_eqb, and_parts, and_from}
 use Rattle.std.proofs.lemmas.List.{length-set}
 use Rattle.stamp_order.proofs.InOrderLaws.{every-weaker}
+use Rattle.lamport_clocks.specs.Reading.{Reading}
 use Rattle.host_core.specs.Host.{Host}
 use Rattle.host_core.specs.World.{Place, Worker, World, worker_at}
 use Rattle.host_core.specs.WorldEvent.{AreEnabled, run_events}
 use Rattle.host_order.specs.Serving.{Serving, same_place, is_at, is_by, IsPlaceChain, IsWorkerChain, content_behind, clock_behind, commands_in, content_at, replay}
 use Rattle.host_order.specs.Steady.{IsSteady}
-use Rattle.host_order.specs.Told.{IsOpenTo, IsServed}
+use Rattle.host_order.specs.Told.{IsOpenTo, IsServed, AreDone}
 use Rattle.host_order.proofs.ReplayLemmas.{IsIdle, done_worker, after_one, IsNextServing, one_enabled, one_run, own_worker_is, other_worker_is, own_content_is, other_content_is, idle_after, open_after}
 
 module _ {C R : Type 0} (host : Host C R) where
@@ -198,6 +199,19 @@ module _ {C R : Type 0} (host : Host C R) where
   replay_enabled steady world (serving ∷ servings) chained =
       one_enabled host world chained.idle serving (first_next steady world serving servings chained) (replay servings)
       (replay_enabled steady (after_one host world serving) servings (rest_chained steady world serving servings chained))
+
+  -- Each is done as it is told.
+  pub replay_done : (steady : IsSteady host) (world : World C) (servings : List (Serving C R)) → AreChained world servings
+      → AreDone host world servings
+  replay_done steady world [] chained = tt
+  replay_done steady world (serving ∷ servings) chained =
+      let next = first_next steady world serving servings chained in (
+        ap (λ (c : Reading). host.serve serving.worker c (content_at host world serving.place) serving.request) (sym next.clock)
+            ∙ ap (λ (x : C). host.serve serving.worker serving.clock x serving.request) (sym next.before)
+            ∙ next.is_served.serves,
+        subst (λ (w : World C). AreDone host w servings) (sym (one_run host world chained.idle serving next []))
+            (replay_done steady (after_one host world serving) servings (rest_chained steady world serving servings chained)),
+      )
 
   -- And they lead where they tell.
   pub replay_leads : (steady : IsSteady host) (world : World C) (servings : List (Serving C R)) → AreChained world servings

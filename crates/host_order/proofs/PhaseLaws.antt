@@ -12,11 +12,11 @@ use Rattle.host_core.specs.Deeds.{IsStamped}
 use Rattle.host_order.specs.Serving.{Serving, is_by, content_behind, clock_behind, commands_in, content_at, in_one_order, replay}
 use Rattle.host_order.specs.Steady.{IsUpFrom, IsSteady}
 use Rattle.host_order.specs.Told.{IsOpenTo, IsAtRest, AreTold, joined, list_of, past_of, Stop, IsNoted, AreOfOthers, replay_stops, stops_by, EndsWith, HasOneOrder, OrdersPhase}
-use Rattle.host_order.proofs.ChainLemmas.{LeadsTo, replay_enabled, replay_leads}
+use Rattle.host_order.proofs.ChainLemmas.{LeadsTo, replay_enabled, replay_done, replay_leads}
 use Rattle.host_order.proofs.RisingLemmas.{Waits, had-up_to, worker-epoch}
 use Rattle.host_order.proofs.OrderLemmas.{clock_epoch, past_of_epoch, worker_part, place_part, order_chained, list_met}
 use Rattle.host_core.proofs.EventLaws.{enabled-append, run-append}
-use Rattle.host_order.proofs.StopLemmas.{IsStop, Stops, stops_enabled, stops_leave}
+use Rattle.host_order.proofs.StopLemmas.{IsStop, Stops, stops_enabled, stops_ended, stops_leave}
 
 -- a content's part of what holds of all pending elements
 content_part : {C : Type 0} (P : Element → Type 0) (f : C → List Element) (contents : List C) (seat : ℕ) (d : C) → seat < length contents
@@ -106,6 +106,8 @@ module _ {C R : Type 0} (host : Host C R) (steady : IsSteady host) (world : Worl
     enabled = enabled-append host world (replay servings) (replay_stops stops)
         (replay_enabled host steady world servings (order_chained host steady world rest lists pasts told))
         (stops_enabled host behind stops leads.idle are_stops others);
+    done = replay_done host steady world servings (order_chained host steady world rest lists pasts told);
+    ended = stops_ended host behind stops leads.idle are_stops others;
     ends = subst (λ (later : World C). EndsWith host world later lists pasts stops) (sym (run-append host world (replay servings) (replay_stops stops)))
         (record {
           contents = λ place. stopped.contents place ∙ leads.contents place

@@ -8,7 +8,7 @@ use Rattle.host_core.specs.Host.{Host, Done, asked}
 use Rattle.host_core.specs.World.{Place, Worker, World, fresh, worker_at, shard_at}
 use Rattle.host_core.specs.WorldEvent.{WorldEvent, takes, serves, gives, with_worker, after_serve, step, IsServing, MayTake, MayServe, MayGive, AreEnabled, run_events}
 use Rattle.host_order.specs.Serving.{content_at}
-use Rattle.host_order.specs.Told.{IsOpenTo, Stop, AreOfOthers, replay_stops, stops_by}
+use Rattle.host_order.specs.Told.{IsOpenTo, Stop, AreOfOthers, AreEnded, replay_stops, stops_by}
 use Rattle.host_order.proofs.ReplayLemmas.{IsIdle}
 
 module _ {C R : Type 0} (host : Host C R) where
@@ -151,6 +151,16 @@ module _ {C R : Type 0} (host : Host C R) where
   stops_enabled world (stop ∷ stops) idle all others =
       stop_enabled world idle stop all.0 (replay_stops stops)
       (stops_enabled (after_stop world stop) stops (idle_after world idle stop all.0) (stops_after world idle stop all.0 stops others.0 all.1) others.1)
+
+  -- Each ends its worker's clock.
+  pub stops_ended : (world : World C) (stops : List (Stop R)) → IsIdle host world → AllByRecursion (IsStop world) stops → AreOfOthers stops
+      → AreEnded host world stops
+  stops_ended world [] idle all others = tt
+  stops_ended world (stop ∷ stops) idle all others = (
+    all.0.ends,
+    subst (λ (w : World C). AreEnded host w stops) (sym (stop_run world idle stop all.0 []))
+        (stops_ended (after_stop world stop) stops (idle_after world idle stop all.0) (stops_after world idle stop all.0 stops others.0 all.1) others.1),
+  )
 
   -- what they leave: all but what is stopped
   pub record Stops (world later : World C) (stops : List (Stop R)) : Type 0 where

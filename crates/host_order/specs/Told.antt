@@ -96,6 +96,20 @@ stops_by i (stop ∷ stops) = stop.worker == i || stops_by i stops
 abbrev pub phase_events : {C R : Type 0} → List (List (Serving C R)) → List (Stop R) → List (WorldEvent R)
 phase_events lists stops = replay (in_one_order (joined lists)) ++ replay_stops stops
 
+-- each is what the host does for its request, from the clock and the content that stand there and then
+abbrev pub AreDone : {C R : Type 0} → Host C R → World C → List (Serving C R) → Type 0
+AreDone host world [] = Unit {0}
+AreDone host world (serving ∷ servings) =
+    (host.serve serving.worker (worker_at host world serving.worker).clock (content_at host world serving.place) serving.request ≡ Some serving.done)
+    × AreDone host (run_events host world (replay (serving ∷ []))) servings
+
+-- each ends its worker's clock, there and then
+abbrev pub AreEnded : {C R : Type 0} → Host C R → World C → List (Stop R) → Type 0
+AreEnded host world [] = Unit {0}
+AreEnded host world (stop ∷ stops) =
+    (host.serve stop.worker (worker_at host world stop.worker).clock (content_at host world stop.place) stop.request ≡ None)
+    × AreEnded host (run_events host world (replay_stops (stop ∷ []))) stops
+
 -- The later world has the last contents and the last clocks; each worker has logged its commands, and those of the stops
 -- are stopped.
 pub record EndsWith {C R : Type 0} (host : Host C R) (world later : World C) (lists : List (List (Serving C R)))
@@ -110,10 +124,13 @@ pub record EndsWith {C R : Type 0} (host : Host C R) (world later : World C) (li
   pub idle : (i : ℕ) → i < length world.workers → (worker_at host later i).holds ≡ None
   pub phase : (later.phase ≡ world.phase) × (later.closing ≡ false) × (later.over ≡ false)
 
--- What is told of a phase was one list of enabled events, which ends where all is as it is told.
+-- What is told of a phase was one list of enabled events, in which each serving was done as it is told and each stop ended its
+-- worker's clock, and which ends where all is as it is told.
 pub record HasOneOrder {C R : Type 0} (host : Host C R) (world : World C) (lists : List (List (Serving C R)))
     (pasts : List (List (List (Serving C R)))) (stops : List (Stop R)) : Type 0 where
   pub enabled : AreEnabled host world (phase_events lists stops)
+  pub done : AreDone host world (in_one_order (joined lists))
+  pub ended : AreEnded host (run_events host world (replay (in_one_order (joined lists)))) stops
   pub ends : EndsWith host world (run_events host world (phase_events lists stops)) lists pasts stops
 
 -- It is so wherever the workers' lists and the places' pasts are of a phase at rest, and the stops are noted.
