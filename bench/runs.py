@@ -1,7 +1,6 @@
-#!/usr/bin/env python3
 """Times `run` of the built program on scripts that are made of a seed, beside a check of what it wrote.
 
-usage: bench/runs.py FOLDER [PROGRAM [REQUESTS..]]    (FOLDER lies outside the repository, and gets up to 2.5 GB)
+usage: tools/run bench.runs FOLDER [PROGRAM [REQUESTS..]]    (FOLDER lies outside the repository, and gets up to 2.5 GB)
 
 A script has 1,000 to 1,000,000 requests of one worker, or those numbers of them that are named, at one, a thousand or a million
 keys, and an epoch closes after each 10,000. It is run and its vault checked in turn, three times; the best wall time of each
@@ -18,10 +17,8 @@ import subprocess
 import sys
 import time
 
-from split import split
-
-sys.path.insert(0, os.path.join(os.path.dirname(os.path.abspath(__file__)), "..", "tools"))
-import slow_load
+from bench.split import split
+from tools.slow import load
 
 PROGRAM = os.path.join(os.path.dirname(os.path.abspath(__file__)), "..", "crates", "fastver_cli", "out", "fastver_cli")
 REQUESTS, KEYS, EVERY, SEED = (1000, 10000, 100000, 1000000), (1, 1000, 1000000), 10000, 1
@@ -44,7 +41,7 @@ def script_of(folder, keys, requests):
     path = os.path.join(folder, f"script-{keys}-keys-{requests}-requests")
     if not os.path.exists(path):
         with open(path, "w") as file:
-            file.writelines(f"{line}\n" for line in slow_load.lines(SEED, requests, 1, keys, EVERY))
+            file.writelines(f"{line}\n" for line in load.lines(SEED, requests, 1, keys, EVERY))
     return path
 
 

@@ -1,4 +1,3 @@
-#!/usr/bin/env python3
 """Looks which lemmas the crates use of one another. Run at the top of the repository.
 
 A file crates/X/proofs/NAME.antt that another crate uses is public (`pub mod NAME` in crates/X/proofs/Lib.antt) and its

@@ -1,4 +1,3 @@
-#!/usr/bin/env python3
 """Compares the map of the crates in docs/ARCHITECTURE.md with crates.txt. Run at the top of the repository.
 
 Both lists have the same layers in the same order, and in each the same crates in the same order: in crates.txt a layer
