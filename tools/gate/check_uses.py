@@ -24,7 +24,7 @@ def faults():
         if not crate.layer:
             yield f"{crate.name} is in no layer"
         seen.add(crate.name)
-        for below in crate.below:
+        for below in dict.fromkeys(crate.below):
             if below in ours - seen or below == crate.name:
                 yield f"{crate.name} stands on {below}, which should be listed before it"
             if crate.below.count(below) > 1:

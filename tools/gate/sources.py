@@ -19,8 +19,13 @@ class Function(NamedTuple):
     """A function of a crate: its name behind that of its type or trait, its clauses, and whether other crates can call it."""
 
     name: str
-    clauses: list
+    requires: list
+    ensures: list
     public: bool
+
+    @property
+    def clauses(self):
+        return self.requires + self.ensures
 
 
 def read(file):
@@ -87,27 +92,27 @@ def exported(crate):
 HEADS = re.compile(
     r"^(?P<type>(?:pub )?trait (?P<trait>\w+)|impl\b(?:<.*?>)? (?:[\w:]+(?:<.*>)? (?P<for>for) )?(?P<impl>\w+))"
     r"|^(?P<method>    )?(?P<pub>pub(?:\([\w ]*\))? )?(?:const |unsafe )*fn (?P<fn>\w+)"
-    r"|^ {4,8}(?:ensures|requires)\*? (?P<clause>\w+) \{"
+    r"|^ {4,8}(?P<kind>ensures|requires)\*? (?P<clause>\w+) \{"
 )
 BODY = re.compile(r"(    )?(\{\}?|\).* \{|(pub(\(.*\))? )?fn .* \{(.*\})?)$")  # a line at which a body begins
 
 
 def functions_in(text, shown):
     """The functions of a file, where these names are shown to other crates."""
-    owner, kind, clauses = None, None, None
+    owner, trait, open_to = None, False, None
     for line in text.splitlines():
         match = HEADS.match(line)
         if match and match["type"]:
-            owner, kind, clauses = match["trait"] or match["impl"], "trait" if match["trait"] else match["for"], None
+            owner, trait, open_to = match["trait"] or match["impl"], bool(match["trait"] or match["for"]), None
         elif match and match["fn"]:
-            name, clauses = match["fn"] if not match["method"] else f"{owner}::{match['fn']}", []
+            name = match["fn"] if not match["method"] else f"{owner}::{match['fn']}"
             seen = (owner if match["method"] else match["fn"]) in shown
-            is_open = match["pub"] == "pub " or bool(match["method"]) and kind == "trait"
-            yield Function(name, clauses, seen and is_open)
-        elif match and clauses is not None:
-            clauses.append(match["clause"])
+            open_to = Function(name, [], [], seen and (match["pub"] == "pub " or bool(match["method"]) and trait))
+            yield open_to
+        elif match and open_to is not None:
+            (open_to.requires if match["kind"] == "requires" else open_to.ensures).append(match["clause"])
         if BODY.match(line.rstrip()):
-            clauses = None
+            open_to = None
 
 
 @cache
