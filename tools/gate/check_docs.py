@@ -12,7 +12,7 @@ or a row of a table says is read together:
 - Type::name is a function of that type, clause.field a field of a definition.
 - any other name in the form of the code, with an underscore or a capital, is declared somewhere in the crates, or the kit's.
 
-It writes a line for each that isn't there, and fails where there is one, or where a document names nothing.
+It writes a line for each that isn't there, and fails where there is one, or where no document names a file.
 """
 import glob
 import os
@@ -246,19 +246,17 @@ def tools():
 
 def wrong(file):
     """What a document names and isn't there, with its line."""
-    text, count = sources.read(file), 0
-    for block in blocks(text):
-        count += block.text.count("`") // 2
+    for block in blocks(sources.read(file)):
         for fault in (*wrong_files(block, os.path.dirname(file)), *wrong_members(block), *wrong_clauses(block), *wrong_names(block)):
             name = fault.partition(": ")[0]
             at = next((n for n, line in enumerate(block.text.splitlines()) if name in line), 0)
             yield block.line + at, fault
-    if not count:
-        yield 1, "it names nothing"
 
 
 def main():
     found = [f"{file}:{line}: {fault}" for file in DOCUMENTS for line, fault in sorted(set(wrong(file)))]
+    if not any(list(paths(block)) for file in DOCUMENTS for block in blocks(sources.read(file))):
+        found.append("the documents name no file")
     print(*found, sep="\n", end="\n" if found else "")
     return 1 if found else 0
 
