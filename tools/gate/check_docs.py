@@ -6,6 +6,7 @@ or a row of a table says is read together:
 - a file, as `crate/specs/File.antt`, `specs/File.antt` or `file.rt`, is a file of the repository; where the paragraph names crates
   and no other file by its path, it is one of theirs. Outside of backticks a path that begins with a folder of the top is a file too.
 - `crate`: `name`, `name`.. and `name` of `crate` (`name` and `name` of `crate`) are declared in that crate, or edits of it.
+- in a point of a list that begins with a file of definitions each name is declared in its crates or those on which they stand.
 - clause `name`, clauses `name`.. are clauses; behind `call`: or before of `call` they are clauses of that function. In a table with
   a column Clause each name there is a clause or a field, and a clause of the calls in the columns Call and Crate, if it has these.
 - a list of names alone in parentheses is of names that are declared, whatever their form.
@@ -22,6 +23,7 @@ from functools import cache
 from typing import NamedTuple
 
 from tools.gate import sources
+from tools.slow import fastver
 
 DOCUMENTS = ["README.md", "CONTRIBUTING.md", *sorted(glob.glob("docs/*.md"))]
 WORD = r"[A-Za-z][A-Za-z0-9_]*"
@@ -33,10 +35,10 @@ SUFFIXES = (".rt", ".antt", ".py", ".md", ".edit", ".txt", ".c", ".bash", ".1")
 
 
 class Block(NamedTuple):
-    """A paragraph, a point of a list or a row of a table, with the line at which it begins."""
+    """A paragraph, a point of a list or a row of a table as one line, and its lines with their numbers."""
 
-    line: int
     text: str
+    lines: list
     head: list  # of a table: its columns
 
 
@@ -46,14 +48,14 @@ def cells_of(line):
 
 def blocks(text):
     """The blocks of a document, but for blocks of code."""
-    lines, number, code, table, begun = text.splitlines(), 0, False, [], []
+    code, table, begun = False, [], []
 
     def done():
         if begun:
-            yield Block(begun[0][0], "\n".join(line for _, line in begun), [])
+            yield Block(" ".join(line.strip() for _, line in begun), begun.copy(), [])
             begun.clear()
 
-    for number, line in enumerate(lines, 1):
+    for number, line in enumerate(text.splitlines(), 1):
         if line.lstrip().startswith("```"):
             yield from done()
             code = not code
@@ -63,7 +65,7 @@ def blocks(text):
         elif line.startswith("|"):
             yield from done()
             if table:
-                yield Block(number, line, table)
+                yield Block(line, [(number, line)], table)
             table = table or cells_of(line)
         else:
             if re.match(r"\s*[-*] |#", line):
@@ -173,7 +175,7 @@ def wrong_files(block, folder):
     for path in paths(block):
         placeholder = not path.endswith(".md") and PLACEHOLDER.search(path)
         if not placeholder and not is_file(path, block, folder):
-            yield f"{path}: no such file"
+            yield path
 
 
 def names_in(text):
@@ -191,7 +193,21 @@ def wrong_members(block):
         for name in names_in(spans):
             missing = [part for part in name.split("::") if part not in sources.declared(crate)]
             if missing and name not in sources.names():
-                yield f"{name}: {crate} has none"
+                yield name, f"{crate} has none"
+
+
+def wrong_definitions(block):
+    """What a point that begins with a file of definitions names and neither its crates nor those below declare."""
+    if not re.match(rf"- `{WORD}/specs/{WORD}\.antt`", block.text):
+        return
+    below = {crate.name: crate.below for crate in sources.crates()}
+    known = set(fastver.OPTIONS)
+    for crate in set(crates_in(block)):
+        known |= sources.declared(crate) | set(below[crate])
+        known |= set().union(*(sources.declared(it) for it in below[crate] if it in below))
+    for name in names_in(block.text):
+        if not set(name.split("::")) <= known:
+            yield name, "the crates of these definitions have none"
 
 
 def wrong_clauses(block):
@@ -202,14 +218,14 @@ def wrong_clauses(block):
         for name in names_in(spans):
             of_call = clauses_of(call, []) if call and call not in sources.names() else None
             if name not in (of_call or clauses()):
-                yield f"{name}: no clause" + (f" of {call}" if of_call else "")
+                yield name, "no clause" + (f" of {call}" if of_call else "")
     if "Clause" in block.head:
         row = dict(zip(block.head, cells_of(block.text)))
         crates = [name for name in names_in(row.get("Crate", "")) if name in sources.names()]
         known = set().union(*(clauses_of(call, crates) for call in names_in(row.get("Call", "")))) if "Call" in row else clauses()
         for name in names_in(row["Clause"]):
-            if name not in known and name not in all_functions() and "::" not in name:
-                yield f"{name}: no clause" + (f" of {row['Call']}" if "Call" in row else "")
+            if name not in known and ("Call" in row or name not in all_functions() and "::" not in name):
+                yield name, "no clause" + (f" of {row['Call']}" if "Call" in row else "")
 
 
 def wrong_names(block):
@@ -217,7 +233,7 @@ def wrong_names(block):
     for spans in re.findall(rf"\(({LIST})\)", block.text):
         for name in set(names_in(spans)) - everything() - kit() - tools() - OTHERS:
             if re.fullmatch("[a-z]+", name):
-                yield f"{name}: nothing is called so"
+                yield name, "nothing is called so"
     for span in re.findall(r"`([^`]+)`", block.text):
         if not re.fullmatch(rf"{WORD}((::|\.){WORD})*", span) or span.endswith(SUFFIXES) or PLACEHOLDER.search(span):
             continue
@@ -225,12 +241,12 @@ def wrong_names(block):
         if len(parts) == 1 and not re.search(r"_|[A-Z]", span):
             continue
         if "." in span and parts[0] in clauses() and parts[1] not in fields():
-            yield f"{span}: no definition has a field {parts[1]}"
+            yield span, f"no definition has a field {parts[1]}"
         missing = [part for part in parts if part not in everything() | kit() | tools() | OTHERS]
         if missing:
-            yield f"{span}: nothing is called {', '.join(missing)}"
+            yield span, f"nothing is called {', '.join(missing)}"
         elif "::" in span and parts[-2][0].isupper() and parts[-2] not in kit() and not is_method(*parts[-2:]):
-            yield f"{span}: {parts[-2]} has no {parts[-1]}"
+            yield span, f"{parts[-2]} has no {parts[-1]}"
 
 
 def is_method(owner, name):
@@ -247,10 +263,14 @@ def tools():
 def wrong(file):
     """What a document names and isn't there, with its line."""
     for block in blocks(sources.read(file)):
-        for fault in (*wrong_files(block, os.path.dirname(file)), *wrong_members(block), *wrong_clauses(block), *wrong_names(block)):
-            name = fault.partition(": ")[0]
-            at = next((n for n, line in enumerate(block.text.splitlines()) if name in line), 0)
-            yield block.line + at, fault
+        found = {}  # the first fault of each name
+        for finds in (wrong_members, wrong_definitions, wrong_clauses, wrong_names):
+            for name, fault in finds(block):
+                found.setdefault(name, fault)
+        for name in wrong_files(block, os.path.dirname(file)):
+            found[name] = "no such file"
+        for name, fault in found.items():
+            yield next((number for number, line in block.lines if name in line), block.lines[0][0]), f"{name}: {fault}"
 
 
 def main():

@@ -85,8 +85,9 @@ CLAUSES_HEAD = """# The clauses of the public functions
 
 This page is made by `tools/run gate.lists write`. It has each public function of each crate that has clauses, in the order of
 `crates.txt`, with their names in the order in which they stand in the code, right under the function's signature. A function of a
-trait stands there with the trait's clauses, and once more with those of each type that has more. A function of `laws.rt` and its like has an empty body: its contract is a law over the definitions. What
-the clauses come to is said in docs/PROMISES.md; docs/DEFINITIONS.md lists the definitions that they cite.
+trait stands there with the trait's clauses, and once more with those of each type that has it. A function of `laws.rt` and its like
+has an empty body: its contract is a law over the definitions. What the clauses come to is said in docs/PROMISES.md;
+docs/DEFINITIONS.md lists the definitions that they cite.
 
 | Crate | Function | Requires | Ensures |
 |---|---|---|---|
