@@ -45,8 +45,15 @@ def script_of(folder, keys, requests):
     return path
 
 
+def forget_vault(words):
+    """Removes the file that an earlier call wrote: a run makes a new one."""
+    if "--logs" in words and os.path.exists(words[words.index("--logs") + 1]):
+        os.remove(words[words.index("--logs") + 1])
+
+
 def timed(words, given):
     """The wall time in seconds. A status other than 0 ends the benchmark."""
+    forget_vault(words)
     with open(given, "rb") as file:
         start = time.monotonic()
         subprocess.run(words, stdin=file, stdout=subprocess.DEVNULL, check=True)
@@ -55,6 +62,7 @@ def timed(words, given):
 
 def peak_memory(words, given):
     """In KiB, as `time` tells it."""
+    forget_vault(words)
     with open(given, "rb") as file:
         asked = ["/usr/bin/time", "-f", "%M"] + words
         said = subprocess.run(asked, stdin=file, stdout=subprocess.DEVNULL, stderr=subprocess.PIPE, text=True, check=True).stderr

@@ -263,9 +263,9 @@ def fastver(words, data):
 
 
 def stored(got, path):
-    """The answer once its vault is written."""
+    """The answer once its vault is written, to a new file: one that is there is left as it is."""
     try:
-        with open(path, "wb") as file:
+        with open(path, "xb") as file:
             file.write(got.vault)
     except OSError:
         return Answer("", 5, "fastver: vault fault\n")
