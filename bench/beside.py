@@ -1,7 +1,6 @@
-#!/usr/bin/env python3
 """Times two built programs on the same bundles, in turn: the best wall time of five, and how many times as long the other takes.
 
-usage: bench/beside.py FOLDER OLD NEW [SIZE]
+usage: tools/run bench.beside FOLDER OLD NEW [SIZE]
 
 OLD and NEW are programs, as crates/fastver_cli/out/fastver_cli of two commits. Bundles of SIZE MiB, 64 where none is named, are
 checked, and those of 16 MiB audited; they are made in FOLDER where they aren't there (bench/bundles.py says what they are). What
@@ -11,8 +10,8 @@ and the second by the first. The last lines say how many times as fast each prog
 import os
 import sys
 
-import bundles
-from run import timed
+from bench import bundles
+from bench.run import timed
 
 TURNS, AUDITED = 5, 16  # and MiB
 

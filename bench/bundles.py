@@ -1,7 +1,6 @@
-#!/usr/bin/env python3
 """Writes accepted bundles for bench/run.py, the same ones for the same seed.
 
-usage: bench/bundles.py FOLDER [SEED]        (FOLDER lies outside the repository, as /tmp/bundles; about 1,300 MB)
+usage: tools/run bench.bundles FOLDER [SEED]        (FOLDER lies outside the repository, as /tmp/bundles; about 1,300 MB)
 
 NAME is a bundle and NAME.commands the number of its commands. A cold bundle has each record under the Merkle
 tree: a request brings in the chain of nodes down to its key, gets or puts, and sends the chain back. A hot one has
@@ -19,8 +18,7 @@ import os
 import random
 import sys
 
-sys.path.insert(0, os.path.join(os.path.dirname(os.path.abspath(__file__)), "..", "tools"))
-import slow_verifier as slow
+from tools.slow import verifier as slow
 
 MIB = 2**20
 FRAME, EPOCH = 65536, 8 * MIB

@@ -1,7 +1,6 @@
-#!/usr/bin/env python3
 """Times `gen` and `run` of the built program with 1, 2 and 4 workers and as many verifiers beside them.
 
-usage: bench/feeds.py FOLDER [PROGRAM [REQUESTS]]    (FOLDER lies outside the repository, and gets up to 1 GB)
+usage: tools/run bench.feeds FOLDER [PROGRAM [REQUESTS]]    (FOLDER lies outside the repository, and gets up to 1 GB)
 
 `gen` serves REQUESTS requests of 1,000 keys in 16 shards, plainly (`cold`) and with `--hot 2` (`hot`), by epochs of 1,000, 10,000
 and 100,000 requests; `apart` is a `run` of a script in which no two workers ask for keys of one shard, by epochs of 10,000. All
@@ -14,8 +13,8 @@ PROGRAM is crates/fastver_cli/out/fastver_cli where none is named. Run it when n
 import os
 import sys
 
-from runs import KEY, PROGRAM, peak_memory, timed
-from workers import script_of
+from bench.runs import KEY, PROGRAM, peak_memory, timed
+from bench.workers import script_of
 
 WORKERS, SHARDS, KEYS, SEED, TURNS = (1, 2, 4), 16, 1000, 1, 3
 LOADS = (

@@ -1,7 +1,6 @@
-#!/usr/bin/env python3
 """Times `run --hot` of the built program beside a run without it, where a tenth of the keys has nine tenths of the requests.
 
-usage: bench/hot.py FOLDER [PROGRAM [WORKERS]]    (FOLDER lies outside the repository, and gets up to 100 MB)
+usage: tools/run bench.hot FOLDER [PROGRAM [WORKERS]]    (FOLDER lies outside the repository, and gets up to 100 MB)
 
 A script has 100,000 requests of one worker, or of so many as are named, and an epoch closes after each 1,000, 10,000 or 50,000
 of them. It is run both ways in turn, three times; the best wall time of each counts. In the first epoch no key is hot yet: `later`
@@ -27,11 +26,9 @@ import subprocess
 import sys
 from collections import Counter
 
-from runs import KEY, PROGRAM, timed
-
-sys.path.insert(0, os.path.join(os.path.dirname(os.path.abspath(__file__)), "..", "tools"))
-import slow_load
-from slow_verifier import Bytes, read_bundle
+from bench.runs import KEY, PROGRAM, timed
+from tools.slow.load import draws
+from tools.slow.verifier import Bytes, read_bundle
 
 REQUESTS, SEED, TURNS = 100000, 1, 3
 EVERY, COUNTED = 10000, 20000  # requests of an epoch, and of a run whose digests are counted
@@ -56,7 +53,7 @@ def request(worker, key, drawn):
 
 def load(requests, workers, keys, every):
     """The lines of requests of which nine tenths are for the first tenth of the keys."""
-    numbers, often = slow_load.draws(SEED), keys // 10
+    numbers, often = draws(SEED), keys // 10
     for number in range(requests):
         first, second, third = next(numbers), next(numbers), next(numbers)
         at = (second >> 33) % often if (first >> 33) % 10 < 9 else often + (second >> 33) % (keys - often)

@@ -1,5 +1,6 @@
-#!/usr/bin/env python3
-"""Times `plan` alone, by the links of a request's chain, in a shard of 1,000 and of 1,000,000 records: bench/plans.py
+"""Times `plan` alone, by the links of a request's chain, in a shard of 1,000 and of 1,000,000 records.
+
+usage: tools/run bench.plans
 
 A line has the records of the shard, the links to the key, the nanoseconds of a put with the program's digests and with sums of
 bytes in their place, and what part of the time SHA-256 so takes. In the lines `random` the keys are random, and so lie
@@ -12,9 +13,9 @@ of 50, so that it shows little of what else is at work on the machine.
 import subprocess
 import sys
 
-from proved import built
+from bench.proved import built
 
-BELOW = "want_of_memory tree_keys lamport_clocks record_hash record_text log_codec host_shard host_plan"
+BELOW = "base_words tree_keys lamport_clocks record_hash record_text log_codec host_shard host_plan"
 SIZES = ("1000", "1000000")
 
 

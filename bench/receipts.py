@@ -1,7 +1,6 @@
-#!/usr/bin/env python3
 """Times `check` with receipts and without on the vault of a load, and `gen` of a million requests with its peak memory.
 
-usage: bench/receipts.py FOLDER [PROGRAM]    (FOLDER lies outside the repository, and gets up to 100 MB)
+usage: tools/run bench.receipts FOLDER [PROGRAM]    (FOLDER lies outside the repository, and gets up to 100 MB)
 
 The load has 50,000 requests of one worker at 1,000 keys over 16 shards, and an epoch closes after each 10,000. Its vault is checked
 both ways in turn, seven times; the best wall time of each counts. Where valgrind is there it also says what part of the
@@ -15,8 +14,8 @@ import shutil
 import subprocess
 import sys
 
-from runs import KEY, PROGRAM, peak_memory, timed
-from split import split
+from bench.runs import KEY, PROGRAM, peak_memory, timed
+from bench.split import split
 
 REQUESTS, PROFILED, LOADS, TURNS = 50000, 10000, (100000, 1000000), 7
 SHAPE = ["--verifiers", "1", "--shards", "16", "--keys", "1000"]

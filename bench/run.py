@@ -1,7 +1,6 @@
-#!/usr/bin/env python3
 """Times the built program on bundles: the best wall time of three, and the peak of its memory.
 
-usage: bench/bundles.py FOLDER && bench/run.py FOLDER [PROGRAM]
+usage: tools/run bench.bundles FOLDER && tools/run bench.run FOLDER [PROGRAM]
 
 Each bundle is checked, and those of 1 and 16 MiB and 1 and 4 verifiers are audited too. The last lines say how much
 more time a byte an audit of 16 MiB takes than one of 1 MiB: about 1 where the time is linear; how much more time an

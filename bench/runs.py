@@ -1,7 +1,6 @@
-#!/usr/bin/env python3
 """Times `run` of the built program on scripts that are made of a seed, beside a check of what it wrote.
 
-usage: bench/runs.py FOLDER [PROGRAM [REQUESTS..]]    (FOLDER lies outside the repository, and gets up to 2.5 GB)
+usage: tools/run bench.runs FOLDER [PROGRAM [REQUESTS..]]    (FOLDER lies outside the repository, and gets up to 2.5 GB)
 
 A script has 1,000 to 1,000,000 requests of one worker, or those numbers of them that are named, at one, a thousand or a million
 keys, and an epoch closes after each 10,000. It is run and its vault checked in turn, three times; the best wall time of each
@@ -18,10 +17,8 @@ import subprocess
 import sys
 import time
 
-from split import split
-
-sys.path.insert(0, os.path.join(os.path.dirname(os.path.abspath(__file__)), "..", "tools"))
-import slow_load
+from bench.split import split
+from tools.slow import load
 
 PROGRAM = os.path.join(os.path.dirname(os.path.abspath(__file__)), "..", "crates", "fastver_cli", "out", "fastver_cli")
 REQUESTS, KEYS, EVERY, SEED = (1000, 10000, 100000, 1000000), (1, 1000, 1000000), 10000, 1
@@ -44,19 +41,19 @@ def script_of(folder, keys, requests):
     path = os.path.join(folder, f"script-{keys}-keys-{requests}-requests")
     if not os.path.exists(path):
         with open(path, "w") as file:
-            file.writelines(f"{line}\n" for line in slow_load.lines(SEED, requests, 1, keys, EVERY))
+            file.writelines(f"{line}\n" for line in load.lines(SEED, requests, 1, keys, EVERY))
     return path
 
 
-def run_anew(vault, measured, *of):
-    """What a measure of a run says, which makes its vault anew."""
-    if os.path.exists(vault):
-        os.remove(vault)
-    return measured(*of)
+def forget_vault(words):
+    """Removes the file that an earlier call wrote: a run makes a new one."""
+    if "--logs" in words and os.path.exists(words[words.index("--logs") + 1]):
+        os.remove(words[words.index("--logs") + 1])
 
 
 def timed(words, given):
     """The wall time in seconds. A status other than 0 ends the benchmark."""
+    forget_vault(words)
     with open(given, "rb") as file:
         start = time.monotonic()
         subprocess.run(words, stdin=file, stdout=subprocess.DEVNULL, check=True)
@@ -65,6 +62,7 @@ def timed(words, given):
 
 def peak_memory(words, given):
     """In KiB, as `time` tells it."""
+    forget_vault(words)
     with open(given, "rb") as file:
         asked = ["/usr/bin/time", "-f", "%M"] + words
         said = subprocess.run(asked, stdin=file, stdout=subprocess.DEVNULL, stderr=subprocess.PIPE, text=True, check=True).stderr
@@ -75,9 +73,8 @@ def measure(program, folder, keys, requests):
     """Prints a line of a script; the seconds of a run, and of a check."""
     script, vault = script_of(folder, keys, requests), os.path.join(folder, "vault")
     run, check = [program, "run"] + HOST + ["--logs", vault], [program, "check"] + KEY
-    turns = [(run_anew(vault, timed, run, script), timed(check, vault)) for _ in range(3)]
-    (ran, checked), peak = map(min, zip(*turns)), run_anew(vault, peak_memory, run, script)
-    size = os.path.getsize(vault)
+    turns = [(timed(run, script), timed(check, vault)) for _ in range(3)]
+    (ran, checked), peak, size = map(min, zip(*turns)), peak_memory(run, script), os.path.getsize(vault)
     print(f"{keys:8} {requests:8} {size:11} {ran:8.3f} {requests / ran:10.0f} {peak:9} {checked:8.3f} {ran / checked:9.2f}", flush=True)
     os.remove(vault)
     return ran, checked

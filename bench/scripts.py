@@ -1,5 +1,6 @@
-#!/usr/bin/env python3
-"""Times the reading of a script of about 100 MB, three times: bench/scripts.py
+"""Times the reading of a script of about 100 MB, three times.
+
+usage: tools/run bench.scripts
 
 The program is bench/script_speed.txt; bench/proved.py proves and builds it. Run it when nothing else is at work on the
 machine.
@@ -7,11 +8,11 @@ machine.
 import subprocess
 import sys
 
-from proved import built
+from bench.proved import built
 
 
 def main():
-    with built("script_speed", "want_of_memory script_text") as program:
+    with built("script_speed", "base_words script_text") as program:
         return subprocess.run([program]).returncode
 
 

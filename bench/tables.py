@@ -1,5 +1,6 @@
-#!/usr/bin/env python3
-"""Times attempts at the table of records, beside the same requests at contents that stand under a lock each: bench/tables.py [PROGRAM]
+"""Times attempts at the table of records, beside the same requests at contents that stand under a lock each.
+
+usage: tools/run bench.tables [PROGRAM]
 
 Workers put values of 1,000 keys of a place, each in a thread. At the table a request is an attempt, which is made again where it
 finds the place held: once the thread has let others run, as the host's workers do, or at once (`spins`). Under a lock, std's
@@ -18,7 +19,7 @@ import subprocess
 import sys
 from statistics import median
 
-from proved import built
+from bench.proved import built
 
 BELOW = "tree_keys lamport_clocks record_hash record_text host_shard host_plan host_table table_tests"
 RUNS = 3

@@ -1,7 +1,6 @@
-#!/usr/bin/env python3
 """Times `run` of the built program with 1, 2 and 4 workers on the same number of requests.
 
-usage: bench/workers.py FOLDER [PROGRAM [REQUESTS]]    (FOLDER lies outside the repository, and gets up to 1 GB)
+usage: tools/run bench.workers FOLDER [PROGRAM [REQUESTS]]    (FOLDER lies outside the repository, and gets up to 1 GB)
 
 There are 16 shards, 1,000 keys and an epoch of 10,000 requests. In the load `apart` no two workers ask for keys of one shard, in
 the load `met` all ask for keys of one shard, and in the load `one` for one key; each is served plainly and with `--hot 2`. All
@@ -15,7 +14,7 @@ import os
 import random
 import sys
 
-from runs import KEY, PROGRAM, timed
+from bench.runs import KEY, PROGRAM, timed
 
 WORKERS, SHARDS, KEYS, EVERY, SEED, TURNS = (1, 2, 4), 16, 1000, 10000, 1, 3
 SHARD = 2**64 // SHARDS  # keys

@@ -1,4 +1,4 @@
-//! The rows of closes with hot records, as `tools/slow_plans.py` prints them for the same script.
+//! The rows of closes with hot records, as `tools/slow/plans.py` prints them for the same script.
 
 // What is tried, the threshold, requests and closes of two shards, and the rows of the log.
 pub(crate) const CASES: [(&str, u32, &str, &str); 6] = [

@@ -1,4 +1,4 @@
-//! Loads of a seed, as `tools/slow_load.py` prints them.
+//! Loads of a seed, as `tools/slow/load.py` prints them.
 use crate::rows::{field, number, phases_in_short, same};
 use script_text::{Shape, generate};
 use std::alloc::Global;

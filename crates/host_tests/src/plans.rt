@@ -1,4 +1,4 @@
-//! Plans, beside the rows that `tools/slow_plans.py` prints for the same requests.
+//! Plans, beside the rows that `tools/slow/plans.py` prints for the same requests.
 ghost use Rattle.std.specs.Prelude.{◌≡◌, ◌∷◌, [], true, false};
 ghost use Rattle.lamport_clocks.specs.Header.{IsHeader};
 ghost use Rattle.record_text.specs.Format.{short_keys};

@@ -12,7 +12,7 @@
 //! Of receipts, `receipt_tests.rt` has reports with them, `evidence_tests.rt` what a receipt and a certificate come to, whole or
 //! changed, `receipt_fault_tests.rt` objects that fail, and such that never do, and `receipt_word_tests.rt` words that are
 //! refused. `asking.rt` asks the program, and has the reports whose lines these files hand in. What is written comes from the
-//! slow program, `tools/slow_fastver.py`, as do the numbers of the bits that make a text none.
+//! slow program, `tools/slow/fastver.py`, as do the numbers of the bits that make a text none.
 #![tactic(auto)]
 
 #[cfg(test)]

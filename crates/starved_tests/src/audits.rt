@@ -17,7 +17,7 @@ next
 next
 ";
 
-// What tools/slow_fastver.py --toy audit prints of it.
+// What `tools/run slow.fastver --toy audit` prints of it.
 const SHOWN: &str = "\
 strings 01026162 01026261
 done 1

@@ -1,7 +1,7 @@
 //! Calls of which one allocation may be refused: all is then as before, and the same call again is made.
 //!
 //! A line of the input is a call's name and how many allocations are made first, to no use: `fork 12`. So a run in which some
-//! allocation is refused refuses an earlier one of the call's the more are made first, and `tools/refuse_memory.py` has each
+//! allocation is refused refuses an earlier one of the call's the more are made first, and `tools/fuzzer/refuse_memory.py` has each
 //! refused in turn. Where none is, the program says so of each call.
 //!
 //! `trying` has the calls by their names, `seat` a shard with its hot places and its worker's clock, `plans`, `tables`, `audits` and

@@ -11,7 +11,7 @@ use host_plan::Commands;
 use lamport_clocks::Stamp;
 use std::alloc::Global;
 
-// What tools/slow_plans.py prints for this shard at the first close, with a threshold of 1.
+// What tools/slow/plans.py prints for this shard at the first close, with a threshold of 1.
 const AWAY: &str = "
 addB /0 4/63:0152,- 0.6 v0
 addM 4/63 4:63,5:64 /0

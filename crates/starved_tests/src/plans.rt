@@ -11,7 +11,7 @@ use lamport_clocks::Stamp;
 use record_text::Blob;
 use std::alloc::Global;
 
-/// What tools/slow_plans.py prints for the last of two puts.
+/// What tools/slow/plans.py prints for the last of two puts.
 pub const FORK: &str = "
 addB /0 0:63,- 0.4 v0
 addM 0/63 -,- /0

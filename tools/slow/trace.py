@@ -1,5 +1,6 @@
-#!/usr/bin/env python3
-"""What each verifier makes of its log in a bundle, command by command: slow_trace.py --key HEX < BUNDLE
+"""What each verifier makes of its log in a bundle, command by command.
+
+usage: tools/run slow.trace --key HEX < BUNDLE
 
 A row has the verifier, the number of the command, its bytes, the clock behind it, and the command; of a digest it has the first
 eight digits. Behind the commands stand the elements that were added and evicted, epoch by epoch, each with its first
@@ -7,8 +8,8 @@ lane, and the sums of these.
 """
 import sys
 
-from slow_rows import dotted, row
-from slow_verifier import Bytes, Fault, ShaDigests, Verifier, read_bundle
+from tools.slow.rows import dotted, row
+from tools.slow.verifier import Bytes, Fault, ShaDigests, Verifier, read_bundle
 
 
 def digits(digest):

@@ -1,27 +1,24 @@
-#!/usr/bin/env python3
 """The definitions of docs/DEFINITIONS.md as a plain slow program: what `fastver` must print, answer and write.
 
-usage: slow_fastver.py check|audit|run|gen|accept OPTION.. < INPUT
-       slow_fastver.py --toy check|audit < BUNDLE
-       slow_fastver.py --cases FOLDER..
+usage: tools/run slow.fastver check|audit|run|gen|accept OPTION.. < INPUT
+       tools/run slow.fastver --toy check|audit < BUNDLE
+       tools/run slow.fastver --cases FOLDER..
 
 The second form has digests that are sums of bytes, so that two texts with one digest are easily found. The third one
 compares it with a folder of cases: NAME is an input, NAME.args its words, one a line, NAME.stdout what must be
 printed, status/NAME the exit status, stderr/NAME what must be said beside. Where NAME.vault is there, it is what must be
 written for the words `--logs PATH` behind the others, or the one word `none`, where nothing is.
 
-What a verifier does with a bundle stands in slow_verifier.py, what a host logs in slow_host.py.
+What a verifier does with a bundle stands in verifier.py, what a host logs in host.py.
 """
 import os
 import re
 import sys
 from typing import NamedTuple
 
-import slow_host
-import slow_load
-import slow_receipts
-from slow_script import BadScript, read_script
-from slow_verifier import ShaDigests, ToyDigests, findings
+from tools.slow import host, load, receipts
+from tools.slow.script import BadScript, read_script
+from tools.slow.verifier import ShaDigests, ToyDigests, findings
 
 
 class Answer(NamedTuple):
@@ -62,9 +59,9 @@ def report(found, digests=None):
         for operation in of_epoch:
             written += line(operation)
             if digests is not None:
-                written += f"receipt {slow_receipts.tagged(digests, slow_receipts.receipt_text(operation))}\n"
+                written += f"receipt {receipts.tagged(digests, receipts.receipt_text(operation))}\n"
         if digests is not None:
-            written += f"certificate {slow_receipts.tagged(digests, slow_receipts.certificate_text(found.first, epoch))}\n"
+            written += f"certificate {receipts.tagged(digests, receipts.certificate_text(found.first, epoch))}\n"
     return written
 
 
@@ -143,7 +140,7 @@ def told(command, options, vault, ended):
 
 
 def accept(digests, data):
-    accepted = slow_receipts.accept(digests, data)
+    accepted = receipts.accept(digests, data)
     if accepted in ("not tagged", "not certified"):
         return answer("", accepted + "\n", 11 if accepted == "not tagged" else 12)
     return Answer("accepted " + line(accepted), 0, "")
@@ -227,17 +224,17 @@ def options_of(words):
 
 
 def settings_of(options):
-    return slow_host.Settings(*(options[name] for name in ("--verifiers", "--shards", "--hot", "--first", "--counter")))
+    return host.Settings(*(options[name] for name in ("--verifiers", "--shards", "--hot", "--first", "--counter")))
 
 
 def load_of(options):
-    return slow_load.Shape(*(options[name] for name in ("--seed", "--ops", "--verifiers", "--keys", "--every")))
+    return load.Shape(*(options[name] for name in ("--seed", "--ops", "--verifiers", "--keys", "--every")))
 
 
 def phases_of(command, options, data):
     """What a host is asked: the phases of the script, or those of a load."""
     if command == "gen":
-        data = "".join(f"{line}\n" for line in slow_load.lines(*load_of(options))).encode()
+        data = "".join(f"{line}\n" for line in load.lines(*load_of(options))).encode()
     return read_script(data, options["--verifiers"])
 
 
@@ -250,7 +247,7 @@ def obeyed(command, options, data):
     if command == "accept":
         return accept(digests, data)
     phases = phases_of(command, options, data)
-    return told(command, options, *slow_host.run(digests, settings_of(options), phases))
+    return told(command, options, *host.run(digests, settings_of(options), phases))
 
 
 def fastver(words, data):
@@ -266,7 +263,7 @@ def fastver(words, data):
 
 
 def stored(got, path):
-    """The answer once its vault is written, which is a new file: what is there already stays as it is."""
+    """The answer once its vault is written, to a new file: one that is there is left as it is."""
     try:
         with open(path, "xb") as file:
             file.write(got.vault)

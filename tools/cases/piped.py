@@ -1,7 +1,6 @@
-#!/usr/bin/env python3
 """Checks a bundle that comes through a pipe, and looks that an epoch is written before the bundle's end is there.
 
-usage: run_piped.py PROGRAM
+usage: tools/run cases.piped PROGRAM
 
 The first 64 frames certify an epoch with a put and a get, and 63 that are empty. The 65th frame is written only once the
 lines of these came out; that they come is waited for no longer than a minute.
@@ -13,7 +12,7 @@ import sys
 import time
 
 SECONDS = 60
-BUNDLE = os.path.join(os.path.dirname(os.path.abspath(__file__)), "..", "crates", "fastver_cli", "stdin")
+BUNDLE = os.path.join(os.path.dirname(os.path.abspath(__file__)), "..", "..", "crates", "fastver_cli", "stdin")
 NEXT_EPOCH = bytes([0, 0, 0, 0, 0, 1, 8])  # a frame of verifier 0 with one command
 FIRST = b"epoch 0 certified 2\n0.0 v0 put 5 6162\n0.0 v0 get 5 6162\n"
 

@@ -1,8 +1,8 @@
 """Receipts and certificates by docs/FORMATS.md, plain and slow: what a client keeps, and how it is accepted."""
 import re
 
-from slow_script import BadScript
-from slow_verifier import Bytes, Fault, test, value_text
+from tools.slow.script import BadScript
+from tools.slow.verifier import Bytes, Fault, test, value_text
 
 TAG_BYTES = 32
 KINDS = {6: "get", 7: "put"}

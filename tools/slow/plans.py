@@ -1,18 +1,17 @@
-#!/usr/bin/env python3
 """The commands of requests and of closes, by the plain slow host: the rows that crates/host_tests compares.
 
 Digests are sums of bytes, as `ToyDigests` has them, of which only the digits that count are written. It prints the rows of one
 worker's log for requests, one a line: `get KEY`, `put KEY HEX`, `del KEY`, and `epoch`, where the worker goes to the next epoch
 and moves each shard. With a threshold, keys that were touched so often in an epoch become hot at its end.
 
-    tools/slow_plans.py SHARDS WORKER COUNTER [THRESHOLD] < requests
+    tools/run slow.plans SHARDS WORKER COUNTER [THRESHOLD] < requests
 """
 import sys
 
-from slow_host import Deed, Host, Settings, Visit, Worker
-from slow_rows import row
-from slow_script import request_in
-from slow_verifier import ToyDigests
+from tools.slow.host import Deed, Host, Settings, Visit, Worker
+from tools.slow.rows import row
+from tools.slow.script import request_in
+from tools.slow.verifier import ToyDigests
 
 END = 16777215
 

@@ -1,8 +1,7 @@
-#!/usr/bin/env python3
 """Judges what a host of many workers made of a script, in whatever order they came to its shards.
 
-usage: slow_judge.py SCRIPT VAULT OUTPUT STATUS WORDS..
-       slow_judge.py --random PROGRAM COUNT TIMES SEED
+usage: tools/run slow.judge SCRIPT VAULT OUTPUT STATUS WORDS..
+       tools/run slow.judge --random PROGRAM COUNT TIMES SEED
 
 In the first form WORDS are those of `run` or `gen`, OUTPUT is what was printed and STATUS the exit status. It prints what is
 wrong, a line each, and fails where anything is. The second form has PROGRAM serve COUNT random scripts whose workers meet at
@@ -18,10 +17,9 @@ import sys
 import tempfile
 from collections import deque
 
-import random_scripts
-import slow_fastver
-import slow_host
-from slow_verifier import Bytes, ShaDigests, findings, read_bundle
+from tools.cases.scripts import LATER, random_run
+from tools.slow import fastver, host
+from tools.slow.verifier import Bytes, ShaDigests, findings, read_bundle
 
 SECONDS = 60
 
@@ -62,16 +60,16 @@ def answered_by(worker, found):
 
 def faults(words, script, vault, output, status):
     """What is wrong, as texts."""
-    options = slow_fastver.options_of(words)
-    phases, first = slow_fastver.phases_of(words[0], options, script), options["--first"]
-    digests, settings = ShaDigests(options["--key"]), slow_fastver.settings_of(options)
+    options = fastver.options_of(words)
+    phases, first = fastver.phases_of(words[0], options, script), options["--first"]
+    digests, settings = ShaDigests(options["--key"]), fastver.settings_of(options)
     found = findings(digests, vault)
     if found.status != 0:
         return [f"the bundle is not certified whole: {found.last.strip()}"]
     logs = read_bundle(vault)[1]
     served = [evict for number, log in enumerate(logs) for evict in evicts(number, log)]
-    wanted, ended = slow_host.run(digests, settings, in_their_order(phases, first, served))
-    told, wrong = slow_fastver.told(words[0], options, vault, ended), []
+    wanted, ended = host.run(digests, settings, in_their_order(phases, first, served))
+    told, wrong = fastver.told(words[0], options, vault, ended), []
     if ended is None and found.count != len(phases):
         wrong.append(f"{found.count} of {len(phases)} epochs are certified")
     for worker in range(len(logs)):
@@ -102,9 +100,9 @@ def judge_random(program, count, times, seed):
     """How many faults the vaults have that a program writes for random scripts. It says which, and how many vaults differ."""
     chance, wrong, vaults = random.Random(seed), 0, 0
     for number in range(count):
-        hot = number % 2 == 1 and "--hot" not in random_scripts.LATER
-        words, script = random_scripts.random_case(chance, chance.choice([2, 3, 8]), hot, shared=True)
-        if slow_fastver.fastver(words, script)[0].status not in (0, 10):
+        hot = number % 2 == 1 and "--hot" not in LATER
+        words, script = random_run(chance, chance.choice([2, 3, 8]), hot, shared=True)
+        if fastver.fastver(words, script)[0].status not in (0, 10):
             continue
         seen = set()
         for _ in range(times):

@@ -1,7 +1,6 @@
-#!/usr/bin/env python3
 """Runs a built program on each case of folders, and compares its output, status, standard error and vault.
 
-usage: run_cases.py PROGRAM FOLDER..
+usage: tools/run cases.run PROGRAM FOLDER..
 
 Where NAME.vault is there, the words `--logs FILE` are put behind the others, and the file must then hold just those bytes;
 where they are the one word `none`, no file may be made. A case whose words ask for what the program hasn't yet is passed by,
@@ -12,7 +11,7 @@ import subprocess
 import sys
 import tempfile
 
-from random_cases import is_there
+from tools.cases.write import is_there
 
 REFUSED = 1  # the status of words that are refused
 

@@ -1,5 +1,6 @@
-#!/usr/bin/env python3
-"""Says which parts of a crate's last proof took longest: tools/proof_times.py CRATE [SECONDS]
+"""Says which parts of a crate's last proof took longest.
+
+usage: tools/run gate.proof_times CRATE [SECONDS]
 
 CRATE is a crate's folder. A check writes a file in its out/incremental as it ends with each module, so that the time between two
 files is what the second took, where the crate was proved from nothing by one job:

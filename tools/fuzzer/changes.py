@@ -1,11 +1,11 @@
-"""Changes of bytes, of lists, and of bundles, for the inputs of fuzz.py.
+"""Changes of bytes, of lists, and of bundles, for the inputs of the fuzzer.
 
 A change takes a chance and what is changed, and answers it changed somewhere. Of a bundle bytes, whole commands, frames or the
 header are changed. Numbers that are put in are mostly those at which something begins or ends.
 """
-import random_cases
-import slow_verifier as slow
-from random_cases import KEYS, NODES
+from tools.cases import write
+from tools.cases.write import KEYS, NODES
+from tools.slow import verifier as slow
 
 HEADER = 18
 EDGES = [0, 1, 2, 3, 4, 5, 8, 31, 32, 33, 63, 64, 65, 127, 128, 129, 255, 256, 1023, 1024, 1025, 65535, 65536, 65537]
@@ -200,7 +200,7 @@ def other_commands(chance, bundle):
         commands[place:place] = stray[begin : begin + chance.choice([1, 2, 5])]
     commands = often(chance, commands, COMMAND_CHANGES)
     logs[at] = b"".join(map(slow.command_text, commands)) + rest
-    return random_cases.framed(chance, header, logs)
+    return write.framed(chance, header, logs)
 
 
 # ---- frames and headers

@@ -1,7 +1,6 @@
-#!/usr/bin/env python3
 """Writes random bundles and scripts with the output, status and vault that the slow program finds for each.
 
-usage: random_cases.py FOLDER COUNT SEED
+usage: tools/run cases.write FOLDER COUNT SEED
 
 A host is played that walks over few keys: most of its commands are right, some are anything, and some
 bundles are cut or have a byte changed. Every second bundle has 2 to 4 verifiers, between which records move
@@ -14,11 +13,10 @@ import os
 import random
 import sys
 
-import random_scripts
-import slow_fastver
-import slow_verifier as slow
-import word_cases
-from random_scripts import LATER, MOST_WORKERS
+from tools.cases.scripts import LATER, MOST_WORKERS, WRONG_LINES, random_run
+from tools.cases.words import CASES, SCRIPT
+from tools.slow import fastver
+from tools.slow import verifier as slow
 
 KEYS = [format(key, "064b") for key in (0, 1, 5, 2**63, 2**63 + 1, 2**64 - 1)]
 NODES = ["", "0", "1", "0" * 61, "0" * 63, "1" + "0" * 62, "10", "11"]
@@ -197,8 +195,8 @@ def random_case(chance, number):
 def is_there(words):
     """Whether the built program has what words ask for, if the slow one does."""
     try:
-        options = slow_fastver.options_of(words)
-    except slow_fastver.Usage:
+        options = fastver.options_of(words)
+    except fastver.Usage:
         return True
     asked = [words[0]] + [name for name, value in options.items() if value not in (None, False)]
     return not any(word in LATER for word in asked) and options.get("--verifiers", 1) <= MOST_WORKERS
@@ -207,7 +205,7 @@ def is_there(words):
 def write_case(folder, name, words, given, stores=False):
     """Writes a case with what the slow program makes of it. One that stores has its vault compared too."""
     asked = words + ["--logs", "vault"] if stores else words
-    (report, status, said, vault), path = slow_fastver.fastver(asked if is_there(asked) else [], given)
+    (report, status, said, vault), path = fastver.fastver(asked if is_there(asked) else [], given)
     texts = {
         name: given,
         name + ".args": b"".join(os.fsencode(word) + b"\n" for word in words),
@@ -231,10 +229,10 @@ def write_script(folder, chance, number):
     """Writes a case of a script. The first ones have each wrong line, and any other may have one."""
     workers = 1 if number % 2 == 0 else chance.choice([2, 3, 5, 64])
     hot = number % 4 > 1 and "--hot" not in LATER
-    words, script = random_scripts.random_case(chance, min(workers, MOST_WORKERS), hot, shared=False)
+    words, script = random_run(chance, min(workers, MOST_WORKERS), hot, shared=False)
     words += receipts(number)
-    if number < len(random_scripts.WRONG_LINES):
-        script = word_cases.SCRIPT + random_scripts.WRONG_LINES[number] + b"\n" + word_cases.SCRIPT
+    if number < len(WRONG_LINES):
+        script = SCRIPT + WRONG_LINES[number] + b"\n" + SCRIPT
     write_case(folder, f"run-{number:04}", words, script, stores=number % 5 > 0)
 
 
@@ -249,9 +247,9 @@ def main():
             write_case(folder, f"audit-{number:04}", ["audit", "--key", key], bundle)
         if "run" not in LATER:
             write_script(folder, chance, number)
-    for number, (words, given) in enumerate(word_cases.CASES):
+    for number, (words, given) in enumerate(CASES):
         write_case(folder, f"words-{number:03}", words, given)
-    scripts, words = 0 if "run" in LATER else count, len(word_cases.CASES)
+    scripts, words = 0 if "run" in LATER else count, len(CASES)
     print(f"{folder}: {count} random bundles, each third one audited too, {scripts} scripts, and {words} cases of words")
     return 0 if count > 0 else 1
 

@@ -1,7 +1,6 @@
-#!/usr/bin/env python3
 """Refuses each allocation of a built program in turn, in some calls of it, and looks how each run then ends.
 
-usage: refuse_rows.py PROGRAM.. [--rows WORD] [--times T]
+usage: tools/run fuzzer.refuse_rows PROGRAM.. [--rows WORD] [--times T]
 
 A row is the words of a call and its input; WORD picks those whose names have it. For each number an allocation is refused alone,
 and then it and all behind it, by refuse_nth.c, which gcc compiles into a temporary folder. A run may end as it does with
@@ -21,13 +20,12 @@ import tempfile
 from collections import Counter
 from typing import NamedTuple
 
-import slow_fastver
-import slow_receipts
-from compared import VAULT, differing, got_from, meeting, misjudged, wanted_for
-from slow_verifier import ShaDigests, command_text, findings, header_text
+from tools.cases.compared import VAULT, differing, got_from, meeting, misjudged, wanted_for
+from tools.slow import fastver, receipts
+from tools.slow.verifier import ShaDigests, command_text, findings, header_text
 
 HERE = os.path.dirname(os.path.abspath(__file__))
-BUNDLE = os.path.join(HERE, "..", "crates", "fastver_cli", "stdin")
+BUNDLE = os.path.join(HERE, "..", "..", "crates", "fastver_cli", "stdin")
 KEY = ["--key", "00" * 16]
 MEMORY = 2  # the status of want of memory
 SCRIPT = b"0 put 5 6162\n0 get 5\n"
@@ -98,9 +96,9 @@ def evidence(epoch=0, flipped=0):
     """A receipt of this epoch and a certificate of epoch 0, with these bits of the receipt's last byte flipped."""
     digests = ShaDigests(bytes(16))
     operation = (epoch, 3, 0, 7), "put", f"{5:064b}", b"ab"
-    receipt = bytes.fromhex(slow_receipts.tagged(digests, slow_receipts.receipt_text(operation)))
+    receipt = bytes.fromhex(receipts.tagged(digests, receipts.receipt_text(operation)))
     receipt = receipt[:-1] + bytes([receipt[-1] ^ flipped])
-    certificate = slow_receipts.tagged(digests, slow_receipts.certificate_text(0, 0))
+    certificate = receipts.tagged(digests, receipts.certificate_text(0, 0))
     return f"receipt {receipt.hex()}\ncertificate {certificate}\n".encode()
 
 
@@ -109,7 +107,7 @@ def reader_rows():
     with open(BUNDLE, "rb") as file:
         bundle = file.read()
     hot = run_row("", TOGETHER, "--hot", "2", workers=2)
-    vault = slow_fastver.fastver(hot.words, hot.given)[0].vault
+    vault = fastver.fastver(hot.words, hot.given)[0].vault
     return [
         Row("check", ["check", *KEY], bundle),
         Row("check of a wrong get", ["check", *KEY], bundle.replace(b"\1\2ab\x08\x08", b"\1\2ac\x08\x08")),
@@ -159,9 +157,9 @@ def front_of(row, wanted, vault):
         return wanted.output[: wanted.output[:-1].rfind(b"\n") + 1]
     if row.words[0] == "run" and vault is not None:
         digests = ShaDigests(bytes(16))
-        return slow_fastver.report(findings(digests, vault), digests if "--receipts" in row.words else None).encode()
+        return fastver.report(findings(digests, vault), digests if "--receipts" in row.words else None).encode()
     if row.words[0] == "gen" and vault is not None:
-        return slow_fastver.told("gen", slow_fastver.options_of(row.words), vault, None).written.encode()
+        return fastver.told("gen", fastver.options_of(row.words), vault, None).written.encode()
     return b""
 
 

@@ -1,35 +1,19 @@
-#!/usr/bin/env python3
 """Looks which lemmas the crates use of one another. Run at the top of the repository.
 
 A file crates/X/proofs/NAME.antt that another crate uses is public (`pub mod NAME` in crates/X/proofs/Lib.antt) and its
 name ends in Laws, so that a reader sees what the crates above rest on; all others are private (`mod NAME`). It writes a
 line for each file that is otherwise, and fails where there is one.
 """
-import os
 import re
 import sys
 
-
-def read(file):
-    with open(file, encoding="utf-8") as text:
-        return text.read()
-
-
-def sources(crate):
-    """The crate's code, definitions and proofs, without comments."""
-    for part in ("src", "specs", "proofs"):
-        for folder, _, names in os.walk(f"crates/{crate}/{part}"):
-            for name in names:
-                if name.endswith(".antt"):
-                    yield re.sub(r"--.*", "", read(f"{folder}/{name}"))
-                elif name.endswith(".rt"):
-                    yield re.sub(r"//.*", "", read(f"{folder}/{name}"))
+from tools.gate.sources import names, read, sources
 
 
 def uses(text):
     """The crate and the name of each proof file that a text names."""
-    for crate, names in re.findall(r"\b(\w+)(?:\.|::)proofs(?:\.|::)(\w+|\{[^}]*\})", text):
-        for name in re.findall(r"\w+", names):
+    for crate, listed in re.findall(r"\b(\w+)(?:\.|::)proofs(?:\.|::)(\w+|\{[^}]*\})", text):
+        for name in re.findall(r"\w+", listed):
             yield crate, name
 
 
@@ -46,8 +30,10 @@ def users_of(crates):
 
 def declared(crate):
     """The files of the crate's proofs, and whether each is public."""
-    lib = f"crates/{crate}/proofs/Lib.antt"
-    text = read(lib) if os.path.isfile(lib) else ""
+    try:
+        text = read(f"crates/{crate}/proofs/Lib.antt")
+    except FileNotFoundError:
+        text = ""
     return {name: bool(public) for public, name in re.findall(r"^(pub )?mod (\w+)", text, re.M)}
 
 
@@ -68,9 +54,7 @@ def breaches(crates):
 
 
 def main():
-    lines = [line.partition("#")[0] for line in read("crates.txt").splitlines()]
-    crates = [line.split(":")[0].split()[0] for line in lines if line.strip()]
-    found = list(breaches(crates)) if crates else ["crates.txt names no crate"]
+    found = list(breaches(names())) if names() else ["crates.txt names no crate"]
     print(*found, sep="\n", end="\n" if found else "")
     return 1 if found else 0
 

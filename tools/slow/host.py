@@ -9,7 +9,7 @@ from collections import Counter
 from contextlib import contextmanager
 from dataclasses import dataclass, field, replace
 
-from slow_verifier import Pointer, command_text, header_text, initial, side, value_text, with_side
+from tools.slow.verifier import Pointer, command_text, header_text, initial, side, value_text, with_side
 
 CACHE, SEATS, FRAME, LAST_EPOCH = 128, 4, 65536, 2**32 - 1
 

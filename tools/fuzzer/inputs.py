@@ -1,20 +1,17 @@
-"""Inputs for fuzz.py: random bundles, scripts, words, receipts and loads, most of them changed somewhere.
+"""Inputs for the fuzzer: random bundles, scripts, words, receipts and loads, most of them changed somewhere.
 
 An input is made of a chance and of its number, and says with which words the program is called on which bytes. A bundle is one
-that random_cases.py plays or that the slow host writes, or is spliced of two.
+that cases.write plays or that the slow host writes, or is spliced of two.
 """
 from typing import NamedTuple
 
-import random_cases
-import random_scripts
-import slow_fastver
-import slow_host
-import slow_receipts
-import slow_verifier as slow
-import word_cases
-from compared import VAULT
-from fuzz_changes import BLOBS, BUNDLE_CHANGES, BYTE_CHANGES, HEADER, LIST_CHANGES, changed_item, cut, edge, flip_bit, often
-from slow_script import read_script
+from tools.cases import scripts, write
+from tools.cases.compared import VAULT
+from tools.cases.words import BUNDLE, CASES, RECEIPT, SCRIPT
+from tools.fuzzer.changes import BLOBS, BUNDLE_CHANGES, BYTE_CHANGES, HEADER, LIST_CHANGES, changed_item, cut, edge, flip_bit, often
+from tools.slow import fastver, host, receipts
+from tools.slow import verifier as slow
+from tools.slow.script import read_script
 
 
 class Input(NamedTuple):
@@ -33,20 +30,20 @@ def random_key(chance):
 def host_bundle(chance):
     """The key and the bundle that the slow host writes for a script, whose workers came to its shards one after another."""
     words, script = random_run(chance, chance.choice([1, 1, 2, 3, 8]))
-    options = slow_fastver.options_of(words)
+    options = fastver.options_of(words)
     try:
         phases = read_script(script, options["--verifiers"])
-    except slow_fastver.BadScript:
+    except fastver.BadScript:
         phases = [[]]
     digests = slow.ShaDigests(options["--key"])
-    return options["--key"].hex(), slow_host.run(digests, slow_fastver.settings_of(options), phases)[0]
+    return options["--key"].hex(), host.run(digests, fastver.settings_of(options), phases)[0]
 
 
 def any_bundle(chance):
     """A key and a bundle as one writes it. Very few are longer than what is read at a time."""
     if chance.random() < 0.3:
         return host_bundle(chance)
-    return random_cases.random_case(chance, chance.choice([0, 1]) if chance.random() < 0.002 else chance.randrange(2, 1000))
+    return write.random_case(chance, chance.choice([0, 1]) if chance.random() < 0.002 else chance.randrange(2, 1000))
 
 
 def random_bundle(chance):
@@ -83,7 +80,7 @@ def bad_line(chance, worker):
     key = chance.choice([str(edge(chance, 8)), str(2**64), "05", "5" * chance.choice([20, 21, 240]), "0x5", ""])
     value = chance.choice(["..", "6", "6A", "61" * 65, "0" * 127, "zz", "61 62", ""])
     line = f"{worker} {chance.choice(['get', 'put', 'Put', 'pu'])} {key} {value}".encode()
-    return chance.choice([line, b"", chance.choice(random_scripts.WRONG_LINES), line.ljust(chance.choice([255, 256, 257]))])
+    return chance.choice([line, b"", chance.choice(scripts.WRONG_LINES), line.ljust(chance.choice([255, 256, 257]))])
 
 
 def other_line(chance, line):
@@ -118,7 +115,7 @@ def many_keys(chance, workers):
 
 def random_run(chance, workers, shared=False):
     """The words of `run` and a script, over few keys or many."""
-    words, script = random_scripts.random_case(chance, workers, chance.random() < 0.5, shared)
+    words, script = scripts.random_run(chance, workers, chance.random() < 0.5, shared)
     return words, many_keys(chance, workers) if chance.random() < 0.2 else script
 
 
@@ -153,7 +150,7 @@ def loads(chance, _):
 
 # ---- words
 
-NAMES = sorted({name for options in slow_fastver.OPTIONS.values() for name in options})
+NAMES = sorted({name for options in fastver.OPTIONS.values() for name in options})
 NUMBERS = ["0", "1", "2", "3", "4", "7", "64", "65", "1024", "1025"]
 NO_NUMBERS = ["01", "+1", "-1", "", " 1", "1 ", "0x1", "1e3", "1_0", "1.0", "\u0661"]
 PATHS = [VAULT, ".", "", f"none/{VAULT}", "/", f"{VAULT}/"]
@@ -166,15 +163,15 @@ def random_word(chance, name):
         return chance.choice([random_key(chance).hex(), random_key(chance).hex().upper(), "0" * edge(chance, 1), "0g" * 16, ""])
     if name == "--logs":
         return chance.choice(PATHS)
-    return chance.choice([*NUMBERS, *NO_NUMBERS, str(edge(chance, 8)), *map(str, slow_fastver.RANGES.get(name, (1, 2)))])
+    return chance.choice([*NUMBERS, *NO_NUMBERS, str(edge(chance, 8)), *map(str, fastver.RANGES.get(name, (1, 2)))])
 
 
 def needed_words(chance, command):
     """The options of a command that it must have, and some of the others, with values that it takes."""
     good = {"--key": random_key(chance).hex(), "--verifiers": "1", "--shards": "2", "--seed": "7", "--ops": "3", "--logs": VAULT}
     words = []
-    for name, default in slow_fastver.OPTIONS[command].items():
-        if default is slow_fastver.NEEDED or chance.random() < 0.4:
+    for name, default in fastver.OPTIONS[command].items():
+        if default is fastver.NEEDED or chance.random() < 0.4:
             words.append([name] + ([] if default is False else [good.get(name, "5")]))
     return words
 
@@ -199,11 +196,11 @@ OPTION_CHANGES = [*LIST_CHANGES, changed_item(other_option), changed_item(joined
 def lines_of_words(chance, _):
     """Words of a command with a few changes, most of them refused."""
     if chance.random() < 0.05:
-        return chance.choice(word_cases.CASES)
-    command = chance.choice(list(slow_fastver.OPTIONS))
+        return chance.choice(CASES)
+    command = chance.choice(list(fastver.OPTIONS))
     options = often(chance, needed_words(chance, command), OPTION_CHANGES, most=2)
     command = command if chance.random() < 0.97 else chance.choice(STRAY)
-    given = {"run": word_cases.SCRIPT, "gen": b"", "accept": word_cases.RECEIPT}.get(command, word_cases.BUNDLE)
+    given = {"run": SCRIPT, "gen": b"", "accept": RECEIPT}.get(command, BUNDLE)
     return [command] + [word for option in options for word in option], given
 
 
@@ -216,7 +213,7 @@ def random_operation(chance):
 
 
 def tagged_line(word, digests, text):
-    return word + b" " + slow_receipts.tagged(digests, text).encode()
+    return word + b" " + receipts.tagged(digests, text).encode()
 
 
 def evidence(chance, key):
@@ -224,7 +221,7 @@ def evidence(chance, key):
     digests, operation = slow.ShaDigests(key), random_operation(chance)
     epoch = operation[0][0]
     first, last = chance.choice([(epoch, epoch), (0, 2**32 - 1), (edge(chance, 4), epoch), (epoch, edge(chance, 4))])
-    texts = [slow_receipts.receipt_text(operation), slow_receipts.certificate_text(first, last)]
+    texts = [receipts.receipt_text(operation), receipts.certificate_text(first, last)]
     if chance.random() < 0.3:
         texts = changed_item(lambda chance, text: often(chance, text, BYTE_CHANGES))(chance, texts)
     return [tagged_line(word, digests, text) for word, text in zip((b"receipt", b"certificate"), texts)]
@@ -263,7 +260,7 @@ BIT_OPERATION = (7, 9, 1, 30), "put", f"{5:064b}", b"ab"
 def flipped_bits(_, number):
     """Of one receipt and certificate a bit changed of the texts and tags; another one for each number."""
     digests = slow.ShaDigests(BIT_KEY)
-    texts = [slow_receipts.receipt_text(BIT_OPERATION), slow_receipts.certificate_text(0, 7)]
+    texts = [receipts.receipt_text(BIT_OPERATION), receipts.certificate_text(0, 7)]
     whole = [text + digests.tag(text) for text in texts]
     size, data = len(whole[0]), b"".join(whole)
     data = flip_bit(data, number % (8 * len(data)))

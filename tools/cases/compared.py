@@ -1,6 +1,6 @@
-"""What a built program answers to words and an input, beside what the slow one does: for fuzz.py and refuse_rows.py.
+"""What a built program answers to words and an input, beside what the slow one does: for the fuzzer.
 
-Where workers meet at a shard the order is not determined, and what they wrote is judged by slow_judge.py.
+Where workers meet at a shard the order is not determined, and what they wrote is judged by slow.judge.
 """
 import contextlib
 import os
@@ -8,9 +8,8 @@ import subprocess
 import tempfile
 from typing import NamedTuple
 
-import random_cases
-import slow_fastver
-import slow_judge
+from tools.cases import write
+from tools.slow import fastver, judge
 
 VAULT = "vault"  # where the vault goes that is looked at
 SECONDS = 600  # how long a program may take for one input, also beside other work
@@ -47,11 +46,11 @@ def got_from(program, words, given, environment=None):
 
 def wanted_for(words, given):
     """What the slow program answers, in a folder of its own where it has a vault."""
-    answer, path = slow_fastver.fastver(words if random_cases.is_there(words) else [], given)
+    answer, path = fastver.fastver(words if write.is_there(words) else [], given)
     files = {}
     if path is not None:
         with tempfile.TemporaryDirectory() as folder, contextlib.chdir(folder):
-            answer = slow_fastver.stored(answer, path)
+            answer = fastver.stored(answer, path)
             files = files_in(folder)
     return Got(answer.written.encode(), answer.status, answer.said.encode(), files)
 
@@ -59,11 +58,11 @@ def wanted_for(words, given):
 def meeting(words, given):
     """The options of a run in which two workers come to one shard in a phase, if that is asked for."""
     try:
-        options = slow_fastver.options_of(words)
-        if "--shards" not in options or not random_cases.is_there(words):
+        options = fastver.options_of(words)
+        if "--shards" not in options or not write.is_there(words):
             return None
-        phases = slow_fastver.phases_of(words[0], options, given)
-    except (slow_fastver.Usage, slow_fastver.BadScript):
+        phases = fastver.phases_of(words[0], options, given)
+    except (fastver.Usage, fastver.BadScript):
         return None
     bits = options["--shards"].bit_length() - 1
     came = [{(path[:bits], worker) for worker, _, path, _ in phase} for phase in phases]
@@ -72,7 +71,7 @@ def meeting(words, given):
 
 def misjudged(words, given, got):
     """What is wrong where workers met: their vault, what was printed, and what was said beside."""
-    wrong = slow_judge.faults(words, given, got.files.get(VAULT, b""), got.output, got.status)
+    wrong = judge.faults(words, given, got.files.get(VAULT, b""), got.output, got.status)
     last = b"fastver: " + got.output.splitlines(keepends=True)[-1] if got.status and got.output else b""
     return wrong + (["what was said beside is not the last line"] if got.said != last else [])
 

@@ -1,7 +1,6 @@
-#!/usr/bin/env python3
 """Refuses each allocation of some calls in turn, and looks that each call then leaves all as before.
 
-usage: tools/refuse_memory.py [CALL ..]
+usage: tools/run fuzzer.refuse_memory [CALL ..]
 
 The calls are those of crates/starved_tests, by default the ones that its stdin names. Its program makes so many allocations
 to no use as a line of its input says, and then tries a call, all of whose things it makes anew. `rt try` builds it once,
@@ -14,7 +13,7 @@ import subprocess
 import sys
 import tempfile
 
-CRATE = os.path.join(os.path.dirname(os.path.abspath(__file__)), "..", "crates", "starved_tests")
+CRATE = os.path.join(os.path.dirname(os.path.abspath(__file__)), "..", "..", "crates", "starved_tests")
 REFUSED = 64  # which allocation of a run is refused: each try makes fewer
 EARLY, BEFORE, GOOD, NONE = "refused too early", "refused before the call", "refused, all as before", "not refused"
 

@@ -1,4 +1,6 @@
-"""A load made of a seed, as a script: python3 tools/slow_load.py SEED OPS VERIFIERS KEYS EVERY
+"""A load made of a seed, as a script.
+
+usage: tools/run slow.load SEED OPS VERIFIERS KEYS EVERY
 
 Plain and slow, and written from the definition alone: what host_tests wants of the generator was printed by it.
 """
@@ -39,6 +41,11 @@ def lines(seed, ops, verifiers, keys, every):
             yield "epoch"
 
 
-if __name__ == "__main__":
+def main():
     for line in lines(*map(int, sys.argv[1:])):
         print(line)
+    return 0
+
+
+if __name__ == "__main__":
+    sys.exit(main())

@@ -1,13 +1,12 @@
-#!/usr/bin/env python3
 """Compares built programs with the slow one on random inputs, for as long as it is told.
 
-usage: fuzz.py PROGRAM.. [--minutes M] [--jobs J] [--seed S] [--kinds KIND..] [--keep FOLDER]
+usage: tools/run fuzzer.fuzz PROGRAM.. [--minutes M] [--jobs J] [--seed S] [--kinds KIND..] [--keep FOLDER]
 
-Each input of fuzz_inputs.py goes to each program, and its output, its status, what it says on standard error and the file of its
+Each input of fuzzer.inputs goes to each program, and its output, its status, what it says on standard error and the file of its
 vault must be what the slow program finds. Where workers meet at a shard, so that the order is not determined, what they wrote
-is judged by slow_judge.py. The inputs follow from the seed and their numbers alone, not from how many jobs there are.
+is judged by slow.judge. The inputs follow from the seed and their numbers alone, not from how many jobs there are.
 
-An input on which anything differs is kept in the folder as a case for run_cases.py, with NAME.found, which says what differs.
+An input on which anything differs is kept in the folder as a case for cases.run, with NAME.found, which says what differs.
 Each minute a line says how far it is; at the end a summary has, of each kind, how many inputs there were, by exit status, and
 how many differed. It fails where any did.
 """
@@ -20,9 +19,9 @@ import time
 from collections import Counter
 from concurrent.futures import FIRST_COMPLETED, ProcessPoolExecutor, wait
 
-import random_cases
-from compared import VAULT, differing, got_from, meeting, misjudged, wanted_for
-from fuzz_inputs import KINDS, random_input
+from tools.cases import write
+from tools.cases.compared import VAULT, differing, got_from, meeting, misjudged, wanted_for
+from tools.fuzzer.inputs import KINDS, random_input
 
 BATCH = 20  # inputs that a job is given at once
 
@@ -47,7 +46,7 @@ def keep(folder, name, words, given, wrong):
     with open(os.path.join(folder, name), "wb") as file:
         file.write(given)
     stores = words[-2:] == ["--logs", VAULT]
-    random_cases.write_case(folder, name, words[:-2] if stores else words, given, stores)
+    write.write_case(folder, name, words[:-2] if stores else words, given, stores)
 
 
 def batch(programs, seed, number, names, folder):

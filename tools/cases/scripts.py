@@ -86,7 +86,7 @@ def random_script(chance, workers, shards, shared):
     return lines[:-1]
 
 
-def random_case(chance, workers, hot, shared):
+def random_run(chance, workers, hot, shared):
     """The words of `run`, and a script."""
     words, shards = random_words(chance, workers, hot)
     lines = random_script(chance, workers, shards, shared)

@@ -1,6 +1,6 @@
 """Texts, digests, a verifier and a bundle, by the definitions of docs/DEFINITIONS.md, plain and slow.
 
-`findings` says of a bundle what its verifiers come to. `slow_fastver.py` writes it, and `slow_host.py` makes bundles.
+`findings` says of a bundle what its verifiers come to. fastver.py writes it, and host.py makes bundles.
 """
 import hashlib
 import hmac

@@ -1,0 +1,1 @@
+"""What looks further than the gate: random inputs, and allocations that are refused."""

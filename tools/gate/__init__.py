@@ -1,0 +1,1 @@
+"""What the gate checks and makes beside proofs: documents, lists, dependencies."""

@@ -1,0 +1,1 @@
+"""The store by its definitions, in plain Python with no regard to speed."""
