@@ -124,7 +124,7 @@ def functions(crate):
 
 DECLARED = {
     ".rt": re.compile(
-        r"\b(?:fn|struct|enum|trait|type|const|static|mod|macro_rules!|ghost(?! use)) (\w+)"  # what has a word before it
+        r"\b(?:fn|struct|enum|trait|type|const(?! fn)|static|mod|macro_rules!|ghost(?! use)) (\w+)"  # what has a word before it
         r"|^ {4,}(?:pub )?(?:ghost )?(\w+):(?!:)"  # fields
         r"|^    (\w+)(?=\(|,| \{|$)"  # variants
         r"|(?:ensures|requires)\*? (\w+) \{",  # clauses
