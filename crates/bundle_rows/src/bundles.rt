@@ -21,7 +21,9 @@ const HEADER_BYTES: usize = 18;
 const LONGEST_BODY: usize = 65_536;
 
 // The header where rows name none of its numbers.
-const PLAIN_HEADER: Header = Header::by_path(1, 4, 0, 16_777_215);
+fn plain_header() -> Header {
+    Header::by_path(1, 4, 0, 16_777_215)
+}
 
 /// The bytes of the bundle that these rows spell: a header, and frames of at most 2^20 bytes together.
 pub fn bundle_of(alloc: Global, rows: &str) -> Result<Vec<u8>, RowFault<'_>> {
@@ -59,7 +61,7 @@ struct Draft {
 impl Draft {
     fn new(alloc: Global) -> Result<Draft, RowFault<'static>> {
         Ok(Draft {
-            header: PLAIN_HEADER,
+            header: plain_header(),
             frames: MemorySink::new(alloc, MOST_BYTES, MOST_BYTES, &[])?,
             body: Vec::new(alloc),
             verifier: 0,

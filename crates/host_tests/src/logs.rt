@@ -25,7 +25,10 @@ const SETUP: &str = "
 08
 ";
 
-const SETUP_HEADER: Header = Header::by_path(1, 128, 0, 16_777_215);
+// Its header.
+fn setup_header() -> Header {
+    Header::by_path(1, 128, 0, 16_777_215)
+}
 
 // Its commands: those of the first round, and those of the last close.
 const FIRST_ROUND: &str = "
@@ -71,7 +74,7 @@ fn write_round(
 fn the_rounds_of_an_empty_script_are_its_bundle(rt: HostRuntime) {
     let bundle = bytes_of(&rt, rt.alloc(), SETUP);
     let mut sink = MemorySink::new(rt.alloc(), 1000, 50, &[]).expect(&rt, "memory");
-    let header = write_header(&SETUP_HEADER, &mut sink);
+    let header = write_header(&setup_header(), &mut sink);
     same(&rt, "header", &header, &Ok(()));
     let mut log = LogBuffer::new(rt.alloc());
     let spare = LogBuffer::new(rt.alloc());

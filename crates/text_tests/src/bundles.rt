@@ -41,7 +41,10 @@ const ONE_KEY: &str = "
 08
 ";
 
-const ONE_KEY_HEADER: Header = Header::by_path(1, 4, 0, 16_777_215);
+// Its header.
+fn one_key_header() -> Header {
+    Header::by_path(1, 4, 0, 16_777_215)
+}
 
 // The bytes in pieces of a size.
 fn cut(alloc: Global, bytes: &[u8], size: usize) -> Result<Vec<Vec<u8>>, Memory>
@@ -92,14 +95,17 @@ fn assert_read(rt: &impl Abort, bundle: &WholeBundle, header: Header, frames: us
     same(rt, "bundle.frames.len()", &bundle.frames.len(), &frames);
 }
 
-const SETUP_HEADER: Header = Header::by_path(1, 128, 0, 16_777_215);
+// The header of the setup.
+fn setup_header() -> Header {
+    Header::by_path(1, 128, 0, 16_777_215)
+}
 
 // The bundle of the setup in pieces of a size.
 fn assert_setup(rt: &impl Abort, alloc: Global, bytes: &[u8], size: usize)
     requires some { 0 < size }
 {
     let setup = read(rt, alloc, bytes, size);
-    assert_read(rt, &setup, SETUP_HEADER, 2);
+    assert_read(rt, &setup, setup_header(), 2);
     assert_frame(rt, &setup, 0, part(rt, bytes, 24, 120));
     assert_frame(rt, &setup, 1, part(rt, bytes, 126, 208));
 }
@@ -118,7 +124,7 @@ fn assert_one_key(rt: &impl Abort, alloc: Global, bytes: &[u8], size: usize)
     requires some { 0 < size }
 {
     let bundle = read(rt, alloc, bytes, size);
-    assert_read(rt, &bundle, ONE_KEY_HEADER, 1);
+    assert_read(rt, &bundle, one_key_header(), 1);
     assert_frame(rt, &bundle, 0, part(rt, bytes, 24, 116));
 }
 
@@ -269,7 +275,7 @@ fn the_longest_frame_is_good(rt: HostRuntime) {
 fn written(rt: &impl Abort, alloc: Global, room: usize, answer: Result<(), Failed>) -> MemorySink {
     let bytes = bytes_of(rt, alloc, ONE_KEY);
     let mut sink = MemorySink::new(alloc, room, 10, &[]).expect(rt, "memory");
-    let header = write_header(&ONE_KEY_HEADER, &mut sink);
+    let header = write_header(&one_key_header(), &mut sink);
     same(rt, "write_header", &header, &Ok(()));
     let frame = write_frame(0, part(rt, &bytes, 24, 116), &mut sink);
     same(rt, "write_frame", &frame, &answer);
