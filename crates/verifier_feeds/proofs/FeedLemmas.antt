@@ -1,5 +1,5 @@
 -- What a run took, piece by piece, and what a worker put in.
-use Rattle.std.proofs.Common.{◌≡◌, ℕ, suc, ◌<◌, false, List, [], ◌∷◌, ◌++◌, length, take, get_or, Option, Some, take-suc, refl, sym, ◌∙◌, ap, subst, append_assoc, append-nil, arith}
+use Rattle.std.proofs.Common.{◌≡◌, ℕ, suc, ◌+◌, ◌-◌, ◌^◌, ◌<◌, false, min, length-append, List, [], ◌∷◌, ◌++◌, length, take, get_or, Option, Some, take-suc, refl, sym, ◌∙◌, ap, subst, append_assoc, append-nil, arith}
 use Rattle.std.specs.Option.{option_to_list}
 use Rattle.std.proofs.lemmas.Grind.{flat_map-append}
 use Rattle.record_hash.specs.Functions.{DigestFunctions}
@@ -16,7 +16,7 @@ use Rattle.certified_epochs.specs.declared.fed_run.FedRun.{FedRun}
 use Rattle.log_rings.specs.declared.parcel.Parcel.{Parcel}
 use Rattle.host_rounds.specs.Feeding.{Reads}
 use Rattle.verifier_feeds.specs.declared.inbox.Inbox.{Inbox}
-use Rattle.verifier_feeds.specs.Feeds.{HasRead, GoesOnBy, ReadsOn, bytes_of, run_of, is_wanting}
+use Rattle.verifier_feeds.specs.Feeds.{HasRead, GoesOnBy, ReadsOn, bytes_of, counted_on, run_of, is_wanting}
 
 -- bytes that are fed in two pieces come to what they come to as one
 abbrev pub PiecesJoin : Type 0
@@ -114,3 +114,15 @@ written-more commands k n command queued buffer after first next there is so_far
     ∙ sym (flat_map-append (command_text short_keys) (take k commands) (command ∷ []))
     ∙ sym (ap (λ (m : ℕ). log_text short_keys (take m commands)) next
     ∙ ap (log_text short_keys) (take-suc commands k command there ∙ ap (λ (c : Command). take k commands ++ c ∷ []) (sym is))))
+
+-- ---- how many parcels a verifier took
+
+-- none so far
+pub none-counted : (count : ℕ) (parcels : List Parcel) → count < 2 ^ 64 → parcels ≡ [] → count ≡ counted_on count parcels
+none-counted count parcels small none = subst (λ (ps : List Parcel). count ≡ counted_on count ps) (sym none) (omega (arith, small))
+
+-- one more
+pub counted-more : (first count next : ℕ) (parcels after : List Parcel) (parcel : Parcel) → count ≡ counted_on first parcels → next ≡ min (count + 1) (2 ^ 64 - 1)
+    → after ≡ parcels ++ parcel ∷ [] → next ≡ counted_on first after
+counted-more first count next parcels after parcel so_far more is =
+    subst (λ (ps : List Parcel). next ≡ counted_on first ps) (sym is) (omega (arith, so_far, more, length-append parcels (parcel ∷ [])))

@@ -1,5 +1,5 @@
 -- The two ends of a feed: what a worker has put in, and what its verifier's run has taken.
-use Rattle.std.specs.Prelude.{◌≡◌, ℕ, ◌≤◌, Bool, true, false, List, [], ◌∷◌, ◌++◌}
+use Rattle.std.specs.Prelude.{◌≡◌, ℕ, ◌+◌, ◌-◌, ◌^◌, ◌≤◌, Bool, true, false, List, [], ◌∷◌, ◌++◌, length, min}
 use Rattle.std.specs.List.{flat_map}
 use Rattle.record_hash.specs.Functions.{DigestFunctions}
 use Rattle.merkle_records.specs.Scheme.{scheme_of}
@@ -55,6 +55,14 @@ SameInbox old new = SameReceiver old.receiver new.receiver
 -- the run
 abbrev pub run_of : Inbox → FedRun
 run_of inbox = inbox.fed
+
+-- how many parcels its verifier took from lanes and fed, up to the last number of 64 bits
+abbrev pub parcels_of : Inbox → ℕ
+parcels_of inbox = inbox.parcels
+
+-- a count with these parcels, up to the last number of 64 bits
+abbrev pub counted_on : ℕ → List Parcel → ℕ
+counted_on count parcels = min (count + length parcels) (2 ^ 64 - 1)
 
 -- whether memory was wanting
 abbrev pub is_wanting : Inbox → Bool

@@ -22,36 +22,38 @@ pub struct Inbox {
     pub(crate) fed: FedRun,
     // So many bytes at most were fed to the run in all.
     pub(crate) bytes: u64,
+    // So many parcels its verifier took from lanes and fed, up to the last number of 64 bits.
+    pub(crate) parcels: u64,
     pub(crate) wanting: bool,
 }
 
 impl Inbox {
     ghost use Rattle.std.specs.Prelude.{◌≡◌, [], length, true, false, IfOk, OnOk, OnErr};
     ghost use Rattle.log_rings.specs.Lanes.{received_by, waiting};
-    ghost use Rattle.verifier_feeds.specs.Feeds.{HasRoom, SameInbox, HasRead, GoesOnBy, ReadsOn, bytes_of, run_of, is_wanting};
+    ghost use Rattle.verifier_feeds.specs.Feeds.{HasRoom, SameInbox, HasRead, GoesOnBy, ReadsOn, bytes_of, counted_on, parcels_of, run_of, is_wanting};
 
     /// Feeds the run what comes through the lane, until that is its worker's last parcel of the round, or until 1,024 polls in a
-    /// row found nothing. Before each poll it enters the gate, by this number.
+    /// row found nothing. It counts what comes. Before each poll it enters the gate, by this number and with its count so far.
     pub fn watch<R: Wait, D: Digests, G: Gate>(&mut self, rt: &R, d: &D, gate: &G, number: u16)
         requires room { HasRoom self.old }
         requires fresh { received_by self.old.receiver ≡ [] }
         ensures room { HasRoom self.new }
         ensures lane { SameInbox self.old self.new }
+        ensures counted { parcels_of self.new ≡ counted_on (parcels_of self.old) (received_by self.new.receiver) }
         ensures taken { is_wanting self.new ≡ false
             → HasRead (D.functions d.now) (bytes_of (received_by self.new.receiver)) (run_of self.old) (run_of self.new) }
     {
         pieces_do_not_matter::<Operation>();
-        let mut polls = 0;
         let mut empty_polls = 0;
         for _ in rt.forever() {
             if empty_polls >= MOST_EMPTY_POLLS {
                 return;
             }
-            gate.enter(number, polls);
-            polls = polls.saturating_add(1);
+            gate.enter(number, self.parcels);
             match self.receiver.poll() {
                 Some(parcel) => {
-                    self.take(d, parcel.buffer.bytes());
+                    self.parcels = self.parcels.saturating_add(1);
+                    self.feed(d, parcel.buffer.bytes());
                     if parcel.last {
                         return;
                     }
@@ -67,24 +69,26 @@ impl Inbox {
     }
 
     /// Feeds the run so many parcels that are known to wait in the lane.
-    pub(crate) fn take_left<D: Digests>(&mut self, d: &D, left: usize)
+    pub(crate) fn feed_left<D: Digests>(&mut self, d: &D, left: usize)
         requires room { HasRoom self.old }
         requires left { left ≡ length (waiting self.old.receiver) }
         ensures room { HasRoom self.new }
+        ensures count { parcels_of self.new ≡ parcels_of self.old }
         ensures taken { ReadsOn (D.functions d.now) (bytes_of (waiting self.old.receiver)) self.old self.new }
     {
         pieces_do_not_matter::<Operation>();
         for _ in 0..left {
             let parcel = self.receiver.next();
-            self.take(d, parcel.buffer.bytes());
+            self.feed(d, parcel.buffer.bytes());
         }
     }
 
     /// Feeds the run a piece of its log, where memory isn't wanting.
-    pub(crate) fn take<D: Digests>(&mut self, d: &D, piece: &[u8])
+    pub(crate) fn feed<D: Digests>(&mut self, d: &D, piece: &[u8])
         requires room { HasRoom self.old }
         ensures room { HasRoom self.new }
         ensures lane { self.new.receiver ≡ self.old.receiver }
+        ensures count { parcels_of self.new ≡ parcels_of self.old }
         ensures goes_on { is_wanting self.new ≡ false → GoesOnBy (D.functions d.now) piece.now self.old self.new }
     {
         if self.wanting {
@@ -98,6 +102,13 @@ impl Inbox {
             }
             Err(_) => self.wanting = true,
         }
+    }
+
+    /// How many parcels its verifier took from lanes and fed, with those that it had counted before this feed was opened.
+    pub fn parcels(&self) -> u64
+        ensures value { result ≡ parcels_of self.now }
+    {
+        self.parcels
     }
 
     /// The run, where memory was not wanting for it.

@@ -1,7 +1,7 @@
 //! A feed is opened.
-ghost use Rattle.std.specs.Prelude.{◌≤◌, IfOk};
+ghost use Rattle.std.specs.Prelude.{◌≡◌, ◌≤◌, IfOk};
 ghost use Rattle.verifier_run.specs.Progress.{weight};
-ghost use Rattle.verifier_feeds.specs.Feeds.{IsOpen};
+ghost use Rattle.verifier_feeds.specs.Feeds.{IsOpen, parcels_of};
 
 use crate::inbox::Inbox;
 use crate::outbox::Outbox;
@@ -15,10 +15,12 @@ use std::collections::VecDeque;
 /// So many parcels a lane holds.
 const LANE_CAPACITY: usize = 16;
 
-/// Opens the feed of a run that was fed so many bytes at most: a lane of 16 parcels, with nothing in it, and its two ends.
-pub fn open(alloc: Global, run: FedRun, bytes: u64) -> Result<(Outbox, Inbox), Memory>
+/// Opens the feed of a run that was fed so many bytes at most: a lane of 16 parcels, with nothing in it, and its two ends. The
+/// verifier goes on with this count of parcels.
+pub fn open(alloc: Global, run: FedRun, bytes: u64, parcels: u64) -> Result<(Outbox, Inbox), Memory>
     requires few { weight run.run ≤ bytes }
     ensures open { IfOk result (λ ends. IsOpen run ends.0 ends.1) }
+    ensures count { IfOk result (λ ends. parcels_of ends.1 ≡ parcels) }
 {
     let (sender, receiver) = Lane::new(alloc, LANE_CAPACITY)?;
     let outbox = Outbox {
@@ -31,6 +33,7 @@ pub fn open(alloc: Global, run: FedRun, bytes: u64) -> Result<(Outbox, Inbox), M
         receiver,
         fed: run,
         bytes,
+        parcels,
         wanting: false,
     };
     Ok((outbox, inbox))

@@ -3,7 +3,7 @@ ghost use Rattle.std.specs.Prelude.{◌≡◌, false};
 ghost use Rattle.certified_epochs.specs.declared.fed_run.FedRun.{FedRun};
 ghost use Rattle.log_rings.specs.Lanes.{received_by};
 ghost use Rattle.host_rounds.specs.Feeding.{Reads};
-ghost use Rattle.verifier_feeds.specs.Feeds.{AreEndsOfOne, HasRoom, HasRead, ReadsOn, bytes_of, is_wanting, put_in, run_of};
+ghost use Rattle.verifier_feeds.specs.Feeds.{AreEndsOfOne, HasRoom, HasRead, ReadsOn, bytes_of, is_wanting, parcels_of, put_in, run_of};
 
 use crate::inbox::Inbox;
 use crate::outbox::Outbox;
@@ -12,7 +12,8 @@ use record_hash::Digests;
 use record_text::Operation;
 use verifier_run::pieces_do_not_matter;
 
-/// Feeds the run what is left: what is in the lane, then what waited for room in it, then what is in no parcel.
+/// Feeds the run what is left: what is in the lane, then what waited for room in it, then what is in no parcel. The verifier didn't
+/// take these, so they aren't counted.
 pub fn settle<D: Digests>(outbox: &mut Outbox, inbox: &mut Inbox, d: &D)
     requires ends { AreEndsOfOne outbox.old inbox.old }
     requires room { HasRoom inbox.old }
@@ -21,22 +22,24 @@ pub fn settle<D: Digests>(outbox: &mut Outbox, inbox: &mut Inbox, d: &D)
         → is_wanting inbox.new ≡ false
         → Reads (D.functions d.now) (put_in outbox.old) first (run_of inbox.new) }
     ensures room { HasRoom inbox.new }
+    ensures count { parcels_of inbox.new ≡ parcels_of inbox.old }
 {
     let settled = Lane::settle(&mut outbox.sender, &mut inbox.receiver);
-    inbox.take_left(d, settled.left);
-    take_waiting(outbox, inbox, d);
-    inbox.take(d, outbox.buffer.bytes());
+    inbox.feed_left(d, settled.left);
+    feed_waiting(outbox, inbox, d);
+    inbox.feed(d, outbox.buffer.bytes());
 }
 
 // Feeds the run what waits for room in the lane, the oldest first.
-fn take_waiting<D: Digests>(outbox: &mut Outbox, inbox: &mut Inbox, d: &D)
+fn feed_waiting<D: Digests>(outbox: &mut Outbox, inbox: &mut Inbox, d: &D)
     requires room { HasRoom inbox.old }
     ensures room { HasRoom inbox.new }
     ensures taken { ReadsOn (D.functions d.now) (bytes_of outbox.old.backlog.items) inbox.old inbox.new }
     ensures rest { outbox.new.buffer ≡ outbox.old.buffer }
+    ensures count { parcels_of inbox.new ≡ parcels_of inbox.old }
 {
     pieces_do_not_matter::<Operation>();
     while let Some(parcel) = outbox.backlog.pop_front() {
-        inbox.take(d, parcel.buffer.bytes());
+        inbox.feed(d, parcel.buffer.bytes());
     }
 }

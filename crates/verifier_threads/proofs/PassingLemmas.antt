@@ -1,5 +1,5 @@
 -- What all workers logged is passed on to the vault and to the runs.
-use Rattle.std.proofs.Common.{◌≡◌, Bool, ℕ, suc, List, [], ◌∷◌, length, Option, Result, Ok, Err, OnOk, OnErr, refl, sym, ◌∙◌, ap, subst}
+use Rattle.std.proofs.Common.{◌≡◌, Bool, ℕ, suc, List, [], ◌∷◌, length, Option, Result, Vec, Global, Ok, Err, OnOk, OnErr, refl, sym, ◌∙◌, ap, subst}
 use Rattle.std.proofs.lemmas.List.{length-map}
 use Rattle.fv_outside.specs.Written.{Grows}
 use Rattle.record_hash.specs.Functions.{DigestFunctions}
@@ -132,15 +132,18 @@ module _ (receipts : Bool) {D : Type 0} (functions : D → DigestFunctions) (old
         (subst (λ (e : Option ClockEnd). IsRunning receipts (functions (digests_of old.world)) old.world.settings (requests_of old.world) (shown_world world) old.rounds e outputs) (sym is)
         (running-led _ _ _ _ (shown_world old.world) old.rounds old.end outputs runs.running (shown_world world) next way));
     buffers = runs.buffers ∙ sym (leads-length host_now (shown_world old.world) (shown_world world) next way);
+    counts = runs.counts ∙ sym (leads-length host_now (shown_world old.world) (shown_world world) next way);
   }
 
-  -- the same where its verifiers' runs were lent, and others taken in their stead
-  pub runs-fed : (world : code.World D) (next end : Option ClockEnd) (back : RunsSoFar) (before : List FedRun) → AreOfOneHost old.world world
+  -- the same where its verifiers' runs were lent, and others taken in their stead, with other counts
+  pub runs-fed : (world : code.World D) (next end : Option ClockEnd) (back : RunsSoFar) (before : List FedRun) (parcels : Vec ℕ Global) → AreOfOneHost old.world world
       → Leads host_now (shown_world old.world) (shown_world world) next → end ≡ first_of old.end next → with_runs before back ≡ old.rounds
-      → Runs receipts functions (with_runs_of before (record old { world = world; end = end; rounds = back })) outputs
-  runs-fed world next end back before same way is rounds_are =
-      subst (λ (rounds : RunsSoFar). Runs receipts functions (record old { world = world; end = end; rounds = rounds }) outputs) (sym rounds_are)
-      (runs-led world next end same way is)
+      → length parcels.items ≡ length old.parcels.items
+      → Runs receipts functions (with_runs_of before (record old { world = world; end = end; rounds = back; parcels = parcels })) outputs
+  runs-fed world next end back before parcels same way is rounds_are many =
+      let led = runs-led world next end same way is in
+      subst (λ (rounds : RunsSoFar). Runs receipts functions (record old { world = world; end = end; rounds = rounds; parcels = parcels }) outputs) (sym rounds_are)
+      (record { running = led.running; buffers = led.buffers; counts = many ∙ led.counts })
 
   -- what its logs certify is counted and written
   pub runs-certified : (rounds' : RunsSoFar) (out : Option (List ℕ))
@@ -163,6 +166,7 @@ module _ (receipts : Bool) {D : Type 0} (functions : D → DigestFunctions) (old
         written = subst (Grows outputs.out out) (sym counted) written;
       };
       buffers = runs.buffers;
+      counts = runs.counts;
     };
     all = all;
   }

@@ -56,10 +56,11 @@ pub record IsRunning (receipts : Bool) (functions : DigestFunctions) (settings :
   pub keeps : Keeps functions settings.header (texts_of logs) rounds outputs.vault outputs.vault_after
   pub written : Grows outputs.out outputs.out_after (lines_counted (told_by receipts functions settings.header) functions settings.header (texts_of logs) rounds)
 
--- So runs a runner of the code, which has a buffer for each worker.
+-- So runs a runner of the code, which has a buffer for each worker, and a count of parcels for its verifier.
 pub record Runs (receipts : Bool) {D : Type 0} (functions : D → DigestFunctions) (runner : Runner D) (outputs : Outputs) : Type 0 where
   pub running : IsRunning receipts (functions (digests_of runner.world)) runner.world.settings (requests_of runner.world) (shown_world runner.world) runner.rounds runner.end outputs
   pub buffers : length runner.buffers.items ≡ length runner.world.workers.items
+  pub counts : length runner.parcels.items ≡ length runner.world.workers.items
 
 -- The same, and each epoch that the logs certify is counted.
 pub record RunsWhole (receipts : Bool) {D : Type 0} (functions : D → DigestFunctions) (runner : Runner D) (outputs : Outputs) : Type 0 where

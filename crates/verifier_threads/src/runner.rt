@@ -1,5 +1,5 @@
 //! A run of a script: its world, phase by phase, and what becomes of the logs.
-ghost use Rattle.std.specs.Prelude.{◌≡◌, ◌≢◌, ◌↔◌, ◌⊎◌, ◌≤◌, ◌<◌, Bool, ℕ, suc, true, false, List, Option, None, length, map, OnOk, OnErr, IfOk, Err};
+ghost use Rattle.std.specs.Prelude.{◌≡◌, ◌≢◌, ◌↔◌, ◌⊎◌, ◌≤◌, ◌<◌, Bool, ℕ, suc, true, false, List, Option, None, length, map, replicate, OnOk, OnErr, IfOk, Err};
 ghost use Rattle.std.specs.List.{AllByRecursion};
 ghost use Rattle.fv_outside.specs.Faults.{Rose};
 ghost use Rattle.bundle_report.specs.Report.{told_by};
@@ -37,8 +37,8 @@ use std::sync::Wait;
 use std::thread::Threads;
 use worker_threads::serve_phase_at_once;
 
-/// A run of a script: the world, what the verifiers have come to over its logs, a buffer for the log of each worker, and
-/// the first end of a clock. The vault and the sink of the report are handed in at each call.
+/// A run of a script: the world, what the verifiers have come to over its logs, a buffer for the log of each worker, how many
+/// parcels each verifier took, and the first end of a clock. The vault and the sink of the report are handed in at each call.
 ///
 /// After an error it is of no more use.
 #[derive(Drop)]
@@ -47,6 +47,7 @@ pub(crate) struct Runner<'a, D> {
     pub(crate) world: World<'a, D>,
     pub(crate) rounds: Rounds,
     pub(crate) buffers: Vec<LogBuffer>,
+    pub(crate) parcels: Vec<u64>,
     pub(crate) end: Option<ClockEnd>,
 }
 
@@ -78,12 +79,14 @@ impl<'a, D: Digests> Runner<'a, D> {
         a_header_begins_the_bundle(&settings);
         let header = settings.header;
         let buffers = buffers_for(alloc, header.verifiers)?;
+        let parcels = counts_for(alloc, header.verifiers)?;
         let rounds = Rounds::new(alloc, &header, vault)?;
         Ok(Runner {
             alloc,
             world,
             rounds,
             buffers,
+            parcels,
             end: None,
         })
     }
@@ -288,7 +291,15 @@ impl<'a, D: Digests + Sync> Runner<'a, D> {
         rounds_make_a_bundle();
         let bytes = self.rounds.bytes();
         let mut runs = self.rounds.lend_runs();
-        self.end = serve_phase_at_once(rt, self.alloc, &mut self.world, gate, &mut runs, bytes)?;
+        self.end = serve_phase_at_once(
+            rt,
+            self.alloc,
+            &mut self.world,
+            gate,
+            &mut runs,
+            bytes,
+            &mut self.parcels,
+        )?;
         self.rounds.take_back(runs);
         self.set_down(vault)
     }
@@ -362,4 +373,12 @@ fn buffers_for(alloc: Global, count: u16) -> Result<Vec<LogBuffer>, Memory>
         buffers.push(LogBuffer::new(alloc))?;
     }
     Ok(buffers)
+}
+
+// A count for each of so many: nothing was counted.
+fn counts_for(alloc: Global, count: u16) -> Result<Vec<u64>, Memory>
+    ensures none { IfOk result (λ counts. counts.items ≡ replicate count 0) }
+{
+    let counts = vec![in alloc; 0; usize::from(count)]?;
+    Ok(counts)
 }

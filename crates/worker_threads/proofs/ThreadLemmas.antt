@@ -22,7 +22,7 @@ use Rattle.host_table.specs.Phase.{row_at}
 use Rattle.host_table.specs.Terms.{Terms, IsClockOf}
 use Rattle.worker_threads.specs.declared.worker_pair.WorkerPair.{WorkerPair}
 use Rattle.worker_threads.specs.Parts.{asked_of, HasDone, IsThrough}
-use Rattle.worker_threads.specs.Pairs.{HasFed, IsPairReady, IsOpened, run_in}
+use Rattle.worker_threads.specs.Pairs.{HasFed, IsPairReady, IsOpened, parcels_in, run_in}
 use Rattle.worker_threads.specs.Participants.{worker_in, hand_in, AreToServe, HaveAll, HaveServed, HaveReadLogs}
 
 -- ---- threads that are ready
@@ -230,3 +230,14 @@ taken_well functions threads old (Ok x) workers_in runs_in later seen olds same 
     have_taken functions threads later (workers_in x) old (runs_in x) olds (workers_are ∙ ap (map worker_in) same) (news_are ∙ ap (map run_in) same)
     (subst (All HaveAll) same none) many fed
 taken_well functions threads old (Err fault) workers_in runs_in later seen olds same workers_are news_are none many fed = tt
+
+-- ---- how many parcels were taken
+
+-- There is a count for each verifier again.
+pub counted_well : {X E : Type 0} (threads : List WorkerPair) (old : List ℕ) (r : Result X E) (parcels : X → List ℕ) (later seen : List WorkerPair)
+    → map parcels_in threads ≡ old → seen ≡ later → IfOk r (λ x. parcels x ≡ map parcels_in seen) → length later ≡ length threads
+    → IfOk r (λ x. length (parcels x) ≡ length old)
+counted_well threads old (Ok x) parcels later seen olds same news many =
+    ap (λ (ns : List ℕ). length ns) news ∙ length-map seen parcels_in ∙ ap (λ (ps : List WorkerPair). length ps) same ∙ many
+    ∙ sym (length-map threads parcels_in) ∙ ap (λ (ns : List ℕ). length ns) olds
+counted_well threads old (Err fault) parcels later seen olds same news many = tt

@@ -9,7 +9,7 @@ use Rattle.host_rounds.specs.Feeding.{Reads}
 use Rattle.log_rings.specs.Lanes.{received_by}
 use Rattle.host_table.specs.Table.{table, terms}
 use Rattle.host_table.specs.Terms.{Terms}
-use Rattle.verifier_feeds.specs.Feeds.{AreEndsOfOne, HasRoom, is_wanting, put_in, run_of}
+use Rattle.verifier_feeds.specs.Feeds.{AreEndsOfOne, HasRoom, is_wanting, parcels_of, put_in, run_of}
 use Rattle.worker_threads.specs.declared.shared_phase.SharedPhase.{SharedPhase}
 use Rattle.worker_threads.specs.declared.worker_pair.WorkerPair.{WorkerPair}
 use Rattle.worker_threads.specs.Parts.{IsReady}
@@ -18,6 +18,10 @@ use Rattle.worker_threads.specs.WorkerState.{IsSharedPhase}
 -- the run of the verifier
 abbrev pub run_in : WorkerPair → FedRun
 run_in pair = run_of pair.inbox
+
+-- how many parcels the verifier took
+abbrev pub parcels_in : WorkerPair → ℕ
+parcels_in pair = parcels_of pair.inbox
 
 -- A pair whose feed is open: nothing was put in, and nothing has come out.
 pub record IsOpened (pair : WorkerPair) : Type 0 where

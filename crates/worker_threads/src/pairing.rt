@@ -3,7 +3,7 @@ ghost use Rattle.std.specs.Prelude.{◌≡◌, ◌≤◌, false, All, IfOk, OnOk
 ghost use Rattle.verifier_run.specs.Progress.{weight};
 ghost use Rattle.host_table.specs.Table.{table, terms};
 ghost use Rattle.worker_threads.specs.Participants.{AreToServe, AreToWatch, HaveAll, HaveServed, HaveReadLogs, hand_in, worker_in};
-ghost use Rattle.worker_threads.specs.Pairs.{IsOpened, run_in};
+ghost use Rattle.worker_threads.specs.Pairs.{IsOpened, parcels_in, run_in};
 ghost use Rattle.worker_threads.specs.WorkerState.{IsSharedPhase};
 
 use crate::serving::serve_all;
@@ -21,29 +21,34 @@ use std::sync::Wait;
 use std::thread::Threads;
 use verifier_feeds::open;
 
-/// Who is there in a phase: the workers, their hands at the table, and the runs of their verifiers.
+/// Who is there in a phase: the workers, their hands at the table, and the runs of their verifiers, each with a count.
 #[derive(Drop)]
 pub(crate) struct Participants {
     pub(crate) workers: Vec<Worker>,
     pub(crate) hands: Vec<Hand>,
     pub(crate) runs: Vec<FedRun>,
+    // How many parcels each verifier took so far.
+    pub(crate) parcels: Vec<u64>,
 }
 
-// A worker at its thread, with its hand, and beside it the feed of its verifier's run, which was fed so many bytes at most.
+// A worker at its thread, with its hand, and beside it the feed of its verifier's run, which was fed so many bytes at most. The
+// verifier took so many parcels so far.
 fn pair_of(
     alloc: Global,
     worker: Worker,
     hand: Hand,
     run: FedRun,
     bytes: u64,
+    parcels: u64,
 ) -> Result<WorkerPair, Memory>
     requires few { weight run.run ≤ bytes }
     ensures worker { IfOk result (λ pair. worker_in pair ≡ worker) }
     ensures hand { IfOk result (λ pair. hand_in pair ≡ hand) }
     ensures run { IfOk result (λ pair. run_in pair ≡ run) }
+    ensures parcels { IfOk result (λ pair. parcels_in pair ≡ parcels) }
     ensures opened { IfOk result (λ pair. IsOpened pair) }
 {
-    let (outbox, inbox) = open(alloc, run, bytes)?;
+    let (outbox, inbox) = open(alloc, run, bytes, parcels)?;
     let thread = WorkerThread {
         worker,
         hand,
@@ -57,20 +62,24 @@ fn pair_of(
 fn pair_up(alloc: Global, participants: Participants, bytes: u64) -> Result<Vec<WorkerPair>, Memory>
     requires hands { length participants.hands.items ≡ length participants.workers.items }
     requires runs { length participants.runs.items ≡ length participants.workers.items }
+    requires parcels { length participants.parcels.items ≡ length participants.workers.items }
     requires few { All (λ fed. weight fed.run ≤ bytes) participants.runs.items }
     ensures workers { IfOk result (λ pairs. map worker_in pairs.items ≡ participants.workers.items) }
     ensures hands { IfOk result (λ pairs. map hand_in pairs.items ≡ participants.hands.items) }
     ensures runs { IfOk result (λ pairs. map run_in pairs.items ≡ participants.runs.items) }
+    ensures parcels { IfOk result (λ pairs. map parcels_in pairs.items ≡ participants.parcels.items) }
     ensures opened { IfOk result (λ pairs. All IsOpened pairs.items) }
 {
     let Participants {
         workers,
         hands,
         runs,
+        parcels,
     } = participants;
     let mut pairs = Vec::with_capacity(alloc, workers.len())?;
     let mut hands = hands.into_iter();
     let mut runs = runs.into_iter();
+    let mut parcels = parcels.into_iter();
     for worker in workers {
         let Some(hand) = hands.next() else {
             unreachable!()
@@ -78,7 +87,10 @@ fn pair_up(alloc: Global, participants: Participants, bytes: u64) -> Result<Vec<
         let Some(run) = runs.next() else {
             unreachable!()
         };
-        let pair = pair_of(alloc, worker, hand, run, bytes)?;
+        let Some(parcels) = parcels.next() else {
+            unreachable!()
+        };
+        let pair = pair_of(alloc, worker, hand, run, bytes, parcels)?;
         pairs.push(pair)?;
     }
     Ok(pairs)
@@ -89,11 +101,13 @@ fn part(alloc: Global, pairs: Vec<WorkerPair>) -> Result<Participants, Memory>
     ensures workers { IfOk result (λ participants. participants.workers.items ≡ map worker_in pairs.items) }
     ensures hands { IfOk result (λ participants. participants.hands.items ≡ map hand_in pairs.items) }
     ensures runs { IfOk result (λ participants. participants.runs.items ≡ map run_in pairs.items) }
+    ensures parcels { IfOk result (λ participants. participants.parcels.items ≡ map parcels_in pairs.items) }
     ensures served { OnOk result (All HaveAll pairs.items) }
 {
     let mut workers = Vec::with_capacity(alloc, pairs.len())?;
     let mut hands = Vec::with_capacity(alloc, pairs.len())?;
     let mut runs = Vec::with_capacity(alloc, pairs.len())?;
+    let mut parcels = Vec::with_capacity(alloc, pairs.len())?;
     for pair in pairs {
         let WorkerPair { thread, inbox } = pair;
         let WorkerThread {
@@ -107,12 +121,14 @@ fn part(alloc: Global, pairs: Vec<WorkerPair>) -> Result<Participants, Memory>
         }
         workers.push(worker)?;
         hands.push(hand)?;
+        parcels.push(inbox.parcels())?;
         runs.push(inbox.into_run()?)?;
     }
     Ok(Participants {
         workers,
         hands,
         runs,
+        parcels,
     })
 }
 
@@ -128,9 +144,11 @@ pub(crate) fn serve_at_table<R: Threads + Wait + Sync, D: Digests + Sync, G: Gat
     requires shared { IsSharedPhase D.functions shared.now }
     requires ready { AreToServe (terms D.functions shared.now.records.now) (table shared.now.records.now) participants.workers.items participants.hands.items }
     requires watch { AreToWatch participants.workers.items bytes participants.runs.items }
+    requires parcels { length participants.parcels.items ≡ length participants.workers.items }
     ensures served { IfOk result (λ left. HaveServed (terms D.functions shared.now.records.now) (table shared.now.records.now)
         shared.now.tasks.now participants.workers.items left.workers.items left.hands.items) }
     ensures taken { IfOk result (λ left. HaveReadLogs (D.functions shared.now.d.now) left.workers.items participants.runs.items left.runs.items) }
+    ensures parcels { IfOk result (λ left. length left.parcels.items ≡ length participants.parcels.items) }
 {
     let mut pairs = pair_up(shared.alloc, participants, bytes)?;
     serve_all(rt, shared, gate, pairs.as_mut_slice());

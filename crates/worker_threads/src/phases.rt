@@ -69,7 +69,8 @@ fn first_end_of(workers: &[Worker]) -> Option<ClockEnd>
 /// answer is the first end that these come to. After want of memory the world is of no more use.
 ///
 /// Each worker's verifier takes what is in the worker's log, as it comes: its run is that of the worker's number, and was fed so
-/// many bytes at most. Before each poll it enters the gate, by its number behind those of the workers.
+/// many bytes at most. Before each poll it enters the gate, by its number behind those of the workers and with the number of
+/// parcels that it took so far, here and before: it goes on with its count of these, and leaves it as it then is.
 pub fn serve_phase_at_once<R: Threads + Wait + Sync, D: Digests + Sync, G: Gate + Sync>(
     rt: &R,
     alloc: Global,
@@ -77,6 +78,7 @@ pub fn serve_phase_at_once<R: Threads + Wait + Sync, D: Digests + Sync, G: Gate 
     gate: &G,
     runs: &mut Vec<FedRun>,
     bytes: u64,
+    parcels: &mut Vec<u64>,
 ) -> Result<Option<ClockEnd>, Memory>
     requires behind { StandsBehind (D.functions (digests_of world.old)) world.old }
     requires counters { (settings_of world.old).shards ≤ (settings_of world.old).header.end }
@@ -86,6 +88,7 @@ pub fn serve_phase_at_once<R: Threads + Wait + Sync, D: Digests + Sync, G: Gate 
         (turns_of (host_of (D.functions (digests_of world.old)) world.old) (shown_world world.old).phase) }
     requires runs { length runs.old.items ≡ length (shown_world world.old).workers }
     requires few { AllByRecursion (λ fed. weight fed.run ≤ bytes) runs.old.items }
+    requires parcels { length parcels.old.items ≡ length (shown_world world.old).workers }
     ensures leads { IfOk result (λ end. Leads (host_of (D.functions (digests_of world.old)) world.old)
         (shown_world world.old) (shown_world world.new) end) }
     ensures served { OnOk result (IsServedOut (host_of (D.functions (digests_of world.old)) world.old)
@@ -103,6 +106,7 @@ pub fn serve_phase_at_once<R: Threads + Wait + Sync, D: Digests + Sync, G: Gate 
         → StandsWith (D.functions (digests_of world.new)) world.new logs) }
     ensures taken { OnOk result (AllRead (D.functions (digests_of world.old)) (map (log_text short_keys) (logs_of (shown_world world.new)))
         runs.old.items runs.new.items) }
+    ensures parcels { OnOk result (length parcels.new.items ≡ length parcels.old.items) }
 {
     tables_can_be_made();
     tables_are_of_their_worlds();
@@ -129,10 +133,12 @@ pub fn serve_phase_at_once<R: Threads + Wait + Sync, D: Digests + Sync, G: Gate 
         workers,
         hands,
         runs: mem::replace(runs, Vec::new(alloc)),
+        parcels: mem::replace(parcels, Vec::new(alloc)),
     };
     let left = serve_at_table(rt, &shared, gate, participants, bytes)?;
     let end = first_end_of(left.workers.as_slice());
     *runs = left.runs;
+    *parcels = left.parcels;
     world.take_back(records.close(left.hands));
     world.take_workers(left.workers);
     Ok(end)

@@ -16,9 +16,9 @@ returns-clause-all g c = λ first before going.
     let bytes = (bytes_of received ++ bytes_of left) ++ bytes_of backlog in
     let is : received ++ left ≡ sent outbox.sender =
     ap (λ (ps : List Parcel). ps ++ left) (sym c.settle-settled.ensures.received) ∙ c.settle-settled.ensures.all ∙ c.settle-settled.ensures.sent in
-    let rest = c.bytes.ensures.value ∙ c.take_waiting.ensures.rest in
-    subst (λ (all : List ℕ). Reads functions all first (run_of c.take.new.self))
+    let rest = c.bytes.ensures.value ∙ c.feed_waiting.ensures.rest in
+    subst (λ (all : List ℕ). Reads functions all first (run_of c.feed.new.self))
     (ap (λ (piece : List ℕ). bytes ++ piece) rest ∙ all-put received left (sent outbox.sender) backlog outbox.buffer is)
-    (takes-last functions bytes c.bytes.result.now first c.take_waiting.new.inbox c.take.new.self
-    (c.take_waiting.ensures.taken first (bytes_of received ++ bytes_of left) (c.take_left.ensures.taken first (bytes_of received) before))
-    (c.take.ensures.goes_on going))
+    (takes-last functions bytes c.bytes.result.now first c.feed_waiting.new.inbox c.feed.new.self
+    (c.feed_waiting.ensures.taken first (bytes_of received ++ bytes_of left) (c.feed_left.ensures.taken first (bytes_of received) before))
+    (c.feed.ensures.goes_on going))

@@ -3,12 +3,15 @@ use Rattle.std.proofs.lemmas.List.{with_items_is}
 use Rattle.std.specs.Vec.{with_items}
 use Rattle.host_table.specs.Table.{table, terms}
 use Rattle.worker_threads.specs.Participants.{worker_in, hand_in}
-use Rattle.worker_threads.specs.Pairs.{IsOpened, run_in}
-use Rattle.worker_threads.proofs.ThreadLemmas.{are_ready, served_well, taken_well}
+use Rattle.worker_threads.specs.Pairs.{IsOpened, parcels_in, run_in}
+use Rattle.worker_threads.proofs.ThreadLemmas.{are_ready, counted_well, served_well, taken_well}
 use Rattle.worker_threads.proofs.pairing.serve_at_table.Goals as goal
 
 pub pair_up-requires-clause-hands : goal.pair_up-requires-clause-hands
 pair_up-requires-clause-hands g c = c.requires.ready.all.count ∙ sym c.requires.ready.count
+
+pub pair_up-requires-clause-parcels : goal.pair_up-requires-clause-parcels
+pair_up-requires-clause-parcels g c = c.requires.parcels
 
 pub serve_all-requires-clause-ready : goal.serve_all-requires-clause-ready
 serve_all-requires-clause-ready g c κs within =
@@ -36,4 +39,6 @@ returns g c =
       taken = taken_well (g.D.Digests.functions c.args.shared.now.d.now) pairs c.args.participants.runs.items c.part.result (λ left. left.workers.items) (λ left. left.runs.items)
           later seen (ap (map run_in) c.as_mut_slice.ensures.value ∙ c.in_ok-pairs.ensures.runs) same
           c.part.ensures.workers c.part.ensures.runs c.part.ensures.served c.serve_all.ensures.count c.serve_all.ensures.fed;
+      parcels = counted_well pairs c.args.participants.parcels.items c.part.result (λ left. left.parcels.items) later seen
+          (ap (map parcels_in) c.as_mut_slice.ensures.value ∙ c.in_ok-pairs.ensures.parcels) same c.part.ensures.parcels c.serve_all.ensures.count;
     }

@@ -100,6 +100,12 @@ serve_at_table-requires-clause-watch g c κs within =
           (subst (AllByRecursion (λ fed. weight fed.run ≤ c.args.bytes)) (sym runs) c.requires.few);
     }
 
+pub serve_at_table-requires-clause-parcels : goal.serve_at_table-requires-clause-parcels
+serve_at_table-requires-clause-parcels g c κs within =
+    let lent : length c.lend_workers-workers.result.items ≡ length (shown_world c.args.world.now).workers =
+    ap (λ ws. length ws) (c.lend_workers-workers.ensures.lent ∙ ap (λ (w : World Content). w.workers) c.in_ok-contents.ensures.left) in
+    ap (λ ns. length ns.items) c.replace-2.ensures.value ∙ c.requires.parcels ∙ sym lent
+
 pub first_end_of-end-requires : goal.first_end_of-end-requires
 first_end_of-end-requires g c =
     let old = c.args.world.now in
@@ -180,5 +186,6 @@ returns g c =
       host = one_host;
       behind = (stands.0, on stands.0 stands.1);
       goes_on = on;
+      parcels = c.in_ok-left.ensures.parcels ∙ ap (λ ns. length ns.items) c.replace-2.ensures.value;
       taken = all_take functions (shown_world new).workers c.args.runs.now.items c.in_ok-left.left.runs.items took;
     }

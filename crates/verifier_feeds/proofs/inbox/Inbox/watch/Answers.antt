@@ -11,6 +11,7 @@ loop-init g c = record {
   few = search rules;
   room = c.requires.room;
   lane = search rules;
+  counted = none-counted (parcels_of c.args.self.now) (received_by c.args.self.now.receiver) (omega arith) c.requires.fresh;
   taken = subst (λ (ps : List Parcel). ReadsOn (g.D.Digests.functions c.args.d.now) (bytes_of ps) c.args.self.now c.args.self.now) (sym c.requires.fresh)
       (takes-none (g.D.Digests.functions c.args.d.now) c.args.self.now);
 }
@@ -22,24 +23,24 @@ returns-then-empty_polls-ge-MOST_EMPTY_POLLS-clause-taken g c =
 pub returns-then-parcel-clause-taken : goal.returns-then-parcel-clause-taken
 returns-then-parcel-clause-taken g c =
     let functions = g.D.Digests.functions c.args.d.now in
-    let received : received_by c.take.new.self.receiver ≡ received_by c.loop.self.receiver ++ c.in-Some-poll.parcel ∷ [] =
-    ap (λ (r : Receiver). received_by r) c.take.ensures.lane ∙ c.in-Some-poll.ensures.some.0 in
-    takes-received functions c.pieces_do_not_matter.ensures.joined (received_by c.loop.self.receiver) (received_by c.take.new.self.receiver) c.in-Some-poll.parcel c.bytes.result.now
-    c.args.self.now _ c.take.new.self received c.loop.invariant.taken c.bytes.ensures.value c.take.ensures.goes_on
+    let received : received_by c.feed.new.self.receiver ≡ received_by c.loop.self.receiver ++ c.in-Some-poll.parcel ∷ [] =
+    ap (λ (r : Receiver). received_by r) c.feed.ensures.lane ∙ c.in-Some-poll.ensures.some.0 in
+    takes-received functions c.pieces_do_not_matter.ensures.joined (received_by c.loop.self.receiver) (received_by c.feed.new.self.receiver) c.in-Some-poll.parcel c.bytes.result.now
+    c.args.self.now _ c.feed.new.self received c.loop.invariant.taken c.bytes.ensures.value c.feed.ensures.goes_on
     (run_of c.args.self.now) [] (λ going. none-taken functions (run_of c.args.self.now))
 
 pub loop-preserved-in-Some-poll : goal.loop-preserved-in-Some-poll
 loop-preserved-in-Some-poll g c =
     let functions = g.D.Digests.functions c.args.d.now in
-    let received : received_by c.take.new.self.receiver ≡ received_by c.loop.self.receiver ++ c.in-Some-poll.parcel ∷ [] =
-    ap (λ (r : Receiver). received_by r) c.take.ensures.lane ∙ c.in-Some-poll.ensures.some.0 in
+    let received : received_by c.feed.new.self.receiver ≡ received_by c.loop.self.receiver ++ c.in-Some-poll.parcel ∷ [] =
+    ap (λ (r : Receiver). received_by r) c.feed.ensures.lane ∙ c.in-Some-poll.ensures.some.0 in
     record {
       few = omega arith;
-      room = c.take.ensures.room;
+      room = c.feed.ensures.room;
       lane = search rules;
       taken =
-          takes-received functions c.pieces_do_not_matter.ensures.joined (received_by c.loop.self.receiver) (received_by c.take.new.self.receiver) c.in-Some-poll.parcel c.bytes.result.now
-          c.args.self.now _ c.take.new.self received c.loop.invariant.taken c.bytes.ensures.value c.take.ensures.goes_on;
+          takes-received functions c.pieces_do_not_matter.ensures.joined (received_by c.loop.self.receiver) (received_by c.feed.new.self.receiver) c.in-Some-poll.parcel c.bytes.result.now
+          c.args.self.now _ c.feed.new.self received c.loop.invariant.taken c.bytes.ensures.value c.feed.ensures.goes_on;
     }
 
 pub loop-preserved : goal.loop-preserved

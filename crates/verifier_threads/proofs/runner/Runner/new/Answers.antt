@@ -1,5 +1,5 @@
-use Rattle.std.proofs.Common.{◌≡◌, None, map, refl, sym, ◌∙◌, ap, subst, arith}
-use Rattle.std.proofs.lemmas.List.{length-map}
+use Rattle.std.proofs.Common.{◌≡◌, None, length, map, refl, sym, ◌∙◌, ap, subst, arith}
+use Rattle.std.proofs.lemmas.List.{length-map, length-replicate}
 use Rattle.fv_outside.proofs.WrittenLaws.{GrowsByFront-none}
 use Rattle.lamport_clocks.specs.declared.header.Header.{Header}
 use Rattle.bundle_report.specs.Logs.{empty_logs}
@@ -20,6 +20,14 @@ pub returns-in_err-buffers-clause-cut : goal.returns-in_err-buffers-clause-cut
 returns-in_err-buffers-clause-cut g c = λ receipts held.
     let vault = g.V.Sink.held c.args.vault.now in
     err_any c.from_residual.result
+    (subst (λ (settings : Settings). IsCutOff receipts (g.D.Digests.functions (digests_of c.args.world)) settings (requests_of c.args.world) (record { vault = vault; vault_after = vault; out = held; out_after = held }))
+    c.settings-settings.ensures.value
+    (c.a_header_begins_the_bundle.ensures.cut receipts (g.D.Digests.functions (digests_of c.args.world)) (requests_of c.args.world) vault vault held (GrowsByFront-none vault _)))
+
+pub returns-in_err-parcels-clause-cut : goal.returns-in_err-parcels-clause-cut
+returns-in_err-parcels-clause-cut g c = λ receipts held.
+    let vault = g.V.Sink.held c.args.vault.now in
+    err_any c.from_residual-2.result
     (subst (λ (settings : Settings). IsCutOff receipts (g.D.Digests.functions (digests_of c.args.world)) settings (requests_of c.args.world) (record { vault = vault; vault_after = vault; out = held; out_after = held }))
     c.settings-settings.ensures.value
     (c.a_header_begins_the_bundle.ensures.cut receipts (g.D.Digests.functions (digests_of c.args.world)) (requests_of c.args.world) vault vault held (GrowsByFront-none vault _)))
@@ -46,6 +54,7 @@ returns-clause-runs g c = λ receipts held.
           (c.in_ok-rounds.ensures.keeps f))
           c.in_ok-rounds.ensures.none;
       buffers = c.in_ok-buffers.ensures.len ∙ ap (λ (header : Header). header.verifiers) header_is ∙ sym count;
+      counts = ap length c.in_ok-parcels.ensures.none ∙ length-replicate c.settings-settings.result.header.verifiers 0 ∙ ap (λ (header : Header). header.verifiers) header_is ∙ sym count;
     }
 
 pub returns-clause-begins : goal.returns-clause-begins

@@ -80,6 +80,7 @@ returns-clause-runs g c = λ receipts outputs runs held.
           c.in_ok-hand_out_all.ensures.forgotten round_is
           (subst (λ d. Keeps (functions d) header (logs_with before round) c.seal.new.self outputs.vault vault') d_is keeps') lines);
       buffers = ap length items ∙ size ∙ sym (length-map old.world.workers.items with_no_log) ∙ sym (ap (λ (w : World Content). length w.workers) c.in_ok-hand_out_all.ensures.forgotten);
+      counts = runs.counts ∙ sym (length-map old.world.workers.items with_no_log) ∙ sym (ap (λ (w : World Content). length w.workers) c.in_ok-hand_out_all.ensures.forgotten);
     })
 
 pub returns-clause-handed : goal.returns-clause-handed

@@ -36,6 +36,9 @@ serve_phase_at_once-requires-clause-runs g c κs within =
     let r = c.requires.runs.2.running in
     ap (λ (rs : List FedRun). length rs) c.lend_runs-runs.ensures.runs ∙ run-count _ _ _ _ r.keeps.runs ∙ sym (running-workers _ _ _ _ _ _ _ _ r)
 
+pub serve_phase_at_once-requires-clause-parcels : goal.serve_phase_at_once-requires-clause-parcels
+serve_phase_at_once-requires-clause-parcels g c κs within = c.requires.runs.2.counts
+
 pub set_down-requires : goal.set_down-requires
 set_down-requires g c =
     let before = c.lend_runs-runs.result.items in
@@ -45,9 +48,10 @@ set_down-requires g c =
         c.requires.runs.1,
         before,
         runs-fed c.requires.runs.0 g.D.Digests.functions c.args.self.now c.requires.runs.1 c.requires.runs.2 c.serve_phase_at_once.new.world c.in_ok-self.field-0 c.in_ok-self.field-0
-            c.take_back.new.self before c.serve_phase_at_once.ensures.host c.in_ok-self.ensures.leads
+            c.take_back.new.self before c.serve_phase_at_once.new.parcels c.serve_phase_at_once.ensures.host c.in_ok-self.ensures.leads
             (ap (λ (e : Option ClockEnd). first_of e c.in_ok-self.field-0) (sym c.requires.begins.unended))
-            (rounds-back c.args.self.now.rounds c.lend_runs-runs.new.self c.take_back.new.self c.serve_phase_at_once.new.runs.items before c.lend_runs-runs.ensures.rest c.take_back.ensures.runs c.lend_runs-runs.ensures.runs),
+            (rounds-back c.args.self.now.rounds c.lend_runs-runs.new.self c.take_back.new.self c.serve_phase_at_once.new.runs.items before c.lend_runs-runs.ensures.rest c.take_back.ensures.runs c.lend_runs-runs.ensures.runs)
+            c.in_ok-self.ensures.parcels,
         took-round g.D.Digests.functions c.args.self.now.world c.serve_phase_at_once.new.world c.lend_runs-runs.new.self c.take_back.new.self before c.serve_phase_at_once.new.runs.items
             c.serve_phase_at_once.ensures.host c.take_back.ensures.runs c.in_ok-self.ensures.taken,
         c.requires.runs.3,
@@ -65,9 +69,10 @@ returns-clause-runs g c = λ receipts outputs runs held.
     let before = c.lend_runs-runs.result.items in
     c.set_down.ensures.runs receipts outputs before
     (runs-fed receipts g.D.Digests.functions c.args.self.now outputs runs c.serve_phase_at_once.new.world c.in_ok-self.field-0 c.in_ok-self.field-0
-    c.take_back.new.self before c.serve_phase_at_once.ensures.host c.in_ok-self.ensures.leads
+    c.take_back.new.self before c.serve_phase_at_once.new.parcels c.serve_phase_at_once.ensures.host c.in_ok-self.ensures.leads
     (ap (λ (e : Option ClockEnd). first_of e c.in_ok-self.field-0) (sym c.requires.begins.unended))
-    (rounds-back c.args.self.now.rounds c.lend_runs-runs.new.self c.take_back.new.self c.serve_phase_at_once.new.runs.items before c.lend_runs-runs.ensures.rest c.take_back.ensures.runs c.lend_runs-runs.ensures.runs))
+    (rounds-back c.args.self.now.rounds c.lend_runs-runs.new.self c.take_back.new.self c.serve_phase_at_once.new.runs.items before c.lend_runs-runs.ensures.rest c.take_back.ensures.runs c.lend_runs-runs.ensures.runs)
+    c.in_ok-self.ensures.parcels)
     (took-round g.D.Digests.functions c.args.self.now.world c.serve_phase_at_once.new.world c.lend_runs-runs.new.self c.take_back.new.self before c.serve_phase_at_once.new.runs.items
     c.serve_phase_at_once.ensures.host c.take_back.ensures.runs c.in_ok-self.ensures.taken)
     held
@@ -102,9 +107,10 @@ returns-clause-cut g c = λ receipts outputs runs held.
     (λ (f : DigestFunctions) (settings : Settings) (script : List (List Task)). OnErr c.set_down.result (IsCutOff receipts f settings script (record outputs { vault_after = g.V.Sink.held c.set_down.new.vault })))
     (c.set_down.ensures.cut receipts outputs before
     (runs-fed receipts functions c.args.self.now outputs runs c.serve_phase_at_once.new.world c.in_ok-self.field-0 c.in_ok-self.field-0
-    c.take_back.new.self before c.serve_phase_at_once.ensures.host c.in_ok-self.ensures.leads
+    c.take_back.new.self before c.serve_phase_at_once.new.parcels c.serve_phase_at_once.ensures.host c.in_ok-self.ensures.leads
     (ap (λ (e : Option ClockEnd). first_of e c.in_ok-self.field-0) (sym c.requires.begins.unended))
-    (rounds-back c.args.self.now.rounds c.lend_runs-runs.new.self c.take_back.new.self c.serve_phase_at_once.new.runs.items before c.lend_runs-runs.ensures.rest c.take_back.ensures.runs c.lend_runs-runs.ensures.runs))
+    (rounds-back c.args.self.now.rounds c.lend_runs-runs.new.self c.take_back.new.self c.serve_phase_at_once.new.runs.items before c.lend_runs-runs.ensures.rest c.take_back.ensures.runs c.lend_runs-runs.ensures.runs)
+    c.in_ok-self.ensures.parcels)
     held)
 
 pub returns-clause-host : goal.returns-clause-host

@@ -71,6 +71,7 @@ returns-clause-runs g c = λ receipts outputs before runs took held.
           (running-taken _ _ _ _ (shown_world old.world) rounds old.end outputs r (shown_world new) round c.write.new.self vault'
           c.in_ok-hand_out_all.ensures.forgotten round_is keeps' lines);
       buffers = ap length items ∙ size ∙ sym (length-map old.world.workers.items with_no_log) ∙ sym (ap (λ (w : World Content). length w.workers) c.in_ok-hand_out_all.ensures.forgotten);
+      counts = runs.counts ∙ sym (length-map old.world.workers.items with_no_log) ∙ sym (ap (λ (w : World Content). length w.workers) c.in_ok-hand_out_all.ensures.forgotten);
     })
 
 pub returns-clause-handed : goal.returns-clause-handed

@@ -1,13 +1,14 @@
 use Rattle.std.proofs.Common.{◌≡◌, ◌++◌, List, length}
 use Rattle.log_rings.specs.declared.parcel.Parcel.{Parcel}
 use Rattle.log_rings.specs.Lanes.{waiting}
-use Rattle.verifier_feeds.specs.Feeds.{HasRoom, ReadsOn, bytes_of}
-use Rattle.verifier_feeds.proofs.inbox.Inbox.take_left.Given as goal
+use Rattle.verifier_feeds.specs.Feeds.{HasRoom, ReadsOn, bytes_of, parcels_of}
+use Rattle.verifier_feeds.proofs.inbox.Inbox.feed_left.Given as goal
 
 -- so many parcels of those that waited are taken, and the others wait
 abbrev pub invariant-loop : goal.invariant-loop
 invariant-loop g l = record {
   room : HasRoom l.self;
+  kept : parcels_of l.self ≡ parcels_of l.initial.self;
   some : List Parcel;
   count : length some ≡ l.counter;
   were : waiting l.initial.self.receiver ≡ some ++ waiting l.self.receiver;

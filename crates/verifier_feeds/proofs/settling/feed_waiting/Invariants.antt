@@ -1,12 +1,13 @@
 use Rattle.std.proofs.Common.{◌≡◌, ◌++◌, List, length}
 use Rattle.log_rings.specs.declared.parcel.Parcel.{Parcel}
-use Rattle.verifier_feeds.specs.Feeds.{HasRoom, ReadsOn, bytes_of}
-use Rattle.verifier_feeds.proofs.settling.take_waiting.Given as goal
+use Rattle.verifier_feeds.specs.Feeds.{HasRoom, ReadsOn, bytes_of, parcels_of}
+use Rattle.verifier_feeds.proofs.settling.feed_waiting.Given as goal
 
 -- the oldest parcels of those that waited are taken
 abbrev pub invariant-loop-parcel : goal.invariant-loop-parcel
 invariant-loop-parcel g l = record {
   room : HasRoom l.inbox;
+  kept : parcels_of l.inbox ≡ parcels_of l.initial.inbox;
   some : List Parcel;
   were : l.initial.outbox.backlog.items ≡ some ++ l.outbox.backlog.items;
   taken : ReadsOn (g.D.Digests.functions l.d) (bytes_of some) l.initial.inbox l.inbox;

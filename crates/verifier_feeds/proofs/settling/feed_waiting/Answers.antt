@@ -2,21 +2,22 @@ use Rattle.std.proofs.Common.{◌≡◌, ◌++◌, ◌∷◌, [], List, sym, ◌
 use Rattle.log_rings.specs.declared.parcel.Parcel.{Parcel}
 use Rattle.verifier_feeds.specs.Feeds.{ReadsOn, bytes_of}
 use Rattle.verifier_feeds.proofs.FeedLemmas.{takes-parcel, none-left, oldest}
-use Rattle.verifier_feeds.proofs.settling.take_waiting.Goals as goal
+use Rattle.verifier_feeds.proofs.settling.feed_waiting.Goals as goal
 
 pub loop-parcel-preserved : goal.loop-parcel-preserved
 loop-parcel-preserved g c =
     let inv = c.loop-parcel.invariant in
     let parcel = c.in-Some.parcel in
     record {
-      room = c.take.ensures.room;
+      room = c.feed.ensures.room;
+      kept = c.feed.ensures.count ∙ inv.kept;
       some = inv.some ++ parcel ∷ [];
       were =
           inv.were ∙ ap (λ (ps : List Parcel). inv.some ++ ps) (oldest c.loop-parcel.outbox.backlog.items c.pop_front.new.self.items c.pop_front.result parcel c.in-Some.is c.pop_front.ensures.items)
           ∙ sym (append_assoc inv.some (parcel ∷ []) c.pop_front.new.self.items);
       taken =
-          takes-parcel (g.D.Digests.functions c.args.d.now) c.pieces_do_not_matter.ensures.joined inv.some parcel c.bytes.result.now c.args.inbox.now c.loop-parcel.inbox c.take.new.self
-          inv.taken c.bytes.ensures.value c.take.ensures.goes_on;
+          takes-parcel (g.D.Digests.functions c.args.d.now) c.pieces_do_not_matter.ensures.joined inv.some parcel c.bytes.result.now c.args.inbox.now c.loop-parcel.inbox c.feed.new.self
+          inv.taken c.bytes.ensures.value c.feed.ensures.goes_on;
       rest = inv.rest;
     }
 

@@ -4,11 +4,12 @@ use Rattle.log_rings.specs.Lanes.{waiting}
 use Rattle.log_rings.specs.declared.lane.Receiver.{Receiver}
 use Rattle.verifier_feeds.specs.Feeds.{ReadsOn, bytes_of}
 use Rattle.verifier_feeds.proofs.FeedLemmas.{takes-none, takes-parcel, none-left}
-use Rattle.verifier_feeds.proofs.inbox.Inbox.take_left.Goals as goal
+use Rattle.verifier_feeds.proofs.inbox.Inbox.feed_left.Goals as goal
 
 pub loop-init : goal.loop-init
 loop-init g c = record {
   room = c.requires.room;
+  kept = refl;
   some = [];
   count = refl;
   were = refl;
@@ -25,16 +26,17 @@ loop-preserved g c =
     let inv = c.loop.invariant in
     let parcel = c.next-parcel.result in
     record {
-      room = c.take.ensures.room;
+      room = c.feed.ensures.room;
+      kept = c.feed.ensures.count ∙ inv.kept;
       some = inv.some ++ parcel ∷ [];
       count = omega (arith, inv.count, length-append inv.some (parcel ∷ []));
       were =
           inv.were ∙ ap (λ (ps : List Parcel). inv.some ++ ps) c.next-parcel.ensures.waiting
           ∙ sym (append_assoc inv.some (parcel ∷ []) (waiting c.next-parcel.new.self))
-          ∙ ap (λ (r : Receiver). (inv.some ++ parcel ∷ []) ++ waiting r) (sym c.take.ensures.lane);
+          ∙ ap (λ (r : Receiver). (inv.some ++ parcel ∷ []) ++ waiting r) (sym c.feed.ensures.lane);
       taken =
-          takes-parcel (g.D.Digests.functions c.args.d.now) c.pieces_do_not_matter.ensures.joined inv.some parcel c.bytes.result.now c.args.self.now _ c.take.new.self
-          inv.taken c.bytes.ensures.value c.take.ensures.goes_on;
+          takes-parcel (g.D.Digests.functions c.args.d.now) c.pieces_do_not_matter.ensures.joined inv.some parcel c.bytes.result.now c.args.self.now _ c.feed.new.self
+          inv.taken c.bytes.ensures.value c.feed.ensures.goes_on;
     }
 
 pub returns-clause-taken : goal.returns-clause-taken
