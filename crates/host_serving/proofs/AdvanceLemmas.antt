@@ -34,6 +34,18 @@ module _ {C R : Type 0} (host : Host C R) where
       inr (stopped.0, subst (λ (n : ℕ). stopped.0 < n) (sym workers) stopped.1, (kept stopped.0).stopped ∙ stopped.2)
 
   module _ (world : World C) where
+    -- none has advanced yet
+    pub have-none : CanAllAdvance host world → HaveAdvanced host world world 0
+    have-none can = record {
+      before = λ i less. absurd (omega (arith, less));
+      behind = λ i above. refl;
+      shards = refl;
+      phase = refl;
+      going = can.going;
+      workers = refl;
+      closing = λ some. absurd (omega (arith, some));
+    }
+
     pub advance_keeps : (later : World C) (count : ℕ) → HaveAdvanced host world later count
         → (i : ℕ) → IsKept (worker_at host world i) (worker_at host later i)
     advance_keeps later count have i = go (cases_lt i count)

@@ -25,8 +25,7 @@ use Rattle.host_world.specs.Orderly.{IsOrderly}
 use Rattle.host_world.specs.Behind.{host_of, with_logs, StandsWith, AreOfOneHost}
 use Rattle.host_world.proofs.FrontLaws.{length-before_each, clock_with, length-step}
 use Rattle.host_world.proofs.FrontierLaws.{frontier_in, frontiers_behind}
-use Rattle.host_serving.specs.Leading.{first_of, Leads, LeadsTo}
-use Rattle.host_serving.proofs.LeadingLaws.{leads-one, leads-then}
+use Rattle.host_serving.specs.Leading.{first_of, LeadsBy, LeadsByFront}
 
 -- ---- worlds of one host
 
@@ -55,46 +54,29 @@ module _ {D : Type 0} (functions : D → DigestFunctions) (first now : code.Worl
         → shown_world new ≡ step (host_of (functions (digests_of first)) first) (shown_world now) event
     stepped_first event is = is ∙ ap (λ (h : Host Content Request). step h (shown_world now) event) (host_same functions first now same)
 
-    pub leads_on : (one two : Option ClockEnd) → Leads (host_of (functions (digests_of first)) first) (shown_world first) (shown_world now) one
-        → Leads (host_of (functions (digests_of now)) now) (shown_world now) (shown_world new) two
-        → Leads (host_of (functions (digests_of first)) first) (shown_world first) (shown_world new) (first_of one two)
-    leads_on one two way more =
-        leads-then (host_of (functions (digests_of first)) first) (shown_world first) (shown_world now) (shown_world new) one two way
-        (subst (λ (h : Host Content Request). Leads h (shown_world now) (shown_world new) two) (host_same functions first now same) more)
+    -- the events of this host are those of the first
+    pub by_first : (end : Option ClockEnd) (plan : Host Content Request → List (WorldEvent Request))
+        → LeadsBy (host_of (functions (digests_of now)) now) (shown_world now) (shown_world new) end (plan (host_of (functions (digests_of now)) now))
+        → LeadsBy (host_of (functions (digests_of first)) first) (shown_world now) (shown_world new) end (plan (host_of (functions (digests_of first)) first))
+    by_first end plan way =
+        subst (λ (h : Host Content Request). LeadsBy h (shown_world now) (shown_world new) end (plan h)) (host_same functions first now same) way
 
-    -- what is on the way from there is on the way
-    pub way_on : (one : Option ClockEnd) → Leads (host_of (functions (digests_of first)) first) (shown_world first) (shown_world now) one
-        → LeadsTo (host_of (functions (digests_of now)) now) (shown_world now) (shown_world new)
-        → LeadsTo (host_of (functions (digests_of first)) first) (shown_world first) (shown_world new)
-    way_on one way more = (first_of one more.0, leads_on one more.0 way more.1)
+    -- and so is a front of them
+    pub front_first : (plan : Host Content Request → List (WorldEvent Request))
+        → LeadsByFront (host_of (functions (digests_of now)) now) (shown_world now) (shown_world new) (plan (host_of (functions (digests_of now)) now))
+        → LeadsByFront (host_of (functions (digests_of first)) first) (shown_world now) (shown_world new) (plan (host_of (functions (digests_of first)) first))
+    front_first plan way =
+        subst (λ (h : Host Content Request). LeadsByFront h (shown_world now) (shown_world new) (plan h)) (host_same functions first now same) way
 
-    -- and so is what is as it was there
-    pub way_kept : (one : Option ClockEnd) → Leads (host_of (functions (digests_of first)) first) (shown_world first) (shown_world now) one
-        → shown_world new ≡ shown_world now → LeadsTo (host_of (functions (digests_of first)) first) (shown_world first) (shown_world new)
-    way_kept one way kept = (one, subst (λ (w : World Content). Leads (host_of (functions (digests_of first)) first) (shown_world first) w one) (sym kept) way)
+    -- what is as it was there is on the way still
+    pub front_kept : (plan : List (WorldEvent Request)) → LeadsByFront (host_of (functions (digests_of first)) first) (shown_world first) (shown_world now) plan
+        → shown_world new ≡ shown_world now → LeadsByFront (host_of (functions (digests_of first)) first) (shown_world first) (shown_world new) plan
+    front_kept plan way kept =
+        subst (λ (w : World Content). LeadsByFront (host_of (functions (digests_of first)) first) (shown_world first) w plan) (sym kept) way
 
     pub ended_first : (event : WorldEvent Request) (end : Option ClockEnd) → end ≡ end_of (host_of (functions (digests_of now)) now) (shown_world now) event
         → end ≡ end_of (host_of (functions (digests_of first)) first) (shown_world now) event
     ended_first event end is = is ∙ ap (λ (h : Host Content Request). end_of h (shown_world now) event) (host_same functions first now same)
-
-    pub leads_next : (event : WorldEvent Request) (end : Option ClockEnd) → IsEnabled (host_of (functions (digests_of first)) first) (shown_world now) event
-        → shown_world new ≡ step (host_of (functions (digests_of now)) now) (shown_world now) event
-        → end ≡ end_of (host_of (functions (digests_of now)) now) (shown_world now) event
-        → Leads (host_of (functions (digests_of first)) first) (shown_world first) (shown_world now) None
-        → Leads (host_of (functions (digests_of first)) first) (shown_world first) (shown_world new) end
-    leads_next event end may is ends way =
-        leads-then (host_of (functions (digests_of first)) first) (shown_world first) (shown_world now) (shown_world new) None end way
-        (leads-one (host_of (functions (digests_of first)) first) (shown_world now) (shown_world new) event end may (stepped_first event is) (ended_first event end ends))
-
-    -- the same of a step's answer
-    pub leads_answered : {E : Type 0} (r : Result (Option ClockEnd) E) (event : WorldEvent Request)
-        → IsEnabled (host_of (functions (digests_of first)) first) (shown_world now) event
-        → OnOk r (shown_world new ≡ step (host_of (functions (digests_of now)) now) (shown_world now) event)
-        → IfOk r (λ end. end ≡ end_of (host_of (functions (digests_of now)) now) (shown_world now) event)
-        → Leads (host_of (functions (digests_of first)) first) (shown_world first) (shown_world now) None
-        → IfOk r (λ end. Leads (host_of (functions (digests_of first)) first) (shown_world first) (shown_world new) end)
-    leads_answered (Ok end) event may is ends way = leads_next event end may is ends way
-    leads_answered (Err fault) event may is ends way = tt
 
 -- the first of two ends, as it is written in code
 pub first_of-or : (one two : Option ClockEnd) → first_of one two ≡ option_or one two
@@ -120,6 +102,11 @@ on_ok_then P Q (Err e) f p = tt
 pub if_ok_then : {T E : Type 0} (P Q : T → Type 0) (r : Result T E) → ((x : T) → P x → Q x) → IfOk r P → IfOk r Q
 if_ok_then P Q (Ok x) f p = f x p
 if_ok_then P Q (Err e) f p = tt
+
+-- what follows of an answer and of what is so behind it
+pub ok_and_if : {T E : Type 0} (S : Type 0) (P Q : T → Type 0) (r : Result T E) → ((x : T) → S → P x → Q x) → OnOk r S → IfOk r P → IfOk r Q
+ok_and_if S P Q (Ok x) f s p = f x s p
+ok_and_if S P Q (Err e) f s p = tt
 
 -- ---- how many workers and shards there are
 

@@ -1,5 +1,5 @@
 -- A worker moves its shards, one after another, until its clock ends; and so does each.
-use Rattle.std.proofs.Common.{◌≡◌, ◌≢◌, ◌⊎◌, ℕ, zero, suc, ◌+◌, ◌/◌, ◌%◌, ◌<◌, ◌≤◌, true, false, List, [], ◌∷◌, length, get_or, set, Option, Some, None, is_none, refl, sym, ◌∙◌, ap, subst, inl, inr, if◌then◌else◌, mul-le-mul_right, div-add-mod', arith}
+use Rattle.std.proofs.Common.{◌≡◌, ◌≢◌, ◌⊎◌, ℕ, zero, suc, ◌+◌, ◌/◌, ◌%◌, ◌<◌, ◌≤◌, true, false, List, [], ◌∷◌, length, get_or, set, Option, Some, None, is_none, refl, sym, ◌∙◌, ap, subst, inl, inr, if◌then◌else◌, mul-le-mul_right, div-add-mod', mod-eq_of_lt, arith}
 use Rattle.std.proofs.Math.Nat.{add-mod_right}
 use Rattle.std.proofs.lemmas.Bool.{cases_eq, cases_lt}
 use Rattle.std.proofs.lemmas.List.{length-set, get_or-set_same, get_or-set_other}
@@ -141,6 +141,21 @@ module _ {C R : Type 0} (host : Host C R) where
     pub behind : (t : ℕ) → s ≤ t → t < length world.shards → t % length world.workers ≡ i → (shard_at later t).moved ≡ false
 
   module _ (keep_epoch : MovesKeepEpoch host) (world : World C) (i : ℕ) (can : CanMoveOwn host world i) where
+    -- Of its own shards that of its number is the first.
+    pub own_first : OwnBelow world i world i
+    own_first = record {
+      only = record { keeps = keeps_turned-none world; others = λ j apart. refl; foreign = λ s apart. refl };
+      own = mod-eq_of_lt there';
+      running = can.before.running;
+      before = λ t less within own.
+          let below : t < length world.workers = omega (arith, less, there') in
+          absurd (omega (arith, less, own, mod-eq_of_lt below));
+      behind = λ t above within own. can.before.still t within own;
+    }
+      where
+        there' : i < length world.workers
+        there' = can.there
+
     -- Once no shard is left, it is through.
     pub own_through : (later : World C) (s : ℕ) → OwnBelow world i later s → length world.shards ≤ s → EndsOwn host world i later None
     own_through later s below past = (

@@ -6,7 +6,8 @@ ghost use Rattle.host_core.specs.World.{worker_at};
 ghost use Rattle.host_core.specs.WorldEvent.{IsLast};
 ghost use Rattle.host_world.specs.Shown.{shown_world, digests_of};
 ghost use Rattle.host_world.specs.Behind.{host_of, StandsBehind, StandsWith, AreOfOneHost};
-ghost use Rattle.host_serving.specs.Leading.{Leads, LeadsTo, CanDoNoMore};
+ghost use Rattle.host_serving.specs.Leading.{Leads, LeadsBy, LeadsAs, LeadsByFront, CanDoNoMore};
+ghost use Rattle.host_serving.specs.Form.{AreOfClose, all_advance, own_moves, all_move, events_of_shards, events_of_close};
 ghost use Rattle.host_serving.specs.Standing.{IsServedUpTo, IsServedOut, IsClosed, NoneStopped, NoneStuckBelow};
 ghost use Rattle.host_serving.specs.Closing.{CanAllAdvance, EndsAdvance, CanMoveOwn, EndsOwn, CanMoveAll, EndsMoves, EndsShards};
 
@@ -17,7 +18,8 @@ use record_hash::Digests;
 
 /// Closes the world's phase, which is served out: all workers advance, and each moves its shards in order. In a last close all
 /// then advance once more; else the next phase opens. Where a clock ends, the others finish their shards and nothing follows. It
-/// answers the first such end: that of the lowest worker. For want of memory the world is one on the way.
+/// answers the first such end: that of the lowest worker. The events that this was are those of a close, in their one order; for
+/// want of memory they are a front of them.
 pub fn close_phase<D: Digests>(
     world: &mut World<'_, D>,
     last: bool,
@@ -26,6 +28,8 @@ pub fn close_phase<D: Digests>(
     requires served { IsServedOut (host_of (D.functions (digests_of world.old)) world.old) (shown_world world.old) }
     requires last { (last ≡ true) ↔ IsLast (host_of (D.functions (digests_of world.old)) world.old) (shown_world world.old) }
     ensures leads { IfOk result (λ end. Leads (host_of (D.functions (digests_of world.old)) world.old)
+        (shown_world world.old) (shown_world world.new) end) }
+    ensures form { IfOk result (λ end. LeadsAs AreOfClose (host_of (D.functions (digests_of world.old)) world.old)
         (shown_world world.old) (shown_world world.new) end) }
 
     // The next phase is open, and nothing is served of it yet.
@@ -52,8 +56,9 @@ pub fn close_phase<D: Digests>(
     // Whose clock ended in the phase stays.
     ensures stopped { IfOk result (λ _. (i : ℕ) → (worker_at (host_of (D.functions (digests_of world.old)) world.old) (shown_world world.new) i).stopped
         ≡ (worker_at (host_of (D.functions (digests_of world.old)) world.old) (shown_world world.old) i).stopped) }
-    ensures on_the_way { OnErr result (LeadsTo (host_of (D.functions (digests_of world.old)) world.old)
-        (shown_world world.old) (shown_world world.new)) }
+    ensures on_the_way { OnErr result (LeadsByFront (host_of (D.functions (digests_of world.old)) world.old)
+        (shown_world world.old) (shown_world world.new)
+        (events_of_close (host_of (D.functions (digests_of world.old)) world.old) (shown_world world.old) last)) }
     ensures host { AreOfOneHost world.old world.new }
     ensures behind { StandsBehind (D.functions (digests_of world.new)) world.new }
 
@@ -75,12 +80,14 @@ pub fn close_phase<D: Digests>(
 fn close_shards<D: Digests>(world: &mut World<'_, D>) -> Result<Option<ClockEnd>, Memory>
     requires behind { StandsBehind (D.functions (digests_of world.old)) world.old }
     requires served { IsServedOut (host_of (D.functions (digests_of world.old)) world.old) (shown_world world.old) }
-    ensures leads { IfOk result (λ end. Leads (host_of (D.functions (digests_of world.old)) world.old)
-        (shown_world world.old) (shown_world world.new) end) }
+    ensures leads { IfOk result (λ end. LeadsBy (host_of (D.functions (digests_of world.old)) world.old)
+        (shown_world world.old) (shown_world world.new) end
+        (events_of_shards (host_of (D.functions (digests_of world.old)) world.old) (shown_world world.old))) }
     ensures ended { IfOk result (λ end. EndsShards (host_of (D.functions (digests_of world.old)) world.old)
         (shown_world world.old) (shown_world world.new) end) }
-    ensures on_the_way { OnErr result (LeadsTo (host_of (D.functions (digests_of world.old)) world.old)
-        (shown_world world.old) (shown_world world.new)) }
+    ensures on_the_way { OnErr result (LeadsByFront (host_of (D.functions (digests_of world.old)) world.old)
+        (shown_world world.old) (shown_world world.new)
+        (events_of_shards (host_of (D.functions (digests_of world.old)) world.old) (shown_world world.old))) }
     ensures host { AreOfOneHost world.old world.new }
     ensures goes_on { (logs : List (List Command)) → StandsWith (D.functions (digests_of world.old)) world.old logs
         → StandsWith (D.functions (digests_of world.new)) world.new logs }
@@ -96,12 +103,14 @@ fn close_shards<D: Digests>(world: &mut World<'_, D>) -> Result<Option<ClockEnd>
 fn advance_all<D: Digests>(world: &mut World<'_, D>) -> Result<Option<ClockEnd>, Memory>
     requires behind { StandsBehind (D.functions (digests_of world.old)) world.old }
     requires may { CanAllAdvance (host_of (D.functions (digests_of world.old)) world.old) (shown_world world.old) }
-    ensures leads { IfOk result (λ end. Leads (host_of (D.functions (digests_of world.old)) world.old)
-        (shown_world world.old) (shown_world world.new) end) }
+    ensures leads { IfOk result (λ end. LeadsBy (host_of (D.functions (digests_of world.old)) world.old)
+        (shown_world world.old) (shown_world world.new) end
+        (all_advance (host_of (D.functions (digests_of world.old)) world.old) (shown_world world.old))) }
     ensures ended { IfOk result (λ end. EndsAdvance (host_of (D.functions (digests_of world.old)) world.old)
         (shown_world world.old) (shown_world world.new) end) }
-    ensures on_the_way { OnErr result (LeadsTo (host_of (D.functions (digests_of world.old)) world.old)
-        (shown_world world.old) (shown_world world.new)) }
+    ensures on_the_way { OnErr result (LeadsByFront (host_of (D.functions (digests_of world.old)) world.old)
+        (shown_world world.old) (shown_world world.new)
+        (all_advance (host_of (D.functions (digests_of world.old)) world.old) (shown_world world.old))) }
     ensures host { AreOfOneHost world.old world.new }
     ensures goes_on { (logs : List (List Command)) → StandsWith (D.functions (digests_of world.old)) world.old logs
         → StandsWith (D.functions (digests_of world.new)) world.new logs }
@@ -118,12 +127,14 @@ fn advance_all<D: Digests>(world: &mut World<'_, D>) -> Result<Option<ClockEnd>,
 fn move_all<D: Digests>(world: &mut World<'_, D>) -> Result<Option<ClockEnd>, Memory>
     requires behind { StandsBehind (D.functions (digests_of world.old)) world.old }
     requires may { CanMoveAll (host_of (D.functions (digests_of world.old)) world.old) (shown_world world.old) }
-    ensures leads { IfOk result (λ end. Leads (host_of (D.functions (digests_of world.old)) world.old)
-        (shown_world world.old) (shown_world world.new) end) }
+    ensures leads { IfOk result (λ end. LeadsBy (host_of (D.functions (digests_of world.old)) world.old)
+        (shown_world world.old) (shown_world world.new) end
+        (all_move (host_of (D.functions (digests_of world.old)) world.old) (shown_world world.old))) }
     ensures ended { IfOk result (λ end. EndsMoves (host_of (D.functions (digests_of world.old)) world.old)
         (shown_world world.old) (shown_world world.new) end) }
-    ensures on_the_way { OnErr result (LeadsTo (host_of (D.functions (digests_of world.old)) world.old)
-        (shown_world world.old) (shown_world world.new)) }
+    ensures on_the_way { OnErr result (LeadsByFront (host_of (D.functions (digests_of world.old)) world.old)
+        (shown_world world.old) (shown_world world.new)
+        (all_move (host_of (D.functions (digests_of world.old)) world.old) (shown_world world.old))) }
     ensures host { AreOfOneHost world.old world.new }
     ensures goes_on { (logs : List (List Command)) → StandsWith (D.functions (digests_of world.old)) world.old logs
         → StandsWith (D.functions (digests_of world.new)) world.new logs }
@@ -140,12 +151,14 @@ fn move_all<D: Digests>(world: &mut World<'_, D>) -> Result<Option<ClockEnd>, Me
 fn move_own<D: Digests>(world: &mut World<'_, D>, worker: u16) -> Result<Option<ClockEnd>, Memory>
     requires behind { StandsBehind (D.functions (digests_of world.old)) world.old }
     requires may { CanMoveOwn (host_of (D.functions (digests_of world.old)) world.old) (shown_world world.old) worker }
-    ensures leads { IfOk result (λ end. Leads (host_of (D.functions (digests_of world.old)) world.old)
-        (shown_world world.old) (shown_world world.new) end) }
+    ensures leads { IfOk result (λ end. LeadsBy (host_of (D.functions (digests_of world.old)) world.old)
+        (shown_world world.old) (shown_world world.new) end
+        (own_moves (host_of (D.functions (digests_of world.old)) world.old) (shown_world world.old) worker)) }
     ensures ended { IfOk result (λ end. EndsOwn (host_of (D.functions (digests_of world.old)) world.old)
         (shown_world world.old) worker (shown_world world.new) end) }
-    ensures on_the_way { OnErr result (LeadsTo (host_of (D.functions (digests_of world.old)) world.old)
-        (shown_world world.old) (shown_world world.new)) }
+    ensures on_the_way { OnErr result (LeadsByFront (host_of (D.functions (digests_of world.old)) world.old)
+        (shown_world world.old) (shown_world world.new)
+        (own_moves (host_of (D.functions (digests_of world.old)) world.old) (shown_world world.old) worker)) }
     ensures host { AreOfOneHost world.old world.new }
     ensures goes_on { (logs : List (List Command)) → StandsWith (D.functions (digests_of world.old)) world.old logs
         → StandsWith (D.functions (digests_of world.new)) world.new logs }

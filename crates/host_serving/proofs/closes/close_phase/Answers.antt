@@ -1,4 +1,4 @@
-use Rattle.std.proofs.Common.{◌≡◌, ℕ, suc, ◌<◌, length, Option, None, Result, OnOk, IfOk, IfSome, sym, ap, subst, ◌∙◌, arith}
+use Rattle.std.proofs.Common.{◌≡◌, ℕ, suc, ◌<◌, length, Option, Some, None, Result, OnOk, IfOk, IfSome, sym, ap, subst, ◌∙◌, arith}
 use Rattle.std.proofs.lemmas.Bool.{false≢true}
 use Rattle.base_words.specs.declared.memory.Memory.{Memory}
 use Rattle.record_text.specs.declared.request.Request.{Request}
@@ -7,13 +7,17 @@ use Rattle.host_core.specs.World.{World, worker_at}
 use Rattle.host_core.specs.WorldEvent.{opens, step, IsLast}
 use Rattle.host_shard.specs.Content.{Content}
 use Rattle.host_world.specs.declared.fault.ClockEnd.{ClockEnd}
+use Rattle.host_world.specs.Ending.{end_of}
 use Rattle.host_world.specs.Behind.{host_of}
 use Rattle.host_world.specs.Shown.{shown_world, digests_of}
-use Rattle.host_serving.specs.Leading.{Leads, LeadsTo, CanDoNoMore}
+use Rattle.host_serving.specs.Leading.{Leads, LeadsBy, LeadsAs, LeadsByFront, CanDoNoMore}
+use Rattle.host_serving.specs.Form.{AreOfClose, all_advance, events_of_shards, events_of_close}
 use Rattle.host_serving.specs.Standing.{IsServedUpTo, NoneStopped, NoneStuckBelow}
 use Rattle.host_serving.specs.Closing.{CanAllAdvance, HaveAdvanced, EndsAdvance, EndsShards, ShardsAreClosed}
 use Rattle.host_serving.proofs.CloseLemmas.{advance_rests, advance_lowest, advance_kept, again, may_open, is_closed, closed_phase, closed_running, closed_rests, opened_served, opened_phase, opened_running}
-use Rattle.host_serving.proofs.CloseWorldLemmas.{host_same, enabled_now, stepped_first, leads_on, leads_answered, way_on, way_kept, on_err_then, on_ok_then, if_ok_then, workers_are}
+use Rattle.host_serving.proofs.LeadingLaws.{leads-by}
+use Rattle.host_serving.proofs.ClosePlanLemmas.{as_close, close-stopped, close-front, close-last, close-last_front, close-opened, close-unopened}
+use Rattle.host_serving.proofs.CloseWorldLemmas.{host_same, enabled_now, stepped_first, ended_first, by_first, front_first, on_err, on_err_then, on_ok_then, if_ok_then, ok_and_if, workers_are}
 use Rattle.host_serving.proofs.closes.close_phase.Goals as goal
 
 pub advance_all-requires-clause-may : goal.advance_all-requires-clause-may
@@ -140,26 +144,91 @@ returns-else-last-clause-stopped g c =
     ap (λ (w : World Content). (worker_at host w i).stopped) (stepped_first functions old now c.close_shards.ensures.host new opens stepped) ∙ (closed.kept i).stopped)
     c.step.ensures.stepped
 
+pub returns-in-Some-clause-leads : goal.returns-in-Some-clause-leads
+returns-in-Some-clause-leads g c =
+    let old = c.args.world.now in
+    let now = c.close_shards.new.world in
+    let functions = g.D.Digests.functions in
+    let host = host_of (functions (digests_of old)) old in
+    leads-by host (shown_world old) (shown_world now) (Some c.in-Some.end) (events_of_close host (shown_world old) c.args.last)
+    (close-stopped host (shown_world old) c.args.last (shown_world now) c.in-Some.end
+    (subst (λ (e : Option ClockEnd). LeadsBy host (shown_world old) (shown_world now) e (events_of_shards host (shown_world old))) c.in-Some.is c.in_ok-end.ensures.leads))
+
+pub returns-in-Some-clause-form : goal.returns-in-Some-clause-form
+returns-in-Some-clause-form g c =
+    let old = c.args.world.now in
+    let now = c.close_shards.new.world in
+    let functions = g.D.Digests.functions in
+    let host = host_of (functions (digests_of old)) old in
+    as_close host (shown_world old) c.args.last (shown_world now) (Some c.in-Some.end) c.requires.last
+    (close-stopped host (shown_world old) c.args.last (shown_world now) c.in-Some.end
+    (subst (λ (e : Option ClockEnd). LeadsBy host (shown_world old) (shown_world now) e (events_of_shards host (shown_world old))) c.in-Some.is c.in_ok-end.ensures.leads))
+
 pub returns-then-last-clause-leads : goal.returns-then-last-clause-leads
 returns-then-last-clause-leads g c =
     let old = c.args.world.now in
     let now = c.close_shards.new.world in
+    let functions = g.D.Digests.functions in
+    let host = host_of (functions (digests_of old)) old in
     let new = c.advance_all.new.world in
-    let host = host_of (g.D.Digests.functions (digests_of old)) old in
-    let way : Leads host (shown_world old) (shown_world now) None = subst (Leads host (shown_world old) (shown_world now)) c.in_default.is c.in_ok-end.ensures.leads in
-    if_ok_then (Leads (host_of (g.D.Digests.functions (digests_of now)) now) (shown_world now) (shown_world new)) (Leads host (shown_world old) (shown_world new)) c.advance_all.result
-    (λ end more. leads_on g.D.Digests.functions old now c.close_shards.ensures.host new None end way more) c.advance_all.ensures.leads
+    let host' = host_of (functions (digests_of now)) now in
+    let way : LeadsBy host (shown_world old) (shown_world now) None (events_of_shards host (shown_world old)) =
+    subst (λ (e : Option ClockEnd). LeadsBy host (shown_world old) (shown_world now) e (events_of_shards host (shown_world old))) c.in_default.is c.in_ok-end.ensures.leads in
+    if_ok_then (λ end. LeadsBy host' (shown_world now) (shown_world new) end (all_advance host' (shown_world now))) (Leads host (shown_world old) (shown_world new)) c.advance_all.result
+    (λ end more. leads-by host (shown_world old) (shown_world new) end (events_of_close host (shown_world old) c.args.last)
+    (close-last host (shown_world old) c.args.last (shown_world now) (shown_world new) way end c.if-last.true
+    (by_first functions old now c.close_shards.ensures.host new end (λ h. all_advance h (shown_world now)) more))) c.advance_all.ensures.leads
+
+pub returns-then-last-clause-form : goal.returns-then-last-clause-form
+returns-then-last-clause-form g c =
+    let old = c.args.world.now in
+    let now = c.close_shards.new.world in
+    let functions = g.D.Digests.functions in
+    let host = host_of (functions (digests_of old)) old in
+    let new = c.advance_all.new.world in
+    let host' = host_of (functions (digests_of now)) now in
+    let way : LeadsBy host (shown_world old) (shown_world now) None (events_of_shards host (shown_world old)) =
+    subst (λ (e : Option ClockEnd). LeadsBy host (shown_world old) (shown_world now) e (events_of_shards host (shown_world old))) c.in_default.is c.in_ok-end.ensures.leads in
+    if_ok_then (λ end. LeadsBy host' (shown_world now) (shown_world new) end (all_advance host' (shown_world now))) (LeadsAs AreOfClose host (shown_world old) (shown_world new)) c.advance_all.result
+    (λ end more. as_close host (shown_world old) c.args.last (shown_world new) end c.requires.last
+    (close-last host (shown_world old) c.args.last (shown_world now) (shown_world new) way end c.if-last.true
+    (by_first functions old now c.close_shards.ensures.host new end (λ h. all_advance h (shown_world now)) more))) c.advance_all.ensures.leads
 
 pub returns-else-last-clause-leads : goal.returns-else-last-clause-leads
 returns-else-last-clause-leads g c =
     let old = c.args.world.now in
     let now = c.close_shards.new.world in
-    let host = host_of (g.D.Digests.functions (digests_of old)) old in
-    let way : Leads host (shown_world old) (shown_world now) None = subst (Leads host (shown_world old) (shown_world now)) c.in_default.is c.in_ok-end.ensures.leads in
+    let functions = g.D.Digests.functions in
+    let host = host_of (functions (digests_of old)) old in
+    let new = c.step.new.self in
+    let host' = host_of (functions (digests_of now)) now in
+    let way : LeadsBy host (shown_world old) (shown_world now) None (events_of_shards host (shown_world old)) =
+    subst (λ (e : Option ClockEnd). LeadsBy host (shown_world old) (shown_world now) e (events_of_shards host (shown_world old))) c.in_default.is c.in_ok-end.ensures.leads in
     let closed : ShardsAreClosed host (shown_world old) (shown_world now) = subst (EndsShards host (shown_world old) (shown_world now)) c.in_default.is c.in_ok-end.ensures.ended in
     let more : IsLast host (shown_world old) → ⊥ = λ last. false≢true (sym c.if-last.false ∙ c.requires.last.1 last) in
-    leads_answered g.D.Digests.functions old now c.close_shards.ensures.host c.step.new.self c.step.result opens (may_open host (shown_world old) (shown_world now) closed more)
-    c.step.ensures.stepped c.step.ensures.ended way
+    ok_and_if (shown_world new ≡ step host' (shown_world now) opens) (λ end. end ≡ end_of host' (shown_world now) opens) (Leads host (shown_world old) (shown_world new)) c.step.result
+    (λ end stepped ends. leads-by host (shown_world old) (shown_world new) end (events_of_close host (shown_world old) c.args.last)
+    (close-opened host (shown_world old) c.args.last (shown_world now) (shown_world new) way end c.if-last.false (may_open host (shown_world old) (shown_world now) closed more)
+    (stepped_first functions old now c.close_shards.ensures.host new opens stepped)
+    (ended_first functions old now c.close_shards.ensures.host new opens end ends))) c.step.ensures.stepped c.step.ensures.ended
+
+pub returns-else-last-clause-form : goal.returns-else-last-clause-form
+returns-else-last-clause-form g c =
+    let old = c.args.world.now in
+    let now = c.close_shards.new.world in
+    let functions = g.D.Digests.functions in
+    let host = host_of (functions (digests_of old)) old in
+    let new = c.step.new.self in
+    let host' = host_of (functions (digests_of now)) now in
+    let way : LeadsBy host (shown_world old) (shown_world now) None (events_of_shards host (shown_world old)) =
+    subst (λ (e : Option ClockEnd). LeadsBy host (shown_world old) (shown_world now) e (events_of_shards host (shown_world old))) c.in_default.is c.in_ok-end.ensures.leads in
+    let closed : ShardsAreClosed host (shown_world old) (shown_world now) = subst (EndsShards host (shown_world old) (shown_world now)) c.in_default.is c.in_ok-end.ensures.ended in
+    let more : IsLast host (shown_world old) → ⊥ = λ last. false≢true (sym c.if-last.false ∙ c.requires.last.1 last) in
+    ok_and_if (shown_world new ≡ step host' (shown_world now) opens) (λ end. end ≡ end_of host' (shown_world now) opens) (LeadsAs AreOfClose host (shown_world old) (shown_world new)) c.step.result
+    (λ end stepped ends. as_close host (shown_world old) c.args.last (shown_world new) end c.requires.last
+    (close-opened host (shown_world old) c.args.last (shown_world now) (shown_world new) way end c.if-last.false (may_open host (shown_world old) (shown_world now) closed more)
+    (stepped_first functions old now c.close_shards.ensures.host new opens stepped)
+    (ended_first functions old now c.close_shards.ensures.host new opens end ends))) c.step.ensures.stepped c.step.ensures.ended
 
 pub returns-else-last-clause-opened : goal.returns-else-last-clause-opened
 returns-else-last-clause-opened g c = λ answered not_last.
@@ -178,22 +247,36 @@ returns-else-last-clause-opened g c = λ answered not_last.
       opened_running host (shown_world old) (shown_world now) closed c.requires.served more,
     )
 
+pub returns-in_err-end-clause-on_the_way : goal.returns-in_err-end-clause-on_the_way
+returns-in_err-end-clause-on_the_way g c =
+    let old = c.args.world.now in
+    let now = c.close_shards.new.world in
+    on_err c.from_residual.result
+    (close-front (host_of (g.D.Digests.functions (digests_of old)) old) (shown_world old) c.args.last (shown_world now) c.in_err-end.ensures.on_the_way)
+
 pub returns-then-last-clause-on_the_way : goal.returns-then-last-clause-on_the_way
 returns-then-last-clause-on_the_way g c =
     let old = c.args.world.now in
     let now = c.close_shards.new.world in
+    let functions = g.D.Digests.functions in
+    let host = host_of (functions (digests_of old)) old in
     let new = c.advance_all.new.world in
-    let host = host_of (g.D.Digests.functions (digests_of old)) old in
-    let way : Leads host (shown_world old) (shown_world now) None = subst (Leads host (shown_world old) (shown_world now)) c.in_default.is c.in_ok-end.ensures.leads in
-    on_err_then (LeadsTo (host_of (g.D.Digests.functions (digests_of now)) now) (shown_world now) (shown_world new)) (LeadsTo host (shown_world old) (shown_world new)) c.advance_all.result
-    (way_on g.D.Digests.functions old now c.close_shards.ensures.host new None way) c.advance_all.ensures.on_the_way
+    let host' = host_of (functions (digests_of now)) now in
+    let way : LeadsBy host (shown_world old) (shown_world now) None (events_of_shards host (shown_world old)) =
+    subst (λ (e : Option ClockEnd). LeadsBy host (shown_world old) (shown_world now) e (events_of_shards host (shown_world old))) c.in_default.is c.in_ok-end.ensures.leads in
+    on_err_then (LeadsByFront host' (shown_world now) (shown_world new) (all_advance host' (shown_world now)))
+    (LeadsByFront host (shown_world old) (shown_world new) (events_of_close host (shown_world old) c.args.last)) c.advance_all.result
+    (λ some. close-last_front host (shown_world old) c.args.last (shown_world now) (shown_world new) way c.if-last.true
+    (front_first functions old now c.close_shards.ensures.host new (λ h. all_advance h (shown_world now)) some)) c.advance_all.ensures.on_the_way
 
 pub returns-else-last-clause-on_the_way : goal.returns-else-last-clause-on_the_way
 returns-else-last-clause-on_the_way g c =
     let old = c.args.world.now in
     let now = c.close_shards.new.world in
+    let functions = g.D.Digests.functions in
+    let host = host_of (functions (digests_of old)) old in
     let new = c.step.new.self in
-    let host = host_of (g.D.Digests.functions (digests_of old)) old in
-    let way : Leads host (shown_world old) (shown_world now) None = subst (Leads host (shown_world old) (shown_world now)) c.in_default.is c.in_ok-end.ensures.leads in
-    on_err_then (shown_world new ≡ shown_world now) (LeadsTo host (shown_world old) (shown_world new)) c.step.result
-    (way_kept g.D.Digests.functions old now c.close_shards.ensures.host new None way) c.step.ensures.as_before
+    let way : LeadsBy host (shown_world old) (shown_world now) None (events_of_shards host (shown_world old)) =
+    subst (λ (e : Option ClockEnd). LeadsBy host (shown_world old) (shown_world now) e (events_of_shards host (shown_world old))) c.in_default.is c.in_ok-end.ensures.leads in
+    on_err_then (shown_world new ≡ shown_world now) (LeadsByFront host (shown_world old) (shown_world new) (events_of_close host (shown_world old) c.args.last)) c.step.result
+    (close-unopened host (shown_world old) c.args.last (shown_world now) (shown_world new) way) c.step.ensures.as_before

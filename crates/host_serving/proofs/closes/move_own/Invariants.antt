@@ -1,8 +1,8 @@
-use Rattle.std.proofs.Common.{◌-◌, List, None}
+use Rattle.std.proofs.Common.{◌-◌, List}
 use Rattle.log_codec.specs.declared.command.Command.{Command}
 use Rattle.host_world.specs.Shown.{shown_world, digests_of}
 use Rattle.host_world.specs.Behind.{host_of, StandsWith, AreOfOneHost}
-use Rattle.host_serving.specs.Leading.{Leads}
+use Rattle.host_serving.proofs.ClosePlanLemmas.{MovesLeft}
 use Rattle.host_serving.proofs.MoveLemmas.{OwnBelow}
 use Rattle.host_serving.proofs.closes.move_own.Given as goal
 
@@ -12,7 +12,7 @@ invariant-loop-shard g l = record {
   host : AreOfOneHost l.initial.world l.world;
   goes_on : (logs : List (List Command)) → StandsWith (g.D.Digests.functions (digests_of l.initial.world)) l.initial.world logs
       → StandsWith (g.D.Digests.functions (digests_of l.world)) l.world logs;
-  leads : Leads (host_of (g.D.Digests.functions (digests_of l.initial.world)) l.initial.world) (shown_world l.initial.world) (shown_world l.world) None;
+  left : MovesLeft (host_of (g.D.Digests.functions (digests_of l.initial.world)) l.initial.world) (shown_world l.initial.world) l.worker (shown_world l.world) l.shard;
   below : OwnBelow (host_of (g.D.Digests.functions (digests_of l.initial.world)) l.initial.world) (shown_world l.initial.world) l.worker (shown_world l.world) l.shard;
 }
 
