@@ -16,3 +16,4 @@ mod TakenLemmas
 mod StandingLemmas
 mod PlacingLemmas
 mod LendLemmas
+mod EnabledLemmas

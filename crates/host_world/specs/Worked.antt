@@ -12,7 +12,7 @@ use Rattle.log_codec.specs.declared.command.Command.{Command}
 use Rattle.log_codec.specs.declared.command.Command.TheVariants.{AddM, EvictM, AddB, EvictB, EvictBM, Get, Put, NextEpoch}
 use Rattle.merkle_records.specs.Merkle.{pointer_to}
 use Rattle.host_core.specs.World.{Place, logs_of, set_up}
-use Rattle.host_core.specs.WorldEvent.{WorldEvent, takes, serves, gives, advances, moves, run_events}
+use Rattle.host_core.specs.WorldEvent.{WorldEvent, takes, serves, gives, advances, moves, AreEnabled, run_events}
 use Rattle.host_shard.specs.Content.{key_path}
 use Rattle.script_text.specs.declared.task.Task.{Task}
 use Rattle.host_world.specs.declared.fault.ClockEnd.{ClockEnd}
@@ -188,6 +188,16 @@ behind_logs functions =
     ++ first_close (frontier_of functions value_b) 8 1)))
     ∷ (request_log (frontier_of functions value_a) 6 0 value_a (Put five value_b) 8 ++ second_close)
     ∷ []
+
+-- The script: worker 0 puts and then gets, and worker 1 puts.
+abbrev pub two_at_five : List (List Task)
+two_at_five =
+    (record { worker = 0; request = put_a } ∷ record { worker = 1; request = put_b } ∷ record { worker = 0; request = get_five } ∷ []) ∷ []
+
+-- each of these events is enabled behind the setup and those before it
+abbrev pub AreEnabledBehind : DigestFunctions → Settings → List (List Task) → List (WorldEvent Request) → Type 0
+AreEnabledBehind functions settings script events =
+    AreEnabled (shipped_host functions settings script) (set_up (shipped_host functions settings script)) events
 
 -- ---- clocks that end
 

@@ -10,7 +10,7 @@ ghost use Rattle.host_world.specs.declared.settings.Settings.{Settings};
 ghost use Rattle.host_world.specs.Behind.{IsBehindSetup};
 ghost use Rattle.host_world.specs.Orderly.{IsOrderly};
 ghost use Rattle.host_core.specs.WorldEvent.{takes, serves, advances, moves};
-ghost use Rattle.host_world.specs.Worked.{serving, put_five, get_five, place_five, end_behind, ended_at, in_last_epoch, two_shards, most, logs_behind, last_close, empty_log, five_events, five_log, stopped_log, between_events, between_logs, before_events, before_logs, behind_events, behind_logs};
+ghost use Rattle.host_world.specs.Worked.{serving, put_five, get_five, place_five, end_behind, ended_at, in_last_epoch, two_shards, most, logs_behind, last_close, empty_log, five_events, five_log, stopped_log, between_events, between_logs, before_events, before_logs, behind_events, behind_logs, two_at_five, AreEnabledBehind};
 ghost use Rattle.host_world.specs.WorkedKeys.{apart_events, apart_logs, deleted_events, deleted_log, parted_events, parted_log, four_shards, four_events, four_log};
 ghost use Rattle.host_core.specs.Host.{Done};
 ghost use Rattle.host_plan.specs.Plan.{Owns};
@@ -91,6 +91,14 @@ pub fn logs_are_as_worked_out()
         → logs_behind functions (two_shards 1 most) script parted_events ≡ parted_log functions ∷ [] }
     ensures four { (functions : DigestFunctions) (script : List (List Task))
         → logs_behind functions four_shards script four_events ≡ four_log functions ∷ [] }
+{}
+
+/// Where two workers are asked for one key, each order of their requests is a list of events that are enabled from the setup
+/// on: the other worker's put between the put and the get of the first, before both, and behind both.
+pub fn orders_of_two_workers_are_enabled()
+    ensures between { (functions : DigestFunctions) → AreEnabledBehind functions (two_shards 2 most) two_at_five between_events }
+    ensures before { (functions : DigestFunctions) → AreEnabledBehind functions (two_shards 2 most) two_at_five before_events }
+    ensures behind { (functions : DigestFunctions) → AreEnabledBehind functions (two_shards 2 most) two_at_five behind_events }
 {}
 
 /// A clock ends where it was worked out by hand: at a request, at the second shard of a close, and where no epoch is to come.

@@ -19,8 +19,8 @@ pub use event::Event;
 pub use fault::{ClockEnd, EventStop, WorldFault};
 pub use laws::{
     a_chain_is_its_links, clocks_end_as_worked_out, logs_are_as_worked_out,
-    promotable_keys_are_one_list, what_is_moved_is_a_move, what_is_served_is_planned,
-    worlds_are_orderly,
+    orders_of_two_workers_are_enabled, promotable_keys_are_one_list, what_is_moved_is_a_move,
+    what_is_served_is_planned, worlds_are_orderly,
 };
 pub use seats::Seats;
 pub use settings::Settings;
