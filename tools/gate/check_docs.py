@@ -11,7 +11,8 @@ or a row of a table says is read together:
   a column Clause each name there is a clause or a field, and a clause of the calls in the columns Call and Crate, if it has these.
 - a list of names alone in parentheses is of names that are declared, whatever their form.
 - Type::name is a function of that type, clause.field a field of a definition.
-- any other name in the form of the code, with an underscore or a capital, is declared somewhere in the crates, or the kit's.
+- any other name in the form of the code, with an underscore or a capital, is declared somewhere in the crates, or the kit's; one
+  with a dash is that of a lemma.
 
 It writes a line for each that isn't there, and fails where there is one, or where no document names a file.
 """
@@ -130,6 +131,13 @@ def fields():
 
 
 @cache
+def lemmas():
+    """What the proofs show, by names with a dash in them."""
+    texts = [text for crate in sources.names() for text in sources.sources(crate)]
+    return {name for text in texts for name in re.findall(r"^ *(?:pub |abbrev )*(\w+(?:-\w+)+)(?: [^=→]*)? :", text, re.M)}
+
+
+@cache
 def repository():
     """All files but what is built."""
     found = set()
@@ -234,6 +242,9 @@ def wrong_names(block):
         for name in set(names_in(spans)) - everything() - kit() - tools() - OTHERS:
             if re.fullmatch("[a-z]+", name):
                 yield name, "nothing is called so"
+    for span in re.findall(r"`([a-z0-9]+(?:-[a-z0-9]+)+)`", block.text):
+        if span not in lemmas():
+            yield span, "no lemma is called so"
     for span in re.findall(r"`([^`]+)`", block.text):
         if not re.fullmatch(rf"{WORD}((::|\.){WORD})*", span) or span.endswith(SUFFIXES) or PLACEHOLDER.search(span):
             continue

@@ -4,9 +4,9 @@ usage: tools/run gate.help_page write|check
 
 Run at the top of the repository. tools/share/fastver.txt is the page of help, as `./fastver help` shows it: a title, and sections
 with a head in capitals. A line with two blanks before it is an item or a text, which may go on in the next lines; one with six says
-what the item above it is. `check` also looks that the commands and options are those of the slow program, and that
-tools/share/version and README name the kit that is installed, where one is. It writes a line for what is otherwise, and fails where
-anything is.
+what the item above it is. `check` also looks that the commands and options are those of README and of the slow
+program, that the statuses are those of docs/FORMATS.md, and that tools/share/version and README name the kit that is installed,
+where one is. It writes a line for what is otherwise, and fails where anything is.
 """
 import re
 import shutil
@@ -104,6 +104,12 @@ def faults(page, made):
     named = {name: set(options) for name, options in commands(page).items() if options}
     if named != {name: set(options) for name, options in fastver.OPTIONS.items()}:
         yield f"{PAGE}: its commands and options are not those of tools/slow/fastver.py"
+    readme = [" ".join(line.split()[1:]) for line in read("README.md").splitlines() if line.startswith("    fastver ")]
+    if readme != [item for item, _ in sections(page)["COMMANDS"] if item.split()[0] in named]:
+        yield f"README.md: its commands are not those of {PAGE}"
+    ends = {end for item, _ in sections(page)["STATUS"] for end in item.split(", ") if " " in end}
+    if ends != {" ".join(row) for row in re.findall(r"(?:^\| |, )(\d+) ([a-z ]+?)(?= \||, )", read("docs/FORMATS.md"), re.M)}:
+        yield f"docs/FORMATS.md: its statuses are not those of {PAGE}"
     said = {item.split()[0] for item, _ in sections(page)["OPTIONS"]}
     if said != set().union(*named.values()):
         yield f"{PAGE}: the options of its commands are not those of its section of options"
