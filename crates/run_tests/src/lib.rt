@@ -18,6 +18,8 @@
 #[cfg(test)]
 mod asking;
 #[cfg(test)]
+mod counting_gate;
+#[cfg(test)]
 mod evidence_tests;
 #[cfg(test)]
 mod fault_tests;

@@ -1,6 +1,7 @@
 //! Loads that are made of a seed.
+use crate::holding_gate::HoldingGate;
 use crate::serving::{
-    assert_ended, assert_written, cases_in, holds, joined, program, same, words_of,
+    assert_ended, assert_written, cases_in, holds, joined, program, program_at, same, words_of,
 };
 use bundle_rows::Case;
 use fastver_top::{Status, fastver};
@@ -54,6 +55,31 @@ fn loads_are_summed_up(rt: HostRuntime) {
     for case in &cases_in(&rt, rt.alloc(), LOADS, 4) {
         assert_summed_up(&rt, rt.alloc(), case);
     }
+}
+
+// A load of two workers with four requests each: worker 0 puts, gets, deletes and puts, and worker 1 gets, puts, puts and gets,
+// each time another key.
+const BESIDE: &str = "--seed 2 --ops 8 --verifiers 2 --shards 2";
+
+const BESIDE_SUMMARY: &str = "\
+gen seed 2 ops 8
+epochs 1
+worker 0 gets 1 none 1 puts 2 dels 1
+worker 1 gets 2 none 2 puts 2 dels 0
+";
+
+// Worker 0 is held at its first request until worker 1 is at its second, as in a run of a script: whoever serves a load past
+// another gate fails.
+#[test]
+fn the_workers_of_a_load_serve_beside_each_other(rt: HostRuntime) {
+    let line = joined(&rt, rt.alloc(), GEN, BESIDE);
+    let gate = HoldingGate::new();
+    let none: (&[u64], &[u64], &[u64]) = (&[], &[], &[]);
+    let (objects, status) = program_at(&rt, rt.alloc(), &line, b"", 1000, none, &gate);
+    same(&rt, "held", 0, &gate.has_held(), &true);
+    same(&rt, "numbers", 0, &gate.passed(), &0b1111);
+    assert_ended(&rt, "load", 0, &status, &Status::Done { epochs: 1 });
+    objects.assert_wrote(&rt, "load", 0, BESIDE_SUMMARY.as_bytes());
 }
 
 // The words of a load of 20,000 requests, behind a key.

@@ -197,7 +197,8 @@ epoch 0 certified 3
 done 1
 ";
 
-// Worker 0 is held at its first request until worker 1 is at its second: whoever serves workers one after the other fails.
+// Worker 0 is held at its first request until worker 1 is at its second: whoever serves workers one after the other fails. The
+// workers pass as numbers 0 and 1, and their verifiers as 2 and 3.
 #[test]
 fn workers_serve_beside_each_other(rt: HostRuntime) {
     let line = host_line(&rt, rt.alloc(), "2 --shards 2");
@@ -214,6 +215,7 @@ fn workers_serve_beside_each_other(rt: HostRuntime) {
         &gate,
     );
     same(&rt, "held", 0, &gate.has_held(), &true);
+    same(&rt, "numbers", 0, &gate.passed(), &0b1111);
     assert_ended(&rt, "run", 0, &status, &Status::Done { epochs: 1 });
     objects.assert_wrote(&rt, "run", 0, BESIDE.as_bytes());
 }
