@@ -20,7 +20,7 @@ use Rattle.bundle_report.specs.Logs.{joined_from}
 use Rattle.bundle_report.specs.Report.{EpochText, EpochTold, operations_told}
 use Rattle.bundle_report.specs.RunReport.{courses_of}
 use Rattle.bundle_report.specs.Judged.{judged}
-use Rattle.bundle_report.specs.SoFar.{lines_from, left_from, opening_runs, runs_from, took, runs_behind, HaveRead}
+use Rattle.bundle_report.specs.SoFar.{lines_from, left_from, opening_runs, runs_from, having_read, runs_behind, HaveRead}
 use Rattle.bundle_report.proofs.LinesLaws.{lines-behind}
 use Rattle.bundle_report.proofs.SoFarLaws.{taken-more, lines-taken, counted-within}
 use Rattle.bundle_report.proofs.DueLaws.{lines-certified, lines-due}
@@ -120,10 +120,10 @@ runs_weights functions header logs so_far now have taken =
 -- ---- a round more
 
 took-apart : (scheme : Scheme) (number first : ℕ) (run : Progress Operation) (round : List (List ℕ)) → number < first
-    → took scheme number run (pieces_of first round) ≡ run
+    → having_read scheme number run (pieces_of first round) ≡ run
 took-apart scheme number first run [] below = refl
 took-apart scheme number first run (bytes ∷ round) below =
-    ap (λ (own : Bool). took scheme number (if own then fed keeps_operations scheme run bytes else run) (pieces_of (suc first) round))
+    ap (λ (own : Bool). having_read scheme number (if own then fed keeps_operations scheme run bytes else run) (pieces_of (suc first) round))
     (ne_eqb first number (λ is. omega (arith, below, is)))
     ∙ took-apart scheme number (suc first) run round (omega (arith, below))
 
@@ -131,9 +131,9 @@ runs-skip : (scheme : Scheme) (number : ℕ) (frame : Frame) (runs : List (Progr
     → runs_behind scheme number runs (frame ∷ frames) ≡ runs_behind scheme number runs frames
 runs-skip scheme number frame [] frames below = refl
 runs-skip scheme number frame (run ∷ runs) frames below =
-    ap (λ (own : Bool). took scheme number (if own then fed keeps_operations scheme run frame.body else run) frames ∷ runs_behind scheme (suc number) runs (frame ∷ frames))
+    ap (λ (own : Bool). having_read scheme number (if own then fed keeps_operations scheme run frame.body else run) frames ∷ runs_behind scheme (suc number) runs (frame ∷ frames))
     (ne_eqb frame.verifier number (λ is. omega (arith, below, is)))
-    ∙ ap (λ (rest : List (Progress Operation)). took scheme number run frames ∷ rest) (runs-skip scheme (suc number) frame runs frames (omega (arith, below)))
+    ∙ ap (λ (rest : List (Progress Operation)). having_read scheme number run frames ∷ rest) (runs-skip scheme (suc number) frame runs frames (omega (arith, below)))
 
 -- runs that took the bytes of their verifiers took the pieces
 runs-took : (functions : DigestFunctions) (header : Header) (number : ℕ) (round : List (List ℕ)) (olds news : List FedRun)
@@ -149,16 +149,16 @@ runs-took functions header number (bytes ∷ round) (old ∷ olds) (new ∷ news
     let piece : Frame = record { verifier = number; body = bytes } in
     let rest = pieces_of (suc number) round in
     let run = fed keeps_operations scheme old.run bytes in
-    let own : new.run ≡ took scheme number old.run (piece ∷ rest) =
+    let own : new.run ≡ having_read scheme number old.run (piece ∷ rest) =
     takes.0.taken
     ∙ ap (λ (h : Header). fed keeps_operations (scheme_of functions h) old.run bytes) headers.0
-    ∙ sym (ap (λ (b : Bool). took scheme number (if b then run else old.run) rest) (eq-eqb number number refl)
+    ∙ sym (ap (λ (b : Bool). having_read scheme number (if b then run else old.run) rest) (eq-eqb number number refl)
     ∙ took-apart scheme number (suc number) run round (omega arith)) in
     let others : map (λ fed. fed.run) news ≡ runs_behind scheme (suc number) (map (λ fed. fed.run) olds) (piece ∷ rest) =
     runs-took functions header (suc number) round olds news headers.1 takes.1
     ∙ sym (runs-skip scheme (suc number) piece (map (λ fed. fed.run) olds) rest (omega arith)) in
     ap (λ (r : Progress Operation). r ∷ map (λ fed. fed.run) news) own
-    ∙ ap (λ (rs : List (Progress Operation)). took scheme number old.run (piece ∷ rest) ∷ rs) others
+    ∙ ap (λ (rs : List (Progress Operation)). having_read scheme number old.run (piece ∷ rest) ∷ rs) others
 
 all_fed : (functions : DigestFunctions) (round : List (List ℕ)) (olds news : List FedRun) → AllRead functions round olds news → AreFed news
 all_fed functions [] [] [] takes = tt
