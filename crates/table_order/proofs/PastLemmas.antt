@@ -6,7 +6,7 @@ use Rattle.lamport_clocks.specs.Reading.{Reading}
 use Rattle.record_hash.specs.Functions.{DigestFunctions}
 use Rattle.record_text.specs.declared.request.Request.{Request}
 use Rattle.record_text.specs.Format.{short_keys}
-use Rattle.merkle_records.specs.Merkle.{GivesDigests}
+use Rattle.merkle_records.specs.Merkle.{Digest, GivesDigests}
 use Rattle.script_text.specs.declared.task.Task.{Task}
 use Rattle.tree_keys.specs.Path.{IsBelow}
 use Rattle.host_core.specs.World.{World, worker_at, shard_at}
@@ -63,7 +63,7 @@ had_shown x had (service ∷ services) (inr is) = inr (had_shown service.after h
 -- ---- what stays of a place
 
 -- the same shard or hot record, as another
-abbrev IsStill : Content → Content → Type 0
+abbrev pub IsStill : Content → Content → Type 0
 IsStill (cold old) (cold new) = new.frontier ≡ old.frontier
 IsStill (cold old) (hot new) = ⊥
 IsStill (cold old) vacant = ⊥
@@ -74,24 +74,24 @@ IsStill vacant (cold new) = ⊥
 IsStill vacant (hot new) = ⊥
 IsStill vacant vacant = Unit {0}
 
-still : (content : Content) → IsStill content content
+pub still : (content : Content) → IsStill content content
 still (cold shard) = refl
 still (hot found) = refl
 still vacant = tt
 
 -- it owns the same keys, if it mirrors
-owns_still : (functions : DigestFunctions) (hot_keys : List (List Bool)) (old new : Content) (key : ℕ) → IsStill old new
-    → ContentMirrors short_keys functions.digest hot_keys new → Owns short_keys old key → Owns short_keys new key
-owns_still functions hot_keys (cold old) (cold new) key same mirrors own =
+pub owns_still : (digest : Digest) (hot_keys : List (List Bool)) (old new : Content) (key : ℕ) → IsStill old new
+    → ContentMirrors short_keys digest hot_keys new → Owns short_keys old key → Owns short_keys new key
+owns_still digest hot_keys (cold old) (cold new) key same mirrors own =
     (mirrors.fits, record { whole = own.1.whole; below = subst (λ (path : List Bool). IsBelow path (key_path short_keys key)) (sym same) own.1.below })
-owns_still functions hot_keys (cold old) (hot new) key same mirrors own = absurd same
-owns_still functions hot_keys (cold old) vacant key same mirrors own = absurd same
-owns_still functions hot_keys (hot old) (cold new) key same mirrors own = absurd same
-owns_still functions hot_keys (hot old) (hot new) key same mirrors own = same ∙ own
-owns_still functions hot_keys (hot old) vacant key same mirrors own = absurd same
-owns_still functions hot_keys vacant new key same mirrors own = absurd own
+owns_still digest hot_keys (cold old) (hot new) key same mirrors own = absurd same
+owns_still digest hot_keys (cold old) vacant key same mirrors own = absurd same
+owns_still digest hot_keys (hot old) (cold new) key same mirrors own = absurd same
+owns_still digest hot_keys (hot old) (hot new) key same mirrors own = same ∙ own
+owns_still digest hot_keys (hot old) vacant key same mirrors own = absurd same
+owns_still digest hot_keys vacant new key same mirrors own = absurd own
 
-cold_still : (hot_keys : List (List Bool)) (old new : Content) (key : ℕ) → IsStill old new → IsCold short_keys hot_keys old key → IsCold short_keys hot_keys new key
+pub cold_still : (hot_keys : List (List Bool)) (old new : Content) (key : ℕ) → IsStill old new → IsCold short_keys hot_keys old key → IsCold short_keys hot_keys new key
 cold_still hot_keys (cold old) (cold new) key same apart = apart
 cold_still hot_keys (cold old) (hot new) key same apart = tt
 cold_still hot_keys (cold old) vacant key same apart = tt
@@ -103,17 +103,17 @@ cold_still hot_keys vacant (hot new) key same apart = tt
 cold_still hot_keys vacant vacant key same apart = tt
 
 -- so does what comes of a request
-still_after : (functions : DigestFunctions) (worker : ℕ) (old content : Content) (links : List Link) (request : Request) (clock : Reading)
-    → IsStill old content → IsStill old (content_after short_keys functions.digest worker content links request clock)
-still_after functions worker (cold old) (cold shard) links request clock same = same
-still_after functions worker (cold old) (hot found) links request clock same = same
-still_after functions worker (cold old) vacant links request clock same = same
-still_after functions worker (hot old) (cold shard) links request clock same = same
-still_after functions worker (hot old) (hot found) links request clock same = same
-still_after functions worker (hot old) vacant links request clock same = same
-still_after functions worker vacant (cold shard) links request clock same = same
-still_after functions worker vacant (hot found) links request clock same = same
-still_after functions worker vacant vacant links request clock same = same
+pub still_after : (digest : Digest) (worker : ℕ) (old content : Content) (links : List Link) (request : Request) (clock : Reading)
+    → IsStill old content → IsStill old (content_after short_keys digest worker content links request clock)
+still_after digest worker (cold old) (cold shard) links request clock same = same
+still_after digest worker (cold old) (hot found) links request clock same = same
+still_after digest worker (cold old) vacant links request clock same = same
+still_after digest worker (hot old) (cold shard) links request clock same = same
+still_after digest worker (hot old) (hot found) links request clock same = same
+still_after digest worker (hot old) vacant links request clock same = same
+still_after digest worker vacant (cold shard) links request clock same = same
+still_after digest worker vacant (hot found) links request clock same = same
+still_after digest worker vacant vacant links request clock same = same
 
 -- ---- the services of a place
 
@@ -188,7 +188,7 @@ module _ (functions : DigestFunctions) (settings : Settings) (script : List (Lis
         mirrors_before = subst (ContentMirrors short_keys functions.digest hot_keys) (sym leads.1) mirrors
 
         own : Owns short_keys before service.request.key
-        own = owns_still functions hot_keys first before service.request.key same_before mirrors_before serves.own
+        own = owns_still functions.digest hot_keys first before service.request.key same_before mirrors_before serves.own
 
         apart : IsCold short_keys hot_keys before service.request.key
         apart = cold_still hot_keys first before service.request.key same_before serves.cold_there
@@ -197,7 +197,7 @@ module _ (functions : DigestFunctions) (settings : Settings) (script : List (Lis
         can = mirrors_serve short_keys functions.digest hot_keys before service.request.key mirrors_before own apart
 
         same_after : IsStill first (shown_content service.after)
-        same_after = subst (IsStill first) (sym plan.content) (still_after functions service.worker first before plan.links service.request service.clock same_before)
+        same_after = subst (IsStill first) (sym plan.content) (still_after functions.digest service.worker first before plan.links service.request service.clock same_before)
 
         mirrors_after : ContentMirrors short_keys functions.digest hot_keys (shown_content service.after)
         mirrors_after = plan_mirrors short_keys functions.digest service.worker hot_keys before (shown_content service.after) service.request service.clock service.later service.plan

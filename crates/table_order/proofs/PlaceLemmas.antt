@@ -60,7 +60,7 @@ module _ (functions : DigestFunctions) (settings : Settings) (script : List (Lis
   host = shipped_host functions settings script
 
   -- the seats of a shard are five
-  five_seats : (s : ℕ) → s < length world.shards → length (shard_at world s).contents ≡ 5
+  pub five_seats : (s : ℕ) → s < length world.shards → length (shard_at world s).contents ≡ 5
   five_seats s there =
       let mirrors = (orderly.shards s there).mirrors in
       ap (λ (xs : List Content). length xs) mirrors.is ∙ ap (λ (n : ℕ). suc n) mirrors.four

@@ -1,7 +1,8 @@
-//! Why what a table tells of a phase was one list of events, and why what a world lends can be made a table. These functions
-//! do nothing: their contracts are the laws.
+//! Why what a table tells of a phase was one list of events, why what a world lends can be made a table, and why the contents
+//! of such a table mirror. These functions do nothing: their contracts are the laws.
 ghost use Rattle.std.specs.Prelude.{◌≡◌, ℕ, ◌<◌, ◌≤◌, List, length, map, get_or};
 ghost use Rattle.std.specs.List.{AllByRecursion};
+ghost use Rattle.atomic_table.specs.Table.{State};
 ghost use Rattle.record_hash.specs.Functions.{DigestFunctions};
 ghost use Rattle.merkle_records.specs.Merkle.{GivesDigests};
 ghost use Rattle.script_text.specs.declared.task.Task.{Task};
@@ -13,16 +14,22 @@ ghost use Rattle.host_shard.specs.declared.content.Content as code;
 ghost use Rattle.host_shard.specs.declared.content.Content.TheVariants.{Vacant};
 ghost use Rattle.host_shard.specs.Content.{Content};
 ghost use Rattle.host_shard.specs.Shown.{shown_content};
+ghost use Rattle.host_table.specs.declared.told.Service.{Service};
+ghost use Rattle.host_table.specs.declared.views.Desk.{Desk};
 ghost use Rattle.host_table.specs.declared.views.Row.{Row};
+ghost use Rattle.host_table.specs.declared.views.View.{View};
 ghost use Rattle.host_table.specs.Phase.{IsPhase, row_at};
-ghost use Rattle.host_table.specs.Terms.{Terms, place_count, IsMaking};
+ghost use Rattle.host_table.specs.Rule.{IsKept};
+ghost use Rattle.host_table.specs.Terms.{Terms, place_count, first_at, IsMaking};
+ghost use Rattle.host_table.specs.Told.{Leads};
 ghost use Rattle.host_world.specs.declared.settings.Settings.{Settings};
 ghost use Rattle.host_world.specs.Behind.{IsBehindSetup};
 ghost use Rattle.host_world.specs.Lending.{all_contents};
 ghost use Rattle.host_world.specs.Places.{place_of};
 ghost use Rattle.host_world.specs.ShippedHost.{shipped_host};
 ghost use Rattle.table_order.specs.Servings.{serving_of, lists_of, pasts_of, stops_of};
-ghost use Rattle.table_order.specs.Phases.{IsTableOf};
+ghost use Rattle.table_order.specs.Phases.{AreTermsOf, IsTableOf};
+ghost use Rattle.table_order.specs.Mirroring.{MirrorsAtMaking, AreInRange, HasKeysInRange, IsAtHome, IsInHand, IsDesk, MirrorsAt, AreEvictsOf};
 
 use host_fits::{
     plans_are_what_the_host_does, the_shipped_host_is_steady, the_shipped_host_keeps_its_promise,
@@ -100,3 +107,34 @@ pub fn worlds_make_tables()
     worlds_are_orderly();
     the_shipped_host_keeps_its_promise();
 }
+
+/// A table that is made of what a world has at its places is made of contents that mirror. It is asked that digests have 32
+/// bytes.
+pub fn a_making_of_a_world_mirrors()
+    ensures mirrors { (functions : DigestFunctions) (settings : Settings) (script : List (List Task)) (world : World Content)
+        (terms : Terms)
+        → GivesDigests functions.digest
+        → IsBehindSetup functions settings script world
+        → AreTermsOf (shipped_host functions settings script) world terms
+        → IsMaking terms.header terms.workers terms.contents
+        → MirrorsAtMaking terms }
+{
+    worlds_are_orderly();
+}
+
+/// Between any two steps of a table that is made of contents that mirror, each content mirrors with the same keys hot, and
+/// waits with an element that a verifier of the bundle stamped in the phase's epoch, within the counters' end: what is at home,
+/// what a worker's view has in hand, and so what a try takes, whose history leads to it. What a worker's view lists evicted
+/// elements of its own, with rising stamps. It is asked that the keys of requests have 64 bits.
+pub fn contents_of_a_table_mirror()
+    ensures home { (terms : Terms) (s : State code.Content View) (kept : IsKept terms s) (place : ℕ) (content : code.Content)
+        → MirrorsAtMaking terms → HasKeysInRange terms kept.scene → place < place_count terms → IsAtHome s place content
+        → MirrorsAt terms place content }
+    ensures in_hand { (terms : Terms) (s : State code.Content View) (kept : IsKept terms s) (place : ℕ) (content : code.Content)
+        → MirrorsAtMaking terms → HasKeysInRange terms kept.scene → IsInHand s place content → MirrorsAt terms place content }
+    ensures led { (terms : Terms) (place : ℕ) (past : List Service) (content : code.Content)
+        → MirrorsAtMaking terms → place < place_count terms → AreInRange past
+        → Leads terms place (first_at terms place) past content → MirrorsAt terms place content }
+    ensures rising { (terms : Terms) (s : State code.Content View) (desk : Desk)
+        → terms.workers ≤ terms.header.verifiers → IsKept terms s → IsDesk s desk → AreEvictsOf terms desk.number desk.list }
+{}

@@ -2,13 +2,14 @@
 //!
 //! `host_table` says what is known of a phase once its table is closed: histories of places, lists of workers, and where
 //! clocks ended. `host_order` says of any host when what places and workers tell was one list of events, and `host_fits`
-//! says what the shipped host does. Here the three are joined; and what a world lends at rest can be made such a table. The
-//! crate has no code to run. Begin with `laws.rt`, then read `specs/` in the order of its `Lib.antt`.
+//! says what the shipped host does. Here the three are joined; and what a world lends at rest can be made such a table. And
+//! what a table's rule says of services is carried to the contents: those of a table made of contents that mirror do so
+//! too. The crate has no code to run. Begin with `laws.rt`, then read `specs/` in the order of its `Lib.antt`.
 #![tactic(auto)]
 
 mod laws;
 
 pub use laws::{
-    a_phase_of_a_table_has_one_order, services_are_what_the_host_does, tables_tell_of_a_phase,
-    worlds_make_tables,
+    a_making_of_a_world_mirrors, a_phase_of_a_table_has_one_order, contents_of_a_table_mirror,
+    services_are_what_the_host_does, tables_tell_of_a_phase, worlds_make_tables,
 };
