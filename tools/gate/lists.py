@@ -6,7 +6,7 @@ Run at the top of the repository. The lists are:
 
 - the map of docs/ARCHITECTURE.md: the layers and crates of crates.txt in its order, and what each stands on. What a crate is and
   where to begin is written by hand and stays: a crate that is new gets a row in which both are to be filled in.
-- the files of definitions at the end of docs/DEFINITIONS.md, each with the first sentence of its first comment.
+- the files of definitions at the end of docs/DEFINITIONS.md, each with the first sentence of the comment at its head.
 - docs/CLAUSES.md: the public functions of each crate that has no tests alone, with the names of their clauses.
 
 In a document a list stands between two lines that say so. `check` writes a line for what is otherwise, and fails where anything is.
@@ -63,10 +63,10 @@ def unsaid(text):
 
 
 def head_of(path):
-    """The first sentence of a file's first comment."""
-    comment = re.search(r"^ *--.*(?:\n *--.*)*", sources.read(path), re.M)
+    """The first sentence of the comment at the head of a file."""
+    comment = re.match(r"--.*(?:\n--.*)*", sources.read(path))
     if comment is None:
-        raise SystemExit(f"{path} has no comment that says what it is")
+        raise SystemExit(f"{path} does not begin with a comment that says what it has")
     text = " ".join(line.strip().removeprefix("--").strip() for line in comment[0].splitlines())
     return re.match(r"(.*?[^.][.:])(?= [A-Z`]|$)|.*", text)[0].rstrip(".:")
 

@@ -1,3 +1,4 @@
+-- Want of memory, the one value of its type.
 use Rattle.base_words.specs.declared.memory.Memory.{Memory}
 
 -- the one value of the error

@@ -1,3 +1,4 @@
+-- What a clock shows, as plain data.
 use Rattle.std.specs.Prelude.{◌≡◌, ℕ, ◌≤◌}
 use Rattle.lamport_clocks.specs.declared.stamp.Stamp.{Stamp}
 

@@ -1,3 +1,4 @@
+-- What a sum shows of its multiset: eight exact sums and a count.
 use Rattle.std.specs.Prelude.{◌≡◌, ℕ, ◌-◌, ◌*◌, ◌^◌, ◌<◌, ◌≤◌, List, length, EachIndex, slice_index}
 
 -- what a sum shows: the sum of each lane, and the number of elements

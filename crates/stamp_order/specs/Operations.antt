@@ -1,3 +1,4 @@
+-- Operations by the moments at which they were done, and those up to an epoch in order.
 use Rattle.std.specs.Prelude.{ℕ, List}
 use Rattle.record_text.specs.declared.operation.Operation.{Operation}
 use Rattle.stamp_order.specs.declared.moment.Moment.{Moment}
