@@ -1,5 +1,6 @@
 -- What each kind of step does to the view of the seat that makes it.
 use Rattle.std.specs.Prelude.{◌≡◌, ◌≢◌, ◌<◌, ℕ, suc, false, List, [], ◌∷◌, ◌++◌, Some, None}
+use Rattle.lamport_clocks.specs.Header.{header_by_path}
 use Rattle.lamport_clocks.specs.Reading.{Reading}
 use Rattle.record_text.specs.declared.request.Request.{Request}
 use Rattle.atomic_table.specs.Table.{Me, Step}
@@ -152,7 +153,7 @@ gathered v w = v
 -- ---- what stands where nothing is picked
 
 abbrev pub no_terms : Terms
-no_terms = record { digest = λ text. []; header = record { verifiers = 0; cache = 0; first = 0; end = 0 }; workers = 0; contents = [] }
+no_terms = record { digest = λ text. []; header = header_by_path 0 0 0 0; workers = 0; contents = [] }
 
 abbrev pub no_draft : Draft
 no_draft = record {
