@@ -1,6 +1,6 @@
 -- A round's logs behind those so far, as pieces of a bundle.
 use Rattle.std.proofs.Common.{◌≡◌, ◌≢◌, ℕ, suc, ◌+◌, ◌<◌, ◌≤◌, Some, None, List, [], ◌∷◌, ◌++◌, length, refl, ap, sym, ◌∙◌, append-nil, append_assoc, eq-eqb, arith}
-use Rattle.std.specs.List.{AllByRecursion}
+use Rattle.std.specs.List.{AllByRecursion, flat_map}
 use Rattle.std.proofs.lemmas.Bool.{ne_eqb}
 use Rattle.std.proofs.lemmas.List.Concat.{flat_map-append}
 use Rattle.lamport_clocks.specs.declared.header.Header.{Header}
@@ -9,7 +9,7 @@ use Rattle.bundle_frames.specs.Bundle.{Frame, Bundle, header_text, bundle_of, bo
 use Rattle.bundle_report.specs.Logs.{empty_logs, joined_from}
 use Rattle.bundle_report.specs.Logged.{behind}
 use Rattle.host_log.specs.Frames.{frames_text, frames_of_pieces, pieces_text}
-use Rattle.host_rounds.specs.Round.{logs_with, pieces_of}
+use Rattle.host_rounds.specs.Round.{logs_with, pieces_of, round_text, rounds_text, logs_behind, logs_in}
 use Rattle.host_rounds.specs.Bundle.{IsBundle, logged_whole}
 
 -- ---- pieces of other verifiers
@@ -89,42 +89,82 @@ HoldPieces = (header : Header) (pieces : List Frame) → IsHeader header → hea
 abbrev pub KeepLogs : Type 0
 KeepLogs = (verifier : ℕ) (pieces : List Frame) → log_of verifier (frames_of_pieces pieces) ≡ log_of verifier pieces
 
--- the pieces are a bundle
-pub bundle-of_pieces : HoldPieces → KeepLogs → (header : Header) (logs : List (List ℕ)) (bytes : List ℕ) (pieces : List Frame) → IsHeader header
-    → header.first < 4294967296 → bytes ≡ header_text header ++ pieces_text pieces
-    → AllByRecursion (λ piece. piece.verifier < header.verifiers) pieces → logs ≡ joined_from 0 (empty_logs header.verifiers) pieces
-    → IsBundle header logs bytes
-bundle-of_pieces hold keep header logs bytes pieces good first bytes_are numbers logs_are = record {
-  header_good = good;
-  first = first;
-  pieces = pieces;
-  bytes_are = bytes_are;
-  numbers = numbers;
-  logs_are = logs_are;
-  means =
-      ap (λ (all : List ℕ). behind None [] (bundle_of all)) bytes_are
-      ∙ ap (λ (bundle : Bundle). behind None [] bundle) (hold header pieces good first numbers)
-      ∙ ap (logged_whole header)
-      (joined-same 0 (empty_logs header.verifiers) (frames_of_pieces pieces) pieces (λ verifier. keep verifier pieces) ∙ sym logs_are);
-}
+-- ---- rounds as pieces
+
+-- the rounds' bytes as pieces of logs
+abbrev pub pieces_in : List (List (List ℕ)) → List Frame
+pieces_in rounds = flat_map (pieces_of 0) rounds
+
+pub rounds-text : (rounds : List (List (List ℕ))) → rounds_text rounds ≡ pieces_text (pieces_in rounds)
+rounds-text [] = refl
+rounds-text (round ∷ rounds) =
+    ap (λ (more : List ℕ). round_text round ++ more) (rounds-text rounds)
+    ∙ sym (flat_map-append (λ piece. frames_text piece.verifier piece.body) (pieces_of 0 round) (pieces_in rounds))
+
+pub rounds-joined : (logs : List (List ℕ)) (rounds : List (List (List ℕ))) → logs_behind logs rounds ≡ joined_from 0 logs (pieces_in rounds)
+rounds-joined logs [] = sym (joined-none 0 logs)
+rounds-joined logs (round ∷ rounds) =
+    rounds-joined (logs_with logs round) rounds
+    ∙ ap (λ (all : List (List ℕ)). joined_from 0 all (pieces_in rounds)) (sym (round-joined 0 logs round))
+    ∙ sym (joined-more 0 logs (pieces_of 0 round) (pieces_in rounds))
+
+pub rounds-numbers : (verifiers : ℕ) (rounds : List (List (List ℕ))) → AllByRecursion (λ round. length round ≡ verifiers) rounds
+    → AllByRecursion (λ piece. piece.verifier < verifiers) (pieces_in rounds)
+rounds-numbers verifiers [] each = tt
+rounds-numbers verifiers (round ∷ rounds) each =
+    numbers-behind verifiers (pieces_of 0 round) (pieces_in rounds) (numbers-of verifiers 0 round (omega (arith, each.0)))
+    (rounds-numbers verifiers rounds each.1)
+
+-- ---- one round more
+
+pub text-more : (rounds : List (List (List ℕ))) (round : List (List ℕ)) → rounds_text (rounds ++ (round ∷ [])) ≡ rounds_text rounds ++ round_text round
+text-more rounds round =
+    flat_map-append round_text rounds (round ∷ []) ∙ ap (λ (text : List ℕ). rounds_text rounds ++ text) (append-nil (round_text round))
+
+pub logs-more : (logs : List (List ℕ)) (rounds : List (List (List ℕ))) (round : List (List ℕ))
+    → logs_behind logs (rounds ++ (round ∷ [])) ≡ logs_with (logs_behind logs rounds) round
+logs-more logs [] round = refl
+logs-more logs (first ∷ rounds) round = logs-more (logs_with logs first) rounds round
+
+each-more : (verifiers : ℕ) (rounds : List (List (List ℕ))) (round : List (List ℕ)) → AllByRecursion (λ round. length round ≡ verifiers) rounds
+    → length round ≡ verifiers → AllByRecursion (λ round. length round ≡ verifiers) (rounds ++ (round ∷ []))
+each-more verifiers [] round each own = (own, tt)
+each-more verifiers (first ∷ rounds) round each own = (each.0, each-more verifiers rounds round each.1 own)
+
+-- the rounds are a bundle
+pub bundle-of_rounds : HoldPieces → KeepLogs → (header : Header) (logs : List (List ℕ)) (rounds : List (List (List ℕ))) (bytes : List ℕ) → IsHeader header
+    → header.first < 4294967296 → AllByRecursion (λ round. length round ≡ header.verifiers) rounds → bytes ≡ header_text header ++ rounds_text rounds
+    → logs ≡ logs_in header.verifiers rounds → IsBundle header logs rounds bytes
+bundle-of_rounds hold keep header logs rounds bytes good first each bytes_are logs_are =
+    let pieces = pieces_in rounds in
+    record {
+      header_good = good;
+      first = first;
+      each = each;
+      bytes_are = bytes_are;
+      logs_are = logs_are;
+      means =
+          ap (λ (all : List ℕ). behind None [] (bundle_of all)) (bytes_are ∙ ap (λ (text : List ℕ). header_text header ++ text) (rounds-text rounds))
+          ∙ ap (λ (bundle : Bundle). behind None [] bundle) (hold header pieces good first (rounds-numbers header.verifiers rounds each))
+          ∙ ap (logged_whole header)
+          (joined-same 0 (empty_logs header.verifiers) (frames_of_pieces pieces) pieces (λ verifier. keep verifier pieces)
+          ∙ sym (logs_are ∙ rounds-joined (empty_logs header.verifiers) rounds));
+    }
 
 -- the header alone
 pub bundle-opened : HoldPieces → KeepLogs → (header : Header) → IsHeader header → header.first < 4294967296
-    → IsBundle header (empty_logs header.verifiers) (header_text header)
+    → IsBundle header (empty_logs header.verifiers) [] (header_text header)
 bundle-opened hold keep header good first =
-    bundle-of_pieces hold keep header (empty_logs header.verifiers) (header_text header) [] good first (sym (append-nil (header_text header))) tt
-    (sym (joined-none 0 (empty_logs header.verifiers)))
+    bundle-of_rounds hold keep header (empty_logs header.verifiers) [] (header_text header) good first tt (sym (append-nil (header_text header))) refl
 
 -- a round more
-pub bundle-more : HoldPieces → KeepLogs → (header : Header) (logs round : List (List ℕ)) (bytes : List ℕ) → IsBundle header logs bytes
-    → length round ≤ header.verifiers → IsBundle header (logs_with logs round) (bytes ++ pieces_text (pieces_of 0 round))
-bundle-more hold keep header logs round bytes bundle few =
-    let more = pieces_of 0 round in
-    bundle-of_pieces hold keep header (logs_with logs round) (bytes ++ pieces_text more) (bundle.pieces ++ more) bundle.header_good bundle.first
-    (ap (λ (all : List ℕ). all ++ pieces_text more) bundle.bytes_are
-    ∙ append_assoc (header_text header) (pieces_text bundle.pieces) (pieces_text more)
-    ∙ ap (λ (text : List ℕ). header_text header ++ text) (sym (flat_map-append (λ piece. frames_text piece.verifier piece.body) bundle.pieces more)))
-    (numbers-behind header.verifiers bundle.pieces more bundle.numbers (numbers-of header.verifiers 0 round (omega (arith, few))))
-    (sym (round-joined 0 logs round)
-    ∙ ap (λ (all : List (List ℕ)). joined_from 0 all more) bundle.logs_are
-    ∙ sym (joined-more 0 (empty_logs header.verifiers) bundle.pieces more))
+pub bundle-more : HoldPieces → KeepLogs → (header : Header) (logs round : List (List ℕ)) (rounds : List (List (List ℕ))) (bytes : List ℕ)
+    → IsBundle header logs rounds bytes → length round ≡ header.verifiers
+    → IsBundle header (logs_with logs round) (rounds ++ (round ∷ [])) (bytes ++ round_text round)
+bundle-more hold keep header logs round rounds bytes bundle own =
+    bundle-of_rounds hold keep header (logs_with logs round) (rounds ++ (round ∷ [])) (bytes ++ round_text round) bundle.header_good bundle.first
+    (each-more header.verifiers rounds round bundle.each own)
+    (ap (λ (all : List ℕ). all ++ round_text round) bundle.bytes_are
+    ∙ append_assoc (header_text header) (rounds_text rounds) (round_text round)
+    ∙ ap (λ (text : List ℕ). header_text header ++ text) (sym (text-more rounds round)))
+    (ap (λ (all : List (List ℕ)). logs_with all round) bundle.logs_are ∙ sym (logs-more (empty_logs header.verifiers) rounds round))

@@ -27,7 +27,8 @@ use Rattle.host_rounds.proofs.BundleLemmas.{round-joined}
 
 -- ---- what a check answers to the bundle of logs
 
-module _ (receipts : Bool) (functions : DigestFunctions) (header : Header) (logs : List (List ℕ)) (bytes : List ℕ) (bundle : IsBundle header logs bytes) where
+module _ (receipts : Bool) (functions : DigestFunctions) (header : Header) (logs : List (List ℕ)) (rounds : List (List (List ℕ))) (bytes : List ℕ)
+    (bundle : IsBundle header logs rounds bytes) where
   pub bundle-due : (check_answer receipts functions bytes).due ≡ lines_due (told_by receipts functions header) functions header logs
   bundle-due = ap (λ (logged : Logged). (answer_by receipts functions logged).due) bundle.means
 

@@ -59,9 +59,11 @@ HaveRunBy functions so_far = (header : Header) × (logs : List (List ℕ)) × Ha
 abbrev pub HaveRunSome : RunsSoFar → Type 0
 HaveRunSome so_far = (functions : DigestFunctions) × (header : Header) × (logs : List (List ℕ)) × HaveRun functions header logs so_far
 
--- The rounds so far, of a vault that held this before: it has the bundle of these logs, and the runs have taken them.
-pub record Keeps (functions : DigestFunctions) (header : Header) (logs : List (List ℕ)) (so_far : RunsSoFar) (before now : Option (List ℕ)) : Type 0 where
-  pub vault : HasBundle header logs before now
+-- The rounds so far, of a vault that held this before: it has the bundle of these rounds, and the runs have taken the logs that they
+-- join to.
+pub record Keeps (functions : DigestFunctions) (header : Header) (logs : List (List ℕ)) (rounds : List (List (List ℕ))) (so_far : RunsSoFar)
+    (before now : Option (List ℕ)) : Type 0 where
+  pub vault : HasBundle header logs rounds before now
   pub runs : HaveRun functions header logs so_far
 
 -- all that these logs certify is counted

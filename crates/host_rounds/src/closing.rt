@@ -1,13 +1,12 @@
 //! A close's round: the logs are taken, and verdicts are settled on the epochs that they may seal.
-ghost use Rattle.std.specs.Prelude.{◌≡◌, ◌≢◌, ℕ, ◌≤◌, List, Option, true, false, length, map, OnOk, OnErr, IfOk, Err};
+ghost use Rattle.std.specs.Prelude.{◌≡◌, ◌≢◌, ℕ, ◌≤◌, ◌++◌, ◌∷◌, [], List, Option, true, false, length, map, OnOk, OnErr, IfOk, Err};
 ghost use Rattle.fv_outside.specs.Faults.{Rose};
 ghost use Rattle.fv_outside.specs.Written.{Grows, GrowsByFront};
 ghost use Rattle.lamport_clocks.specs.declared.header.Header.{Header};
 ghost use Rattle.record_hash.specs.Functions.{DigestFunctions};
 ghost use Rattle.bundle_report.specs.Report.{EpochText};
 ghost use Rattle.certified_epochs.specs.Turn.{AreVerdictsOn};
-ghost use Rattle.host_log.specs.Frames.{pieces_text};
-ghost use Rattle.host_rounds.specs.Round.{logs_with, pieces_of};
+ghost use Rattle.host_rounds.specs.Round.{logs_with, round_text};
 ghost use Rattle.host_rounds.specs.Bundle.{HasFront};
 ghost use Rattle.host_rounds.specs.SoFar.{HaveRun, HaveRunBy, Keeps, lines_counted};
 
@@ -43,9 +42,9 @@ impl Rounds {
 
         // Whatever logs were taken so far: these are taken behind them. Of epochs no more are counted yet, and their lines
         // stay what they were.
-        ensures keeps { (header : Header) (before : List (List ℕ)) (held : Option (List ℕ))
-            → Keeps (D.functions d.now) header before self.old held (V.held vault.old)
-            → OnOk result (Keeps (D.functions d.now) header (logs_with before logs.now) self.new held (V.held vault.new)) }
+        ensures keeps { (header : Header) (before : List (List ℕ)) (rounds : List (List (List ℕ))) (held : Option (List ℕ))
+            → Keeps (D.functions d.now) header before rounds self.old held (V.held vault.old)
+            → OnOk result (Keeps (D.functions d.now) header (logs_with before logs.now) (rounds ++ (logs.now ∷ [])) self.new held (V.held vault.new)) }
         ensures counted { OnOk result (self.new.judged ≡ self.old.judged) }
         ensures lines { (tell : EpochText) (functions : DigestFunctions) (header : Header) (before : List (List ℕ)) → HaveRun functions header before self.old
             → OnOk result (lines_counted tell functions header (logs_with before logs.now) self.new ≡ lines_counted tell functions header before self.old) }
@@ -56,11 +55,11 @@ impl Rounds {
 
         // Where it stops, the vault has a front of their bundle, and at want of memory the whole. What it had before stays, in any
         // case.
-        ensures grown { GrowsByFront (V.held vault.old) (V.held vault.new) (pieces_text (pieces_of 0 logs.now)) }
-        ensures whole { result ≡ Err RoundStop.Memory → Grows (V.held vault.old) (V.held vault.new) (pieces_text (pieces_of 0 logs.now)) }
-        ensures front { (header : Header) (before : List (List ℕ)) (held : Option (List ℕ))
-            → Keeps (D.functions d.now) header before self.old held (V.held vault.old)
-            → OnErr result (HasFront header (logs_with before logs.now) held (V.held vault.new)) }
+        ensures grown { GrowsByFront (V.held vault.old) (V.held vault.new) (round_text logs.now) }
+        ensures whole { result ≡ Err RoundStop.Memory → Grows (V.held vault.old) (V.held vault.new) (round_text logs.now) }
+        ensures front { (header : Header) (before : List (List ℕ)) (rounds : List (List (List ℕ))) (held : Option (List ℕ))
+            → Keeps (D.functions d.now) header before rounds self.old held (V.held vault.old)
+            → OnErr result (HasFront header (logs_with before logs.now) (rounds ++ (logs.now ∷ [])) held (V.held vault.new)) }
         ensures stop { result ≢ Err RoundStop.WriteFault }
         ensures vault_fault { result ≡ Err RoundStop.VaultFault → Rose (V.faults vault.old) (V.faults vault.new) }
         ensures never_falls { V.faults vault.old ≤ V.faults vault.new }

@@ -14,15 +14,14 @@ use std::mem;
 use verifier_run::pieces_do_not_matter;
 
 impl Rounds {
-    ghost use Rattle.std.specs.Prelude.{◌≡◌, ◌≢◌, ◌≤◌, ℕ, [], List, Option, Err, length, OnOk, OnErr};
+    ghost use Rattle.std.specs.Prelude.{◌≡◌, ◌≢◌, ◌≤◌, ◌++◌, ◌∷◌, ℕ, [], List, Option, Err, length, OnOk, OnErr};
     ghost use Rattle.fv_outside.specs.Faults.{Rose};
     ghost use Rattle.fv_outside.specs.Written.{Grows, GrowsByFront};
     ghost use Rattle.lamport_clocks.specs.declared.header.Header.{Header};
     ghost use Rattle.record_hash.specs.Functions.{DigestFunctions};
     ghost use Rattle.bundle_report.specs.Report.{EpochText};
     ghost use Rattle.certified_epochs.specs.declared.fed_run.FedRun.{FedRun};
-    ghost use Rattle.host_log.specs.Frames.{pieces_text};
-    ghost use Rattle.host_rounds.specs.Round.{logs_with, pieces_of};
+    ghost use Rattle.host_rounds.specs.Round.{logs_with, round_text};
     ghost use Rattle.host_rounds.specs.Bundle.{HasFront};
     ghost use Rattle.host_rounds.specs.Feeding.{AllRead};
     ghost use Rattle.host_rounds.specs.SoFar.{HaveRun, Keeps, lines_counted, with_runs};
@@ -57,9 +56,9 @@ impl Rounds {
 
         // Whatever runs took them, with whatever logs before. Of epochs no more are counted yet, and their lines stay what they
         // were.
-        ensures keeps { (functions : DigestFunctions) (header : Header) (before : List (List ℕ)) (held : Option (List ℕ)) (runs : List FedRun)
-            → Keeps functions header before (with_runs runs self.old) held (V.held vault.old) → AllRead functions logs.now runs self.old.runs
-            → OnOk result (Keeps functions header (logs_with before logs.now) self.new held (V.held vault.new)) }
+        ensures keeps { (functions : DigestFunctions) (header : Header) (before : List (List ℕ)) (rounds : List (List (List ℕ))) (held : Option (List ℕ)) (runs : List FedRun)
+            → Keeps functions header before rounds (with_runs runs self.old) held (V.held vault.old) → AllRead functions logs.now runs self.old.runs
+            → OnOk result (Keeps functions header (logs_with before logs.now) (rounds ++ (logs.now ∷ [])) self.new held (V.held vault.new)) }
         ensures counted { OnOk result (self.new.judged ≡ self.old.judged) }
         ensures lines { (tell : EpochText) (functions : DigestFunctions) (header : Header) (before : List (List ℕ)) (runs : List FedRun)
             → HaveRun functions header before (with_runs runs self.old)
@@ -68,11 +67,11 @@ impl Rounds {
 
         // Where it stops, the vault has a front of their bundle, and at want of memory the whole. What it had before stays, in any
         // case.
-        ensures grown { GrowsByFront (V.held vault.old) (V.held vault.new) (pieces_text (pieces_of 0 logs.now)) }
-        ensures whole { result ≡ Err RoundStop.Memory → Grows (V.held vault.old) (V.held vault.new) (pieces_text (pieces_of 0 logs.now)) }
-        ensures front { (functions : DigestFunctions) (header : Header) (before : List (List ℕ)) (held : Option (List ℕ)) (runs : List FedRun)
-            → Keeps functions header before (with_runs runs self.old) held (V.held vault.old) → AllRead functions logs.now runs self.old.runs
-            → OnErr result (HasFront header (logs_with before logs.now) held (V.held vault.new)) }
+        ensures grown { GrowsByFront (V.held vault.old) (V.held vault.new) (round_text logs.now) }
+        ensures whole { result ≡ Err RoundStop.Memory → Grows (V.held vault.old) (V.held vault.new) (round_text logs.now) }
+        ensures front { (functions : DigestFunctions) (header : Header) (before : List (List ℕ)) (rounds : List (List (List ℕ))) (held : Option (List ℕ)) (runs : List FedRun)
+            → Keeps functions header before rounds (with_runs runs self.old) held (V.held vault.old) → AllRead functions logs.now runs self.old.runs
+            → OnErr result (HasFront header (logs_with before logs.now) (rounds ++ (logs.now ∷ [])) held (V.held vault.new)) }
         ensures stop { result ≢ Err RoundStop.WriteFault }
         ensures vault_fault { result ≡ Err RoundStop.VaultFault → Rose (V.faults vault.old) (V.faults vault.new) }
         ensures never_falls { V.faults vault.old ≤ V.faults vault.new }

@@ -20,6 +20,6 @@ mod stops;
 mod with_pass;
 
 pub use counting::with_more;
-pub use laws::rounds_make_a_bundle;
+pub use laws::{epochs_fit_32_bits, rounds_make_a_bundle};
 pub use rounds::{Rounds, write_end};
 pub use stops::RoundStop;

@@ -1,11 +1,10 @@
 //! The rounds of a host, from the header of the bundle to how its report ends.
-ghost use Rattle.std.specs.Prelude.{◌≡◌, ◌≢◌, ℕ, ◌≤◌, ◌<◌, ◌^◌, List, Option, length, map, OnOk, OnErr, IfOk, Err};
+ghost use Rattle.std.specs.Prelude.{◌≡◌, ◌≢◌, ℕ, ◌≤◌, [], List, Option, length, map, OnOk, OnErr, IfOk, Err};
 ghost use Rattle.fv_outside.specs.Faults.{Rose};
 ghost use Rattle.fv_outside.specs.Written.{Grows, GrowsByFront};
 ghost use Rattle.lamport_clocks.specs.declared.header.Header.{Header};
 ghost use Rattle.lamport_clocks.specs.Header.{IsHeader};
 ghost use Rattle.record_hash.specs.Functions.{DigestFunctions};
-ghost use Rattle.report_text.specs.Ending.{status_of};
 ghost use Rattle.report_text.specs.Status.{last_line};
 ghost use Rattle.bundle_frames.specs.Bundle.{header_text};
 ghost use Rattle.bundle_report.specs.Logs.{empty_logs};
@@ -13,12 +12,9 @@ ghost use Rattle.bundle_report.specs.Report.{EpochText};
 ghost use Rattle.load_summary.specs.Summary.{summary_with_end};
 ghost use Rattle.certified_epochs.specs.Telling.{text_by};
 ghost use Rattle.certified_epochs.specs.Turn.{AreVerdictsOn};
-ghost use Rattle.host_log.specs.Frames.{pieces_text};
-ghost use Rattle.host_rounds.specs.Round.{logs_with, pieces_of};
-ghost use Rattle.host_rounds.specs.Bundle.{HasFront};
 ghost use Rattle.host_rounds.specs.SoFar.{RunsSoFar, HaveRun, HaveRunSome, Keeps, AllCounted, lines_counted, lines_due, end_due};
 
-use crate::laws::rounds_make_a_bundle;
+use crate::laws::{epochs_fit_32_bits, rounds_make_a_bundle};
 use crate::opening::open_runs;
 use crate::stops::RoundStop;
 use bundle_frames::write_header;
@@ -58,7 +54,7 @@ impl Rounds {
     pub fn new<V: Sink>(alloc: Global, header: &Header, vault: &mut V) -> Result<Self, RoundStop>
         requires header { IsHeader header.now }
         ensures keeps { (functions : DigestFunctions)
-            → IfOk result (λ rounds. Keeps functions header.now (empty_logs header.now.verifiers) rounds (V.held vault.old) (V.held vault.new)) }
+            → IfOk result (λ rounds. Keeps functions header.now (empty_logs header.now.verifiers) [] rounds (V.held vault.old) (V.held vault.new)) }
         ensures none { IfOk result (λ rounds. rounds.judged.count ≡ 0) }
         ensures runs { IfOk result (λ rounds. length rounds.runs ≡ header.now.verifiers) }
         ensures front { OnErr result (GrowsByFront (V.held vault.old) (V.held vault.new) (header_text header.now)) }
@@ -69,7 +65,7 @@ impl Rounds {
         ensures name { V.name vault.new ≡ V.name vault.old }
     {
         rounds_make_a_bundle();
-        fits_32_bits(header.first);
+        epochs_fit_32_bits(header.first);
         let runs = open_runs(alloc, header)?;
         let summary = Summary::new(alloc, header.verifiers)?;
         if write_header(header, vault).is_err() {
@@ -169,8 +165,3 @@ pub fn write_end<O: Sink>(status: &Status, out: &mut O) -> Result<(), RoundStop>
         Err(_) => Err(RoundStop::WriteFault),
     }
 }
-
-// A first epoch fits the bytes in which a header spells it. It does nothing, and its contract is the fact.
-fn fits_32_bits(first: u32)
-    ensures below { first < 2 ^ 32 }
-{}

@@ -1,11 +1,10 @@
-use Rattle.std.proofs.Common.{◌≤◌, List, ◌++◌, Vec, Global, length, get_or, refl, sym, ◌∙◌, ap, subst, arith}
+use Rattle.std.proofs.Common.{◌≡◌, ◌≤◌, List, ◌++◌, Vec, Global, length, get_or, refl, sym, ◌∙◌, ap, subst, arith}
 use Rattle.std.specs.List.{AllByRecursion}
 use Rattle.std.proofs.lemmas.Result.{err_from_is_err_and}
 use Rattle.fv_outside.proofs.WrittenLaws.{Grows-then, GrowsByFront-whole, GrowsByFront-then}
 use Rattle.verifier_run.specs.Progress.{weight}
 use Rattle.certified_epochs.specs.declared.fed_run.FedRun.{FedRun}
-use Rattle.host_log.specs.Frames.{pieces_text}
-use Rattle.host_rounds.specs.Round.{pieces_of}
+use Rattle.host_rounds.specs.Round.{round_text}
 use Rattle.host_rounds.specs.Feeding.{AllRead}
 use Rattle.host_rounds.specs.SoFar.{RunsSoFar, HaveRun}
 use Rattle.host_rounds.specs.Sealing.{SealsOwn}
@@ -17,14 +16,14 @@ pub write_round-requires : goal.write_round-requires
 write_round-requires g c = record { numbers = omega (arith, c.requires.each, runs-few c.args.self.now (g.D.Digests.functions c.args.d.now, c.requires.runs.0, c.requires.runs.1, c.requires.runs.2)) }
 
 pub returns-then-is_err-clause-front : goal.returns-then-is_err-clause-front
-returns-then-is_err-clause-front g c = λ header before held keeps.
+returns-then-is_err-clause-front g c = λ header before rounds held keeps.
     let functions = g.D.Digests.functions c.args.d.now in
     let round = c.args.logs.now in
-    let text = pieces_text (pieces_of 0 round) in
-    let few : length round ≤ header.verifiers = omega (arith, c.requires.each, runs-length functions header before c.args.self.now keeps.runs) in
+    let text = round_text round in
+    let few : length round ≡ header.verifiers = omega (arith, c.requires.each, runs-length functions header before c.args.self.now keeps.runs) in
     record {
       bytes = keeps.vault.bytes ++ text;
-      is_bundle = c.rounds_make_a_bundle.ensures.more header before round keeps.vault.bytes keeps.vault.is_bundle few;
+      is_bundle = c.rounds_make_a_bundle.ensures.more header before round rounds keeps.vault.bytes keeps.vault.is_bundle few;
       grown =
           GrowsByFront-then held _ _ keeps.vault.bytes text keeps.vault.grown
           (err_holds _ c.write_round.result (sym c.is_err.ensures.value ∙ c.if-is_err.true) c.write_round.ensures.front);
@@ -67,16 +66,16 @@ seal_round-requires-clause-parts g c κs within = λ number d there.
     (omega (arith, there, ap (λ (runs : List FedRun). length runs) items)))
 
 pub returns-in_err-runs-clause-front : goal.returns-in_err-runs-clause-front
-returns-in_err-runs-clause-front g c = λ header before held keeps.
+returns-in_err-runs-clause-front g c = λ header before rounds held keeps.
     let functions = g.D.Digests.functions c.args.d.now in
     let round = c.args.logs.now in
-    let text = pieces_text (pieces_of 0 round) in
-    let few : length round ≤ header.verifiers = omega (arith, c.requires.each, runs-length functions header before c.args.self.now keeps.runs) in
+    let text = round_text round in
+    let few : length round ≡ header.verifiers = omega (arith, c.requires.each, runs-length functions header before c.args.self.now keeps.runs) in
     let p = err_from_is_err_and c.from_residual.result c.from_residual.ensures.1 in
     rw p.1
     (record {
       bytes = keeps.vault.bytes ++ text;
-      is_bundle = c.rounds_make_a_bundle.ensures.more header before round keeps.vault.bytes keeps.vault.is_bundle few;
+      is_bundle = c.rounds_make_a_bundle.ensures.more header before round rounds keeps.vault.bytes keeps.vault.is_bundle few;
       grown =
           GrowsByFront-whole held _ _
           (Grows-then held _ _ keeps.vault.bytes text keeps.vault.grown
@@ -92,20 +91,20 @@ returns-clause-grown g c =
     GrowsByFront-whole _ _ _ (ok_holds _ c.write_round.result (sym c.is_err.ensures.value ∙ c.if-is_err.false) c.write_round.ensures.whole)
 
 pub returns-clause-keeps : goal.returns-clause-keeps
-returns-clause-keeps g c = λ header before held keeps.
+returns-clause-keeps g c = λ header before rounds held keeps.
     let functions = g.D.Digests.functions c.args.d.now in
     let inside = c.self.inside in
     let round = c.args.logs.now in
     let news = c.in_ok-runs.runs.items in
-    let text = pieces_text (pieces_of 0 round) in
-    let few : length round ≤ header.verifiers = omega (arith, c.requires.each, runs-length functions header before c.args.self.now keeps.runs) in
+    let text = round_text round in
+    let few : length round ≡ header.verifiers = omega (arith, c.requires.each, runs-length functions header before c.args.self.now keeps.runs) in
     let now : RunsSoFar = record { judged = inside.certifier; runs = inside.runs.items; bytes = inside.bytes; summary = inside.summary } in
     let have : HaveRun functions header before now = subst (HaveRun functions header before) (sym c.self.view_is) keeps.runs in
     let takes = subst (λ (olds : List FedRun). AllRead functions round olds news) (ap items_in c.replace-runs.ensures.value) c.in_ok-runs.ensures.taken in
     record {
       vault = record {
         bytes = keeps.vault.bytes ++ text;
-        is_bundle = c.rounds_make_a_bundle.ensures.more header before round keeps.vault.bytes keeps.vault.is_bundle few;
+        is_bundle = c.rounds_make_a_bundle.ensures.more header before round rounds keeps.vault.bytes keeps.vault.is_bundle few;
         grown =
             Grows-then held _ _ keeps.vault.bytes text keeps.vault.grown
             (ok_holds _ c.write_round.result (sym c.is_err.ensures.value ∙ c.if-is_err.false) c.write_round.ensures.whole);
