@@ -1,6 +1,8 @@
--- What a run took, piece by piece, and what a worker put in.
-use Rattle.std.proofs.Common.{◌≡◌, ℕ, suc, ◌+◌, ◌-◌, ◌^◌, ◌<◌, false, min, length-append, List, [], ◌∷◌, ◌++◌, length, take, get_or, Option, Some, take-suc, refl, sym, ◌∙◌, ap, subst, append_assoc, append-nil, arith}
+-- What a run has read, piece by piece, and what a worker put in.
+use Rattle.std.proofs.Common.{◌≡◌, ℕ, suc, ◌+◌, ◌-◌, ◌^◌, ◌<◌, ◌≤◌, false, min, length-append, List, [], ◌∷◌, ◌++◌, length, take, get_or, Option, Some, take-suc, refl, sym, ◌∙◌, ap, subst, append_assoc, append-nil, arith}
+use Rattle.std.specs.List.{All}
 use Rattle.std.specs.Option.{option_to_list}
+use Rattle.std.proofs.lemmas.List.Elements.{All-push}
 use Rattle.std.proofs.lemmas.Grind.{flat_map-append}
 use Rattle.record_hash.specs.Functions.{DigestFunctions}
 use Rattle.record_text.specs.declared.operation.Operation.{Operation}
@@ -15,6 +17,7 @@ use Rattle.verifier_run.specs.Progress.{Progress, fed}
 use Rattle.certified_epochs.specs.declared.fed_run.FedRun.{FedRun}
 use Rattle.log_rings.specs.declared.parcel.Parcel.{Parcel}
 use Rattle.host_rounds.specs.Feeding.{Reads}
+use Rattle.verifier_feeds.specs.Parcels.{IsLongEnough}
 use Rattle.verifier_feeds.specs.declared.inbox.Inbox.{Inbox}
 use Rattle.verifier_feeds.specs.Feeds.{HasRead, GoesOnBy, ReadsOn, bytes_of, counted_on, run_of, is_wanting}
 
@@ -24,18 +27,18 @@ PiecesJoin = (scheme : Scheme) (progress : Progress Operation) (piece more : Lis
     → fed keeps_operations scheme (fed keeps_operations scheme progress piece) more ≡ fed keeps_operations scheme progress (piece ++ more)
 
 module _ (functions : DigestFunctions) where
-  -- a run has taken nothing
-  pub none-taken : (run : FedRun) → HasRead functions [] run run
-  none-taken run = record { header = refl; goes_on = λ more. refl }
+  -- a run has read nothing
+  pub none-read : (run : FedRun) → HasRead functions [] run run
+  none-read run = record { header = refl; goes_on = λ more. refl }
 
-  -- an inbox that takes nothing
-  pub takes-none : (inbox : Inbox) → ReadsOn functions [] inbox inbox
-  takes-none inbox = λ first bytes before going.
+  -- an inbox that is fed nothing
+  pub reads-none : (inbox : Inbox) → ReadsOn functions [] inbox inbox
+  reads-none inbox = λ first bytes before going.
       subst (λ (all : List ℕ). HasRead functions all first (run_of inbox)) (sym (append-nil bytes)) (before going)
 
   -- one piece,
-  pub takes-one : PiecesJoin → (piece : List ℕ) (old new : Inbox) → (is_wanting new ≡ false → GoesOnBy functions piece old new) → ReadsOn functions piece old new
-  takes-one join piece old new step = λ first bytes before going.
+  pub reads-one : PiecesJoin → (piece : List ℕ) (old new : Inbox) → (is_wanting new ≡ false → GoesOnBy functions piece old new) → ReadsOn functions piece old new
+  reads-one join piece old new step = λ first bytes before going.
       let one = step going in
       let has = before one.went in
       let scheme = scheme_of functions first.run.course.machine.header in
@@ -43,43 +46,43 @@ module _ (functions : DigestFunctions) where
         header = one.header ∙ has.header;
         goes_on = λ more.
             ap (λ (run : Progress Operation). fed keeps_operations scheme run more)
-            (subst (λ (h : Header). new.fed.run ≡ fed keeps_operations (scheme_of functions h) old.fed.run piece) has.header one.taken)
+            (subst (λ (h : Header). new.fed.run ≡ fed keeps_operations (scheme_of functions h) old.fed.run piece) has.header one.read)
             ∙ join scheme old.fed.run piece more
             ∙ has.goes_on (piece ++ more)
             ∙ ap (λ (all : List ℕ). fed keeps_operations scheme first.run all) (sym (append_assoc bytes piece more));
       }
 
   -- and then more
-  pub takes-then : (some more : List ℕ) (old middle new : Inbox) → ReadsOn functions some old middle → ReadsOn functions more middle new
+  pub reads-then : (some more : List ℕ) (old middle new : Inbox) → ReadsOn functions some old middle → ReadsOn functions more middle new
       → ReadsOn functions (some ++ more) old new
-  takes-then some more old middle new one two = λ first bytes before going.
+  reads-then some more old middle new one two = λ first bytes before going.
       subst (λ (all : List ℕ). HasRead functions all first (run_of new)) (append_assoc bytes some more)
       (two first (bytes ++ some) (λ middle_going. one first bytes before middle_going) going)
 
   -- one parcel more
-  pub takes-parcel : PiecesJoin → (parcels : List Parcel) (parcel : Parcel) (piece : List ℕ) (old middle new : Inbox) → ReadsOn functions (bytes_of parcels) old middle
+  pub reads-parcel : PiecesJoin → (parcels : List Parcel) (parcel : Parcel) (piece : List ℕ) (old middle new : Inbox) → ReadsOn functions (bytes_of parcels) old middle
       → piece ≡ parcel.buffer → (is_wanting new ≡ false → GoesOnBy functions piece middle new) → ReadsOn functions (bytes_of (parcels ++ parcel ∷ [])) old new
-  takes-parcel join parcels parcel piece old middle new so_far is step =
+  reads-parcel join parcels parcel piece old middle new so_far is step =
       subst (λ (all : List ℕ). ReadsOn functions all old new)
       (ap (λ (xs : List ℕ). bytes_of parcels ++ xs) (sym (append-nil parcel.buffer)) ∙ sym (flat_map-append (λ (p : Parcel). p.buffer) parcels (parcel ∷ [])))
-      (takes-then (bytes_of parcels) parcel.buffer old middle new so_far
-      (takes-one join parcel.buffer middle new (λ going. subst (λ (bytes : List ℕ). GoesOnBy functions bytes middle new) is (step going))))
+      (reads-then (bytes_of parcels) parcel.buffer old middle new so_far
+      (reads-one join parcel.buffer middle new (λ going. subst (λ (bytes : List ℕ). GoesOnBy functions bytes middle new) is (step going))))
 
   -- the same by another name of what came in all
-  pub takes-received : PiecesJoin → (parcels all : List Parcel) (parcel : Parcel) (piece : List ℕ) (old middle new : Inbox) → all ≡ parcels ++ parcel ∷ []
+  pub reads-received : PiecesJoin → (parcels all : List Parcel) (parcel : Parcel) (piece : List ℕ) (old middle new : Inbox) → all ≡ parcels ++ parcel ∷ []
       → ReadsOn functions (bytes_of parcels) old middle → piece ≡ parcel.buffer → (is_wanting new ≡ false → GoesOnBy functions piece middle new)
       → ReadsOn functions (bytes_of all) old new
-  takes-received join parcels all parcel piece old middle new are so_far is step =
-      subst (λ (ps : List Parcel). ReadsOn functions (bytes_of ps) old new) (sym are) (takes-parcel join parcels parcel piece old middle new so_far is step)
+  reads-received join parcels all parcel piece old middle new are so_far is step =
+      subst (λ (ps : List Parcel). ReadsOn functions (bytes_of ps) old new) (sym are) (reads-parcel join parcels parcel piece old middle new so_far is step)
 
   -- the last piece: what the run has come to
-  pub takes-last : (bytes piece : List ℕ) (first : FedRun) (old new : Inbox) → (is_wanting old ≡ false → HasRead functions bytes first (run_of old))
+  pub reads-last : (bytes piece : List ℕ) (first : FedRun) (old new : Inbox) → (is_wanting old ≡ false → HasRead functions bytes first (run_of old))
       → GoesOnBy functions piece old new → Reads functions (bytes ++ piece) first (run_of new)
-  takes-last bytes piece first old new before one =
+  reads-last bytes piece first old new before one =
       let has = before one.went in
       record {
         is_fed = one.is_fed;
-        taken = subst (λ (h : Header). new.fed.run ≡ fed keeps_operations (scheme_of functions h) old.fed.run piece) has.header one.taken ∙ has.goes_on piece;
+        taken = subst (λ (h : Header). new.fed.run ≡ fed keeps_operations (scheme_of functions h) old.fed.run piece) has.header one.read ∙ has.goes_on piece;
       }
 
 -- what was received, what was left in the lane, what waited for room and what is in no parcel is all that was put in
@@ -114,6 +117,15 @@ written-more commands k n command queued buffer after first next there is so_far
     ∙ sym (flat_map-append (command_text short_keys) (take k commands) (command ∷ []))
     ∙ sym (ap (λ (m : ℕ). log_text short_keys (take m commands)) next
     ∙ ap (log_text short_keys) (take-suc commands k command there ∙ ap (λ (c : Command). take k commands ++ c ∷ []) (sym is))))
+
+-- ---- how long parcels are
+
+-- one parcel more, which is long enough or its worker's last
+pub enough-more : (sent backlog pushed queued : List Parcel) (parcel : Parcel) (rest : List ℕ) → All IsLongEnough (sent ++ backlog)
+    → (parcel.last ≡ false → 4096 ≤ length rest) → parcel.buffer ≡ rest → pushed ≡ backlog ++ parcel ∷ [] → queued ≡ sent ++ pushed → All IsLongEnough queued
+enough-more sent backlog pushed queued parcel rest all one is more are =
+    subst (All IsLongEnough) (sym (are ∙ ap (λ (ps : List Parcel). sent ++ ps) more ∙ sym (append_assoc sent backlog (parcel ∷ []))))
+    (All-push IsLongEnough (sent ++ backlog) parcel all (λ going. subst (λ (bytes : List ℕ). 4096 ≤ length bytes) (sym is) (one going)))
 
 -- ---- how many parcels a verifier took
 

@@ -1,6 +1,6 @@
--- The two ends of a feed: what a worker has put in, and what its verifier's run has taken.
+-- The two ends of a feed: what a worker has put in, and what its verifier's run has read.
 use Rattle.std.specs.Prelude.{◌≡◌, ℕ, ◌+◌, ◌-◌, ◌^◌, ◌≤◌, Bool, true, false, List, [], ◌∷◌, ◌++◌, length, min}
-use Rattle.std.specs.List.{flat_map}
+use Rattle.std.specs.List.{All, flat_map}
 use Rattle.record_hash.specs.Functions.{DigestFunctions}
 use Rattle.merkle_records.specs.Scheme.{scheme_of}
 use Rattle.verifier_run.specs.Kept.{keeps_operations}
@@ -9,6 +9,7 @@ use Rattle.certified_epochs.specs.declared.fed_run.FedRun.{FedRun}
 use Rattle.log_rings.specs.declared.parcel.Parcel.{Parcel}
 use Rattle.log_rings.specs.Lanes.{sent, received_by, AreEnds, SameSender, SameReceiver}
 use Rattle.log_rings.specs.Lanes as lanes
+use Rattle.verifier_feeds.specs.Parcels.{IsLongEnough, WaitForRoom}
 use Rattle.verifier_feeds.specs.declared.outbox.Outbox.{Outbox}
 use Rattle.verifier_feeds.specs.declared.inbox.Inbox.{Inbox}
 
@@ -37,6 +38,14 @@ SameOutbox old new = SameSender old.sender new.sender
 -- how many parcels can be sent at least before the other end has taken one
 abbrev pub free_room : Outbox → ℕ
 free_room outbox = lanes.room outbox.sender
+
+-- each of these that isn't its worker's last of the round has 4,096 bytes or more
+abbrev pub AreLongEnough : Outbox → Type 0
+AreLongEnough outbox = All IsLongEnough (queued outbox)
+
+-- what waits does so only where the sender knows of no room
+abbrev pub WaitsForRoom : Outbox → Type 0
+WaitsForRoom outbox = WaitForRoom outbox.sender outbox.backlog.items
 
 -- All that was put in is in parcels, and the last of these is marked as the worker's last of the round.
 pub record HasEnded (outbox : Outbox) : Type 0 where
@@ -68,24 +77,24 @@ counted_on count parcels = min (count + length parcels) (2 ^ 64 - 1)
 abbrev pub is_wanting : Inbox → Bool
 is_wanting inbox = inbox.wanting
 
--- the run has taken no more bytes than are counted
+-- the run was fed no more bytes than are counted
 abbrev pub HasRoom : Inbox → Type 0
 HasRoom inbox = weight inbox.fed.run ≤ inbox.bytes
 
--- The run took these bytes: whatever comes next, it makes of it what the old one makes of these bytes and that.
+-- The run has read these bytes: whatever comes next, it makes of it what the old one makes of these bytes and that.
 pub record HasRead (functions : DigestFunctions) (bytes : List ℕ) (old new : FedRun) : Type 0 where
   pub header : new.run.course.machine.header ≡ old.run.course.machine.header
   pub goes_on : (more : List ℕ) → fed keeps_operations (scheme_of functions old.run.course.machine.header) new.run more
       ≡ fed keeps_operations (scheme_of functions old.run.course.machine.header) old.run (bytes ++ more)
 
--- An inbox whose run took a piece, and for which memory was not wanting before.
+-- An inbox whose run has read a piece, and for which memory was not wanting before.
 pub record GoesOnBy (functions : DigestFunctions) (piece : List ℕ) (old new : Inbox) : Type 0 where
   pub went : old.wanting ≡ false
   pub is_fed : new.fed.is_starved ≡ false
   pub header : new.fed.run.course.machine.header ≡ old.fed.run.course.machine.header
-  pub taken : new.fed.run ≡ fed keeps_operations (scheme_of functions old.fed.run.course.machine.header) old.fed.run piece
+  pub read : new.fed.run ≡ fed keeps_operations (scheme_of functions old.fed.run.course.machine.header) old.fed.run piece
 
--- What an inbox took in all, with these bytes behind what it had taken before, where memory is wanting for none.
+-- What an inbox has read in all, with these bytes behind what it had read before, where memory is wanting for none.
 abbrev pub ReadsOn : DigestFunctions → List ℕ → Inbox → Inbox → Type 0
 ReadsOn functions more old new =
     (first : FedRun) (bytes : List ℕ) → (is_wanting old ≡ false → HasRead functions bytes first (run_of old))

@@ -1,5 +1,5 @@
 //! The verifier's end of a feed.
-ghost use Rattle.std.specs.Prelude.{◌≡◌};
+ghost use Rattle.std.specs.Prelude.{◌≡◌, ◌<◌, ◌^◌};
 
 use base_words::Memory;
 use certified_epochs::FedRun;
@@ -25,6 +25,7 @@ pub struct Inbox {
     // So many parcels its verifier took from lanes and fed, up to the last number of 64 bits.
     pub(crate) parcels: u64,
     pub(crate) wanting: bool,
+    ghost fits: { parcels < 2 ^ 64 },
 }
 
 impl Inbox {
@@ -40,7 +41,7 @@ impl Inbox {
         ensures room { HasRoom self.new }
         ensures lane { SameInbox self.old self.new }
         ensures counted { parcels_of self.new ≡ counted_on (parcels_of self.old) (received_by self.new.receiver) }
-        ensures taken { is_wanting self.new ≡ false
+        ensures read { is_wanting self.new ≡ false
             → HasRead (D.functions d.now) (bytes_of (received_by self.new.receiver)) (run_of self.old) (run_of self.new) }
     {
         pieces_do_not_matter::<Operation>();
@@ -74,7 +75,7 @@ impl Inbox {
         requires left { left ≡ length (waiting self.old.receiver) }
         ensures room { HasRoom self.new }
         ensures count { parcels_of self.new ≡ parcels_of self.old }
-        ensures taken { ReadsOn (D.functions d.now) (bytes_of (waiting self.old.receiver)) self.old self.new }
+        ensures read { ReadsOn (D.functions d.now) (bytes_of (waiting self.old.receiver)) self.old self.new }
     {
         pieces_do_not_matter::<Operation>();
         for _ in 0..left {

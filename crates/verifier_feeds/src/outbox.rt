@@ -1,5 +1,8 @@
 //! The worker's end of a feed.
-ghost use Rattle.std.specs.Prelude.{◌≡◌};
+ghost use Rattle.std.specs.Prelude.{◌≡◌, ◌++◌};
+ghost use Rattle.std.specs.List.{All};
+ghost use Rattle.log_rings.specs.Lanes.{sent, SameSender};
+ghost use Rattle.verifier_feeds.specs.Parcels.{IsLongEnough, WaitForRoom};
 
 use base_words::Memory;
 use host_log::LogBuffer;
@@ -11,7 +14,7 @@ use std::collections::VecDeque;
 const LEAST_PARCEL: usize = 4_096;
 
 /// Where a worker puts what it logs, on the way to its verifier: what was sent, what waits for room in the lane, and what is
-/// in no parcel yet.
+/// in no parcel yet. Only a worker's last parcel of the round may be short, and none waits where there is room.
 ///
 /// After want of memory it is of no more use.
 #[derive(Drop)]
@@ -20,18 +23,22 @@ pub struct Outbox {
     pub(crate) backlog: VecDeque<Parcel>,
     pub(crate) buffer: LogBuffer,
     pub(crate) parcels: u64,
+    ghost enough: { All IsLongEnough (sent sender ++ backlog.items) },
+    ghost waits: { WaitForRoom sender backlog.items },
 }
 
 impl Outbox {
-    ghost use Rattle.std.specs.Prelude.{◌≡◌, ◌<◌, [], ◌∷◌, ◌++◌, length, OnOk};
+    ghost use Rattle.std.specs.Prelude.{◌≡◌, ◌<◌, ◌≤◌, false, [], ◌∷◌, ◌++◌, length, OnOk};
     ghost use Rattle.record_text.specs.Format.{short_keys};
     ghost use Rattle.log_codec.specs.Log.{log_text};
-    ghost use Rattle.verifier_feeds.specs.Feeds.{put_in, queued, rest_of, HasEnded, SameOutbox};
+    ghost use Rattle.verifier_feeds.specs.Feeds.{put_in, queued, rest_of, AreLongEnough, HasEnded, SameOutbox, WaitsForRoom};
 
     /// Puts commands in, behind what is there. Where that makes a parcel of 4,096 bytes or more, it goes on its way.
     pub fn put(&mut self, commands: &[Command]) -> Result<(), Memory>
         ensures put { OnOk result (put_in self.new ≡ put_in self.old ++ log_text short_keys commands.now) }
         ensures rest { OnOk result (length (rest_of self.new) < 4096) }
+        ensures enough { AreLongEnough self.new }
+        ensures waits { WaitsForRoom self.new }
         ensures lane { SameOutbox self.old self.new }
     {
         self.write(commands)?;
@@ -45,6 +52,8 @@ impl Outbox {
     pub fn end(&mut self) -> Result<(), Memory>
         ensures put { OnOk result (put_in self.new ≡ put_in self.old) }
         ensures ended { OnOk result (HasEnded self.new) }
+        ensures enough { AreLongEnough self.new }
+        ensures waits { WaitsForRoom self.new }
         ensures lane { SameOutbox self.old self.new }
     {
         self.hand_over(true)
@@ -61,8 +70,9 @@ impl Outbox {
         Ok(())
     }
 
-    // What is in no parcel yet becomes one, behind those that wait.
+    // What is in no parcel yet becomes one, behind those that wait, and what waits is sent as far as there is room.
     fn hand_over(&mut self, last: bool) -> Result<(), Memory>
+        requires enough { last ≡ false → 4096 ≤ length (rest_of self.old) }
         ensures put { OnOk result (put_in self.new ≡ put_in self.old) }
         ensures queued { OnOk result (queued self.new
             ≡ queued self.old ++ (record { number = self.old.parcels; buffer = self.old.buffer; last = last }) ∷ []) }
@@ -76,21 +86,21 @@ impl Outbox {
         };
         self.parcels = self.parcels.saturating_add(1);
         self.backlog.push_back(parcel)?;
-        self.send_waiting();
+        send_waiting(&mut self.sender, &mut self.backlog);
         Ok(())
     }
+}
 
-    // Sends what waits, the oldest first, as far as there is room.
-    fn send_waiting(&mut self)
-        ensures queued { queued self.new ≡ queued self.old }
-        ensures buffer { self.new.buffer ≡ self.old.buffer }
-        ensures lane { SameOutbox self.old self.new }
-    {
-        while self.sender.has_room() {
-            match self.backlog.pop_front() {
-                Some(parcel) => self.sender.send(parcel),
-                None => return,
-            }
+// Sends what waits, the oldest first, as far as there is room.
+fn send_waiting(sender: &mut Sender, backlog: &mut VecDeque<Parcel>)
+    ensures queued { sent sender.new ++ backlog.new.items ≡ sent sender.old ++ backlog.old.items }
+    ensures waits { WaitForRoom sender.new backlog.new.items }
+    ensures lane { SameSender sender.old sender.new }
+{
+    while sender.has_room() {
+        match backlog.pop_front() {
+            Some(parcel) => sender.send(parcel),
+            None => return,
         }
     }
 }

@@ -1,5 +1,5 @@
 //! The two ends of a feed come together again.
-ghost use Rattle.std.specs.Prelude.{◌≡◌, false};
+ghost use Rattle.std.specs.Prelude.{◌≡◌, false, []};
 ghost use Rattle.certified_epochs.specs.declared.fed_run.FedRun.{FedRun};
 ghost use Rattle.log_rings.specs.Lanes.{received_by};
 ghost use Rattle.host_rounds.specs.Feeding.{Reads};
@@ -7,9 +7,10 @@ ghost use Rattle.verifier_feeds.specs.Feeds.{AreEndsOfOne, HasRoom, HasRead, Rea
 
 use crate::inbox::Inbox;
 use crate::outbox::Outbox;
-use log_rings::Lane;
+use log_rings::{Lane, Parcel};
 use record_hash::Digests;
 use record_text::Operation;
+use std::collections::VecDeque;
 use verifier_run::pieces_do_not_matter;
 
 /// Feeds the run what is left: what is in the lane, then what waited for room in it, then what is in no parcel. The verifier didn't
@@ -26,20 +27,20 @@ pub fn settle<D: Digests>(outbox: &mut Outbox, inbox: &mut Inbox, d: &D)
 {
     let settled = Lane::settle(&mut outbox.sender, &mut inbox.receiver);
     inbox.feed_left(d, settled.left);
-    feed_waiting(outbox, inbox, d);
+    feed_waiting(&mut outbox.backlog, inbox, d);
     inbox.feed(d, outbox.buffer.bytes());
 }
 
 // Feeds the run what waits for room in the lane, the oldest first.
-fn feed_waiting<D: Digests>(outbox: &mut Outbox, inbox: &mut Inbox, d: &D)
+fn feed_waiting<D: Digests>(backlog: &mut VecDeque<Parcel>, inbox: &mut Inbox, d: &D)
     requires room { HasRoom inbox.old }
     ensures room { HasRoom inbox.new }
-    ensures taken { ReadsOn (D.functions d.now) (bytes_of outbox.old.backlog.items) inbox.old inbox.new }
-    ensures rest { outbox.new.buffer ≡ outbox.old.buffer }
+    ensures read { ReadsOn (D.functions d.now) (bytes_of backlog.old.items) inbox.old inbox.new }
+    ensures none { backlog.new.items ≡ [] }
     ensures count { parcels_of inbox.new ≡ parcels_of inbox.old }
 {
     pieces_do_not_matter::<Operation>();
-    while let Some(parcel) = outbox.backlog.pop_front() {
+    while let Some(parcel) = backlog.pop_front() {
         inbox.feed(d, parcel.buffer.bytes());
     }
 }

@@ -1,9 +1,9 @@
-use Rattle.std.proofs.Common.{◌≡◌, ◌++◌, ◌∷◌, [], List, length, refl, sym, ◌∙◌, ap, subst, append_assoc, append-nil, length-append, arith}
+use Rattle.std.proofs.Common.{◌≡◌, ◌++◌, ◌∷◌, [], List, length, refl, sym, ◌∙◌, ap, subst, append_assoc, length-append, arith}
 use Rattle.log_rings.specs.declared.parcel.Parcel.{Parcel}
 use Rattle.log_rings.specs.Lanes.{waiting}
 use Rattle.log_rings.specs.declared.lane.Receiver.{Receiver}
 use Rattle.verifier_feeds.specs.Feeds.{ReadsOn, bytes_of}
-use Rattle.verifier_feeds.proofs.FeedLemmas.{takes-none, takes-parcel, none-left}
+use Rattle.verifier_feeds.proofs.FeedLemmas.{reads-none, reads-parcel, none-left}
 use Rattle.verifier_feeds.proofs.inbox.Inbox.feed_left.Goals as goal
 
 pub loop-init : goal.loop-init
@@ -13,7 +13,7 @@ loop-init g c = record {
   some = [];
   count = refl;
   were = refl;
-  taken = takes-none (g.D.Digests.functions c.args.d.now) c.args.self.now;
+  read = reads-none (g.D.Digests.functions c.args.d.now) c.args.self.now;
 }
 
 pub next-parcel-requires : goal.next-parcel-requires
@@ -34,16 +34,16 @@ loop-preserved g c =
           inv.were ∙ ap (λ (ps : List Parcel). inv.some ++ ps) c.next-parcel.ensures.waiting
           ∙ sym (append_assoc inv.some (parcel ∷ []) (waiting c.next-parcel.new.self))
           ∙ ap (λ (r : Receiver). (inv.some ++ parcel ∷ []) ++ waiting r) (sym c.feed.ensures.lane);
-      taken =
-          takes-parcel (g.D.Digests.functions c.args.d.now) c.pieces_do_not_matter.ensures.joined inv.some parcel c.bytes.result.now c.args.self.now _ c.feed.new.self
-          inv.taken c.bytes.ensures.value c.feed.ensures.goes_on;
+      read =
+          reads-parcel (g.D.Digests.functions c.args.d.now) c.pieces_do_not_matter.ensures.joined inv.some parcel c.bytes.result.now c.args.self.now _ c.feed.new.self
+          inv.read c.bytes.ensures.value c.feed.ensures.goes_on;
     }
 
-pub returns-clause-taken : goal.returns-clause-taken
-returns-clause-taken g c =
+pub returns-clause-read : goal.returns-clause-read
+returns-clause-read g c =
     let inv = c.loop.invariant in
     let rest = waiting c.loop.self.receiver in
     let all : waiting c.args.self.now.receiver ≡ inv.some =
     none-left inv.some (waiting c.args.self.now.receiver) rest inv.were
     (omega (arith, c.loop-test.false, inv.count, ap length inv.were, length-append inv.some rest, c.requires.left)) in
-    subst (λ (ps : List Parcel). ReadsOn (g.D.Digests.functions c.args.d.now) (bytes_of ps) c.args.self.now c.loop.self) (sym all) inv.taken
+    subst (λ (ps : List Parcel). ReadsOn (g.D.Digests.functions c.args.d.now) (bytes_of ps) c.args.self.now c.loop.self) (sym all) inv.read

@@ -4,7 +4,7 @@ use Rattle.log_rings.specs.Lanes.{waiting}
 use Rattle.verifier_feeds.specs.Feeds.{HasRoom, ReadsOn, bytes_of, parcels_of}
 use Rattle.verifier_feeds.proofs.inbox.Inbox.feed_left.Given as goal
 
--- so many parcels of those that waited are taken, and the others wait
+-- so many parcels of those that waited are fed, and the others wait
 abbrev pub invariant-loop : goal.invariant-loop
 invariant-loop g l = record {
   room : HasRoom l.self;
@@ -12,5 +12,5 @@ invariant-loop g l = record {
   some : List Parcel;
   count : length some ≡ l.counter;
   were : waiting l.initial.self.receiver ≡ some ++ waiting l.self.receiver;
-  taken : ReadsOn (g.D.Digests.functions l.d) (bytes_of some) l.initial.self l.self;
+  read : ReadsOn (g.D.Digests.functions l.d) (bytes_of some) l.initial.self l.self;
 }

@@ -1,4 +1,4 @@
-use Rattle.std.proofs.Common.{◌+◌, arith, refl}
+use Rattle.std.proofs.Common.{◌+◌, arith}
 use Rattle.verifier_feeds.specs.Feeds.{bytes_of, put_in, queued}
 use Rattle.verifier_feeds.proofs.FeedLemmas.{written-more}
 use Rattle.verifier_feeds.proofs.outbox.Outbox.write.Goals as goal
