@@ -2,8 +2,8 @@
 //!
 //! A crate with tests is proved twice, so tests have a crate of their own for each layer. `scripts` and `loads` are of
 //! `script_text`, `logs` of `host_log`, `chains` of `host_shard`, `plans` and `setups` of `host_plan`, `moves` and
-//! `closes` of `protection_moves`, with the rows of `close_rows`. A table is one text, a row a line, which is read as the test runs: begin at `rows`, and at `shards`
-//! for a host of two shards.
+//! `closes` of `protection_moves`, with the rows of `close_rows`, and `worlds` of `host_world`. A table is one text, a row
+//! a line, which is read as the test runs: begin at `rows`, and at `shards` for a host of two shards.
 #![tactic(auto)]
 
 #[cfg(test)]
@@ -28,3 +28,5 @@ mod scripts;
 mod setups;
 #[cfg(test)]
 mod shards;
+#[cfg(test)]
+mod worlds;
