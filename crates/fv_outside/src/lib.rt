@@ -1,5 +1,5 @@
 //! The outside of the store: where its input comes from, where its output and its bundle go, and
-//! what a worker waits at. It stands on std and on `want_of_memory`, and every engine stands on it.
+//! what a worker waits at. It stands on std and on `base_words`, and every engine stands on it.
 //!
 //! Begin with the traits: `Source`, `Sink`, `Vault` (a sink with a name) and `Gate`. Each object
 //! means bytes, where it tells them, and a count of faults, so that a caller who is answered

@@ -1,7 +1,7 @@
 //! The clock that each verifier keeps: Lamport's logical clock, in epochs.
 //!
 //! A stamp is an epoch and a counter in it. A verifier stamps what it hands away, and moves its clock
-//! above the stamp of what it takes in. The crate stands on `step_words`, in which its steps are stated.
+//! above the stamp of what it takes in. The crate stands on `base_words`, in which its steps are stated.
 //!
 //! Begin at `clock`, beside `specs/Clock.antt`; `laws.rt` says that the clock never falls and what going to the
 //! next epoch seals.
