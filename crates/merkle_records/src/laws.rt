@@ -1,14 +1,25 @@
-//! What follows from the definitions of a node's changes. These functions do nothing: their contracts are
-//! the laws.
-ghost use Rattle.std.specs.Prelude.{◌≡◌, Bool, List, Some, not};
+//! What follows from the definitions of a node's changes, and what they ask of digests. These functions do nothing:
+//! their contracts are the laws.
+ghost use Rattle.std.specs.Prelude.{◌≡◌, ℕ, Bool, List, Some, not};
 ghost use Rattle.std.specs.Option.{option_map};
 ghost use Rattle.tree_keys.specs.Path.{side};
+ghost use Rattle.record_hash.specs.Digests.{IsDigest};
 ghost use Rattle.record_text.specs.declared.value.Node.{Node};
 ghost use Rattle.record_text.specs.declared.value.Value.{Value};
 ghost use Rattle.record_text.specs.declared.value.Value.TheVariants as values;
 ghost use Rattle.record_text.specs.Format.{Format};
 ghost use Rattle.record_text.specs.Value.{IsOf, node_side};
 ghost use Rattle.merkle_records.specs.Merkle.{Digest, GivesDigests, pointer_to, after_add, after_evict, deferred_pointer, after_defer};
+
+use record_hash::Digests;
+
+/// Any digests give digests of 32 bytes: the law of their trait, handed on.
+pub fn digests_have_32_bytes<D: Digests>(d: &D)
+    ensures digests { (text : List ℕ) → IsDigest ((D.functions d.now).digest text) }
+    ensures sized { GivesDigests (D.functions d.now).digest }
+{
+    let _ = d;
+}
 
 /// Where a node and the value of a path below it are of their paths' kinds, they are so after an add, an
 /// evict or a deferral.

@@ -3,7 +3,7 @@
 //! A node's pointer of a side leads to the highest touched path on that side, with the digest of that
 //! path's value (Merkle 1987), or with a flag that the record there is checked later (Blum et al. 1994).
 //! The crate stands on `tree_keys`, `record_text` and `record_hash`. Begin with `specs/Merkle.antt`, then
-//! `nodes.rt`; `laws.rt` says that values stay of their paths' kinds.
+//! `nodes.rt`; `laws.rt` says that values stay of their paths' kinds, and how long digests are.
 #![tactic(auto)]
 
 mod cases;
@@ -11,5 +11,5 @@ mod laws;
 mod nodes;
 
 pub use cases::AddCase;
-pub use laws::{one_pointer_changes, records_stay_of_their_kinds};
+pub use laws::{digests_have_32_bytes, one_pointer_changes, records_stay_of_their_kinds};
 pub use nodes::{add_case, after_add, after_evict, defer, digest_of};
