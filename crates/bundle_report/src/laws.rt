@@ -1,11 +1,8 @@
 //! What follows from the definitions of a report. These functions do nothing: their contracts are the laws.
 ghost use Rattle.std.specs.Prelude.{ℕ, List};
 ghost use Rattle.record_hash.specs.Functions.{DigestFunctions};
-ghost use Rattle.record_hash.specs.Digests.{IsDigest};
 ghost use Rattle.merkle_records.specs.Merkle.{GivesDigests};
 ghost use Rattle.bundle_report.specs.Headline.{IsSound};
-
-use record_hash::Digests;
 
 /// Of any bytes: the certified answers keep each verifier's order, and they are serial and there is nothing to
 /// exhibit, or the exhibit of these bytes collides.
@@ -13,10 +10,3 @@ pub fn certified_answers_are_sound()
     ensures sound { (functions : DigestFunctions) (bytes : List ℕ)
         → GivesDigests functions.digest → IsSound functions bytes }
 {}
-
-/// Any digests give digests of 32 bytes: the law of their trait, handed on.
-pub fn digests_have_32_bytes<D: Digests>(d: &D)
-    ensures digests { (text : List ℕ) → IsDigest ((D.functions d.now).digest text) }
-{
-    let _ = d;
-}

@@ -15,6 +15,6 @@ mod refused_log;
 mod report_stop;
 
 pub use judged::{Judged, Uneven};
-pub use laws::{certified_answers_are_sound, digests_have_32_bytes};
+pub use laws::certified_answers_are_sound;
 pub use refused_log::RefusedLog;
 pub use report_stop::ReportStop;

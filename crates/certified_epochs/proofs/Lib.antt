@@ -1,4 +1,6 @@
--- What one turn of certifying tells, and runs one after another.
+-- What one turn of certifying tells, and runs one after another. `RunsLaws` is what the crates above cite.
+pub mod RunsLaws
 mod FedLemmas
 mod TurnLemmas
 mod LinesLemmas
+mod OpeningLemmas

@@ -9,9 +9,11 @@ mod ending;
 mod fed_run;
 mod gathering;
 mod lines;
+mod opening;
 mod telling;
 
 pub use certifier::Certifier;
 pub use ending::end_of;
 pub use fed_run::FedRun;
+pub use opening::open_runs;
 pub use telling::Telling;

@@ -13,6 +13,7 @@ use Rattle.bundle_report.specs.declared.judged.Judged.{Judged}
 use Rattle.bundle_report.specs.declared.judged.Uneven.{Uneven}
 use Rattle.bundle_report.specs.Judged.{judged_by, judged_from}
 use Rattle.bundle_report.specs.RunReport.{parts_at}
+use Rattle.bundle_report.proofs.SoFarLaws.{behind}
 
 -- what is left of a list, where this one is next
 next_left : {A : Type 0} (xs : List A) (at : ℕ) (x : A) → at < length xs → x ≡ get_or xs at x → drop at xs ≡ x ∷ drop (at + 1) xs
@@ -38,10 +39,6 @@ gather_all {T} index runs at gathered whole none so_far =
     sym (append-nil gathered) ∙ sym (ap (λ (rest : List (Run T)). gathered ++ parts_at index (map (λ r. r.course) rest)) (drop_all at runs none)) ∙ so_far
 
 -- ---- what is judged
-
--- so many certified epochs before
-abbrev pub behind : ℕ → Judged → Judged
-behind count more = record { count = count + more.count; unbalanced = more.unbalanced }
 
 -- so many certified epochs, and how it ends
 abbrev ending : Option Uneven → ℕ → Judged

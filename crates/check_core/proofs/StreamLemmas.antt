@@ -1,8 +1,7 @@
 -- A check in the middle of a bundle, batch after batch.
-use Rattle.std.proofs.Common.{◌≡◌, ◌⊎◌, ℕ, zero, suc, ◌+◌, ◌-◌, ◌<◌, ◌≤◌, Bool, List, [], ◌∷◌, ◌++◌, length, map, take, drop, Option, Some, None, IfSome, Result, Ok, Err, OnOk, OnErr, inl, inr, true, false, true≢false, refl, sym, ◌∙◌, ap, subst, append-nil, append_assoc, take-append-drop, arith}
+use Rattle.std.proofs.Common.{◌≡◌, ◌⊎◌, ℕ, zero, suc, ◌+◌, ◌-◌, ◌<◌, ◌≤◌, Bool, List, [], ◌∷◌, ◌++◌, length, map, take, drop, Option, Some, None, IfSome, Result, Ok, Err, OnOk, OnErr, inl, inr, true, false, true≢false, refl, sym, ◌∙◌, ap, subst, append-nil, take-append-drop, arith}
 use Rattle.std.specs.List.{AllByRecursion}
 use Rattle.std.proofs.Math.Seq.{take-add}
-use Rattle.std.proofs.lemmas.List.{map-append}
 use Rattle.fv_outside.specs.Consumed.{most_behind}
 use Rattle.fv_outside.specs.Written.{Grows, GrowsByFront}
 use Rattle.fv_outside.proofs.WrittenLaws.{Grows-then, GrowsByFront-whole, GrowsByFront-more, GrowsByFront-then}
@@ -16,9 +15,7 @@ use Rattle.bundle_frames.specs.Reading.{Reading, ahead, end_ahead, HasRead, Read
 use Rattle.bundle_frames.proofs.ReadingLaws.{HasRead-then, ReadsAs-then, ReadsAs-kept, ReadsAs-map, near-then}
 use Rattle.verifier_run.specs.Course.{Course}
 use Rattle.record_text.specs.declared.operation.Operation.{Operation}
-use Rattle.verifier_run.specs.Kept.{keeps_operations}
-use Rattle.verifier_run.specs.Progress.{Progress, opening_progress, fed, weight}
-use Rattle.verifier_run.proofs.RunLaws.{fed_goes_on}
+use Rattle.verifier_run.specs.Progress.{fed, weight}
 use Rattle.bundle_report.specs.declared.judged.Judged.{Judged}
 use Rattle.bundle_report.specs.Logs.{joined_from, logs_so_far}
 use Rattle.bundle_report.specs.Logged.{behind, logged_of}
@@ -27,12 +24,13 @@ use Rattle.bundle_report.specs.Answer.{answer_at, answer_by}
 use Rattle.report_text.specs.Answer.{Answer}
 use Rattle.bundle_report.specs.RunReport.{courses_of}
 use Rattle.bundle_report.specs.Judged.{judged}
-use Rattle.bundle_report.specs.SoFar.{lines_from, left_from, runs_from, runs_behind, opening_runs, HaveRead}
+use Rattle.bundle_report.specs.SoFar.{lines_from, runs_behind, opening_runs, HaveRead}
 use Rattle.bundle_report.proofs.LinesLaws.{lines-behind}
 use Rattle.bundle_report.proofs.SoFarLaws.{taken-more, lines-taken, counted-within}
 use Rattle.bundle_report.proofs.DueLaws.{lines-certified, lines-due, lines-front, due-stays}
 use Rattle.certified_epochs.specs.declared.fed_run.FedRun.{FedRun}
 use Rattle.certified_epochs.specs.Turn.{AreFed}
+use Rattle.certified_epochs.proofs.RunsLaws.{all_runs, all_feds, headers_from, weights_from}
 use Rattle.check_core.specs.Batch.{bytes_of, GoesOnBy}
 use Rattle.check_core.specs.Intake.{behind_at}
 use Rattle.check_core.specs.Stream.{HasCome, AreChecked, lines_counted, lines_due}
@@ -271,49 +269,12 @@ on_err_always B (Err error) holds = holds
 -- ---- the runs
 
 -- what holds of each run holds of it as a run that is fed, and the other way round
-pub all_runs : (P : Progress Operation → Type 0) (feds : List FedRun) → AllByRecursion P (map (λ fed. fed.run) feds) → AllByRecursion (λ fed. P fed.run) feds
-all_runs P [] all = tt
-all_runs P (fed ∷ feds) all = (all.0, all_runs P feds all.1)
-
-pub all_feds : (P : Progress Operation → Type 0) (feds : List FedRun) → AllByRecursion (λ fed. P fed.run) feds → AllByRecursion P (map (λ fed. fed.run) feds)
-all_feds P [] all = tt
-all_feds P (fed ∷ feds) all = (all.0, all_feds P feds all.1)
-
--- taking epochs out of a run leaves its header and its weight
-left_header : (first count : ℕ) (run : Progress Operation) → (left_from first count run).course.machine.header ≡ run.course.machine.header
-left_header first zero run = refl
-left_header first (suc count) run = refl
-
-left_weight : (first count : ℕ) (run : Progress Operation) → weight (left_from first count run) ≡ weight run
-left_weight first zero run = refl
-left_weight first (suc count) run = refl
-
--- runs of logs have the header
-headers_from : (scheme : Scheme) (header : Header) (count number : ℕ) (logs : List (List ℕ))
-    → AllByRecursion (λ run. run.course.machine.header ≡ header) (runs_from scheme header count number logs)
-headers_from scheme header count number [] = tt
-headers_from scheme header count number (log ∷ logs) = (
-  left_header header.first count (fed keeps_operations scheme (opening_progress number header) log) ∙ (fed_goes_on scheme (opening_progress number header) log).header,
-  headers_from scheme header count (suc number) logs,
-)
-
 pub runs_headers : (functions : DigestFunctions) (header : Header) (logs : List (List ℕ)) (so_far : Judged) (runs : List FedRun)
     → AreChecked functions header logs so_far runs → AllByRecursion (λ fed. fed.run.course.machine.header ≡ header) runs
 runs_headers functions header logs so_far runs checked =
     all_runs (λ run. run.course.machine.header ≡ header) runs
     (subst (AllByRecursion (λ run. run.course.machine.header ≡ header)) (sym checked.runs_are)
     (headers_from (scheme_of functions header) header so_far.count 0 logs))
-
--- runs that more epochs are taken out of weigh what they did
-weights_from : (scheme : Scheme) (header : Header) (count other number bound : ℕ) (logs : List (List ℕ))
-    → AllByRecursion (λ run. weight run ≤ bound) (runs_from scheme header count number logs)
-    → AllByRecursion (λ run. weight run ≤ bound) (runs_from scheme header other number logs)
-weights_from scheme header count other number bound [] all = tt
-weights_from scheme header count other number bound (log ∷ logs) all =
-    let run = fed keeps_operations scheme (opening_progress number header) log in (
-      omega (arith, all.0, left_weight header.first count run, left_weight header.first other run),
-      weights_from scheme header count other (suc number) bound logs all.1,
-    )
 
 pub runs_weights : (functions : DigestFunctions) (header : Header) (logs : List (List ℕ)) (so_far now : Judged) (runs runs_now : List FedRun) (bound : ℕ)
     → AreChecked functions header logs so_far runs → AreChecked functions header logs now runs_now
@@ -349,21 +310,3 @@ opening_weights header bound runs is =
 pub frames_bytes : (verifiers : ℕ) (frames : List Frame) → AllByRecursion (IsFrame verifiers) frames → length frames ≤ bytes_of frames
 frames_bytes verifiers [] all = omega arith
 frames_bytes verifiers (frame ∷ frames) all = omega (arith, all.0.some, frames_bytes verifiers frames all.1)
-
--- ---- the runs before the first byte
-
-pub runs_one_more : (header : Header) (number left all next : ℕ) (runs runs_more : List FedRun) (fed : FedRun) → number < all → next ≡ number + 1
-    → runs_more ≡ runs ++ fed ∷ [] → fed.run ≡ opening_progress number header
-    → map (λ fed. fed.run) runs ++ opening_runs header number (all - number) ≡ opening_runs header 0 left
-    → map (λ fed. fed.run) runs_more ++ opening_runs header next (all - next) ≡ opening_runs header 0 left
-runs_one_more header number left all next runs runs_more fed within is more opening so_far =
-    let own : next ≡ suc number = omega (arith, is) in
-    let behind : all - number ≡ suc (all - next) = omega (arith, within, is) in
-    let rest = opening_runs header next (all - next) in
-    ap (λ (rs : List FedRun). map (λ fed. fed.run) rs ++ rest) more
-    ∙ ap (λ (rs : List (Progress Operation)). rs ++ rest) (map-append (λ (f : FedRun). f.run) runs (fed ∷ []))
-    ∙ append_assoc (map (λ fed. fed.run) runs) (fed.run ∷ []) rest
-    ∙ ap (λ (run : Progress Operation). map (λ fed. fed.run) runs ++ run ∷ rest) opening
-    ∙ ap (λ (n : ℕ). map (λ fed. fed.run) runs ++ opening_progress number header ∷ opening_runs header n (all - next)) own
-    ∙ sym (ap (λ (n : ℕ). map (λ fed. fed.run) runs ++ opening_runs header number n) behind)
-    ∙ so_far

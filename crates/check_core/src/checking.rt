@@ -23,14 +23,14 @@ ghost use Rattle.check_core.specs.Stream.{HasCome, AreChecked, lines_counted, li
 
 use crate::batch::{Batch, Filled};
 use crate::feeding::feed_batch;
-use crate::opening::open_runs;
 use crate::stops::CheckStop;
 use bundle_frames::{BundleReader, Next};
-use bundle_report::{ReportStop, digests_have_32_bytes};
-use certified_epochs::{Certifier, FedRun, Telling};
+use bundle_report::ReportStop;
+use certified_epochs::{Certifier, FedRun, Telling, open_runs};
 use fv_outside::{Sink, Source};
 use lamport_clocks::Header;
 use load_summary::Summary;
+use merkle_records::digests_have_32_bytes;
 use record_hash::Digests;
 use report_text::{BundleEnd, Status, write_last};
 use std::alloc::Global;

@@ -19,7 +19,6 @@ mod concluding;
 mod feeding;
 mod intake;
 mod judging;
-mod opening;
 mod reading;
 mod stops;
 

@@ -18,11 +18,12 @@ ghost use Rattle.fastver_top.specs.Answers.{IsAuditStatus};
 
 use crate::audit_end::AuditEnd;
 use base_words::Memory;
-use bundle_report::{ReportStop, digests_have_32_bytes};
+use bundle_report::ReportStop;
 use check_core::{Conclusion, Intake, conclude, read_bundle};
 use collision_exhibit::{AuditEvent, exhibit_of_runs};
 use fv_outside::{Failed, Sink, Source};
 use lamport_clocks::Header;
+use merkle_records::digests_have_32_bytes;
 use record_hash::Digests;
 use record_text::Exhibit;
 use report_text::{Status, write_exhibit, write_last};

@@ -9,12 +9,12 @@ ghost use Rattle.fastver_top.specs.Answers.{IsRunStatus};
 ghost use Rattle.fastver_top.specs.Running.{IsBeforeRun, IsNamedFor, IsUntouched, RunsTo, run_stopped, settings_for};
 
 use crate::scripts::read_script;
-use bundle_report::digests_have_32_bytes;
 use fv_outside::{Failed, Gate, Sink, Source, Vault};
 use host_fits::scripts_ask_for_keys_in_range;
 use host_rounds::RoundStop;
 use host_world::Settings;
 use lamport_clocks::Header;
+use merkle_records::digests_have_32_bytes;
 use program_words::{HostNumbers, PathWord, RunWords};
 use record_hash::Digests;
 use report_text::Status;

@@ -4,8 +4,9 @@ ghost use Rattle.std.specs.List.{list_all};
 ghost use Rattle.script_text.specs.Words.{is_lower_digit};
 ghost use Rattle.receipt_lines.specs.Evidence.{bytes_in, receipt_in, certificate_in};
 
-use crate::ranges::{fits_32_bits, operation_fits, tag_fits};
+use crate::ranges::{operations_have_their_widths, tags_have_their_length};
 use arrayvec::ArrayVec;
+use base_words::a_number_of_32_bits_is_below;
 use receipts::{Certificate, LONGEST_RECEIPT, Receipt, read_certificate, read_receipt};
 
 /// The receipt with its tag that these digits spell.
@@ -14,8 +15,8 @@ pub(crate) fn receipt_in(digits: &[u8]) -> Option<Receipt>
 {
     let bytes = bytes_in(digits)?;
     let receipt = read_receipt(bytes.as_slice())?;
-    operation_fits(&receipt.operation);
-    tag_fits(&receipt.tag);
+    operations_have_their_widths(&receipt.operation);
+    tags_have_their_length(&receipt.tag);
     Some(receipt)
 }
 
@@ -25,9 +26,9 @@ pub(crate) fn certificate_in(digits: &[u8]) -> Option<Certificate>
 {
     let bytes = bytes_in(digits)?;
     let certificate = read_certificate(bytes.as_slice())?;
-    fits_32_bits(certificate.first);
-    fits_32_bits(certificate.last);
-    tag_fits(&certificate.tag);
+    a_number_of_32_bits_is_below(certificate.first);
+    a_number_of_32_bits_is_below(certificate.last);
+    tags_have_their_length(&certificate.tag);
     Some(certificate)
 }
 

@@ -1,4 +1,5 @@
-mod SplittingLemmas
+-- `SplittingLaws` is what the crates above cite.
+pub mod SplittingLaws
 mod WordLemmas
 mod ScriptLemmas
 mod GeneratorLemmas

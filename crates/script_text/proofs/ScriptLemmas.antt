@@ -12,7 +12,7 @@ use Rattle.script_text.specs.declared.task.Line.{Line}
 use Rattle.script_text.specs.declared.task.Line.TheVariants as said
 use Rattle.script_text.specs.Lines.{lines_of, words_of, words_behind}
 use Rattle.script_text.specs.Script.{BadLine, at_line, line_says, lines_say, words_say, with_line, phases_of, script_of, then_line}
-use Rattle.script_text.proofs.SplittingLemmas.{words_of-some}
+use Rattle.script_text.proofs.SplittingLaws.{words_of-some}
 
 -- ---- a line
 

@@ -14,7 +14,7 @@ use Rattle.script_text.specs.Lines.{line_feed, blank, lines_of, words_of}
 use Rattle.script_text.specs.Words.{value_in}
 use Rattle.script_text.specs.Script.{task_in, words_say, line_says, at_line, lines_say, phases_of, script_of}
 use Rattle.script_text.specs.Text.{value_word, request_words, task_line, task_text, phase_text, behind_text, script_text, IsTask, AreTasks}
-use Rattle.script_text.proofs.SplittingLemmas.{IsOther, IsWithout, lines_of-at, words_of-at, words_of-last}
+use Rattle.script_text.proofs.SplittingLaws.{IsOther, IsWithout, lines_of-at, words_of-at, words_of-last}
 use Rattle.script_text.proofs.ScriptLemmas.{line_says-short}
 use Rattle.script_text.proofs.WrittenWordLemmas.{below-decimal, decimal-without, value_in-word, value-without, length-decimal-le-20, length-value_word-le}
 

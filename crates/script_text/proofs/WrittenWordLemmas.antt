@@ -14,7 +14,7 @@ use Rattle.hex.specs.Hex.{IsBytes, decode_of, encode_lower, encode_with, lower_d
 use Rattle.hex.proofs.HexLemmas.{decode_of-encode_lower, length-encode_with}
 use Rattle.script_text.specs.Words.{begins_well, number_in, below, is_lower_digit, is_value, value_in}
 use Rattle.script_text.specs.Text.{value_word}
-use Rattle.script_text.proofs.SplittingLemmas.{IsOther, IsWithout}
+use Rattle.script_text.proofs.SplittingLaws.{IsOther, IsWithout}
 
 -- std's words for the digits of a number, and for its value
 pub own : IsNumeralModel (λ digits. all_ascii_digits digits ≡ true) (digits_value 10)

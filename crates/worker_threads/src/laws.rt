@@ -22,7 +22,6 @@ ghost use Rattle.worker_threads.specs.Phase.{IsPlaceFor, IsServedAtOnce, first_s
 
 use host_fits::{the_shipped_host_is_steady, the_shipped_host_keeps_its_promise};
 use host_world::worlds_are_orderly;
-use record_hash::Digests;
 use table_order::{a_phase_of_a_table_has_one_order, tables_tell_of_a_phase, worlds_make_tables};
 
 /// Of what a world's places have at a phase's begin a table can be made for its workers.
@@ -87,11 +86,4 @@ pub(crate) fn phases_at_once_are_lists_of_events()
     tables_tell_of_a_phase();
     a_phase_of_a_table_has_one_order();
     the_shipped_host_is_steady();
-}
-
-/// Digests have 32 bytes.
-pub(crate) fn digests_have_32_bytes<D: Digests>(d: &D)
-    ensures sized { GivesDigests (D.functions d.now).digest }
-{
-    let _digests = d;
 }

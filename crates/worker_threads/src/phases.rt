@@ -14,8 +14,7 @@ ghost use Rattle.host_serving.specs.Standing.{turns_of, IsServedUpTo, IsServedOu
 ghost use Rattle.worker_threads.specs.Phase.{ArePlacesFor, first_stopped};
 
 use crate::laws::{
-    digests_have_32_bytes, phases_at_once_are_lists_of_events, tables_are_of_their_worlds,
-    tables_can_be_made,
+    phases_at_once_are_lists_of_events, tables_are_of_their_worlds, tables_can_be_made,
 };
 use crate::pairing::{Participants, serve_at_table};
 use crate::shared_phase::SharedPhase;
@@ -24,6 +23,7 @@ use certified_epochs::FedRun;
 use fv_outside::Gate;
 use host_table::Records;
 use host_world::{ClockEnd, Worker, World};
+use merkle_records::digests_have_32_bytes;
 use record_hash::Digests;
 use script_text::Task;
 use std::alloc::Global;

@@ -1,6 +1,6 @@
 use Rattle.std.proofs.Common.{◌≡◌, length, map, drop}
 use Rattle.bundle_report.specs.Judged.{judged_from}
-use Rattle.check_core.proofs.JudgingLemmas.{behind}
+use Rattle.bundle_report.proofs.SoFarLaws.{behind}
 use Rattle.check_core.proofs.judging.judge_parts.Given as goal
 
 -- the epochs so far are certified, and those that are left come behind them

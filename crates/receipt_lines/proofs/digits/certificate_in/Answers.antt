@@ -15,5 +15,5 @@ returns-in_err-certificate c = record {
 pub returns : goal.returns
 returns c = record {
   value = certificate_in-found c.args.digits.now c.as_slice.result.now _ (c.in_ok-bytes.ensures.found ∙ ap Some (sym c.as_slice.ensures.value))
-      c.in_ok-certificate.ensures.found (c.fits_32_bits.ensures.below, c.fits_32_bits-2.ensures.below, c.tag_fits.ensures.len) c.in_ok-certificate.ensures.only;
+      c.in_ok-certificate.ensures.found (c.a_number_of_32_bits_is_below.ensures.below, c.a_number_of_32_bits_is_below-2.ensures.below, c.tags_have_their_length.ensures.len) c.in_ok-certificate.ensures.only;
 }

@@ -1,6 +1,7 @@
 use Rattle.std.proofs.Common.{◌∙◌, ℕ, List, ap, sym, drop}
 use Rattle.std.specs.Prelude.{slice_get}
-use Rattle.receipt_lines.proofs.SplittingLemmas.{lines_of-none, lines_of-at, lines_of-whole, lines_of-nil}
+use Rattle.script_text.proofs.SplittingLaws.{lines_of-at}
+use Rattle.receipt_lines.proofs.SplittingLemmas.{lines_of-none, lines_of-whole, lines_of-nil}
 use Rattle.script_text.specs.Lines.{lines_of}
 use Rattle.receipt_lines.proofs.splitting.split_line.Goals as goal
 

@@ -1,6 +1,6 @@
 use Rattle.std.proofs.Common.{◌∙◌, ap}
 use Rattle.script_text.specs.Lines.{lines_of}
-use Rattle.script_text.proofs.SplittingLemmas.{lines_of-at, lines_of-whole}
+use Rattle.script_text.proofs.SplittingLaws.{lines_of-at, lines_of-whole}
 use Rattle.script_text.proofs.splitting.split_line.Goals as goal
 
 pub returns-in-Some-clause-lines : goal.returns-in-Some-clause-lines

@@ -1,6 +1,6 @@
 use Rattle.std.proofs.Common.{◌∙◌, ap}
 use Rattle.script_text.specs.Lines.{words_of}
-use Rattle.script_text.proofs.SplittingLemmas.{words_of-at, words_of-last}
+use Rattle.script_text.proofs.SplittingLaws.{words_of-at, words_of-last}
 use Rattle.script_text.proofs.splitting.split_word.Goals as goal
 
 pub returns-in-Some : goal.returns-in-Some
