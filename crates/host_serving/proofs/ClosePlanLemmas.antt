@@ -204,7 +204,9 @@ module _ {C R : Type 0} (host : Host C R) (world : World C) (last : Bool) where
       → LeadsAs AreOfClose host world later end
   as_close later end is way = record {
     events = events_of_close host world last;
-    way = way;
+    enabled = way.enabled;
+    is = way.is;
+    first = way.first;
     form = record { last = last; is_last = is; are = refl };
   }
 

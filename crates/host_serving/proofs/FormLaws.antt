@@ -14,9 +14,9 @@ use Rattle.host_world.specs.Ending.{end_of}
 use Rattle.host_world.specs.Behind.{before_each, with_logs}
 use Rattle.host_world.proofs.FrontLaws.{length-before_each, same_unlogged, clock_with, step_with, ends_with, last_other}
 use Rattle.host_serving.specs.Leading.{first_of, first_end, LeadsBy, LeadsAs, Leads}
-use Rattle.host_serving.specs.Form.{AreOfPhase, until_end, unless_ended, own_moves_from, all_advance, own_moves, moves_of_each, all_move, events_of_shards, events_of_close, AreOfClose, Round, events_of, AreInForm, AreOfRun}
+use Rattle.host_serving.specs.Form.{AreOfPhase, until_end, unless_ended, own_moves_from, all_advance, own_moves, moves_of_each, all_move, events_of_shards, events_of_close, AreOfClose, Round, events_of, AreInForm, AreInRounds}
 use Rattle.host_serving.specs.Standing.{IsServedUpTo, NoneStopped}
-use Rattle.host_serving.proofs.LeadingLaws.{first_end-append, run-with, first-with, by-none, by-then, by-with}
+use Rattle.host_serving.proofs.LeadingLaws.{first_end-append, run-with, first-with, by-then, by-with}
 use Rattle.host_serving.proofs.BegunLemmas.{nothing_begun, enabled-behind, first_of-behind}
 
 module _ {C R : Type 0} (host : Host C R) where
@@ -147,13 +147,15 @@ module _ {C R : Type 0} (host : Host C R) where
   -- what some events of a form lead to, some events do
   pub as-leads : (Form : Host C R → World C → List (WorldEvent R) → Type 0) (world later : World C) (end : Option ClockEnd) → LeadsAs Form host world later end
       → Leads host world later end
-  as-leads Form world later end so = record { events = so.events; enabled = so.way.enabled; is = so.way.is; first = so.way.first }
+  as-leads Form world later end so = record { events = so.events; enabled = so.enabled; is = so.is; first = so.first }
 
   -- Before its first event a run is in form.
-  pub run-none : (world : World C) → LeadsAs AreOfRun host world world None
+  pub run-none : (world : World C) → LeadsAs AreInRounds host world world None
   run-none world = record {
     events = [];
-    way = by-none host world;
+    enabled = tt;
+    is = refl;
+    first = refl;
     form = record { rounds = []; whole = tt; phase = []; begun = phase-none world; are = refl };
   }
 
@@ -175,7 +177,7 @@ module _ {C R : Type 0} (host : Host C R) where
       ∙ sym (append_assoc (round.phase ++ round.close) (events_of rounds) (events_of more))
 
   module _ (logs : List (List Command)) (start world later : World C) (first second : Option ClockEnd)
-      (so_far : LeadsAs AreOfRun host start (with_logs logs world) first) where
+      (so_far : LeadsAs AreInRounds host start (with_logs logs world) first) where
     abbrev rounds : List (Round R)
     rounds = so_far.form.rounds
 
@@ -187,19 +189,23 @@ module _ {C R : Type 0} (host : Host C R) where
     behind = run_events host start (events_of rounds)
 
     now_is : with_logs logs world ≡ run_events host behind begun
-    now_is = so_far.way.is ∙ ap (run_events host start) so_far.form.are ∙ run-append host start (events_of rounds) begun
+    now_is = so_far.is ∙ ap (run_events host start) so_far.form.are ∙ run-append host start (events_of rounds) begun
 
-    led : (events : List (WorldEvent R)) → LeadsBy host world later second events
-        → LeadsBy host start (with_logs logs later) (first_of first second) (so_far.events ++ events)
-    led events way =
-        by-then host start (with_logs logs world) (with_logs logs later) first second so_far.events events so_far.way (by-with host logs world later second events way)
+    led : {Form : Host C R → World C → List (WorldEvent R) → Type 0} (next : LeadsAs Form host world later second)
+        → LeadsBy host start (with_logs logs later) (first_of first second) (so_far.events ++ next.events)
+    led next =
+        by-then host start (with_logs logs world) (with_logs logs later) first second so_far.events next.events
+        (record { enabled = so_far.enabled; is = so_far.is; first = so_far.first })
+        (by-with host logs world later second next.events (record { enabled = next.enabled; is = next.is; first = next.first }))
 
     -- Where a phase begins and no clock has ended, the run goes on by a phase.
     pub run-phase : first ≡ None → IsServedUpTo host world 0 → NoneStopped host world → LeadsAs AreOfPhase host world later second
-        → LeadsAs AreOfRun host start (with_logs logs later) (first_of first second)
+        → LeadsAs AreInRounds host start (with_logs logs later) (first_of first second)
     run-phase unended begins running next = record {
       events = so_far.events ++ next.events;
-      way = led next.events next.way;
+      enabled = (led next).enabled;
+      is = (led next).is;
+      first = (led next).first;
       form = record {
         rounds = rounds;
         whole = so_far.form.whole;
@@ -212,21 +218,23 @@ module _ {C R : Type 0} (host : Host C R) where
     }
       where
         enabled : AreEnabled host behind begun
-        enabled = enabled-behind host start (events_of rounds) begun (subst (AreEnabled host start) so_far.form.are so_far.way.enabled)
+        enabled = enabled-behind host start (events_of rounds) begun (subst (AreEnabled host start) so_far.form.are so_far.enabled)
 
         unended_begun : first_end host behind begun ≡ None
         unended_begun =
             first_of-behind (first_end host start (events_of rounds)) (first_end host behind begun)
-            (sym (first_end-append host start (events_of rounds) begun) ∙ ap (first_end host start) (sym so_far.form.are) ∙ so_far.way.first ∙ unended)
+            (sym (first_end-append host start (events_of rounds) begun) ∙ ap (first_end host start) (sym so_far.form.are) ∙ so_far.first ∙ unended)
 
         none_begun : begun ≡ []
         none_begun = nothing_begun host logs behind world begun so_far.form.begun enabled now_is unended_begun begins running
 
     -- By a close it goes on where it stands.
-    pub run-close : LeadsAs AreOfClose host world later second → LeadsAs AreOfRun host start (with_logs logs later) (first_of first second)
+    pub run-close : LeadsAs AreOfClose host world later second → LeadsAs AreInRounds host start (with_logs logs later) (first_of first second)
     run-close next = record {
       events = so_far.events ++ next.events;
-      way = led next.events next.way;
+      enabled = (led next).enabled;
+      is = (led next).is;
+      first = (led next).first;
       form = record {
         rounds = rounds ++ one ∷ [];
         whole = form-append start rounds (one ∷ []) so_far.form.whole (
@@ -246,3 +254,24 @@ module _ {C R : Type 0} (host : Host C R) where
       where
         one : Round R
         one = record { phase = begun; close = next.events }
+
+  -- ---- how a run goes on
+
+  -- A run that stands in the one world, and has come to this end or to none, goes on to the other.
+  pub record GoesOn (world later : World C) (end next : Option ClockEnd) : Type 0 where
+    pub leads : Leads host world later next
+    pub on : (logs : List (List Command)) (start : World C) → LeadsAs AreInRounds host start (with_logs logs world) end
+        → LeadsAs AreInRounds host start (with_logs logs later) (first_of end next)
+
+  module _ (world later : World C) (end next : Option ClockEnd) where
+    pub on_by_phase : end ≡ None → IsServedUpTo host world 0 → NoneStopped host world → LeadsAs AreOfPhase host world later next → GoesOn world later end next
+    on_by_phase unended begins running so = record {
+      leads = as-leads AreOfPhase world later next so;
+      on = λ logs start so_far. run-phase logs start world later end next so_far unended begins running so;
+    }
+
+    pub on_by_close : LeadsAs AreOfClose host world later next → GoesOn world later end next
+    on_by_close so = record {
+      leads = as-leads AreOfClose world later next so;
+      on = λ logs start so_far. run-close logs start world later end next so_far so;
+    }

@@ -97,7 +97,7 @@ AreInForm host world (round ∷ rounds) =
 
 -- The events of a run so far: whole rounds, and then a phase that is not closed, of which nothing has happened where a round ended
 -- last.
-pub record AreOfRun {C R : Type 0} (host : Host C R) (world : World C) (events : List (WorldEvent R)) : Type 0 where
+pub record AreInRounds {C R : Type 0} (host : Host C R) (world : World C) (events : List (WorldEvent R)) : Type 0 where
   pub rounds : List (Round R)
   pub whole : AreInForm host world rounds
   pub phase : List (WorldEvent R)

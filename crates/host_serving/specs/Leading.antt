@@ -26,7 +26,9 @@ pub record LeadsBy {C R : Type 0} (host : Host C R) (world later : World C) (end
 pub record LeadsAs {C R : Type 0} (Form : Host C R → World C → List (WorldEvent R) → Type 0) (host : Host C R) (world later : World C)
     (end : Option ClockEnd) : Type 0 where
   pub events : List (WorldEvent R)
-  pub way : LeadsBy host world later end events
+  pub enabled : AreEnabled host world events
+  pub is : later ≡ run_events host world events
+  pub first : first_end host world events ≡ end
   pub form : Form host world events
 
 -- So does a front of these events, and the rest is not done.

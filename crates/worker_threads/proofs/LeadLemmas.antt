@@ -27,15 +27,17 @@ use Rattle.host_world.specs.Ending.{end_at}
 use Rattle.host_world.specs.Places.{place_of}
 use Rattle.host_world.specs.ShippedHost.{shipped_host}
 use Rattle.host_world.proofs.FrontLaws.{length-before_each, enabled_without, step_with}
-use Rattle.host_serving.specs.Leading.{first_end, Leads}
+use Rattle.host_serving.specs.Leading.{first_end, LeadsAs}
+use Rattle.host_serving.specs.Form.{AreOfPhase}
 use Rattle.host_serving.specs.Turn.{turn_at}
 use Rattle.host_serving.proofs.LeadingLaws.{first-with}
+use Rattle.host_serving.proofs.FormLaws.{phase-without}
 use Rattle.table_order.specs.Servings.{lists_of, stops_of}
 use Rattle.worker_threads.specs.Phase.{first_stopped, IsServedAtOnce}
 use Rattle.worker_threads.proofs.EndLemmas.{unended, turn_ended, ended_behind}
 use Rattle.worker_threads.proofs.FilledLemmas.{HaveFive}
 use Rattle.worker_threads.proofs.ShapeLemmas.{replay-turns, run-workers}
-use Rattle.worker_threads.proofs.StopLemmas.{NoneFirst, SomeFirst, first_stop}
+use Rattle.worker_threads.proofs.StopLemmas.{NoneFirst, SomeFirst, first_stop, rising_from}
 use Rattle.worker_threads.proofs.WorldLemmas.{rows_are, of_world, clock_left, world_same}
 
 -- What is enabled with logs in front is without them.
@@ -159,8 +161,8 @@ module _ (functions : DigestFunctions) (settings : Settings) (script : List (Lis
           ∙ ap (λ (n : ℕ). Some (record { worker = n; at = (worker_at host later some.k).clock.at })) (sym number)
           ∙ sym some.ended
 
-  -- The phase's events lead to the later world.
-  pub leads : Leads host world later (first_stopped 0 later.workers)
+  -- The phase's events lead to the later world, in their one order.
+  pub leads : LeadsAs AreOfPhase host world later (first_stopped 0 later.workers)
   leads =
       let order = ordered (stops_of rows) noted apart in
       let events = phase_events lists (stops_of rows) in
@@ -169,4 +171,12 @@ module _ (functions : DigestFunctions) (settings : Settings) (script : List (Lis
         enabled = enabled-without host logs world events order.enabled;
         is = world_same functions settings script logs world later each tasks terms after rows is five pasts order.ends contents;
         first = sym (first-with host logs world events) ∙ first_is;
+        form = phase-without host logs world events (record {
+          servings = joined lists;
+          stops = stops_of rows;
+          done = order.done;
+          ended = order.ended;
+          rising = rising_from 0 0 rows (omega arith);
+          are = refl;
+        });
       }

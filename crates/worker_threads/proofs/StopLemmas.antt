@@ -1,5 +1,5 @@
 -- The stops of a table's rows, and the stopped workers: the first of the ones is the first of the others.
-use Rattle.std.proofs.Common.{◌≡◌, ◌⊎◌, inl, inr, ℕ, zero, suc, ◌+◌, ◌<◌, ◌||◌, Bool, false, List, [], ◌∷◌, ◌++◌, length, get_or, Option, Some, None, is_some, if◌then◌else◌, refl, ◌∙◌, ap, arith}
+use Rattle.std.proofs.Common.{◌≡◌, ◌⊎◌, inl, inr, ℕ, zero, suc, ◌+◌, ◌<◌, ◌≤◌, ◌||◌, Bool, false, List, [], ◌∷◌, ◌++◌, length, get_or, Option, Some, None, is_some, if◌then◌else◌, refl, ◌∙◌, ap, arith}
 use Rattle.std.proofs.lemmas.Bool.{eq-eqb, ne_eqb}
 use Rattle.lamport_clocks.specs.Reading.{Reading}
 use Rattle.log_codec.specs.declared.command.Command.{Command}
@@ -14,6 +14,7 @@ use Rattle.host_table.specs.declared.views.Row.{Row}
 use Rattle.host_table.specs.Phase.{row_at}
 use Rattle.host_world.specs.declared.fault.ClockEnd.{ClockEnd}
 use Rattle.table_order.specs.Servings.{servings_of, stop_of, stops_from}
+use Rattle.host_serving.specs.Form.{AreRising}
 use Rattle.worker_threads.specs.Parts.{commands_of, last_clock}
 use Rattle.worker_threads.specs.Phase.{first_stopped}
 
@@ -52,6 +53,17 @@ stopped_by_row n (suc k) i (row ∷ rows) is there = go row.stop (stopped_by_row
         → stops_by i (stop_of n stop ++ stops_from (suc n) rows) ≡ is_some (row_at rows k).stop
     go None rest = rest
     go (Some stop) rest = ap (λ (b : Bool). b || stops_by i (stops_from (suc n) rows)) (ne_eqb n i (λ same. absurd (omega (arith, is, same)))) ∙ rest
+
+-- ---- in which order
+
+-- The stops of workers from one on are in rising order, whatever lower number they are counted from.
+pub rising_from : (i n : ℕ) (rows : List Row) → i ≤ n → AreRising i (stops_from n rows)
+rising_from i n [] least = tt
+rising_from i n (row ∷ rows) least = go row.stop (rising_from i (suc n) rows (omega (arith, least))) (rising_from (suc n) (suc n) rows (omega arith))
+  where
+    go : (stop : Option Stop) → AreRising i (stops_from (suc n) rows) → AreRising (suc n) (stops_from (suc n) rows) → AreRising i (stop_of n stop ++ stops_from (suc n) rows)
+    go None rest behind = rest
+    go (Some stop) rest behind = (least, behind)
 
 -- ---- the first
 

@@ -15,7 +15,8 @@ ghost use Rattle.host_world.specs.declared.settings.Settings.{Settings};
 ghost use Rattle.host_world.specs.Behind.{IsBehindSetup, with_logs};
 ghost use Rattle.host_world.specs.Lending.{all_contents};
 ghost use Rattle.host_world.specs.ShippedHost.{shipped_host};
-ghost use Rattle.host_serving.specs.Leading.{Leads};
+ghost use Rattle.host_serving.specs.Leading.{LeadsAs};
+ghost use Rattle.host_serving.specs.Form.{AreOfPhase};
 ghost use Rattle.host_serving.specs.Standing.{IsServedOut, IsServedUpTo};
 ghost use Rattle.table_order.specs.Phases.{AreTermsOf};
 ghost use Rattle.worker_threads.specs.Phase.{IsPlaceFor, IsServedAtOnce, first_stopped};
@@ -68,14 +69,14 @@ pub(crate) fn tables_are_of_their_worlds()
 
 /// What workers at a table did of a phase was one list of events: these lead from the world that the table was made of to the one
 /// with the contents that it gave and the workers as they are then, and the first end is that of the first worker that is
-/// stopped. No worker has more to do in the phase.
+/// stopped. They are those of a phase, in their one order. No worker has more to do in the phase.
 pub(crate) fn phases_at_once_are_lists_of_events()
     ensures leads { (functions : DigestFunctions) (settings : Settings) (script : List (List Task)) (logs : List (List Command))
         (world later : World Content) (terms : Terms) (after : List code.Content) (rows : List Row)
         → GivesDigests functions.digest → length logs ≡ length world.workers
         → IsBehindSetup functions settings script (with_logs logs world) → settings.shards ≤ settings.header.end
         → IsServedAtOnce (shipped_host functions settings script) (get_or script world.phase []) world later terms after rows
-        → Leads (shipped_host functions settings script) world later (first_stopped 0 later.workers) }
+        → LeadsAs AreOfPhase (shipped_host functions settings script) world later (first_stopped 0 later.workers) }
     ensures served { (functions : DigestFunctions) (settings : Settings) (script : List (List Task))
         (world later : World Content) (terms : Terms) (after : List code.Content) (rows : List Row)
         → IsServedAtOnce (shipped_host functions settings script) (get_or script world.phase []) world later terms after rows

@@ -9,7 +9,8 @@ ghost use Rattle.host_core.specs.World.{logs_of};
 ghost use Rattle.host_rounds.specs.Feeding.{AllRead};
 ghost use Rattle.host_world.specs.Behind.{host_of, StandsBehind, StandsWith, AreOfOneHost};
 ghost use Rattle.host_world.specs.Shown.{shown_world, digests_of, requests_of, settings_of};
-ghost use Rattle.host_serving.specs.Leading.{Leads};
+ghost use Rattle.host_serving.specs.Leading.{Leads, LeadsAs};
+ghost use Rattle.host_serving.specs.Form.{AreOfPhase};
 ghost use Rattle.host_serving.specs.Standing.{turns_of, IsServedUpTo, IsServedOut, NoneStopped, SomeStopped};
 ghost use Rattle.worker_threads.specs.Phase.{ArePlacesFor, first_stopped};
 
@@ -65,8 +66,8 @@ fn first_end_of(workers: &[Worker]) -> Option<ClockEnd>
 }
 
 /// Serves the requests of the world's phase, all workers at once, each in a thread of its own and its requests in the script's
-/// order, past the gate. A worker whose clock ends serves no more in this phase. What they did was one list of events, and the
-/// answer is the first end that these come to. After want of memory the world is of no more use.
+/// order, past the gate. A worker whose clock ends serves no more in this phase. What they did was one list of events, those of a
+/// phase in their one order, and the answer is the first end that these come to. After want of memory the world is of no more use.
 ///
 /// Each worker's verifier takes what is in the worker's log, as it comes: its run is that of the worker's number, and was fed so
 /// many bytes at most. Before each poll it enters the gate, by its number behind those of the workers and with the number of
@@ -90,6 +91,8 @@ pub fn serve_phase_at_once<R: Threads + Wait + Sync, D: Digests + Sync, G: Gate 
     requires few { AllByRecursion (λ fed. weight fed.run ≤ bytes) runs.old.items }
     requires parcels { length parcels.old.items ≡ length (shown_world world.old).workers }
     ensures leads { IfOk result (λ end. Leads (host_of (D.functions (digests_of world.old)) world.old)
+        (shown_world world.old) (shown_world world.new) end) }
+    ensures form { IfOk result (λ end. LeadsAs AreOfPhase (host_of (D.functions (digests_of world.old)) world.old)
         (shown_world world.old) (shown_world world.new) end) }
     ensures served { OnOk result (IsServedOut (host_of (D.functions (digests_of world.old)) world.old)
         (shown_world world.new)) }

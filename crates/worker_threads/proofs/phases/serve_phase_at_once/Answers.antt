@@ -15,7 +15,9 @@ use Rattle.host_world.specs.declared.settings.Settings.{Settings}
 use Rattle.host_world.specs.Behind.{host_of}
 use Rattle.host_world.specs.Lending.{all_contents}
 use Rattle.host_world.specs.Shown.{shown_world, digests_of, requests_of}
-use Rattle.host_serving.specs.Leading.{Leads}
+use Rattle.host_serving.specs.Leading.{Leads, LeadsAs}
+use Rattle.host_serving.specs.Form.{AreOfPhase}
+use Rattle.host_serving.proofs.FormLaws.{as-leads}
 use Rattle.worker_threads.specs.Parts.{ArePlaces}
 use Rattle.worker_threads.specs.Phase.{ArePlacesFor, first_stopped}
 use Rattle.worker_threads.specs.Participants.{HaveReadLogs}
@@ -161,14 +163,16 @@ returns g c =
     let workers_are : (shown_world new).workers ≡ c.in_ok-left.left.workers.items = ap (λ (w : World Content). w.workers) later in
     let end_is : c.first_end_of-end.result ≡ first_stopped 0 (shown_world new).workers =
     c.first_end_of-end.ensures.first ∙ ap (first_stopped 0) (c.as_slice-2.ensures.value ∙ sym workers_are) in
-    let way : Leads host (shown_world old) (shown_world new) c.first_end_of-end.result =
-    subst (Leads host (shown_world old) (shown_world new)) (sym end_is)
+    let way : LeadsAs AreOfPhase host (shown_world old) (shown_world new) c.first_end_of-end.result =
+    subst (LeadsAs AreOfPhase host (shown_world old) (shown_world new)) (sym end_is)
     (c.phases_at_once_are_lists_of_events.ensures.leads functions old.settings (requests_of old) stands.0 (shown_world old) (shown_world new) made c.close.result.items
     (map told_by c.in_ok-left.left.hands.items) sized stands.1.each stands.1.behind c.requires.counters at_once) in
+    let leads : Leads host (shown_world old) (shown_world new) c.first_end_of-end.result =
+    as-leads host AreOfPhase (shown_world old) (shown_world new) c.first_end_of-end.result way in
     let one_host = hosts_then old c.take_back.new.self new
     (hosts_then old c.lend_workers-workers.new.self c.take_back.new.self (hosts_then old c.lend.new.self c.lend_workers-workers.new.self c.lend.ensures.host c.lend_workers-workers.ensures.host)
     c.take_back.ensures.host) c.take_workers.ensures.host in
-    let on = goes_on g.D.Digests.functions old new c.first_end_of-end.result one_host at_once.count way in
+    let on = goes_on g.D.Digests.functions old new c.first_end_of-end.result one_host at_once.count leads in
     let took : HaveReadLogs functions (shown_world new).workers c.args.runs.now.items c.in_ok-left.left.runs.items =
     subst (λ d. HaveReadLogs (g.D.Digests.functions d) (shown_world new).workers c.args.runs.now.items c.in_ok-left.left.runs.items) c.digests-d.ensures.value
     (subst (λ (runs : List FedRun). HaveReadLogs (g.D.Digests.functions c.digests-d.result.now) (shown_world new).workers runs c.in_ok-left.left.runs.items)
@@ -176,7 +180,8 @@ returns g c =
     (subst (λ (workers : List Worker). HaveReadLogs (g.D.Digests.functions c.digests-d.result.now) workers c.replace.result.items c.in_ok-left.left.runs.items) (sym workers_are)
     c.in_ok-left.ensures.taken)) in
     record {
-      leads = way;
+      leads = leads;
+      form = way;
       served = c.phases_at_once_are_lists_of_events.ensures.served functions old.settings (requests_of old) (shown_world old) (shown_world new) made c.close.result.items
           (map told_by c.in_ok-left.left.hands.items) at_once;
       phase = ap (λ (w : World Content). w.phase) later;
