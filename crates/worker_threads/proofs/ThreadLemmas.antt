@@ -27,7 +27,7 @@ use Rattle.worker_threads.specs.Participants.{worker_in, hand_in, AreToServe, Ha
 
 -- ---- threads that are ready
 
--- One worker more is at its thread,
+-- One worker more has its thread,
 pub worker_ready : (threads after : List WorkerPair) (yielded : List Worker) (thread : WorkerPair) (worker : Worker) → map worker_in threads ≡ yielded → worker_in thread ≡ worker
     → after ≡ threads ++ thread ∷ [] → map worker_in after ≡ yielded ++ worker ∷ []
 worker_ready threads after yielded thread worker so_far same pushed =

@@ -1,4 +1,4 @@
--- A worker at its thread and its verifier beside it, before a phase and behind it.
+-- A worker and its verifier beside it, before a phase and behind it.
 use Rattle.std.specs.Prelude.{◌≡◌, ℕ, false, [], List}
 use Rattle.record_hash.specs.Functions.{DigestFunctions}
 use Rattle.record_text.specs.Format.{short_keys}
@@ -31,7 +31,7 @@ pub record IsOpened (pair : WorkerPair) : Type 0 where
   pub fresh : received_by pair.inbox.receiver ≡ []
   pub room : HasRoom pair.inbox
 
--- A pair before the phase: the worker is at its thread, and nothing has come through the lane to the verifier.
+-- A pair before the phase: the worker is ready, and nothing has come through the lane to the verifier.
 pub record IsPairReady (terms : Terms) (table : TableId) (pair : WorkerPair) : Type 0 where
   pub ready : IsReady terms table pair.thread
   pub ends : AreEndsOfOne pair.thread.outbox pair.inbox

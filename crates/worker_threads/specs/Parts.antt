@@ -63,7 +63,7 @@ pub record HasDone (asked : List Request) (row : Row) (old new : Worker) : Type 
   pub holds : new.holds ≡ old.holds
   pub stuck : new.stuck ≡ old.stuck
 
--- ---- a worker at its thread
+-- ---- a worker in its thread
 
 -- A worker before the phase: it runs, its clock stands in the phase, its hand has done nothing, and its outbox is empty.
 pub record IsReady (terms : Terms) (table : TableId) (thread : WorkerThread) : Type 0 where

@@ -31,7 +31,7 @@ pub record IsSharedPhase {D : Type 0} (functions : D → DigestFunctions) (share
   pub digests : (functions shared.d.now).digest ≡ (terms functions shared.records.now).digest
   pub places : ArePlaces (terms functions shared.records.now) shared.tasks.now shared.places.now
 
--- what a worker asks of its thread
+-- what a worker asks of what it has in its thread
 pub record CanServe {D : Type 0} (functions : D → DigestFunctions) (shared : SharedPhase D) (thread : WorkerThread) : Type 0 where
   pub shared_is : IsSharedPhase functions shared
   pub ready : IsReady (terms functions shared.records.now) (table shared.records.now) thread

@@ -1,4 +1,4 @@
-//! The workers of a phase at their threads, each with its verifier beside it, from the first of them there to the last away.
+//! The workers of a phase, each paired with its verifier before the threads begin, and parted once all have ended.
 ghost use Rattle.std.specs.Prelude.{◌≡◌, ◌≤◌, false, All, IfOk, OnOk, length, map};
 ghost use Rattle.verifier_run.specs.Progress.{weight};
 ghost use Rattle.host_table.specs.Table.{table, terms};
@@ -31,7 +31,7 @@ pub(crate) struct Participants {
     pub(crate) parcels: Vec<u64>,
 }
 
-// A worker at its thread, with its hand, and beside it the feed of its verifier's run, which was fed so many bytes at most. The
+// A worker with its hand, and beside it the feed of its verifier's run, which was fed so many bytes at most. The
 // verifier took so many parcels so far.
 fn pair_of(
     alloc: Global,
@@ -96,8 +96,8 @@ fn pair_up(alloc: Global, participants: Participants, bytes: u64) -> Result<Vec<
     Ok(pairs)
 }
 
-// Who is away from the threads, where memory was wanting for none.
-fn part(alloc: Global, pairs: Vec<WorkerPair>) -> Result<Participants, Memory>
+// The participants once their threads have ended, where memory was wanting for none.
+fn take_apart(alloc: Global, pairs: Vec<WorkerPair>) -> Result<Participants, Memory>
     ensures workers { IfOk result (λ participants. participants.workers.items ≡ map worker_in pairs.items) }
     ensures hands { IfOk result (λ participants. participants.hands.items ≡ map hand_in pairs.items) }
     ensures runs { IfOk result (λ participants. participants.runs.items ≡ map run_in pairs.items) }
@@ -152,5 +152,5 @@ pub(crate) fn serve_at_table<R: Threads + Wait + Sync, D: Digests + Sync, G: Gat
 {
     let mut pairs = pair_up(shared.alloc, participants, bytes)?;
     serve_all(rt, shared, gate, pairs.as_mut_slice());
-    part(shared.alloc, pairs)
+    take_apart(shared.alloc, pairs)
 }

@@ -1,4 +1,4 @@
-//! A worker at its thread, and its verifier beside it.
+//! A worker in its thread, and its verifier in another beside it.
 ghost use Rattle.std.specs.Prelude.{◌≡◌};
 
 use crate::shared_phase::SharedPhase;
@@ -9,7 +9,7 @@ use std::sync::Wait;
 use std::thread::{Threads, join_mut};
 use verifier_feeds::{Inbox, settle};
 
-/// A worker at its thread, and the inbox of its verifier.
+/// What a worker has in its thread, and the inbox of its verifier.
 #[derive(Drop)]
 pub struct WorkerPair {
     pub thread: WorkerThread,

@@ -1,4 +1,4 @@
-//! A worker at its thread.
+//! What a worker has in its thread.
 use crate::shared_phase::SharedPhase;
 use crate::worker_state::WorkerState;
 use fv_outside::Gate;

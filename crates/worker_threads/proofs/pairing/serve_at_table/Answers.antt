@@ -34,11 +34,11 @@ returns g c =
       served = served_well (terms g.D.Digests.functions records) (table records) pairs c.args.participants.workers.items c.args.participants.hands.items
           (ap (map worker_in) c.as_mut_slice.ensures.value ∙ c.in_ok-pairs.ensures.workers)
           (ap (map hand_in) c.as_mut_slice.ensures.value ∙ c.in_ok-pairs.ensures.hands)
-          c.part.result (λ left. left.workers.items) (λ left. left.hands.items) later seen c.args.shared.now.tasks.now same
-          c.part.ensures.workers c.part.ensures.hands c.part.ensures.served c.serve_all.ensures.count c.serve_all.ensures.through c.requires.ready;
-      taken = taken_well (g.D.Digests.functions c.args.shared.now.d.now) pairs c.args.participants.runs.items c.part.result (λ left. left.workers.items) (λ left. left.runs.items)
+          c.take_apart.result (λ left. left.workers.items) (λ left. left.hands.items) later seen c.args.shared.now.tasks.now same
+          c.take_apart.ensures.workers c.take_apart.ensures.hands c.take_apart.ensures.served c.serve_all.ensures.count c.serve_all.ensures.through c.requires.ready;
+      taken = taken_well (g.D.Digests.functions c.args.shared.now.d.now) pairs c.args.participants.runs.items c.take_apart.result (λ left. left.workers.items) (λ left. left.runs.items)
           later seen (ap (map run_in) c.as_mut_slice.ensures.value ∙ c.in_ok-pairs.ensures.runs) same
-          c.part.ensures.workers c.part.ensures.runs c.part.ensures.served c.serve_all.ensures.count c.serve_all.ensures.fed;
-      parcels = counted_well pairs c.args.participants.parcels.items c.part.result (λ left. left.parcels.items) later seen
-          (ap (map parcels_in) c.as_mut_slice.ensures.value ∙ c.in_ok-pairs.ensures.parcels) same c.part.ensures.parcels c.serve_all.ensures.count;
+          c.take_apart.ensures.workers c.take_apart.ensures.runs c.take_apart.ensures.served c.serve_all.ensures.count c.serve_all.ensures.fed;
+      parcels = counted_well pairs c.args.participants.parcels.items c.take_apart.result (λ left. left.parcels.items) later seen
+          (ap (map parcels_in) c.as_mut_slice.ensures.value ∙ c.in_ok-pairs.ensures.parcels) same c.take_apart.ensures.parcels c.serve_all.ensures.count;
     }

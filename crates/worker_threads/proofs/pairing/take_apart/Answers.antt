@@ -6,7 +6,7 @@ use Rattle.host_core.specs.World.{Worker}
 use Rattle.host_table.specs.declared.hand.Hand.{Hand}
 use Rattle.worker_threads.specs.Participants.{worker_in, hand_in, HaveAll}
 use Rattle.worker_threads.specs.Pairs.{parcels_in, run_in}
-use Rattle.worker_threads.proofs.pairing.part.Goals as goal
+use Rattle.worker_threads.proofs.pairing.take_apart.Goals as goal
 
 pub loop-pair-preserved : goal.loop-pair-preserved
 loop-pair-preserved c =

@@ -1,7 +1,7 @@
 use Rattle.std.proofs.Common.{◌≡◌, map, All}
 use Rattle.worker_threads.specs.Participants.{worker_in, hand_in, HaveAll}
 use Rattle.worker_threads.specs.Pairs.{parcels_in, run_in}
-use Rattle.worker_threads.proofs.pairing.part.Given as goal
+use Rattle.worker_threads.proofs.pairing.take_apart.Given as goal
 
 -- the workers, hands, runs and counts so far are apart
 abbrev pub invariant-loop-pair : goal.invariant-loop-pair
