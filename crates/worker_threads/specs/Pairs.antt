@@ -1,5 +1,5 @@
 -- A worker and its verifier beside it, before a phase and behind it.
-use Rattle.std.specs.Prelude.{◌≡◌, ℕ, false, [], List}
+use Rattle.std.specs.Prelude.{◌≡◌, ℕ, false, []}
 use Rattle.record_hash.specs.Functions.{DigestFunctions}
 use Rattle.record_text.specs.Format.{short_keys}
 use Rattle.log_codec.specs.Log.{log_text}

@@ -87,10 +87,10 @@ fn pair_up(alloc: Global, participants: Participants, bytes: u64) -> Result<Vec<
         let Some(run) = runs.next() else {
             unreachable!()
         };
-        let Some(parcels) = parcels.next() else {
+        let Some(count) = parcels.next() else {
             unreachable!()
         };
-        let pair = pair_of(alloc, worker, hand, run, bytes, parcels)?;
+        let pair = pair_of(alloc, worker, hand, run, bytes, count)?;
         pairs.push(pair)?;
     }
     Ok(pairs)

@@ -27,7 +27,7 @@ loop-worker-preserved c =
       runs = part_ready run_in pairs after c.args.participants.runs.items (into_iter_items c.loop-worker.runs) (into_iter_items c.next-in-loop-worker-2.new.self) pair
           c.in-Some-next-2.run' so_far.runs c.in-Some-next-2.ensures.items made.run pushed;
       parcels = part_ready parcels_in pairs after c.args.participants.parcels.items (into_iter_items c.loop-worker.parcels) (into_iter_items c.next-in-loop-worker-3.new.self) pair
-          c.in-Some-next-3.parcels' so_far.parcels c.in-Some-next-3.ensures.items made.parcels pushed;
+          c.in-Some-next-3.count so_far.parcels c.in-Some-next-3.ensures.items made.parcels pushed;
       few = few_left c.args.bytes (into_iter_items c.loop-worker.runs) (into_iter_items c.next-in-loop-worker-2.new.self) c.in-Some-next-2.run' so_far.few c.in-Some-next-2.ensures.items;
       opened = opened_all pairs after pair so_far.opened made.opened pushed;
     }
