@@ -27,7 +27,7 @@ returns-in_err-buffers-clause-cut g c = λ receipts held.
 pub returns-in_err-parcels-clause-cut : goal.returns-in_err-parcels-clause-cut
 returns-in_err-parcels-clause-cut g c = λ receipts held.
     let vault = g.V.Sink.held c.args.vault.now in
-    err_any c.from_residual-2.result
+    err_any _
     (subst (λ (settings : Settings). IsCutOff receipts (g.D.Digests.functions (digests_of c.args.world)) settings (requests_of c.args.world) (record { vault = vault; vault_after = vault; out = held; out_after = held }))
     c.settings-settings.ensures.value
     (c.a_header_begins_the_bundle.ensures.cut receipts (g.D.Digests.functions (digests_of c.args.world)) (requests_of c.args.world) vault vault held (GrowsByFront-none vault _)))
