@@ -1,5 +1,5 @@
 -- Where a run stops: the vault took a front of the bundle of its logs, and the sink a front of the lines that this certifies.
-use Rattle.std.proofs.Common.{◌≡◌, Bool, ℕ, zero, suc, ◌<◌, ◌≤◌, List, [], ◌∷◌, ◌++◌, length, map, replicate, Option, None, inl, inr, refl, sym, ◌∙◌, ap, subst, append_assoc, append-nil, arith}
+use Rattle.std.proofs.Common.{◌≡◌, ◌⊎◌, Bool, ℕ, zero, suc, ◌+◌, ◌*◌, ◌<◌, ◌≤◌, List, [], ◌∷◌, ◌++◌, length, map, take, Option, None, inl, inr, refl, sym, ◌∙◌, ap, subst, append_assoc, append-nil, arith}
 use Rattle.std.proofs.lemmas.Bool.{cases_lt}
 use Rattle.fv_outside.specs.Written.{GrowsByFront}
 use Rattle.fv_outside.proofs.WrittenLaws.{Grows-then, GrowsByFront-more, GrowsByFront-none}
@@ -23,16 +23,17 @@ use Rattle.host_world.specs.ShippedHost.{shipped_host}
 use Rattle.host_world.specs.Shown.{shown_world, digests_of, requests_of}
 use Rattle.host_world.specs.Behind.{before_each, with_logs}
 use Rattle.host_serving.proofs.LeadingLaws.{leads-none}
-use Rattle.host_log.specs.Frames.{pieces_text}
-use Rattle.host_rounds.specs.Round.{logs_with, pieces_of}
-use Rattle.host_rounds.specs.Bundle.{IsBundle}
+use Rattle.host_rounds.specs.Round.{logs_with, round_text}
+use Rattle.host_rounds.specs.Bundle.{IsBundle, HasBundle}
 use Rattle.host_rounds.specs.SoFar.{RunsSoFar, lines_due}
 use Rattle.host_rounds.proofs.RoundLaws.{counted-front, logs_with-none}
 use Rattle.verifier_threads.specs.declared.runner.Runner.{Runner}
-use Rattle.verifier_threads.specs.Serving.{Outputs, AreOfRunSoFar, IsCutOff, texts_of}
+use Rattle.verifier_threads.specs.InRounds.{Logs, logged_with, no_logs}
+use Rattle.verifier_threads.specs.Serving.{Outputs, AreOfRunSoFar, HasTold, IsCutOff, IsCutInRound, texts_of}
 use Rattle.verifier_threads.specs.Summing.{IsCutBefore}
-use Rattle.verifier_threads.specs.Running.{IsRunning, Runs, logged_with}
-use Rattle.verifier_threads.proofs.HandingLemmas.{logged_with-texts, texts-length}
+use Rattle.verifier_threads.specs.Running.{IsRunning, Runs}
+use Rattle.verifier_threads.proofs.RoundLemmas.{texts-more}
+use Rattle.verifier_threads.proofs.HandingLemmas.{logged_with-texts, logs-behind, texts-length}
 use Rattle.verifier_threads.proofs.RunningLemmas.{running-workers}
 use Rattle.verifier_threads.proofs.EndingLemmas.{texts-none, set_up-count}
 
@@ -40,17 +41,17 @@ use Rattle.verifier_threads.proofs.EndingLemmas.{texts-none, set_up-count}
 
 -- what a bundle's bytes certify, whatever follows them
 abbrev pub StaysDue : Type 0
-StaysDue = (receipts : Bool) (functions : DigestFunctions) (header : Header) (logs : List (List ℕ)) (bytes more : List ℕ) → IsBundle header logs bytes
+StaysDue = (receipts : Bool) (functions : DigestFunctions) (header : Header) (logs : List (List ℕ)) (rounds : List (List (List ℕ))) (bytes more : List ℕ) → IsBundle header logs rounds bytes
     → (rest : List ℕ) × ((check_answer receipts functions (bytes ++ more)).due ≡ lines_due (told_by receipts functions header) functions header logs ++ rest)
 
 -- the header alone is one
 abbrev pub HeadersAreBundles : Type 0
-HeadersAreBundles = (header : Header) → IsHeader header → header.first < 4294967296 → IsBundle header (empty_logs header.verifiers) (header_text header)
+HeadersAreBundles = (header : Header) → IsHeader header → header.first < 4294967296 → IsBundle header (empty_logs header.verifiers) [] (header_text header)
 
 -- and so is one with the frames of a round behind it
 abbrev pub RoundsFollow : Type 0
-RoundsFollow = (header : Header) (logs round : List (List ℕ)) (bytes : List ℕ) → IsBundle header logs bytes → length round ≤ header.verifiers
-    → IsBundle header (logs_with logs round) (bytes ++ pieces_text (pieces_of 0 round))
+RoundsFollow = (header : Header) (logs round : List (List ℕ)) (rounds : List (List (List ℕ))) (bytes : List ℕ) → IsBundle header logs rounds bytes → length round ≡ header.verifiers
+    → IsBundle header (logs_with logs round) (rounds ++ (round ∷ [])) (bytes ++ round_text round)
 
 -- ---- before the first round
 
@@ -62,10 +63,10 @@ first-round (suc count) [] each = absurd (omega (arith, each))
 first-round (suc count) (bytes ∷ round) each = ap (λ (rest : List (List ℕ)). bytes ∷ rest) (first-round count round (omega (arith, each)))
 
 -- The logs of a run that is set up, or that can't be; their bundle begins with the header.
-pub record BeginsWith (functions : DigestFunctions) (settings : Settings) (script : List (List Task)) (logs : List (List Command)) : Type 0 where
-  pub run : AreOfRunSoFar functions settings script logs
+pub record BeginsWith (functions : DigestFunctions) (settings : Settings) (script : List (List Task)) (rounds : List Logs) (logs : Logs) : Type 0 where
+  pub run : AreOfRunSoFar functions settings script rounds logs
   pub more : List ℕ
-  pub is_bundle : IsBundle settings.header (texts_of logs) (header_text settings.header ++ more)
+  pub is_bundle : IsBundle settings.header (texts_of logs) (map texts_of rounds) (header_text settings.header ++ more)
 
 module _ (opened : HeadersAreBundles) (follow : RoundsFollow) (functions : DigestFunctions) (settings : Settings) (script : List (List Task)) (fit : IsSettings settings)
     (first : settings.header.first < 4294967296) where
@@ -75,34 +76,42 @@ module _ (opened : HeadersAreBundles) (follow : RoundsFollow) (functions : Diges
   abbrev head : List ℕ
   head = header_text settings.header
 
-  begins-with_none : settings.header.end < settings.shards → BeginsWith functions settings script (replicate settings.header.verifiers [])
+  begins-with_none : settings.header.end < settings.shards → BeginsWith functions settings script [] (no_logs settings.header.verifiers)
   begins-with_none short = record {
-    run = record { served = λ enough. absurd (omega (arith, enough, short)); unserved = λ _. refl };
+    run = record { served = λ enough. absurd (omega (arith, enough, short)); unserved = λ _. (refl, refl) };
     more = [];
-    is_bundle = subst (λ (all : List (List ℕ)). IsBundle settings.header all (head ++ [])) (sym (texts-none settings.header.verifiers))
-        (subst (IsBundle settings.header (empty_logs settings.header.verifiers)) (sym (append-nil head)) (opened settings.header fit.header first));
+    is_bundle = subst (λ (all : List (List ℕ)). IsBundle settings.header all [] (head ++ [])) (sym (texts-none settings.header.verifiers))
+        (subst (IsBundle settings.header (empty_logs settings.header.verifiers) []) (sym (append-nil head)) (opened settings.header fit.header first));
   }
 
-  begins-with_setup : settings.shards ≤ settings.header.end → BeginsWith functions settings script (logs_of (set_up own_host))
+  begins-with_setup : settings.shards ≤ settings.header.end → BeginsWith functions settings script (logs_of (set_up own_host) ∷ []) (logs_of (set_up own_host))
   begins-with_setup enough =
       let world = set_up own_host in
       let round = texts_of (logs_of world) in
       let each : length round ≡ settings.header.verifiers = texts-length world.workers ∙ set_up-count settings own_host world fit refl refl in
       record {
         run = record {
-          served = λ _. record { world = world; way = (None, leads-none own_host world); logs_are = refl };
+          served = λ _. record {
+            world = world;
+            way = (None, leads-none own_host world);
+            logs_are = refl;
+            done = [];
+            since = logs_of world;
+            rounds_are = refl;
+            passed = (None, leads-none own_host world);
+          };
           unserved = λ short. absurd (omega (arith, enough, short));
         };
-        more = pieces_text (pieces_of 0 round);
-        is_bundle = subst (λ (all : List (List ℕ)). IsBundle settings.header all (head ++ pieces_text (pieces_of 0 round)))
+        more = round_text round;
+        is_bundle = subst (λ (all : List (List ℕ)). IsBundle settings.header all (round ∷ []) (head ++ round_text round))
             (first-round settings.header.verifiers round each)
-            (follow settings.header (empty_logs settings.header.verifiers) round head (opened settings.header fit.header first) (omega (arith, each)));
+            (follow settings.header (empty_logs settings.header.verifiers) round [] head (opened settings.header fit.header first) each);
       }
 
-  begins : (logs : List (List Command)) × BeginsWith functions settings script logs
+  begins : (rounds : List Logs) × (logs : Logs) × BeginsWith functions settings script rounds logs
   begins = elim (cases_lt settings.header.end settings.shards) [
-    | inl short ↦ (_, begins-with_none short)
-    | inr enough ↦ (_, begins-with_setup enough)
+    | inl short ↦ (_, _, begins-with_none short)
+    | inr enough ↦ (_, _, begins-with_setup enough)
   ]
 
   -- the vault took a front of the header, and nothing is written
@@ -110,35 +119,61 @@ module _ (opened : HeadersAreBundles) (follow : RoundsFollow) (functions : Diges
       → IsCutOff receipts functions settings script (record { vault = vault; vault_after = vault_after; out = out; out_after = out })
   header-cut receipts vault vault_after out grown =
       let start = begins in
-      let front = GrowsByFront-more vault vault_after head start.1.more grown in
+      let front = GrowsByFront-more vault vault_after head start.2.more grown in
       record {
-        logs = start.0;
-        run = start.1.run;
-        vault = record { bytes = head ++ start.1.more; is_bundle = start.1.is_bundle; grown = front };
+        rounds = start.0;
+        logs = start.1;
+        run = start.2.run;
+        vault = record { bytes = head ++ start.2.more; is_bundle = start.2.is_bundle; grown = front };
         out = GrowsByFront-none out (check_answer receipts functions front.front).due;
       }
 
 -- a load that is cut off as a run is, of which no line is written, is cut off before its summary
 pub cut-before : (receipts : Bool) (functions : DigestFunctions) (settings : Settings) (script : List (List Task)) (outputs : Outputs) (out : Option (List ℕ))
     → IsCutOff receipts functions settings script outputs → IsCutBefore functions settings script (record outputs { out = out; out_after = out })
-cut-before receipts functions settings script outputs out cut = record { logs = cut.logs; run = cut.run; vault = cut.vault; out = refl }
+cut-before receipts functions settings script outputs out cut = record { rounds = cut.rounds; logs = cut.logs; run = cut.run; vault = cut.vault; out = refl }
 
 -- ---- on the way
 
--- the logs of a world with logs in front are these with its own behind
-logs-behind : (logs : List (List Command)) (workers : List Worker) → length logs ≡ length workers
-    → logged_with logs (map (λ worker. worker.log) workers) ≡ map (λ worker. worker.log) (before_each logs workers)
-logs-behind [] [] each = refl
-logs-behind [] (worker ∷ workers) each = absurd (omega (arith, each))
-logs-behind (log ∷ logs) [] each = absurd (omega (arith, each))
-logs-behind (log ∷ logs) (worker ∷ workers) each =
-    ap (λ (rest : List (List Command)). (log ++ worker.log) ∷ rest) (logs-behind logs workers (omega (arith, each)))
+module _ (receipts : Bool) (functions : DigestFunctions) (settings : Settings) (script : List (List Task)) (world : World Content)
+    (rounds : RunsSoFar) (end : Option ClockEnd) (past : List Logs) (outputs : Outputs) (running : IsRunning receipts functions settings script world rounds end past outputs) where
+  -- what is not handed out yet is a round more
+  so_far : AreOfRunSoFar functions settings script (past ++ (logs_of world ∷ [])) (logged_with running.logs (logs_of world))
+  so_far = record {
+    served = λ _. record {
+      world = with_logs running.logs world;
+      way = (end, running.way);
+      logs_are = logs-behind running.logs world.workers running.each;
+      done = past;
+      since = logs_of world;
+      rounds_are = refl;
+      passed = running.passed;
+    };
+    unserved = λ short. absurd (omega (arith, short, running.counters));
+  }
+
+  -- All lines are that the rounds up to the last close certify.
+  pub running-cut_in_round : (vault : Option (List ℕ)) (phases closes : ℕ) → length past ≡ phases + closes → (phases ≡ closes) ⊎ (phases ≡ suc closes)
+      → HasTold receipts functions settings.header (take (2 * closes) past) outputs → GrowsByFront outputs.vault_after vault (round_text (texts_of (logs_of world)))
+      → IsCutInRound receipts functions settings script (record outputs { vault_after = vault })
+  running-cut_in_round vault phases closes count stage told grown = record {
+    past = past;
+    round = logs_of world;
+    logs = logged_with running.logs (logs_of world);
+    run = so_far;
+    held = outputs.vault_after;
+    whole = subst (λ (logs : List (List ℕ)). HasBundle settings.header logs (map texts_of past) outputs.vault outputs.vault_after) running.keeps.vault.is_bundle.logs_are running.keeps.vault;
+    front = grown;
+    closes = closes;
+    count = elim stage [ inl same ↦ inl (omega (arith, count, same)) | inr more ↦ inr (omega (arith, count, more)) ];
+    told = told;
+  }
 
 module _ (stays : StaysDue) (follow : RoundsFollow) (receipts : Bool) (functions : DigestFunctions) (settings : Settings) (script : List (List Task)) (world : World Content)
-    (rounds : RunsSoFar) (end : Option ClockEnd) (outputs : Outputs) (running : IsRunning receipts functions settings script world rounds end outputs) where
+    (rounds : RunsSoFar) (end : Option ClockEnd) (past : List Logs) (outputs : Outputs) (running : IsRunning receipts functions settings script world rounds end past outputs) where
   -- the frames of what is not handed out yet
   abbrev pub next_frames : List ℕ
-  next_frames = pieces_text (pieces_of 0 (texts_of (logs_of world)))
+  next_frames = round_text (texts_of (logs_of world))
 
   -- the lines of what was handed out
   abbrev pub own_due : List ℕ
@@ -159,18 +194,17 @@ module _ (stays : StaysDue) (follow : RoundsFollow) (receipts : Bool) (functions
       let has = running.keeps.vault in
       let logs = texts_of running.logs in
       let round = texts_of (logs_of world) in
-      let count = running-workers receipts functions settings script world rounds end outputs running in
-      let due = stays receipts functions settings.header logs has.bytes grown.front has.is_bundle in
+      let count = running-workers receipts functions settings script world rounds end past outputs running in
+      let due = stays receipts functions settings.header logs (map texts_of past) has.bytes grown.front has.is_bundle in
       record {
+        rounds = past ++ (logs_of world ∷ []);
         logs = logged_with running.logs (logs_of world);
-        run = record {
-          served = λ _. record { world = with_logs running.logs world; way = (end, running.way); logs_are = logs-behind running.logs world.workers running.each };
-          unserved = λ short. absurd (omega (arith, short, running.counters));
-        };
+        run = so_far receipts functions settings script world rounds end past outputs running;
         vault = record {
           bytes = has.bytes ++ next_frames;
-          is_bundle = subst (λ (all : List (List ℕ)). IsBundle settings.header all (has.bytes ++ next_frames)) (sym (logged_with-texts running.logs (logs_of world)))
-              (follow settings.header logs round has.bytes has.is_bundle (omega (arith, texts-length world.workers, count)));
+          is_bundle = subst (λ (rs : List (List (List ℕ))). IsBundle settings.header (texts_of (logged_with running.logs (logs_of world))) rs (has.bytes ++ next_frames)) (sym (texts-more past (logs_of world)))
+              (subst (λ (all : List (List ℕ)). IsBundle settings.header all (map texts_of past ++ (round ∷ [])) (has.bytes ++ next_frames)) (sym (logged_with-texts running.logs (logs_of world)))
+              (follow settings.header logs round (map texts_of past) has.bytes has.is_bundle (texts-length world.workers ∙ count)));
           grown = record {
             front = has.bytes ++ grown.front;
             rest = grown.rest;
@@ -188,33 +222,53 @@ module _ (stays : StaysDue) (follow : RoundsFollow) (receipts : Bool) (functions
 
 -- ---- runners
 
-module _ (stays : StaysDue) (follow : RoundsFollow) (receipts : Bool) {D : Type 0} (functions : D → DigestFunctions) (runner : Runner D) (outputs : Outputs)
-    (runs : Runs receipts functions runner outputs) where
-  abbrev own_world : World Content
+module _ (receipts : Bool) {D : Type 0} (functions : D → DigestFunctions) (runner : Runner D) (outputs : Outputs) (past : List Logs)
+    (runs : Runs receipts functions runner past outputs) where
+  abbrev pub own_world : World Content
   own_world = shown_world runner.world
 
-  -- it stops with nothing written since
-  pub runs-cut : (vault out : Option (List ℕ)) → outputs.vault_after ≡ vault → outputs.out_after ≡ out
-      → IsCutOff receipts (functions (digests_of runner.world)) runner.world.settings (requests_of runner.world) (record outputs { vault_after = vault; out_after = out })
-  runs-cut vault out vault_is out_is =
-      subst (λ (o : Option (List ℕ)). IsCutOff receipts (functions (digests_of runner.world)) runner.world.settings (requests_of runner.world) (record outputs { vault_after = vault; out_after = o })) out_is
-      (running-cut stays follow _ _ _ _ own_world runner.rounds runner.end outputs runs.running vault
-      (subst (λ (v : Option (List ℕ)). GrowsByFront outputs.vault_after v (pieces_text (pieces_of 0 (texts_of (logs_of own_world))))) vault_is
-      (GrowsByFront-none outputs.vault_after (pieces_text (pieces_of 0 (texts_of (logs_of own_world)))))))
+  module _ (stays : StaysDue) (follow : RoundsFollow) where
+    -- it stops with nothing written since
+    pub runs-cut : (vault out : Option (List ℕ)) → outputs.vault_after ≡ vault → outputs.out_after ≡ out
+        → IsCutOff receipts (functions (digests_of runner.world)) runner.world.settings (requests_of runner.world) (record outputs { vault_after = vault; out_after = out })
+    runs-cut vault out vault_is out_is =
+        subst (λ (o : Option (List ℕ)). IsCutOff receipts (functions (digests_of runner.world)) runner.world.settings (requests_of runner.world) (record outputs { vault_after = vault; out_after = o })) out_is
+        (running-cut stays follow _ _ _ _ own_world runner.rounds runner.end past outputs runs.running vault
+        (subst (λ (v : Option (List ℕ)). GrowsByFront outputs.vault_after v (round_text (texts_of (logs_of own_world)))) vault_is
+        (GrowsByFront-none outputs.vault_after (round_text (texts_of (logs_of own_world))))))
 
-  -- or while the vault takes what its workers logged
-  pub runs-cut_round : (vault vault' : Option (List ℕ)) (round : List (List ℕ)) → outputs.vault_after ≡ vault → round ≡ texts_of (logs_of own_world)
-      → GrowsByFront vault vault' (pieces_text (pieces_of 0 round))
-      → IsCutOff receipts (functions (digests_of runner.world)) runner.world.settings (requests_of runner.world) (record outputs { vault_after = vault' })
-  runs-cut_round vault vault' round vault_is round_is grown =
-      running-cut stays follow _ _ _ _ own_world runner.rounds runner.end outputs runs.running vault'
-      (subst (λ (all : List (List ℕ)). GrowsByFront outputs.vault_after vault' (pieces_text (pieces_of 0 all))) round_is
-      (subst (λ (v : Option (List ℕ)). GrowsByFront v vault' (pieces_text (pieces_of 0 round))) (sym vault_is) grown))
+    -- or while the vault takes what its workers logged
+    pub runs-cut_round : (vault vault' : Option (List ℕ)) (round : List (List ℕ)) → outputs.vault_after ≡ vault → round ≡ texts_of (logs_of own_world)
+        → GrowsByFront vault vault' (round_text round)
+        → IsCutOff receipts (functions (digests_of runner.world)) runner.world.settings (requests_of runner.world) (record outputs { vault_after = vault' })
+    runs-cut_round vault vault' round vault_is round_is grown =
+        running-cut stays follow _ _ _ _ own_world runner.rounds runner.end past outputs runs.running vault'
+        (subst (λ (all : List (List ℕ)). GrowsByFront outputs.vault_after vault' (round_text all)) round_is
+        (subst (λ (v : Option (List ℕ)). GrowsByFront v vault' (round_text round)) (sym vault_is) grown))
 
-  -- or while the sink takes the lines of it
-  pub runs-cut_lines : (out : Option (List ℕ))
-      → GrowsByFront outputs.out out (lines_due (told_by receipts (functions (digests_of runner.world)) runner.world.settings.header) (functions (digests_of runner.world)) runner.world.settings.header (texts_of runs.running.logs))
-      → IsCutOff receipts (functions (digests_of runner.world)) runner.world.settings (requests_of runner.world) (record outputs { out_after = out })
-  runs-cut_lines out written =
-      running-cut_lines stays follow _ _ _ _ own_world runner.rounds runner.end outputs runs.running outputs.vault_after out
-      (GrowsByFront-none outputs.vault_after (pieces_text (pieces_of 0 (texts_of (logs_of own_world))))) written
+    -- or while the sink takes the lines of it
+    pub runs-cut_lines : (out : Option (List ℕ))
+        → GrowsByFront outputs.out out (lines_due (told_by receipts (functions (digests_of runner.world)) runner.world.settings.header) (functions (digests_of runner.world)) runner.world.settings.header (texts_of runs.running.logs))
+        → IsCutOff receipts (functions (digests_of runner.world)) runner.world.settings (requests_of runner.world) (record outputs { out_after = out })
+    runs-cut_lines out written =
+        running-cut_lines stays follow _ _ _ _ own_world runner.rounds runner.end past outputs runs.running outputs.vault_after out
+        (GrowsByFront-none outputs.vault_after (round_text (texts_of (logs_of own_world)))) written
+
+  module _ (phases closes : ℕ) (count : length past ≡ phases + closes) (stage : (phases ≡ closes) ⊎ (phases ≡ suc closes))
+      (told : HasTold receipts (functions (digests_of runner.world)) runner.world.settings.header (take (2 * closes) past) outputs) where
+    -- it stops with nothing taken of the next round
+    pub runs-cut_before : (vault : Option (List ℕ)) → outputs.vault_after ≡ vault
+        → IsCutInRound receipts (functions (digests_of runner.world)) runner.world.settings (requests_of runner.world) (record outputs { vault_after = vault })
+    runs-cut_before vault vault_is =
+        running-cut_in_round _ _ _ _ own_world runner.rounds runner.end past outputs runs.running vault phases closes count stage told
+        (subst (λ (v : Option (List ℕ)). GrowsByFront outputs.vault_after v (round_text (texts_of (logs_of own_world)))) vault_is
+        (GrowsByFront-none outputs.vault_after (round_text (texts_of (logs_of own_world)))))
+
+    -- or with a front of it
+    pub runs-cut_in_round : (vault vault' : Option (List ℕ)) (round : List (List ℕ)) → outputs.vault_after ≡ vault → round ≡ texts_of (logs_of own_world)
+        → GrowsByFront vault vault' (round_text round)
+        → IsCutInRound receipts (functions (digests_of runner.world)) runner.world.settings (requests_of runner.world) (record outputs { vault_after = vault' })
+    runs-cut_in_round vault vault' round vault_is round_is grown =
+        running-cut_in_round _ _ _ _ own_world runner.rounds runner.end past outputs runs.running vault' phases closes count stage told
+        (subst (λ (all : List (List ℕ)). GrowsByFront outputs.vault_after vault' (round_text all)) round_is
+        (subst (λ (v : Option (List ℕ)). GrowsByFront v vault' (round_text round)) (sym vault_is) grown))

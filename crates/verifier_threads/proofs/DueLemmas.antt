@@ -16,6 +16,7 @@ use Rattle.bundle_report.specs.Answer.{answer_by, check_answer}
 use Rattle.bundle_report.proofs.DueLaws.{due-stays}
 use Rattle.host_log.specs.Frames.{frames_of, texts_of, frames_text, frames_of_pieces, pieces_text}
 use Rattle.host_rounds.specs.Bundle.{IsBundle}
+use Rattle.host_rounds.proofs.BundleLemmas.{pieces_in, rounds-text, rounds-joined, rounds-numbers}
 use Rattle.host_rounds.specs.SoFar.{lines_due}
 
 -- ---- what is told of frames
@@ -132,16 +133,17 @@ abbrev bundle_with : Header → Frames → Bundle
 bundle_with header found = record { header = Some header; frames = found.frames; bad = found.bad }
 
 module _ (enough : AreEnough) (back : AreReadBack) (heads : HeadsAreRead) (are : AreFrames) (keep : KeepLogs) where
-  pub what-stays_due : (receipts : Bool) (functions : DigestFunctions) (header : Header) (logs : List (List ℕ)) (bytes more : List ℕ) → IsBundle header logs bytes
+  pub what-stays_due : (receipts : Bool) (functions : DigestFunctions) (header : Header) (logs : List (List ℕ)) (rounds : List (List (List ℕ))) (bytes more : List ℕ) → IsBundle header logs rounds bytes
       → (rest : List ℕ) × ((check_answer receipts functions (bytes ++ more)).due ≡ lines_due (told_by receipts functions header) functions header logs ++ rest)
-  what-stays_due receipts functions header logs bytes more bundle =
-      let frames = frames_of_pieces bundle.pieces in
+  what-stays_due receipts functions header logs rounds bytes more bundle =
+      let pieces = pieces_in rounds in
+      let frames = frames_of_pieces pieces in
       let empty = empty_logs header.verifiers in
       let behind_it = texts_of frames ++ more in
       let most = bundle.header_good.verifiers in
-      let found = frames-more enough back header.verifiers header_bytes frames more (omega (arith, most)) (pieces-frames are header.verifiers bundle.pieces bundle.numbers) in
+      let found = frames-more enough back header.verifiers header_bytes frames more (omega (arith, most)) (pieces-frames are header.verifiers pieces (rounds-numbers header.verifiers rounds bundle.each)) in
       let all : bytes ++ more ≡ header_text header ++ behind_it =
-      ap (λ (text : List ℕ). text ++ more) (bundle.bytes_are ∙ ap (λ (text : List ℕ). header_text header ++ text) (pieces-text bundle.pieces))
+      ap (λ (text : List ℕ). text ++ more) (bundle.bytes_are ∙ ap (λ (text : List ℕ). header_text header ++ text) (rounds-text rounds ∙ pieces-text pieces))
       ∙ append_assoc (header_text header) (texts_of frames) more in
       let is : bundle_of (bytes ++ more) ≡ bundle_with header (with_more frames found.0) =
       ap bundle_of all
@@ -150,8 +152,8 @@ module _ (enough : AreEnough) (back : AreReadBack) (heads : HeadsAreRead) (are :
       let logs_are : joined_from 0 empty (frames ++ found.0.frames) ≡ joined_from 0 logs found.0.frames =
       joined-more 0 empty frames found.0.frames
       ∙ ap (λ (front : List (List ℕ)). joined_from 0 front found.0.frames)
-      (joined-same 0 empty frames bundle.pieces (λ verifier. keep verifier bundle.pieces) ∙ sym bundle.logs_are) in
-      let whole : length logs ≡ header.verifiers = ap length bundle.logs_are ∙ joined-length 0 empty bundle.pieces ∙ empty-length header.verifiers in
+      (joined-same 0 empty frames pieces (λ verifier. keep verifier pieces) ∙ sym (bundle.logs_are ∙ rounds-joined empty rounds)) in
+      let whole : length logs ≡ header.verifiers = ap length (bundle.logs_are ∙ rounds-joined empty rounds) ∙ joined-length 0 empty pieces ∙ empty-length header.verifiers in
       let stays = due-stays (told_by receipts functions header) (scheme_of functions header) header logs found.0.frames bundle.header_good whole in (
         stays.0,
         ap (λ (b : Bundle). (answer_by receipts functions (behind None [] b)).due) is

@@ -1,5 +1,5 @@
 -- Where a run ends: what is served, and what its report says.
-use Rattle.std.proofs.Common.{◌≡◌, Bool, ◌-◌, ℕ, zero, suc, ◌<◌, ◌≤◌, false, List, [], ◌∷◌, length, map, get_or, replicate, Option, None, inr, refl, sym, ◌∙◌, ap, subst, arith}
+use Rattle.std.proofs.Common.{◌≡◌, Bool, ◌+◌, ◌*◌, ◌-◌, ℕ, zero, suc, ◌<◌, ◌≤◌, false, List, [], ◌∷◌, length, map, get_or, replicate, Option, None, inr, refl, sym, ◌∙◌, ap, subst, arith}
 use Rattle.std.specs.List.{AllByRecursion}
 use Rattle.std.proofs.lemmas.List.{length-map, length-replicate}
 use Rattle.fv_outside.specs.Written.{Grows, GrowsByFront}
@@ -26,10 +26,10 @@ use Rattle.script_text.specs.Text.{AreTasks, IsTask}
 use Rattle.host_world.specs.declared.fault.ClockEnd.{ClockEnd}
 use Rattle.host_world.specs.declared.settings.Settings.{Settings}
 use Rattle.host_world.specs.declared.world.World as code
-use Rattle.host_world.specs.Shown.{shown_world, requests_of}
+use Rattle.host_world.specs.Shown.{shown_world, digests_of, requests_of}
 use Rattle.host_world.specs.ShippedHost.{shipped_host, turn_of}
 use Rattle.host_world.specs.Settings.{IsSettings}
-use Rattle.host_world.specs.Behind.{AreInRange, AreOfOneHost, with_logs}
+use Rattle.host_world.specs.Behind.{AreInRange, AreOfOneHost, host_of, with_logs}
 use Rattle.host_world.proofs.FrontLaws.{before_each-none}
 use Rattle.host_fits.specs.Promise.{CanRun}
 use Rattle.host_serving.specs.Leading.{Leads}
@@ -40,10 +40,11 @@ use Rattle.host_rounds.specs.SoFar.{RunsSoFar, Keeps, AllCounted, lines_due, sum
 use Rattle.host_rounds.proofs.RoundLaws.{counted-none, summary-is}
 use Rattle.verifier_threads.specs.declared.ending.RunEnd.{RunEnd}
 use Rattle.verifier_threads.specs.declared.runner.Runner.{Runner}
+use Rattle.verifier_threads.specs.InRounds.{Logs}
 use Rattle.verifier_threads.specs.Serving.{Outputs, AreOfRun, IsServed, IsCutAtEnd, end_by, status_at, texts_of}
 use Rattle.verifier_threads.specs.declared.loads.Load.{Load}
 use Rattle.verifier_threads.specs.Summing.{IsSummed, IsCutInSummary}
-use Rattle.verifier_threads.specs.Running.{IsRunning, Runs, IsAtPhase, IsAtEnd}
+use Rattle.verifier_threads.specs.Running.{IsRunning, Runs, RunsWhole, RunsToEnd, IsAtPhase, IsAtEnd}
 use Rattle.verifier_threads.proofs.RunningLemmas.{running-workers}
 use Rattle.verifier_threads.proofs.HandingLemmas.{front-logs}
 use Rattle.verifier_threads.proofs.StandingLemmas.{all_with, rests_with, lowest_with}
@@ -89,23 +90,25 @@ pub record IsRunningFrom (functions : DigestFunctions) (settings : Settings) (sc
 
 -- the run before its first phase
 pub running-new : (receipts : Bool) (functions : DigestFunctions) (settings : Settings) (script : List (List Task)) (world : World Content) (rounds : RunsSoFar) (vault vault_after out : Option (List ℕ))
-    → IsRunningFrom functions settings script world → Keeps functions settings.header (empty_logs settings.header.verifiers) rounds vault vault_after
+    → IsRunningFrom functions settings script world → Keeps functions settings.header (empty_logs settings.header.verifiers) [] rounds vault vault_after
     → rounds.judged.count ≡ 0
-    → IsRunning receipts functions settings script world rounds None (record { vault = vault; vault_after = vault_after; out = out; out_after = out })
+    → IsRunning receipts functions settings script world rounds None [] (record { vault = vault; vault_after = vault_after; out = out; out_after = out })
 running-new receipts functions settings script world rounds vault vault_after out from keeps none' =
     let host = shipped_host functions settings script in
     let logs = replicate settings.header.verifiers [] in
     let texts = texts-none settings.header.verifiers in
+    let same : with_logs logs world ≡ set_up host =
+    ap (λ (workers : List Worker). record world { workers = workers }) (before_each-none settings.header.verifiers world.workers) ∙ from.is in
     record {
       settings_fit = from.settings_fit;
       counters = from.counters;
       keys = from.keys;
       logs = logs;
+      joined = refl;
       each = length-replicate settings.header.verifiers [] ∙ sym from.count;
-      way = subst (λ (w : World Content). Leads host (set_up host) w None)
-          (sym (ap (λ (workers : List Worker). record world { workers = workers }) (before_each-none settings.header.verifiers world.workers) ∙ from.is))
-          (leads-none host (set_up host));
-      keeps = subst (λ (all : List (List ℕ)). Keeps functions settings.header all rounds vault vault_after) (sym texts) keeps;
+      way = subst (λ (w : World Content). Leads host (set_up host) w None) (sym same) (leads-none host (set_up host));
+      passed = (None, subst (λ (w : World Content). Leads host (set_up host) w None) (sym same) (leads-none host (set_up host)));
+      keeps = subst (λ (all : List (List ℕ)). Keeps functions settings.header all [] rounds vault vault_after) (sym texts) keeps;
       written = subst (Grows out out) (sym (counted-none (told_by receipts functions settings.header) functions settings.header (texts_of logs) rounds none')) (Grows-nil out);
     }
 
@@ -138,7 +141,7 @@ ChecksAsDone = (functions : DigestFunctions) (settings : Settings) (script : Lis
     ≡ Done (suc (run_events host (set_up host) events).phase)
 
 module _ (receipts : Bool) (functions : DigestFunctions) (settings : Settings) (script : List (List Task)) (world : World Content) (rounds : RunsSoFar)
-    (end : Option ClockEnd) (outputs : Outputs) (running : IsRunning receipts functions settings script world rounds end outputs)
+    (end : Option ClockEnd) (past : List Logs) (outputs : Outputs) (running : IsRunning receipts functions settings script world rounds end past outputs)
     (at : IsAtEnd (shipped_host functions settings script) world end) where
   abbrev own_host : Host Content Request
   own_host = shipped_host functions settings script
@@ -149,8 +152,8 @@ module _ (receipts : Bool) (functions : DigestFunctions) (settings : Settings) (
   logs-are : running.logs ≡ logs_of all_logged
   logs-are = front-logs running.logs world.workers running.each at.handed
 
-  pub ended-run : AreOfRun functions settings script running.logs end
-  ended-run = record {
+  pub ended-run : (end ≡ None → length past ≡ 2 * length script) → AreOfRun functions settings script past running.logs end
+  ended-run count = record {
     served = λ enough. record {
       world = all_logged;
       way = running.way;
@@ -158,6 +161,8 @@ module _ (receipts : Bool) (functions : DigestFunctions) (settings : Settings) (
       logs_are = logs-are;
       whole = λ none'. all_with own_host running.logs world (at.whole none');
       lowest = lowest_with own_host running.logs world end at.lowest;
+      passed = running.passed;
+      count = count;
     };
     unserved = λ short. absurd (omega (arith, short, running.counters));
   }
@@ -181,7 +186,7 @@ module _ (receipts : Bool) (functions : DigestFunctions) (settings : Settings) (
       ap (λ (e : BundleEnd). last_line (status_of e)) (ended-due checks digests none')
       ∙ ap (λ (e : Option ClockEnd). last_line (status_at (end_by (length script) e))) (sym none')
 
-  module _ (all : AllCounted functions settings.header (texts_of running.logs) rounds) where
+  module _ (all : AllCounted functions settings.header (texts_of running.logs) rounds) (count : end ≡ None → length past ≡ 2 * length script) where
     -- all that is due is written
     due-written : Grows outputs.out outputs.out_after (lines_due (told_by receipts functions settings.header) functions settings.header (texts_of running.logs))
     due-written =
@@ -196,7 +201,8 @@ module _ (receipts : Bool) (functions : DigestFunctions) (settings : Settings) (
     ended-served out' result is written = record {
       logs = running.logs;
       end = end;
-      run = ended-run;
+      rounds = past;
+      run = ended-run count;
       is = is;
       vault = running.keeps.vault;
       out = Grows-then outputs.out outputs.out_after out' (lines_due (told_by receipts functions settings.header) functions settings.header (texts_of running.logs)) (last_line (status_at result)) due-written written;
@@ -208,7 +214,8 @@ module _ (receipts : Bool) (functions : DigestFunctions) (settings : Settings) (
     ended-cut out' written = record {
       logs = running.logs;
       end = end;
-      run = ended-run;
+      rounds = past;
+      run = ended-run count;
       vault = running.keeps.vault;
       out = GrowsByFront-then outputs.out outputs.out_after out' (lines_due (told_by receipts functions settings.header) functions settings.header (texts_of running.logs)) (last_line (status_at (end_by (length script) end))) due-written written;
     }
@@ -220,7 +227,8 @@ module _ (receipts : Bool) (functions : DigestFunctions) (settings : Settings) (
     ended-summed load out out' result is written = record {
       logs = running.logs;
       end = end;
-      run = ended-run;
+      rounds = past;
+      run = ended-run count;
       is = is;
       vault = running.keeps.vault;
       out = subst (Grows out out')
@@ -234,7 +242,8 @@ module _ (receipts : Bool) (functions : DigestFunctions) (settings : Settings) (
     ended-cut_summary load out out' result is written = record {
       logs = running.logs;
       end = end;
-      run = ended-run;
+      rounds = past;
+      run = ended-run count;
       vault = running.keeps.vault;
       out = subst (GrowsByFront out out')
           (summary-is functions settings.header (texts_of running.logs) rounds load.seed load.ops (status_at result) running.keeps.runs all
@@ -266,6 +275,20 @@ turns-now old now phase same tasks count =
     (subst (AreTasks old.settings.header.verifiers) (sym same.requests) tasks)))
 
 -- as many workers as verifiers, where the run goes on
-pub runs-workers : (receipts : Bool) {D : Type 0} (functions : D → DigestFunctions) (runner : Runner D) (outputs : Outputs) → Runs receipts functions runner outputs
+pub runs-workers : (receipts : Bool) {D : Type 0} (functions : D → DigestFunctions) (runner : Runner D) (past : List Logs) (outputs : Outputs) → Runs receipts functions runner past outputs
     → length runner.world.workers.items ≡ runner.world.settings.header.verifiers
-runs-workers receipts functions runner outputs runs = running-workers _ _ _ _ (shown_world runner.world) runner.rounds runner.end outputs runs.running
+runs-workers receipts functions runner past outputs runs = running-workers _ _ _ _ (shown_world runner.world) runner.rounds runner.end past outputs runs.running
+
+-- behind the last close it runs to its end
+pub whole-to_end : (receipts : Bool) {D : Type 0} (functions : D → DigestFunctions) (runner : Runner D) (phase : ℕ) (outputs : Outputs)
+    → RunsWhole receipts functions runner (suc phase) outputs → IsAtEnd (host_of (functions (digests_of runner.world)) runner.world) (shown_world runner.world) runner.end
+    → (runner.end ≡ None → (shown_world runner.world).phase ≡ phase) → RunsToEnd receipts functions runner outputs
+whole-to_end receipts functions runner phase outputs whole at same = record {
+  past = whole.past;
+  runs = whole.runs;
+  all = whole.all;
+  count = λ none'.
+      let last : suc (shown_world runner.world).phase ≡ length (requests_of runner.world) = at.last none' ∙ length-map (requests_of runner.world) (map turn_of) in
+      let is = same none' in
+      omega (arith, whole.count, last, is);
+}

@@ -11,7 +11,8 @@ use Rattle.host_core.specs.World.{Worker, World, logs_of}
 use Rattle.host_world.specs.Behind.{logged_before, before_each, with_logs}
 use Rattle.host_rounds.specs.Round.{logs_with}
 use Rattle.verifier_threads.specs.Serving.{texts_of}
-use Rattle.verifier_threads.specs.Running.{with_no_log, all_handed_out, logged_with}
+use Rattle.verifier_threads.specs.InRounds.{logged_with}
+use Rattle.verifier_threads.specs.Running.{with_no_log, all_handed_out}
 
 -- ---- one after another
 
@@ -175,3 +176,12 @@ handed-next n next world d there is =
 -- all have
 pub handed-all : {C : Type 0} (n : ℕ) (world : World C) → n ≡ length world.workers → front_handed_out n world ≡ all_handed_out world
 handed-all n world is = ap (λ (workers : List Worker). record world { workers = workers }) (changed-all with_no_log n world.workers is)
+
+-- the logs of a world with logs in front are these with its own behind
+pub logs-behind : (logs : List (List Command)) (workers : List Worker) → length logs ≡ length workers
+    → logged_with logs (map (λ worker. worker.log) workers) ≡ map (λ worker. worker.log) (before_each logs workers)
+logs-behind [] [] each = refl
+logs-behind [] (worker ∷ workers) each = absurd (omega (arith, each))
+logs-behind (log ∷ logs) [] each = absurd (omega (arith, each))
+logs-behind (log ∷ logs) (worker ∷ workers) each =
+    ap (λ (rest : List (List Command)). (log ++ worker.log) ∷ rest) (logs-behind logs workers (omega (arith, each)))

@@ -3,6 +3,7 @@ mod DueLemmas
 mod HandingLemmas
 mod LowestLemmas
 mod StandingLemmas
+mod RoundLemmas
 mod RunningLemmas
 mod PassingLemmas
 mod PhaseLemmas

@@ -13,6 +13,7 @@ use Rattle.host_world.specs.declared.settings.Settings.{Settings}
 use Rattle.host_rounds.specs.Bundle.{HasBundle}
 use Rattle.host_rounds.specs.SoFar.{lines_due}
 use Rattle.verifier_threads.specs.declared.ending.RunEnd.{RunEnd}
+use Rattle.verifier_threads.specs.InRounds.{Logs, no_logs}
 use Rattle.verifier_threads.specs.Serving.{IsServed, IsCutAtEnd, AreOfRun, end_by, status_at, setup_end, texts_of, report_of}
 
 abbrev pub NothingIsDue : Type 0
@@ -27,31 +28,32 @@ empty-are (suc count) = ap (λ (rest : List (List ℕ)). [] ∷ rest) (empty-are
 
 module _ (none_due : NothingIsDue) (no_texts : NoTexts) (receipts : Bool) (functions : DigestFunctions) (settings : Settings) (script : List (List Task))
     (short : settings.header.end < settings.shards) where
-  abbrev no_logs : List (List Command)
-  no_logs = replicate settings.header.verifiers []
+  abbrev none_logged : Logs
+  none_logged = no_logs settings.header.verifiers
 
-  texts_are : empty_logs settings.header.verifiers ≡ texts_of no_logs
+  texts_are : empty_logs settings.header.verifiers ≡ texts_of none_logged
   texts_are = empty-are settings.header.verifiers ∙ sym (no_texts settings.header.verifiers)
 
-  of_run : AreOfRun functions settings script no_logs (Some (setup_end settings))
-  of_run = record { served = λ enough. absurd (omega (arith, enough, short)); unserved = λ _. (refl, refl) }
+  of_run : AreOfRun functions settings script [] none_logged (Some (setup_end settings))
+  of_run = record { served = λ enough. absurd (omega (arith, enough, short)); unserved = λ _. (refl, refl, refl) }
 
-  has_header : (vault vault_after : Option (List ℕ)) → HasBundle settings.header (empty_logs settings.header.verifiers) vault vault_after
-      → HasBundle settings.header (texts_of no_logs) vault vault_after
-  has_header vault vault_after has = subst (λ (all : List (List ℕ)). HasBundle settings.header all vault vault_after) texts_are has
+  has_header : (vault vault_after : Option (List ℕ)) → HasBundle settings.header (empty_logs settings.header.verifiers) [] vault vault_after
+      → HasBundle settings.header (texts_of none_logged) [] vault vault_after
+  has_header vault vault_after has = subst (λ (all : List (List ℕ)). HasBundle settings.header all [] vault vault_after) texts_are has
 
-  report_is : (end : RunEnd) → report_of receipts functions settings.header no_logs end ≡ last_line (status_at end)
+  report_is : (end : RunEnd) → report_of receipts functions settings.header none_logged end ≡ last_line (status_at end)
   report_is end =
       ap (λ (all : List (List ℕ)). lines_due (told_by receipts functions settings.header) functions settings.header all ++ last_line (status_at end)) (no_texts settings.header.verifiers)
       ∙ ap (λ (text : List ℕ). text ++ last_line (status_at end)) (none_due (told_by receipts functions settings.header) functions settings.header)
 
   -- its last line is written
   pub nothing-served : (end : ClockEnd) (vault vault_after out out_after : Option (List ℕ)) → end ≡ setup_end settings
-      → HasBundle settings.header (empty_logs settings.header.verifiers) vault vault_after
+      → HasBundle settings.header (empty_logs settings.header.verifiers) [] vault vault_after
       → Grows out out_after (last_line (status_at (end_by 0 (Some end))))
       → IsServed receipts functions settings script (end_by 0 (Some end)) (record { vault = vault; vault_after = vault_after; out = out; out_after = out_after })
   nothing-served end vault vault_after out out_after is has written = record {
-    logs = no_logs;
+    rounds = [];
+    logs = none_logged;
     end = Some (setup_end settings);
     run = of_run;
     is = ap (λ (e : ClockEnd). end_by 0 (Some e)) is;
@@ -61,11 +63,12 @@ module _ (none_due : NothingIsDue) (no_texts : NoTexts) (receipts : Bool) (funct
 
   -- or a front of it
   pub nothing-cut : (end : ClockEnd) (vault vault_after out out_after : Option (List ℕ)) → end ≡ setup_end settings
-      → HasBundle settings.header (empty_logs settings.header.verifiers) vault vault_after
+      → HasBundle settings.header (empty_logs settings.header.verifiers) [] vault vault_after
       → GrowsByFront out out_after (last_line (status_at (end_by 0 (Some end))))
       → IsCutAtEnd receipts functions settings script (record { vault = vault; vault_after = vault_after; out = out; out_after = out_after })
   nothing-cut end vault vault_after out out_after is has written = record {
-    logs = no_logs;
+    rounds = [];
+    logs = none_logged;
     end = Some (setup_end settings);
     run = of_run;
     vault = has_header vault vault_after has;

@@ -1,5 +1,5 @@
 -- What all workers logged is passed on to the vault and to the runs.
-use Rattle.std.proofs.Common.{◌≡◌, Bool, ℕ, suc, List, [], ◌∷◌, length, Option, Result, Vec, Global, Ok, Err, OnOk, OnErr, refl, sym, ◌∙◌, ap, subst}
+use Rattle.std.proofs.Common.{◌≡◌, Bool, ℕ, suc, ◌+◌, ◌*◌, ◌≤◌, List, [], ◌∷◌, ◌++◌, length, map, take, Option, Result, Vec, Global, Ok, Err, OnOk, OnErr, refl, sym, ◌∙◌, ap, subst, arith}
 use Rattle.std.proofs.lemmas.List.{length-map}
 use Rattle.fv_outside.specs.Written.{Grows}
 use Rattle.record_hash.specs.Functions.{DigestFunctions}
@@ -19,12 +19,16 @@ use Rattle.host_world.specs.Shown.{shown_world, digests_of, requests_of}
 use Rattle.host_world.specs.Behind.{StandsBehind, AreOfOneHost, host_of}
 use Rattle.host_serving.specs.Leading.{Leads, first_of}
 use Rattle.certified_epochs.specs.declared.fed_run.FedRun.{FedRun}
+use Rattle.host_rounds.specs.declared.stops.RoundStop.{RoundStop}
 use Rattle.host_rounds.specs.Feeding.{AllRead}
 use Rattle.host_rounds.specs.Round.{logs_with}
 use Rattle.host_rounds.specs.SoFar.{RunsSoFar, Keeps, HaveRun, AllCounted, lines_counted, lines_due, with_runs}
 use Rattle.verifier_threads.specs.declared.runner.Runner.{Runner}
-use Rattle.verifier_threads.specs.Serving.{Outputs, texts_of}
-use Rattle.verifier_threads.specs.Running.{IsRunning, Runs, RunsWhole, all_handed_out, with_runs_of}
+use Rattle.verifier_threads.specs.InRounds.{Logs, IsBehindRounds}
+use Rattle.verifier_threads.specs.Serving.{Outputs, HasTold, texts_of}
+use Rattle.verifier_threads.specs.Running.{IsRunning, Runs, RunsBehind, RunsWhole, all_handed_out, with_runs_of}
+use Rattle.host_world.specs.ShippedHost.{shipped_host}
+use Rattle.verifier_threads.proofs.RoundLemmas.{take-all, take-more, length-one_more}
 use Rattle.verifier_threads.proofs.RunningLemmas.{of_one_host, leads-length, running-behind, running-led, running-handed}
 
 -- ---- answers
@@ -53,6 +57,13 @@ pub err_any : {T E P : Type 0} (r : Result T E) → P → OnErr r P
 err_any (Ok value) p = tt
 err_any (Err fault) p = p
 
+-- an answer that is passed on is the one that came
+pub same-fault : {A B : Type 0} (result : Result B RoundStop) (passed came : RoundStop) {stop : RoundStop} → result ≡ Err stop → result ≡ Err passed → passed ≡ came
+    → (let one : Result A RoundStop = Err came in one ≡ Err stop)
+same-fault {A} {B} result passed came {stop} is was same =
+    let own : stop ≡ came = (let both : passed ≡ stop = cc in sym both ∙ same) in
+    ap (λ (e : RoundStop). let r : Result A RoundStop = Err e in r) (sym own)
+
 -- ---- how many runs there are
 
 length-runs : (scheme : Scheme) (header : Header) (count number : ℕ) (logs : List (List ℕ)) → length (runs_from scheme header count number logs) ≡ length logs
@@ -68,17 +79,17 @@ run-count functions header logs so_far have =
 -- ---- a round
 
 module _ (receipts : Bool) (functions : DigestFunctions) (settings : Settings) (script : List (List Task)) (world : World Content) (rounds : RunsSoFar)
-    (end : Option ClockEnd) (outputs : Outputs) (running : IsRunning receipts functions settings script world rounds end outputs) where
+    (end : Option ClockEnd) (past : List Logs) (outputs : Outputs) (running : IsRunning receipts functions settings script world rounds end past outputs) where
   -- the vault and the runs take it
   pub running-taken : (later : World Content) (round : List (List ℕ)) (rounds' : RunsSoFar) (vault' : Option (List ℕ))
-      → later ≡ all_handed_out world → round ≡ texts_of (logs_of world)
-      → Keeps functions settings.header (logs_with (texts_of running.logs) round) rounds' outputs.vault vault'
+      → IsBehindRounds (shipped_host functions settings script) (suc (length past)) world → later ≡ all_handed_out world → round ≡ texts_of (logs_of world)
+      → Keeps functions settings.header (logs_with (texts_of running.logs) round) (map texts_of past ++ (round ∷ [])) rounds' outputs.vault vault'
       → lines_counted (told_by receipts functions settings.header) functions settings.header (logs_with (texts_of running.logs) round) rounds' ≡ lines_counted (told_by receipts functions settings.header) functions settings.header (texts_of running.logs) rounds
-      → IsRunning receipts functions settings script later rounds' end (record outputs { vault_after = vault' })
-  running-taken later round rounds' vault' world_is round_is keeps lines =
-      subst (λ (w : World Content). IsRunning receipts functions settings script w rounds' end (record outputs { vault_after = vault' })) (sym world_is)
-      (running-handed receipts functions settings script world rounds end outputs running rounds' (record outputs { vault_after = vault' })
-      (subst (λ (all : List (List ℕ)). Keeps functions settings.header (logs_with (texts_of running.logs) all) rounds' outputs.vault vault') round_is keeps)
+      → IsRunning receipts functions settings script later rounds' end (past ++ (logs_of world ∷ [])) (record outputs { vault_after = vault' })
+  running-taken later round rounds' vault' stands world_is round_is keeps lines =
+      subst (λ (w : World Content). IsRunning receipts functions settings script w rounds' end (past ++ (logs_of world ∷ [])) (record outputs { vault_after = vault' })) (sym world_is)
+      (running-handed receipts functions settings script world rounds end past outputs running rounds' (record outputs { vault_after = vault' }) stands
+      (subst (λ (all : List (List ℕ)). Keeps functions settings.header (logs_with (texts_of running.logs) all) (map texts_of past ++ (all ∷ [])) rounds' outputs.vault vault') round_is keeps)
       (subst (λ (all : List (List ℕ)). Grows outputs.out outputs.out_after (lines_counted (told_by receipts functions settings.header) functions settings.header (logs_with (texts_of running.logs) all) rounds')) round_is
       (subst (Grows outputs.out outputs.out_after) (sym lines) running.written)))
 
@@ -100,7 +111,8 @@ took-round {D} functions old middle lent back before after same is takes =
 
 -- ---- runners
 
-module _ (receipts : Bool) {D : Type 0} (functions : D → DigestFunctions) (old : Runner D) (outputs : Outputs) (runs : Runs receipts functions old outputs) where
+module _ (receipts : Bool) {D : Type 0} (functions : D → DigestFunctions) (old : Runner D) (past : List Logs) (outputs : Outputs)
+    (runs : Runs receipts functions old past outputs) where
   abbrev pub host_now : Host Content Request
   host_now = host_of (functions (digests_of old.world)) old.world
 
@@ -110,27 +122,27 @@ module _ (receipts : Bool) {D : Type 0} (functions : D → DigestFunctions) (old
     runs.running.logs,
     record {
       each = runs.running.each;
-      behind = running-behind _ _ _ _ (shown_world old.world) old.rounds old.end outputs runs.running;
+      behind = running-behind _ _ _ _ (shown_world old.world) old.rounds old.end past outputs runs.running;
     },
   )
 
   -- by other names of what is held
   pub runs-at : (vault out : Option (List ℕ)) → outputs.vault_after ≡ vault → outputs.out_after ≡ out
-      → Runs receipts functions old (record outputs { vault_after = vault; out_after = out })
+      → Runs receipts functions old past (record outputs { vault_after = vault; out_after = out })
   runs-at vault out vault_is out_is =
-      subst (λ (o : Option (List ℕ)). Runs receipts functions old (record outputs { vault_after = vault; out_after = o })) out_is
-      (subst (λ (v : Option (List ℕ)). Runs receipts functions old (record outputs { vault_after = v })) vault_is runs)
+      subst (λ (o : Option (List ℕ)). Runs receipts functions old past (record outputs { vault_after = vault; out_after = o })) out_is
+      (subst (λ (v : Option (List ℕ)). Runs receipts functions old past (record outputs { vault_after = v })) vault_is runs)
 
   -- events lead its world on
   pub runs-led : (world : code.World D) (next end : Option ClockEnd) → AreOfOneHost old.world world
       → Leads host_now (shown_world old.world) (shown_world world) next → end ≡ first_of old.end next
-      → Runs receipts functions (record old { world = world; end = end }) outputs
+      → Runs receipts functions (record old { world = world; end = end }) past outputs
   runs-led world next end same way is = record {
     running =
         of_one_host functions old.world world same
-        (λ (f : DigestFunctions) (settings : Settings) (script : List (List Task)). IsRunning receipts f settings script (shown_world world) old.rounds end outputs)
-        (subst (λ (e : Option ClockEnd). IsRunning receipts (functions (digests_of old.world)) old.world.settings (requests_of old.world) (shown_world world) old.rounds e outputs) (sym is)
-        (running-led _ _ _ _ (shown_world old.world) old.rounds old.end outputs runs.running (shown_world world) next way));
+        (λ (f : DigestFunctions) (settings : Settings) (script : List (List Task)). IsRunning receipts f settings script (shown_world world) old.rounds end past outputs)
+        (subst (λ (e : Option ClockEnd). IsRunning receipts (functions (digests_of old.world)) old.world.settings (requests_of old.world) (shown_world world) old.rounds e past outputs) (sym is)
+        (running-led _ _ _ _ (shown_world old.world) old.rounds old.end past outputs runs.running (shown_world world) next way));
     buffers = runs.buffers ∙ sym (leads-length host_now (shown_world old.world) (shown_world world) next way);
     counts = runs.counts ∙ sym (leads-length host_now (shown_world old.world) (shown_world world) next way);
   }
@@ -139,29 +151,32 @@ module _ (receipts : Bool) {D : Type 0} (functions : D → DigestFunctions) (old
   pub runs-fed : (world : code.World D) (next end : Option ClockEnd) (back : RunsSoFar) (before : List FedRun) (parcels : Vec ℕ Global) → AreOfOneHost old.world world
       → Leads host_now (shown_world old.world) (shown_world world) next → end ≡ first_of old.end next → with_runs before back ≡ old.rounds
       → length parcels.items ≡ length old.parcels.items
-      → Runs receipts functions (with_runs_of before (record old { world = world; end = end; rounds = back; parcels = parcels })) outputs
+      → Runs receipts functions (with_runs_of before (record old { world = world; end = end; rounds = back; parcels = parcels })) past outputs
   runs-fed world next end back before parcels same way is rounds_are many =
       let led = runs-led world next end same way is in
-      subst (λ (rounds : RunsSoFar). Runs receipts functions (record old { world = world; end = end; rounds = rounds; parcels = parcels }) outputs) (sym rounds_are)
+      subst (λ (rounds : RunsSoFar). Runs receipts functions (record old { world = world; end = end; rounds = rounds; parcels = parcels }) past outputs) (sym rounds_are)
       (record { running = led.running; buffers = led.buffers; counts = many ∙ led.counts })
 
   -- what its logs certify is counted and written
-  pub runs-certified : (rounds' : RunsSoFar) (out : Option (List ℕ))
+  pub runs-certified : (rounds' : RunsSoFar) (out : Option (List ℕ)) (closes : ℕ) → length past ≡ closes + closes
       → HaveRun (functions (digests_of old.world)) old.world.settings.header (texts_of runs.running.logs) rounds'
       → AllCounted (functions (digests_of old.world)) old.world.settings.header (texts_of runs.running.logs) rounds'
       → lines_counted (told_by receipts (functions (digests_of old.world)) old.world.settings.header) (functions (digests_of old.world)) old.world.settings.header (texts_of runs.running.logs) rounds'
       ≡ lines_due (told_by receipts (functions (digests_of old.world)) old.world.settings.header) (functions (digests_of old.world)) old.world.settings.header (texts_of runs.running.logs)
       → Grows outputs.out out (lines_due (told_by receipts (functions (digests_of old.world)) old.world.settings.header) (functions (digests_of old.world)) old.world.settings.header (texts_of runs.running.logs))
-      → RunsWhole receipts functions (record old { rounds = rounds' }) (record outputs { out_after = out })
-  runs-certified rounds' out have all counted written = record {
+      → RunsWhole receipts functions (record old { rounds = rounds' }) closes (record outputs { out_after = out })
+  runs-certified rounds' out closes count have all counted written = record {
+    past = past;
     runs = record {
       running = record {
         settings_fit = runs.running.settings_fit;
         counters = runs.running.counters;
         keys = runs.running.keys;
         logs = runs.running.logs;
+        joined = runs.running.joined;
         each = runs.running.each;
         way = runs.running.way;
+        passed = runs.running.passed;
         keeps = record { vault = runs.running.keeps.vault; runs = have };
         written = subst (Grows outputs.out out) (sym counted) written;
       };
@@ -169,4 +184,75 @@ module _ (receipts : Bool) {D : Type 0} (functions : D → DigestFunctions) (old
       counts = runs.counts;
     };
     all = all;
+    count = count;
+    told = subst (λ (logs : List (List ℕ)). Grows outputs.out out (lines_due (told_by receipts (functions (digests_of old.world)) old.world.settings.header) (functions (digests_of old.world)) old.world.settings.header logs))
+        runs.running.keeps.vault.is_bundle.logs_are written;
   }
+
+-- ---- behind phases and closes
+
+module _ (receipts : Bool) {D : Type 0} (functions : D → DigestFunctions) (old : Runner D) (phases closes : ℕ) (outputs : Outputs)
+    (behind : RunsBehind receipts functions old phases closes outputs) where
+  -- by other names of what is held
+  pub behind-at : (vault out : Option (List ℕ)) → outputs.vault_after ≡ vault → outputs.out_after ≡ out
+      → RunsBehind receipts functions old phases closes (record outputs { vault_after = vault; out_after = out })
+  behind-at vault out vault_is out_is =
+      subst (λ (o : Option (List ℕ)). RunsBehind receipts functions old phases closes (record outputs { vault_after = vault; out_after = o })) out_is
+      (subst (λ (v : Option (List ℕ)). RunsBehind receipts functions old phases closes (record outputs { vault_after = v })) vault_is behind)
+
+  -- what was told of the one host's world was told of the other's
+  told-of : (world : code.World D) → AreOfOneHost old.world world
+      → HasTold receipts (functions (digests_of world)) world.settings.header (take (2 * closes) behind.past) outputs
+  told-of world same =
+      of_one_host functions old.world world same
+      (λ (f : DigestFunctions) (settings : Settings) (script : List (List Task)). HasTold receipts f settings.header (take (2 * closes) behind.past) outputs)
+      behind.told
+
+  -- events lead its world on
+  pub behind-led : (world : code.World D) (next end : Option ClockEnd) → AreOfOneHost old.world world
+      → Leads (host_of (functions (digests_of old.world)) old.world) (shown_world old.world) (shown_world world) next → end ≡ first_of old.end next
+      → RunsBehind receipts functions (record old { world = world; end = end }) phases closes outputs
+  behind-led world next end same way is = record {
+    past = behind.past;
+    runs = runs-led receipts functions old behind.past outputs behind.runs world next end same way is;
+    count = behind.count;
+    told = told-of world same;
+  }
+
+  -- the same where its verifiers' runs were lent, and others taken in their stead, with other counts
+  pub behind-fed : (world : code.World D) (next end : Option ClockEnd) (back : RunsSoFar) (before : List FedRun) (parcels : Vec ℕ Global) → AreOfOneHost old.world world
+      → Leads (host_of (functions (digests_of old.world)) old.world) (shown_world old.world) (shown_world world) next → end ≡ first_of old.end next → with_runs before back ≡ old.rounds
+      → length parcels.items ≡ length old.parcels.items
+      → RunsBehind receipts functions (with_runs_of before (record old { world = world; end = end; rounds = back; parcels = parcels })) phases closes outputs
+  behind-fed world next end back before parcels same way is rounds_are many = record {
+    past = behind.past;
+    runs = runs-fed receipts functions old behind.past outputs behind.runs world next end back before parcels same way is rounds_are many;
+    count = behind.count;
+    told = told-of world same;
+  }
+
+  -- one phase more
+  pub behind-more : (new : Runner D) (round : Logs) (vault : Option (List ℕ)) → AreOfOneHost old.world new.world → closes ≤ phases
+      → Runs receipts functions new (behind.past ++ (round ∷ [])) (record outputs { vault_after = vault })
+      → RunsBehind receipts functions new (suc phases) closes (record outputs { vault_after = vault })
+  behind-more new round vault same few runs =
+      let size = length-one_more behind.past round in
+      let count = behind.count in
+      record {
+        past = behind.past ++ (round ∷ []);
+        runs = runs;
+        count = omega (arith, size, count);
+        told = subst (λ (rounds : List Logs). HasTold receipts (functions (digests_of new.world)) new.world.settings.header rounds outputs)
+            (sym (take-more (2 * closes) behind.past (round ∷ []) (omega (arith, count, few)))) (told-of new.world same);
+      }
+
+-- what is whole stands behind as many phases as closes
+pub whole-behind : (receipts : Bool) {D : Type 0} (functions : D → DigestFunctions) (runner : Runner D) (closes : ℕ) (outputs : Outputs)
+    → RunsWhole receipts functions runner closes outputs → RunsBehind receipts functions runner closes closes outputs
+whole-behind receipts functions runner closes outputs whole = record {
+  past = whole.past;
+  runs = whole.runs;
+  count = whole.count;
+  told = subst (λ (rounds : List Logs). HasTold receipts (functions (digests_of runner.world)) runner.world.settings.header rounds outputs)
+      (sym (take-all (2 * closes) whole.past (omega (arith, whole.count)))) whole.told;
+}

@@ -1,5 +1,5 @@
 -- Where a phase and a close leave a run.
-use Rattle.std.proofs.Common.{◌≡◌, ◌⊎◌, inl, inr, ◌↔◌, ℕ, zero, suc, ◌<◌, ◌≤◌, Bool, true, false, List, [], ◌∷◌, length, map, get_or, replicate, Option, Some, None, IfSome, refl, sym, ◌∙◌, ap, subst, arith}
+use Rattle.std.proofs.Common.{◌≡◌, ◌⊎◌, inl, inr, ◌↔◌, ℕ, zero, suc, ◌+◌, ◌<◌, ◌≤◌, Bool, true, false, List, [], ◌∷◌, length, map, get_or, replicate, Option, Some, None, IfSome, refl, sym, ◌∙◌, ap, subst, arith}
 use Rattle.std.proofs.lemmas.Bool.{false≢true}
 use Rattle.host_core.specs.Host.{Host}
 use Rattle.host_core.specs.World.{Worker, World, fresh, worker_at}
@@ -8,6 +8,7 @@ use Rattle.host_world.specs.declared.fault.ClockEnd.{ClockEnd}
 use Rattle.host_serving.specs.Leading.{first_of, CanDoNoMore}
 use Rattle.host_serving.specs.Standing.{IsServedUpTo, IsServedOut, NoneStopped, SomeStopped, NoneStuckBelow, IsLowest, IsClosed, IsAllServed}
 use Rattle.worker_threads.specs.Phase.{first_stopped}
+use Rattle.verifier_threads.specs.InRounds.{IsBehindRounds}
 use Rattle.verifier_threads.specs.Running.{all_handed_out, IsAtPhase, IsAtClose, IsAtEnd}
 use Rattle.verifier_threads.proofs.HandingLemmas.{handed-none}
 use Rattle.verifier_threads.proofs.StandingLemmas.{phase_handed, all_handed, rests_handed, lowest_handed}
@@ -105,14 +106,20 @@ module _ {C R : Type 0} (host : Host C R) (old now : World C) where
     pub at-end : (closed : next ≡ None → last ≡ true → IsClosed host now × (now.phase ≡ old.phase) × (NoneStopped host old → NoneStopped host now))
         → (next ≡ None → last ≡ true → CanDoNoMore host now) → IfSome next (λ _. CanDoNoMore host now)
         → ((i : ℕ) → (worker_at host now i).stopped ≡ (worker_at host old i).stopped) → IfSome next (λ found. NoneStuckBelow host now found.worker)
-        → (last ≡ true) ⊎ (first_of start next ≡ None → ⊥) → IsAtEnd host (all_handed_out now) (first_of start next)
-    at-end closed rests ended stays below over = record {
-      rests = rests_handed host now (no_more start next refl refl ended over);
-      handed = handed-none now.workers;
-      whole = λ none'. all_handed host now (whole none').0;
-      last = λ none'. (whole none').1;
-      lowest = lowest_handed host now (first_of start next) (lowest-end stays below);
-    }
+        → (last ≡ true) ⊎ (first_of start next ≡ None → ⊥)
+        → IsAtEnd host (all_handed_out now) (first_of start next) × (first_of start next ≡ None → now.phase ≡ old.phase)
+    at-end closed rests ended stays below over = (
+      record {
+        rests = rests_handed host now (no_more start next refl refl ended over);
+        handed = handed-none now.workers;
+        whole = λ none'. all_handed host now (whole none').0;
+        last = λ none'. (whole none').1;
+        lowest = lowest_handed host now (first_of start next) (lowest-end stays below);
+      },
+      λ none'.
+          let both = none_first start next none' in
+          (closed both.1 (is_over both.1 over)).1,
+    )
       where
         none_first : (a b : Option ClockEnd) → first_of a b ≡ None → (a ≡ None) × (b ≡ None)
         none_first None b is = (refl, is)
@@ -132,6 +139,20 @@ module _ {C R : Type 0} (host : Host C R) (old now : World C) where
             let both = none_first start next none' in
             let is = is_over both.1 over in
             whole_close both.0 is (closed both.1 is)
+
+    -- the close stands behind so many rounds
+    pub behind-close : (closed : next ≡ None → last ≡ true → CanDoNoMore host now) → IfSome next (λ _. CanDoNoMore host now)
+        → (next ≡ None → last ≡ false → IsServedUpTo host now 0 × (now.phase ≡ suc old.phase) × NoneStopped host now)
+        → IsBehindRounds host (suc (suc old.phase + old.phase)) now
+    behind-close rests ended opened = go last next refl refl ended
+      where
+        go : (b : Bool) (n : Option ClockEnd) → last ≡ b → next ≡ n → IfSome n (λ _. CanDoNoMore host now) → IsBehindRounds host (suc (suc old.phase + old.phase)) now
+        go b (Some found) last_is next_is ended = inr (inr (suc old.phase, omega arith, ended))
+        go true None last_is next_is ended = inr (inr (suc old.phase, omega arith, rests next_is last_is))
+        go false None last_is next_is ended =
+            let new = opened next_is last_is in
+            let same = new.1 in
+            inr (inl (omega (arith, same), new.0))
 
     -- another phase begins
     pub at-phase : (next ≡ None → last ≡ false → IsServedUpTo host now 0 × (now.phase ≡ suc old.phase) × NoneStopped host now)

@@ -1,5 +1,5 @@
 -- A run goes on: events lead on, logs are handed out, and where it stops it is cut off.
-use Rattle.std.proofs.Common.{◌≡◌, Bool, inl, inr, ℕ, List, [], ◌∷◌, length, Option, Result, Ok, Err, IfOk, OnErr, refl, sym, ◌∙◌, ap, subst}
+use Rattle.std.proofs.Common.{◌≡◌, Bool, inl, inr, ℕ, suc, List, [], ◌∷◌, ◌++◌, length, map, Option, Result, Ok, Err, IfOk, OnErr, refl, sym, ◌∙◌, ap, subst, arith}
 use Rattle.std.proofs.lemmas.List.{length-map}
 use Rattle.fv_outside.specs.Written.{Grows}
 use Rattle.record_hash.specs.Functions.{DigestFunctions}
@@ -26,9 +26,11 @@ use Rattle.host_rounds.specs.declared.stops.RoundStop.TheVariants as stops
 use Rattle.host_rounds.specs.Round.{logs_with}
 use Rattle.host_rounds.specs.SoFar.{RunsSoFar, Keeps, lines_counted}
 use Rattle.verifier_threads.specs.declared.ending.RunEnd.{RunEnd}
-use Rattle.verifier_threads.specs.Serving.{Outputs, IsServed, IsCutOff, IsCutAtEnd, ServesTo, texts_of}
-use Rattle.verifier_threads.specs.Running.{IsRunning, all_handed_out, logged_with, with_no_log}
-use Rattle.verifier_threads.proofs.HandingLemmas.{logged_with-length, logged_with-texts, with_logs-handed}
+use Rattle.verifier_threads.specs.Serving.{Outputs, IsServed, IsCutOff, IsCutAtEnd, IsCutByVault, ServesTo, texts_of}
+use Rattle.verifier_threads.specs.InRounds.{Logs, logged_with, no_logs, IsBehindRounds, LeadThrough}
+use Rattle.verifier_threads.specs.Running.{IsRunning, all_handed_out, with_no_log}
+use Rattle.verifier_threads.proofs.HandingLemmas.{logged_with-length, logged_with-texts, logs-behind, with_logs-handed}
+use Rattle.verifier_threads.proofs.RoundLemmas.{texts-more, logged-more, through-leads, through-more, behind_with}
 
 -- ---- worlds of one host
 
@@ -69,7 +71,7 @@ leads-length {C} host world later end way = ap (λ (w : World C). length w.worke
 -- ---- a run goes on
 
 module _ (receipts : Bool) (functions : DigestFunctions) (settings : Settings) (script : List (List Task)) (world : World Content) (rounds : RunsSoFar)
-    (end : Option ClockEnd) (outputs : Outputs) (running : IsRunning receipts functions settings script world rounds end outputs) where
+    (end : Option ClockEnd) (past : List Logs) (outputs : Outputs) (running : IsRunning receipts functions settings script world rounds end past outputs) where
   abbrev own_host : Host Content Request
   own_host = shipped_host functions settings script
 
@@ -90,35 +92,46 @@ module _ (receipts : Bool) (functions : DigestFunctions) (settings : Settings) (
 
   -- events lead on
   pub running-led : (later : World Content) (next : Option ClockEnd) → Leads own_host world later next
-      → IsRunning receipts functions settings script later rounds (first_of end next) outputs
+      → IsRunning receipts functions settings script later rounds (first_of end next) past outputs
   running-led later next way = record {
     settings_fit = running.settings_fit;
     counters = running.counters;
     keys = running.keys;
     logs = running.logs;
+    joined = running.joined;
     each = running.each ∙ sym (leads-length own_host world later next way);
+    passed = through-leads own_host 0 (no_logs settings.header.verifiers) (set_up own_host) past (with_logs running.logs world) (with_logs running.logs later) running.passed
+        (next, leads-with own_host running.logs world later next way);
     way = leads-then own_host (set_up own_host) (with_logs running.logs world) (with_logs running.logs later) end next running.way
         (leads-with own_host running.logs world later next way);
     keeps = running.keeps;
     written = running.written;
   }
 
-  -- logs are handed out
-  pub running-handed : (rounds' : RunsSoFar) (outputs' : Outputs)
-      → Keeps functions settings.header (logs_with (texts_of running.logs) (texts_of (logs_of world))) rounds' outputs'.vault outputs'.vault_after
+  -- logs are handed out, behind one round more
+  pub running-handed : (rounds' : RunsSoFar) (outputs' : Outputs) → IsBehindRounds own_host (suc (length past)) world
+      → Keeps functions settings.header (logs_with (texts_of running.logs) (texts_of (logs_of world))) (map texts_of past ++ (texts_of (logs_of world) ∷ [])) rounds' outputs'.vault outputs'.vault_after
       → Grows outputs'.out outputs'.out_after (lines_counted (told_by receipts functions settings.header) functions settings.header (logs_with (texts_of running.logs) (texts_of (logs_of world))) rounds')
-      → IsRunning receipts functions settings script (all_handed_out world) rounds' end outputs'
-  running-handed rounds' outputs' keeps written =
+      → IsRunning receipts functions settings script (all_handed_out world) rounds' end (past ++ (logs_of world ∷ [])) outputs'
+  running-handed rounds' outputs' stands keeps written =
       let logs = logged_with running.logs (logs_of world) in
       let texts : logs_with (texts_of running.logs) (texts_of (logs_of world)) ≡ texts_of logs = sym (logged_with-texts running.logs (logs_of world)) in
+      let same = with_logs-handed running.logs world running.each in
+      let first = no_logs settings.header.verifiers in
       record {
         settings_fit = running.settings_fit;
         counters = running.counters;
         keys = running.keys;
         logs = logs;
+        joined = ap (λ (all : Logs). logged_with all (logs_of world)) running.joined ∙ sym (logged-more first past (logs_of world));
         each = logged_with-length running.logs (logs_of world) ∙ running.each ∙ sym (length-map world.workers with_no_log);
-        way = subst (λ (w : World Content). Leads own_host (set_up own_host) w end) (sym (with_logs-handed running.logs world running.each)) running.way;
-        keeps = subst (λ (all : List (List ℕ)). Keeps functions settings.header all rounds' outputs'.vault outputs'.vault_after) texts keeps;
+        way = subst (λ (w : World Content). Leads own_host (set_up own_host) w end) (sym same) running.way;
+        passed = subst (λ (w : World Content). LeadThrough own_host 0 first (set_up own_host) (past ++ (logs_of world ∷ [])) w) (sym same)
+            (through-more own_host (suc (length past)) 0 first (set_up own_host) past (logs_of world) (with_logs running.logs world) (omega arith) running.passed
+            (behind_with own_host (suc (length past)) running.logs world stands)
+            (sym (logs-behind running.logs world.workers running.each) ∙ ap (λ (all : Logs). logged_with all (logs_of world)) running.joined));
+        keeps = subst (λ (rs : List (List (List ℕ))). Keeps functions settings.header (texts_of logs) rs rounds' outputs'.vault outputs'.vault_after) (sym (texts-more past (logs_of world)))
+            (subst (λ (all : List (List ℕ)). Keeps functions settings.header all (map texts_of past ++ (texts_of (logs_of world) ∷ [])) rounds' outputs'.vault outputs'.vault_after) texts keeps);
         written = subst (λ (all : List (List ℕ)). Grows outputs'.out outputs'.out_after (lines_counted (told_by receipts functions settings.header) functions settings.header all rounds')) texts written;
       }
 
@@ -126,10 +139,11 @@ module _ (receipts : Bool) (functions : DigestFunctions) (settings : Settings) (
 
 -- a run that was cut off stops so, whatever the reason
 pub stops-so : (receipts : Bool) (functions : DigestFunctions) (settings : Settings) (script : List (List Task)) (stop : RoundStop) (outputs : Outputs)
-    → IsCutOff receipts functions settings script outputs → ServesTo receipts functions settings script (Err stop) outputs
-stops-so receipts functions settings script stops.Memory outputs cut = cut
-stops-so receipts functions settings script stops.VaultFault outputs cut = cut
-stops-so receipts functions settings script stops.WriteFault outputs cut = inl cut
+    → IsCutOff receipts functions settings script outputs → (stop ≡ stops.VaultFault → IsCutByVault receipts functions settings script outputs)
+    → ServesTo receipts functions settings script (Err stop) outputs
+stops-so receipts functions settings script stops.Memory outputs cut by_vault = cut
+stops-so receipts functions settings script stops.VaultFault outputs cut by_vault = (cut, by_vault refl)
+stops-so receipts functions settings script stops.WriteFault outputs cut by_vault = inl cut
 
 -- a run that was cut off at its end stops because the sink failed
 pub ends-so : (receipts : Bool) (functions : DigestFunctions) (settings : Settings) (script : List (List Task)) (stop : RoundStop) (outputs : Outputs)
@@ -139,6 +153,10 @@ ends-so receipts functions settings script stop outputs is cut =
 
 pub stop-is : {A : Type 0} (result : Result A RoundStop) (stop : RoundStop) → result ≡ Err stop → result ≡ Err stops.WriteFault → stop ≡ stops.WriteFault
 stop-is result stop is fault = cc
+
+-- an error that is passed on is the one that came
+pub came-so : {A : Type 0} (passed came stop : RoundStop) → passed ≡ came → passed ≡ stop → (let one : Result A RoundStop = Err came in one ≡ Err stop)
+came-so {A} passed came stop same is = ap (λ (e : RoundStop). let r : Result A RoundStop = Err e in r) (sym same ∙ is)
 
 -- an error of one answer is that of another
 pub err-of : {A B : Type 0} (a b : RoundStop) → (let one : Result A RoundStop = Err a in one ≡ Err b) → (let one : Result B RoundStop = Err a in one ≡ Err b)

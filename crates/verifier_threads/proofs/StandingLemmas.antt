@@ -132,3 +132,13 @@ module _ {C R : Type 0} (host : Host C R) (logs : List (List Command)) (world : 
 
   pub rests_with : CanDoNoMore host world → CanDoNoMore host (with_logs logs world)
   rests_with rests = λ event may. rests event (enabled_without host logs world event may)
+
+  pub out_with : IsServedOut host world → IsServedOut host (with_logs logs world)
+  out_with is =
+      out_other host world (before_each logs world.workers) (length-before_each logs world.workers)
+      (λ i. same_unlogged logs world.workers i (fresh host.header)) is
+
+  pub up_to_with : (turns : ℕ) → IsServedUpTo host world turns → IsServedUpTo host (with_logs logs world) turns
+  up_to_with turns is =
+      up_to_other host world (before_each logs world.workers) (length-before_each logs world.workers)
+      (λ i. same_unlogged logs world.workers i (fresh host.header)) turns is

@@ -22,6 +22,7 @@ use Rattle.host_rounds.specs.SoFar.{RunsSoFar, HaveRun, operations_due, epochs_d
 use Rattle.host_rounds.proofs.RoundLaws.{counted-none}
 use Rattle.verifier_threads.specs.declared.ending.RunEnd.{RunEnd}
 use Rattle.verifier_threads.specs.declared.loads.Load.{Load}
+use Rattle.verifier_threads.specs.InRounds.{Logs, no_logs}
 use Rattle.verifier_threads.specs.Serving.{Outputs, AreOfRun, end_by, status_at, setup_end, texts_of}
 use Rattle.verifier_threads.specs.Summing.{IsSummed, IsCutInSummary, IsCutBefore, SumsTo, summary_of}
 use Rattle.verifier_threads.proofs.NothingLemmas.{NoTexts, empty-are}
@@ -76,22 +77,22 @@ module _ (no_epochs : NoEpochs) (no_operations : NoOperations) (no_texts : NoTex
   abbrev own : Header
   own = settings.header
 
-  abbrev no_logs : List (List Command)
-  no_logs = replicate own.verifiers []
+  abbrev none_logged : Logs
+  none_logged = no_logs own.verifiers
 
-  of_run : AreOfRun functions settings script no_logs (Some (setup_end settings))
-  of_run = record { served = λ enough. absurd (omega (arith, enough, short)); unserved = λ _. (refl, refl) }
+  of_run : AreOfRun functions settings script [] none_logged (Some (setup_end settings))
+  of_run = record { served = λ enough. absurd (omega (arith, enough, short)); unserved = λ _. (refl, refl, refl) }
 
-  has_header : (vault vault_after : Option (List ℕ)) → HasBundle own (empty_logs own.verifiers) vault vault_after
-      → HasBundle own (texts_of no_logs) vault vault_after
+  has_header : (vault vault_after : Option (List ℕ)) → HasBundle own (empty_logs own.verifiers) [] vault vault_after
+      → HasBundle own (texts_of none_logged) [] vault vault_after
   has_header vault vault_after has =
-      subst (λ (all : List (List ℕ)). HasBundle own all vault vault_after) (empty-are own.verifiers ∙ sym (no_texts own.verifiers)) has
+      subst (λ (all : List (List ℕ)). HasBundle own all [] vault vault_after) (empty-are own.verifiers ∙ sym (no_texts own.verifiers)) has
 
   -- the summary of no epochs and no operations
   abbrev bare : Status → List ℕ
   bare status = summary_with_end load.seed load.ops 0 (tallies_of own.verifiers []) status
 
-  summary_bare : (end : RunEnd) → summary_of functions own load no_logs end ≡ bare (status_at end)
+  summary_bare : (end : RunEnd) → summary_of functions own load none_logged end ≡ bare (status_at end)
   summary_bare end =
       ap (λ (texts : List (List ℕ)). summary_due functions own texts load.seed load.ops (status_at end)) (no_texts own.verifiers)
       ∙ ap (λ (n : ℕ). summary_with_end load.seed load.ops n (tallies_of own.verifiers (operations_due functions own (replicate own.verifiers []))) (status_at end))
@@ -109,11 +110,12 @@ module _ (no_epochs : NoEpochs) (no_operations : NoOperations) (no_texts : NoTex
   -- its summary is written
   pub nothing-summed : (rounds : RunsSoFar) (end : ClockEnd) (vault vault_after out out_after : Option (List ℕ)) → end ≡ setup_end settings
       → HaveRun functions own (empty_logs own.verifiers) rounds → rounds.judged.count ≡ 0
-      → HasBundle own (empty_logs own.verifiers) vault vault_after
+      → HasBundle own (empty_logs own.verifiers) [] vault vault_after
       → Grows out out_after (summary_with_end load.seed load.ops rounds.judged.count rounds.summary.tallies (status_at (end_by 0 (Some end))))
       → IsSummed functions settings script load (end_by 0 (Some end)) (record { vault = vault; vault_after = vault_after; out = out; out_after = out_after })
   nothing-summed rounds end vault vault_after out out_after is have none has written = record {
-    logs = no_logs;
+    rounds = [];
+    logs = none_logged;
     end = Some (setup_end settings);
     run = of_run;
     is = ap (λ (e : ClockEnd). end_by 0 (Some e)) is;
@@ -125,16 +127,17 @@ module _ (no_epochs : NoEpochs) (no_operations : NoOperations) (no_texts : NoTex
   -- or a front of it
   pub nothing-cut_summary : (rounds : RunsSoFar) (end : ClockEnd) (vault vault_after out out_after : Option (List ℕ)) → end ≡ setup_end settings
       → HaveRun functions own (empty_logs own.verifiers) rounds → rounds.judged.count ≡ 0
-      → HasBundle own (empty_logs own.verifiers) vault vault_after
+      → HasBundle own (empty_logs own.verifiers) [] vault vault_after
       → GrowsByFront out out_after (summary_with_end load.seed load.ops rounds.judged.count rounds.summary.tallies (status_at (end_by 0 (Some end))))
       → IsCutInSummary functions settings script load (record { vault = vault; vault_after = vault_after; out = out; out_after = out_after })
   nothing-cut_summary rounds end vault vault_after out out_after is have none has written = record {
-    logs = no_logs;
+    rounds = [];
+    logs = none_logged;
     end = Some (setup_end settings);
     run = of_run;
     vault = has_header vault vault_after has;
     out = subst (GrowsByFront out out_after)
         (written_bare rounds (status_at (end_by 0 (Some end))) have none ∙ sym (summary_bare (end_by 0 (Some end)))
-        ∙ ap (λ (e : ClockEnd). summary_of functions own load no_logs (end_by 0 (Some e))) is)
+        ∙ ap (λ (e : ClockEnd). summary_of functions own load none_logged (end_by 0 (Some e))) is)
         written;
   }

@@ -1,4 +1,5 @@
 -- How a script is served, up to its report, in reading order.
+pub mod InRounds
 pub mod Serving
 pub mod Summing
 pub mod Running

@@ -1,5 +1,5 @@
 -- How a run stands between two calls: its world, the vault, what the verifiers read, and what is written.
-use Rattle.std.specs.Prelude.{◌≡◌, ◌≢◌, ◌⊎◌, Bool, ℕ, suc, ◌<◌, ◌≤◌, List, [], ◌∷◌, ◌++◌, length, map, Option, Some, None}
+use Rattle.std.specs.Prelude.{◌≡◌, ◌≢◌, ◌⊎◌, Bool, ℕ, suc, ◌+◌, ◌*◌, ◌≤◌, List, [], ◌++◌, length, map, take, Option, Some, None}
 use Rattle.std.specs.List.{AllByRecursion}
 use Rattle.fv_outside.specs.Written.{Grows}
 use Rattle.record_hash.specs.Functions.{DigestFunctions}
@@ -23,7 +23,8 @@ use Rattle.certified_epochs.specs.declared.fed_run.FedRun.{FedRun}
 use Rattle.host_rounds.specs.Feeding.{AllRead}
 use Rattle.host_rounds.specs.SoFar.{RunsSoFar, Keeps, AllCounted, lines_counted, with_runs}
 use Rattle.verifier_threads.specs.declared.runner.Runner.{Runner}
-use Rattle.verifier_threads.specs.Serving.{Outputs, texts_of}
+use Rattle.verifier_threads.specs.InRounds.{Logs, logged_behind, no_logs, ArePassed}
+use Rattle.verifier_threads.specs.Serving.{Outputs, HasTold, texts_of}
 
 -- ---- logs that are handed out
 
@@ -35,41 +36,59 @@ with_no_log worker = record worker { log = [] }
 abbrev pub all_handed_out : {C : Type 0} → machine.World C → machine.World C
 all_handed_out world = record world { workers = map with_no_log world.workers }
 
--- logs with what is logged next behind each
-abbrev pub logged_with : List (List Command) → List (List Command) → List (List Command)
-logged_with [] round = []
-logged_with (log ∷ logs) [] = log ∷ logs
-logged_with (log ∷ logs) (next ∷ round) = (log ++ next) ∷ logged_with logs round
-
 -- ---- a run
 
 -- Events lead from the setup to this world with the logs in front that were handed out, and this is the first end of a
--- clock that they come to. The vault has the bundle of these logs and the verifiers' runs have taken them, and what is
--- written is the lines of the epochs that are counted, with receipts or without.
-pub record IsRunning (receipts : Bool) (functions : DigestFunctions) (settings : Settings) (script : List (List Task)) (world : machine.World Content) (rounds : RunsSoFar) (end : Option ClockEnd) (outputs : Outputs) : Type 0 where
+-- clock that they come to. They were handed out in these rounds. The vault has the bundle of these and the verifiers' runs have taken
+-- them, and what is written is the lines of the epochs that are counted, with receipts or without.
+pub record IsRunning (receipts : Bool) (functions : DigestFunctions) (settings : Settings) (script : List (List Task)) (world : machine.World Content) (rounds : RunsSoFar) (end : Option ClockEnd)
+    (past : List Logs) (outputs : Outputs) : Type 0 where
   pub settings_fit : IsSettings settings
   pub counters : settings.shards ≤ settings.header.end
   pub keys : AreInRange script
-  pub logs : List (List Command)
+  pub logs : Logs
+  pub joined : logs ≡ logged_behind (no_logs settings.header.verifiers) past
   pub each : length logs ≡ length world.workers
   pub way : Leads (shipped_host functions settings script) (machine.set_up (shipped_host functions settings script)) (with_logs logs world) end
-  pub keeps : Keeps functions settings.header (texts_of logs) rounds outputs.vault outputs.vault_after
+  pub passed : ArePassed (shipped_host functions settings script) past (with_logs logs world)
+  pub keeps : Keeps functions settings.header (texts_of logs) (map texts_of past) rounds outputs.vault outputs.vault_after
   pub written : Grows outputs.out outputs.out_after (lines_counted (told_by receipts functions settings.header) functions settings.header (texts_of logs) rounds)
 
 -- So runs a runner of the code, which has a buffer for each worker, and a count of parcels for its verifier.
-pub record Runs (receipts : Bool) {D : Type 0} (functions : D → DigestFunctions) (runner : Runner D) (outputs : Outputs) : Type 0 where
-  pub running : IsRunning receipts (functions (digests_of runner.world)) runner.world.settings (requests_of runner.world) (shown_world runner.world) runner.rounds runner.end outputs
+pub record Runs (receipts : Bool) {D : Type 0} (functions : D → DigestFunctions) (runner : Runner D) (past : List Logs) (outputs : Outputs) : Type 0 where
+  pub running : IsRunning receipts (functions (digests_of runner.world)) runner.world.settings (requests_of runner.world) (shown_world runner.world) runner.rounds runner.end past outputs
   pub buffers : length runner.buffers.items ≡ length runner.world.workers.items
   pub counts : length runner.parcels.items ≡ length runner.world.workers.items
 
--- The same, and each epoch that the logs certify is counted.
-pub record RunsWhole (receipts : Bool) {D : Type 0} (functions : D → DigestFunctions) (runner : Runner D) (outputs : Outputs) : Type 0 where
-  pub runs : Runs receipts functions runner outputs
+-- The same behind so many phases and so many closes: all lines are written that the rounds up to the last close certify.
+pub record RunsBehind (receipts : Bool) {D : Type 0} (functions : D → DigestFunctions) (runner : Runner D) (phases closes : ℕ) (outputs : Outputs) : Type 0 where
+  pub past : List Logs
+  pub runs : Runs receipts functions runner past outputs
+  pub count : length past ≡ phases + closes
+  pub told : HasTold receipts (functions (digests_of runner.world)) runner.world.settings.header (take (2 * closes) past) outputs
+
+-- The same behind so many closes, and each epoch that the logs certify is counted.
+pub record RunsWhole (receipts : Bool) {D : Type 0} (functions : D → DigestFunctions) (runner : Runner D) (closes : ℕ) (outputs : Outputs) : Type 0 where
+  pub past : List Logs
+  pub runs : Runs receipts functions runner past outputs
   pub all : AllCounted (functions (digests_of runner.world)) runner.world.settings.header (texts_of runs.running.logs) runner.rounds
+  pub count : length past ≡ closes + closes
+  pub told : HasTold receipts (functions (digests_of runner.world)) runner.world.settings.header past outputs
+
+-- The same at the end, where each phase and its close had a round of its own if no clock ended.
+pub record RunsToEnd (receipts : Bool) {D : Type 0} (functions : D → DigestFunctions) (runner : Runner D) (outputs : Outputs) : Type 0 where
+  pub past : List Logs
+  pub runs : Runs receipts functions runner past outputs
+  pub all : AllCounted (functions (digests_of runner.world)) runner.world.settings.header (texts_of runs.running.logs) runner.rounds
+  pub count : runner.end ≡ None → length past ≡ 2 * length (requests_of runner.world)
+
+-- so it runs, whatever rounds were handed out
+abbrev pub RunsSome : Bool → {D : Type 0} → (D → DigestFunctions) → Runner D → Outputs → Type 0
+RunsSome receipts functions runner outputs = (past : List Logs) × Runs receipts functions runner past outputs
 
 -- So it runs, with receipts or without and whatever the vault and the sink held before, where the vault now holds this.
 abbrev pub IsUnderWay : {D : Type 0} → (D → DigestFunctions) → Runner D → Option (List ℕ) → Type 0
-IsUnderWay functions runner held = (receipts : Bool) × (outputs : Outputs) × Runs receipts functions runner outputs × (outputs.vault_after ≡ held)
+IsUnderWay functions runner held = (receipts : Bool) × (outputs : Outputs) × RunsSome receipts functions runner outputs × (outputs.vault_after ≡ held)
 
 -- the runner with other runs of its verifiers
 abbrev pub with_runs_of : {D : Type 0} → List FedRun → Runner D → Runner D
@@ -83,17 +102,22 @@ HaveReadRound functions before runner =
 -- so it runs, but that its verifiers' runs have taken what its workers logged and the vault doesn't have that yet
 abbrev pub IsFedUnderWay : {D : Type 0} → (D → DigestFunctions) → Runner D → Option (List ℕ) → Type 0
 IsFedUnderWay functions runner held =
-    (receipts : Bool) × (outputs : Outputs) × (before : List FedRun) × Runs receipts functions (with_runs_of before runner) outputs
+    (receipts : Bool) × (outputs : Outputs) × (before : List FedRun) × RunsSome receipts functions (with_runs_of before runner) outputs
     × HaveReadRound functions before runner × (outputs.vault_after ≡ held)
 
--- the same with receipts, or without, where the sink now holds this
-abbrev pub IsUnderWayWith : Bool → {D : Type 0} → (D → DigestFunctions) → Runner D → Option (List ℕ) → Option (List ℕ) → Type 0
-IsUnderWayWith receipts functions runner held out =
-    (outputs : Outputs) × Runs receipts functions runner outputs × (outputs.vault_after ≡ held) × (outputs.out_after ≡ out)
+-- so it runs behind so many phases and so many closes
+abbrev pub IsUnderWayBehind : {D : Type 0} → (D → DigestFunctions) → Runner D → ℕ → ℕ → Option (List ℕ) → Type 0
+IsUnderWayBehind functions runner phases closes held =
+    (receipts : Bool) × (outputs : Outputs) × RunsBehind receipts functions runner phases closes outputs × (outputs.vault_after ≡ held)
+
+-- the same with receipts, or without, where as many closes are done and the sink now holds this
+abbrev pub IsUnderWayWith : Bool → {D : Type 0} → (D → DigestFunctions) → Runner D → ℕ → Option (List ℕ) → Option (List ℕ) → Type 0
+IsUnderWayWith receipts functions runner phases held out =
+    (outputs : Outputs) × RunsBehind receipts functions runner phases phases outputs × (outputs.vault_after ≡ held) × (outputs.out_after ≡ out)
 
 -- so it runs, with all counted that its logs certify
 abbrev pub IsUnderWayWhole : {D : Type 0} → (D → DigestFunctions) → Runner D → Type 0
-IsUnderWayWhole functions runner = (receipts : Bool) × (outputs : Outputs) × RunsWhole receipts functions runner outputs
+IsUnderWayWhole functions runner = (receipts : Bool) × (outputs : Outputs) × RunsToEnd receipts functions runner outputs
 
 -- ---- where it stands
 

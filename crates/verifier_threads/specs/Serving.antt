@@ -1,5 +1,5 @@
 -- A script that is served: the logs of its workers, the bundle of them in the vault, and the report in the sink.
-use Rattle.std.specs.Prelude.{◌≡◌, ◌⊎◌, Bool, ℕ, ◌<◌, ◌≤◌, List, [], ◌++◌, length, map, replicate, Option, Some, None, Result, Ok, Err}
+use Rattle.std.specs.Prelude.{◌≡◌, ◌⊎◌, Bool, ℕ, ◌+◌, ◌*◌, ◌<◌, ◌≤◌, List, [], ◌∷◌, ◌++◌, length, map, take, Option, Some, None, Result, Ok, Err}
 use Rattle.fv_outside.specs.Written.{Grows, GrowsByFront}
 use Rattle.lamport_clocks.specs.declared.header.Header.{Header}
 use Rattle.record_hash.specs.Functions.{DigestFunctions}
@@ -21,8 +21,11 @@ use Rattle.host_serving.specs.Leading.{Leads, LeadsTo, CanDoNoMore}
 use Rattle.host_serving.specs.Standing.{IsLowest, IsAllServed}
 use Rattle.host_rounds.specs.declared.stops.RoundStop.{RoundStop}
 use Rattle.host_rounds.specs.declared.stops.RoundStop.TheVariants as stops
+use Rattle.bundle_frames.specs.Bundle.{header_text}
+use Rattle.host_rounds.specs.Round.{round_text, logs_in}
 use Rattle.host_rounds.specs.Bundle.{HasBundle, HasFront}
 use Rattle.host_rounds.specs.SoFar.{lines_due}
+use Rattle.verifier_threads.specs.InRounds.{Logs, no_logs, ArePassed}
 use Rattle.verifier_threads.specs.declared.ending.RunEnd.{RunEnd}
 use Rattle.verifier_threads.specs.declared.ending.RunEnd.TheVariants as ends
 
@@ -48,10 +51,10 @@ setup_end settings = record { worker = 0; at = record { epoch = settings.header.
 abbrev pub texts_of : List (List Command) → List (List ℕ)
 texts_of logs = map (log_text short_keys) logs
 
-module _ (functions : DigestFunctions) (settings : Settings) (script : List (List Task)) (logs : List (List Command)) (end : Option ClockEnd) where
+module _ (functions : DigestFunctions) (settings : Settings) (script : List (List Task)) (rounds : List Logs) (logs : Logs) (end : Option ClockEnd) where
   -- The logs of a world to which enabled events lead from the setup, and in which no more can be done. Where no clock
   -- ended on the way the whole script is served; else it is the first end that they come to, and that of the lowest worker whose clock
-  -- ended in its round.
+  -- ended in its round. They were logged in these rounds: where no clock ended, those are two of each phase.
   pub record AreServed : Type 0 where
     pub world : World Content
     pub way : Leads (shipped_host functions settings script) (set_up (shipped_host functions settings script)) world end
@@ -59,24 +62,31 @@ module _ (functions : DigestFunctions) (settings : Settings) (script : List (Lis
     pub logs_are : logs ≡ logs_of world
     pub whole : end ≡ None → IsAllServed (shipped_host functions settings script) world
     pub lowest : IsLowest (shipped_host functions settings script) world end
+    pub passed : ArePassed (shipped_host functions settings script) rounds world
+    pub count : end ≡ None → length rounds ≡ 2 * length script
 
   -- The same where the counters suffice for the setup; else nothing is logged.
   pub record AreOfRun : Type 0 where
     pub served : settings.shards ≤ settings.header.end → AreServed
     pub unserved : settings.header.end < settings.shards
-        → (logs ≡ replicate settings.header.verifiers []) × (end ≡ Some (setup_end settings))
+        → (logs ≡ no_logs settings.header.verifiers) × (rounds ≡ []) × (end ≡ Some (setup_end settings))
 
-module _ (functions : DigestFunctions) (settings : Settings) (script : List (List Task)) (logs : List (List Command)) where
-  -- The logs of a world to which enabled events lead from the setup, however far.
+module _ (functions : DigestFunctions) (settings : Settings) (script : List (List Task)) (rounds : List Logs) (logs : Logs) where
+  -- The logs of a world to which enabled events lead from the setup, however far: those of the rounds that are done, and behind them
+  -- what was logged since.
   pub record AreOnTheWay : Type 0 where
     pub world : World Content
     pub way : LeadsTo (shipped_host functions settings script) (set_up (shipped_host functions settings script)) world
     pub logs_are : logs ≡ logs_of world
+    pub done : List Logs
+    pub since : Logs
+    pub rounds_are : rounds ≡ done ++ (since ∷ [])
+    pub passed : ArePassed (shipped_host functions settings script) done world
 
   -- The same where the counters suffice for the setup; else nothing is logged.
   pub record AreOfRunSoFar : Type 0 where
     pub served : settings.shards ≤ settings.header.end → AreOnTheWay
-    pub unserved : settings.header.end < settings.shards → logs ≡ replicate settings.header.verifiers []
+    pub unserved : settings.header.end < settings.shards → (logs ≡ no_logs settings.header.verifiers) × (rounds ≡ [])
 
 -- ---- vault and report
 
@@ -93,32 +103,63 @@ pub record Outputs : Type 0 where
 
 -- The script is served: the vault took the bundle of the logs, and the sink their report.
 pub record IsServed (receipts : Bool) (functions : DigestFunctions) (settings : Settings) (script : List (List Task)) (result : RunEnd) (outputs : Outputs) : Type 0 where
-  pub logs : List (List Command)
+  pub rounds : List Logs
+  pub logs : Logs
   pub end : Option ClockEnd
-  pub run : AreOfRun functions settings script logs end
+  pub run : AreOfRun functions settings script rounds logs end
   pub is : result ≡ end_by (length script) end
-  pub vault : HasBundle settings.header (texts_of logs) outputs.vault outputs.vault_after
+  pub vault : HasBundle settings.header (texts_of logs) (map texts_of rounds) outputs.vault outputs.vault_after
   pub out : Grows outputs.out outputs.out_after (report_of receipts functions settings.header logs result)
 
 -- It stopped before: the vault took a front of the bundle of the logs so far, and the sink a front of the lines that the bytes
 -- of that front certify.
 pub record IsCutOff (receipts : Bool) (functions : DigestFunctions) (settings : Settings) (script : List (List Task)) (outputs : Outputs) : Type 0 where
-  pub logs : List (List Command)
-  pub run : AreOfRunSoFar functions settings script logs
-  pub vault : HasFront settings.header (texts_of logs) outputs.vault outputs.vault_after
+  pub rounds : List Logs
+  pub logs : Logs
+  pub run : AreOfRunSoFar functions settings script rounds logs
+  pub vault : HasFront settings.header (texts_of logs) (map texts_of rounds) outputs.vault outputs.vault_after
   pub out : GrowsByFront outputs.out outputs.out_after (check_answer receipts functions vault.grown.front).due
 
 -- It stopped at the last line: all is served, and the sink took a front of the report.
 pub record IsCutAtEnd (receipts : Bool) (functions : DigestFunctions) (settings : Settings) (script : List (List Task)) (outputs : Outputs) : Type 0 where
-  pub logs : List (List Command)
+  pub rounds : List Logs
+  pub logs : Logs
   pub end : Option ClockEnd
-  pub run : AreOfRun functions settings script logs end
-  pub vault : HasBundle settings.header (texts_of logs) outputs.vault outputs.vault_after
+  pub run : AreOfRun functions settings script rounds logs end
+  pub vault : HasBundle settings.header (texts_of logs) (map texts_of rounds) outputs.vault outputs.vault_after
   pub out : GrowsByFront outputs.out outputs.out_after (report_of receipts functions settings.header logs (end_by (length script) end))
+
+-- all lines that these rounds certify are written
+abbrev pub HasTold : Bool → DigestFunctions → Header → List Logs → Outputs → Type 0
+HasTold receipts functions header rounds outputs =
+    Grows outputs.out outputs.out_after (lines_due (told_by receipts functions header) functions header (logs_in header.verifiers (map texts_of rounds)))
+
+-- It stopped in a round, and the vault held this before the round: the whole bundle of the rounds before. It took a front of that
+-- round's frames, and the sink all lines that the rounds up to the last close certify.
+pub record IsCutInRound (receipts : Bool) (functions : DigestFunctions) (settings : Settings) (script : List (List Task)) (outputs : Outputs) : Type 0 where
+  pub past : List Logs
+  pub round : Logs
+  pub logs : Logs
+  pub run : AreOfRunSoFar functions settings script (past ++ (round ∷ [])) logs
+  pub held : Option (List ℕ)
+  pub whole : HasBundle settings.header (logs_in settings.header.verifiers (map texts_of past)) (map texts_of past) outputs.vault held
+  pub front : GrowsByFront held outputs.vault_after (round_text (texts_of round))
+  pub closes : ℕ
+  pub count : (length past ≡ 2 * closes) ⊎ (length past ≡ 1 + 2 * closes)
+  pub told : HasTold receipts functions settings.header (take (2 * closes) past) outputs
+
+-- It stopped in the header: the vault took a front of it, and the sink nothing.
+pub record IsCutInHeader (settings : Settings) (outputs : Outputs) : Type 0 where
+  pub front : GrowsByFront outputs.vault outputs.vault_after (header_text settings.header)
+  pub out : outputs.out_after ≡ outputs.out
+
+-- The vault failed: in the header, or in a round.
+abbrev pub IsCutByVault : Bool → DigestFunctions → Settings → List (List Task) → Outputs → Type 0
+IsCutByVault receipts functions settings script outputs = IsCutInHeader settings outputs ⊎ IsCutInRound receipts functions settings script outputs
 
 -- What stands where a run ends, and where it stops.
 abbrev pub ServesTo : Bool → DigestFunctions → Settings → List (List Task) → Result RunEnd RoundStop → Outputs → Type 0
 ServesTo receipts functions settings script (Ok result) outputs = IsServed receipts functions settings script result outputs
 ServesTo receipts functions settings script (Err stops.Memory) outputs = IsCutOff receipts functions settings script outputs
-ServesTo receipts functions settings script (Err stops.VaultFault) outputs = IsCutOff receipts functions settings script outputs
+ServesTo receipts functions settings script (Err stops.VaultFault) outputs = IsCutOff receipts functions settings script outputs × IsCutByVault receipts functions settings script outputs
 ServesTo receipts functions settings script (Err stops.WriteFault) outputs = IsCutOff receipts functions settings script outputs ⊎ IsCutAtEnd receipts functions settings script outputs

@@ -1,5 +1,5 @@
 -- A load that is served: the logs of its workers, the bundle of them in the vault, and their summary in the sink.
-use Rattle.std.specs.Prelude.{◌≡◌, ℕ, List, length, Option, Result, Ok, Err}
+use Rattle.std.specs.Prelude.{◌≡◌, ℕ, List, length, map, Option, Result, Ok, Err}
 use Rattle.fv_outside.specs.Written.{Grows, GrowsByFront}
 use Rattle.lamport_clocks.specs.declared.header.Header.{Header}
 use Rattle.record_hash.specs.Functions.{DigestFunctions}
@@ -11,6 +11,7 @@ use Rattle.host_rounds.specs.declared.stops.RoundStop.{RoundStop}
 use Rattle.host_rounds.specs.declared.stops.RoundStop.TheVariants as stops
 use Rattle.host_rounds.specs.Bundle.{HasBundle, HasFront}
 use Rattle.host_rounds.specs.SoFar.{summary_due}
+use Rattle.verifier_threads.specs.InRounds.{Logs}
 use Rattle.verifier_threads.specs.declared.ending.RunEnd.{RunEnd}
 use Rattle.verifier_threads.specs.declared.loads.Load.{Load}
 use Rattle.verifier_threads.specs.Serving.{Outputs, AreOfRun, AreOfRunSoFar, end_by, status_at, texts_of}
@@ -22,26 +23,29 @@ summary_of functions header load logs end = summary_due functions header (texts_
 module _ (functions : DigestFunctions) (settings : Settings) (script : List (List Task)) (load : Load) where
   -- The load is served: the vault took the bundle of the logs, and the sink their summary.
   pub record IsSummed (result : RunEnd) (outputs : Outputs) : Type 0 where
-    pub logs : List (List Command)
+    pub rounds : List Logs
+    pub logs : Logs
     pub end : Option ClockEnd
-    pub run : AreOfRun functions settings script logs end
+    pub run : AreOfRun functions settings script rounds logs end
     pub is : result ≡ end_by (length script) end
-    pub vault : HasBundle settings.header (texts_of logs) outputs.vault outputs.vault_after
+    pub vault : HasBundle settings.header (texts_of logs) (map texts_of rounds) outputs.vault outputs.vault_after
     pub out : Grows outputs.out outputs.out_after (summary_of functions settings.header load logs result)
 
   -- It stopped in the summary: all is served, and the sink took a front of it.
   pub record IsCutInSummary (outputs : Outputs) : Type 0 where
-    pub logs : List (List Command)
+    pub rounds : List Logs
+    pub logs : Logs
     pub end : Option ClockEnd
-    pub run : AreOfRun functions settings script logs end
-    pub vault : HasBundle settings.header (texts_of logs) outputs.vault outputs.vault_after
+    pub run : AreOfRun functions settings script rounds logs end
+    pub vault : HasBundle settings.header (texts_of logs) (map texts_of rounds) outputs.vault outputs.vault_after
     pub out : GrowsByFront outputs.out outputs.out_after (summary_of functions settings.header load logs (end_by (length script) end))
 
 -- It stopped before: the vault took a front of the bundle of the logs so far, and the sink nothing.
 pub record IsCutBefore (functions : DigestFunctions) (settings : Settings) (script : List (List Task)) (outputs : Outputs) : Type 0 where
-  pub logs : List (List Command)
-  pub run : AreOfRunSoFar functions settings script logs
-  pub vault : HasFront settings.header (texts_of logs) outputs.vault outputs.vault_after
+  pub rounds : List Logs
+  pub logs : Logs
+  pub run : AreOfRunSoFar functions settings script rounds logs
+  pub vault : HasFront settings.header (texts_of logs) (map texts_of rounds) outputs.vault outputs.vault_after
   pub out : outputs.out_after ≡ outputs.out
 
 -- What stands where a load ends, and where it stops.

@@ -1,5 +1,5 @@
 //! What follows from the definitions of bundles. The functions do nothing: their contracts are the laws.
-ghost use Rattle.std.specs.Prelude.{◌≡◌, ◌<◌, ◌^◌, Bool, ℕ, List, ◌++◌, Option};
+ghost use Rattle.std.specs.Prelude.{◌≡◌, Bool, ℕ, List, ◌++◌, Option, Err};
 ghost use Rattle.fv_outside.specs.Written.{GrowsByFront};
 ghost use Rattle.record_hash.specs.Functions.{DigestFunctions};
 ghost use Rattle.lamport_clocks.specs.declared.header.Header.{Header};
@@ -10,17 +10,17 @@ ghost use Rattle.host_rounds.specs.Bundle.{IsBundle};
 ghost use Rattle.host_rounds.specs.SoFar.{lines_due};
 ghost use Rattle.script_text.specs.declared.task.Task.{Task};
 ghost use Rattle.host_world.specs.Settings.{IsSettings};
-ghost use Rattle.verifier_threads.specs.Serving.{IsCutOff};
+ghost use Rattle.verifier_threads.specs.Serving.{IsCutOff, ServesTo};
 ghost use Rattle.verifier_threads.specs.Summing.{IsCutBefore};
 
 use bundle_frames::{bytes_bound_the_frames, frames_are_read_back, headers_are_read_back};
 use host_log::{bundles_hold_the_logs, frames_join_to_the_bytes};
-use host_rounds::rounds_make_a_bundle;
+use host_rounds::{RoundStop, epochs_fit_32_bits, rounds_make_a_bundle};
 use host_world::Settings;
 
 /// What the bundle of logs certifies is due whatever bytes follow it, and more may be due behind.
 pub fn what_is_due_stays_due()
-    ensures stays { (receipts : Bool) (functions : DigestFunctions) (header : Header) (logs : List (List ℕ)) (bytes more : List ℕ) → IsBundle header logs bytes
+    ensures stays { (receipts : Bool) (functions : DigestFunctions) (header : Header) (logs : List (List ℕ)) (rounds : List (List (List ℕ))) (bytes more : List ℕ) → IsBundle header logs rounds bytes
         → (rest : List ℕ) × ((check_answer receipts functions (bytes ++ more)).due ≡ lines_due (told_by receipts functions header) functions header logs ++ rest) }
 {
     bytes_bound_the_frames();
@@ -37,15 +37,13 @@ pub fn a_header_begins_the_bundle(settings: &Settings)
     ensures cut { (receipts : Bool) (functions : DigestFunctions) (script : List (List Task)) (vault vault_after out : Option (List ℕ))
         → GrowsByFront vault vault_after (header_text settings.now.header)
         → IsCutOff receipts functions settings.now script (record { vault = vault; vault_after = vault_after; out = out; out_after = out }) }
+    ensures fault { (receipts : Bool) (functions : DigestFunctions) (script : List (List Task)) (vault vault_after out : Option (List ℕ))
+        → GrowsByFront vault vault_after (header_text settings.now.header)
+        → ServesTo receipts functions settings.now script (Err RoundStop.VaultFault) (record { vault = vault; vault_after = vault_after; out = out; out_after = out }) }
     ensures before { (functions : DigestFunctions) (script : List (List Task)) (vault vault_after out : Option (List ℕ))
         → GrowsByFront vault vault_after (header_text settings.now.header)
         → IsCutBefore functions settings.now script (record { vault = vault; vault_after = vault_after; out = out; out_after = out }) }
 {
     rounds_make_a_bundle();
-    fits_32_bits(settings.header.first);
+    epochs_fit_32_bits(settings.header.first);
 }
-
-// A first epoch fits the bytes in which a header spells it. It does nothing, and its contract is the fact.
-fn fits_32_bits(first: u32)
-    ensures below { first < 2 ^ 32 }
-{}

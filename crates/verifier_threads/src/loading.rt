@@ -15,7 +15,7 @@ use crate::ending::RunEnd;
 use crate::laws::a_header_begins_the_bundle;
 use crate::loads::Load;
 use crate::runner::Runner;
-use crate::serving::{has_a_phase, serve_phases};
+use crate::serving::{a_script_has_a_phase, serve_phases};
 use fv_outside::{Gate, Sink, SureSink};
 use host_fits::scripts_ask_for_keys_in_range;
 use host_rounds::{RoundStop, Rounds};
@@ -88,7 +88,7 @@ fn sum_up_world<R: Threads + Wait + Sync, D: Digests + Sync, V: Sink, O: Sink, G
     scripts_ask_for_keys_in_range();
     let settings = world.settings();
     a_header_begins_the_bundle(&settings);
-    has_a_phase(world.requests());
+    a_script_has_a_phase(world.requests());
     let mut dropped = SureSink::new(alloc, 0, usize::MAX)?;
     let mut runner = Runner::new(alloc, world, vault)?;
     serve_phases(rt, &mut runner, false, gate, vault, &mut dropped)?;

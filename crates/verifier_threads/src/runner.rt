@@ -1,21 +1,22 @@
 //! A run of a script: its world, phase by phase, and what becomes of the logs.
-ghost use Rattle.std.specs.Prelude.{◌≡◌, ◌≢◌, ◌↔◌, ◌⊎◌, ◌≤◌, ◌<◌, Bool, ℕ, suc, true, false, List, Option, None, length, map, replicate, OnOk, OnErr, IfOk, Err};
+ghost use Rattle.std.specs.Prelude.{◌≡◌, ◌≢◌, ◌↔◌, ◌⊎◌, ◌≤◌, ◌<◌, Bool, ℕ, suc, true, false, List, [], ◌∷◌, ◌++◌, Option, None, length, map, replicate, OnOk, OnErr, IfOk, Err};
 ghost use Rattle.std.specs.List.{AllByRecursion};
 ghost use Rattle.fv_outside.specs.Faults.{Rose};
 ghost use Rattle.bundle_report.specs.Report.{told_by};
 ghost use Rattle.certified_epochs.specs.declared.fed_run.FedRun.{FedRun};
 ghost use Rattle.certified_epochs.specs.Telling.{text_by};
 ghost use Rattle.certified_epochs.specs.Turn.{AreVerdictsOn};
-ghost use Rattle.host_core.specs.World.{set_up};
+ghost use Rattle.host_core.specs.World.{set_up, logs_of};
 ghost use Rattle.host_core.specs.WorldEvent.{IsLast};
 ghost use Rattle.host_world.specs.Settings.{IsSettings};
 ghost use Rattle.host_world.specs.Shown.{shown_world, digests_of, requests_of, settings_of};
 ghost use Rattle.host_world.specs.Behind.{AreInRange, AreOfOneHost, host_of};
 ghost use Rattle.host_serving.specs.Leading.{first_of};
 ghost use Rattle.host_serving.specs.Standing.{turns_of};
-ghost use Rattle.verifier_threads.specs.Serving.{Outputs, IsServed, IsCutOff, IsCutAtEnd, end_by};
+ghost use Rattle.verifier_threads.specs.InRounds.{Logs, IsBehindRounds};
+ghost use Rattle.verifier_threads.specs.Serving.{Outputs, IsServed, IsCutOff, IsCutInHeader, IsCutInRound, IsCutAtEnd, end_by};
 ghost use Rattle.verifier_threads.specs.Summing.{IsSummed, IsCutInSummary};
-ghost use Rattle.verifier_threads.specs.Running.{Runs, RunsWhole, IsUnderWay, IsUnderWayWith, IsUnderWayWhole, IsFedUnderWay, HaveReadRound, IsAtPhase, IsAtClose, IsAtEnd, all_handed_out, with_runs_of};
+ghost use Rattle.verifier_threads.specs.Running.{Runs, RunsSome, RunsBehind, RunsWhole, RunsToEnd, IsUnderWay, IsUnderWayBehind, IsUnderWayWith, IsUnderWayWhole, IsFedUnderWay, HaveReadRound, IsAtPhase, IsAtClose, IsAtEnd, all_handed_out, with_runs_of};
 
 use crate::ending::RunEnd;
 use crate::handing::hand_out_all;
@@ -31,7 +32,9 @@ use host_serving::close_phase;
 use host_world::{ClockEnd, World};
 use record_hash::Digests;
 use report_text::BundleEnd;
-use run_reports::a_check_of_the_logs_ends_as_the_host_promises;
+use run_reports::{
+    a_check_of_the_logs_ends_as_the_host_promises, logs_of_no_bytes_certify_nothing,
+};
 use std::alloc::Global;
 use std::sync::Wait;
 use std::thread::Threads;
@@ -63,18 +66,21 @@ impl<'a, D: Digests> Runner<'a, D> {
         requires counters { (settings_of world).shards ≤ (settings_of world).header.end }
         requires keys { AreInRange (requests_of world) }
         requires some { 0 < length (requests_of world) }
-        ensures runs { (receipts : Bool) (held : Option (List ℕ)) → IfOk result (λ runner. Runs receipts D.functions runner
+        ensures runs { (receipts : Bool) (held : Option (List ℕ)) → IfOk result (λ runner. RunsBehind receipts D.functions runner 0 0
             (record { vault = V.held vault.old; vault_after = V.held vault.new; out = held; out_after = held })) }
         ensures world { IfOk result (λ runner. runner.world ≡ world.entry) }
         ensures begins { IfOk result (λ runner. IsAtPhase (host_of (D.functions (digests_of world.entry)) world.entry)
             (shown_world world.entry) runner.end) }
         ensures cut { (receipts : Bool) (held : Option (List ℕ)) → OnErr result (IsCutOff receipts (D.functions (digests_of world.entry))
             (settings_of world.entry) (requests_of world.entry) (record { vault = V.held vault.old; vault_after = V.held vault.new; out = held; out_after = held })) }
+        ensures header { (held : Option (List ℕ)) → OnErr result (IsCutInHeader (settings_of world.entry)
+            (record { vault = V.held vault.old; vault_after = V.held vault.new; out = held; out_after = held })) }
         ensures stop { result ≢ Err RoundStop.WriteFault }
         ensures vault_fault { result ≡ Err RoundStop.VaultFault → Rose (V.faults vault.old) (V.faults vault.new) }
         ensures never_falls { V.faults vault.old ≤ V.faults vault.new }
         ensures name { V.name vault.new ≡ V.name vault.old }
     {
+        logs_of_no_bytes_certify_nothing();
         let settings = world.settings();
         a_header_begins_the_bundle(&settings);
         let header = settings.header;
@@ -95,10 +101,10 @@ impl<'a, D: Digests> Runner<'a, D> {
     pub(crate) fn finish<O: Sink>(&mut self, out: &mut O) -> Result<RunEnd, RoundStop>
         requires runs { IsUnderWayWhole D.functions self.old }
         requires ended { IsAtEnd (host_of (D.functions (digests_of self.old.world)) self.old.world) (shown_world self.old.world) self.old.end }
-        ensures served { (receipts : Bool) (outputs : Outputs) → RunsWhole receipts D.functions self.old outputs → outputs.out_after ≡ O.held out.old
+        ensures served { (receipts : Bool) (outputs : Outputs) → RunsToEnd receipts D.functions self.old outputs → outputs.out_after ≡ O.held out.old
             → IfOk result (λ end. IsServed receipts (D.functions (digests_of self.old.world)) (settings_of self.old.world) (requests_of self.old.world) end
             (record outputs { out_after = O.held out.new })) }
-        ensures cut { (receipts : Bool) (outputs : Outputs) → RunsWhole receipts D.functions self.old outputs → outputs.out_after ≡ O.held out.old
+        ensures cut { (receipts : Bool) (outputs : Outputs) → RunsToEnd receipts D.functions self.old outputs → outputs.out_after ≡ O.held out.old
             → OnErr result (IsCutAtEnd receipts (D.functions (digests_of self.old.world)) (settings_of self.old.world) (requests_of self.old.world)
             (record outputs { out_after = O.held out.new })) }
         ensures stop { OnErr result (result ≡ Err RoundStop.WriteFault) }
@@ -114,10 +120,10 @@ impl<'a, D: Digests> Runner<'a, D> {
     pub(crate) fn sum_up<O: Sink>(&mut self, load: &Load, out: &mut O) -> Result<RunEnd, RoundStop>
         requires runs { IsUnderWayWhole D.functions self.old }
         requires ended { IsAtEnd (host_of (D.functions (digests_of self.old.world)) self.old.world) (shown_world self.old.world) self.old.end }
-        ensures summed { (receipts : Bool) (outputs : Outputs) → RunsWhole receipts D.functions self.old outputs
+        ensures summed { (receipts : Bool) (outputs : Outputs) → RunsToEnd receipts D.functions self.old outputs
             → IfOk result (λ end. IsSummed (D.functions (digests_of self.old.world)) (settings_of self.old.world) (requests_of self.old.world) load.now end
             (record outputs { out = O.held out.old; out_after = O.held out.new })) }
-        ensures cut { (receipts : Bool) (outputs : Outputs) → RunsWhole receipts D.functions self.old outputs
+        ensures cut { (receipts : Bool) (outputs : Outputs) → RunsToEnd receipts D.functions self.old outputs
             → OnErr result (IsCutInSummary (D.functions (digests_of self.old.world)) (settings_of self.old.world) (requests_of self.old.world) load.now
             (record outputs { out = O.held out.old; out_after = O.held out.new })) }
         ensures stop { OnErr result (result ≡ Err RoundStop.WriteFault) }
@@ -162,14 +168,20 @@ impl<'a, D: Digests> Runner<'a, D> {
     // Hands out what all workers logged, where the verifiers' runs have already taken it: it goes to the vault.
     fn set_down<V: Sink>(&mut self, vault: &mut V) -> Result<(), RoundStop>
         requires runs { IsFedUnderWay D.functions self.old (V.held vault.old) }
-        ensures runs { (receipts : Bool) (outputs : Outputs) (before : List FedRun) → Runs receipts D.functions (with_runs_of before self.old) outputs
-            → HaveReadRound D.functions before self.old → outputs.vault_after ≡ V.held vault.old
-            → OnOk result (Runs receipts D.functions self.new (record outputs { vault_after = V.held vault.new })) }
+        ensures runs { (receipts : Bool) (outputs : Outputs) (before : List FedRun) (past : List Logs)
+            → Runs receipts D.functions (with_runs_of before self.old) past outputs → HaveReadRound D.functions before self.old
+            → IsBehindRounds (host_of (D.functions (digests_of self.old.world)) self.old.world) (suc (length past)) (shown_world self.old.world)
+            → outputs.vault_after ≡ V.held vault.old
+            → OnOk result (Runs receipts D.functions self.new (past ++ (logs_of (shown_world self.old.world) ∷ [])) (record outputs { vault_after = V.held vault.new })) }
         ensures handed { OnOk result (shown_world self.new.world ≡ all_handed_out (shown_world self.old.world)) }
         ensures end { self.new.end ≡ self.old.end }
-        ensures cut { (receipts : Bool) (outputs : Outputs) (before : List FedRun) → Runs receipts D.functions (with_runs_of before self.old) outputs
+        ensures cut { (receipts : Bool) (outputs : Outputs) (before : List FedRun) → RunsSome receipts D.functions (with_runs_of before self.old) outputs
             → outputs.vault_after ≡ V.held vault.old
             → OnErr result (IsCutOff receipts (D.functions (digests_of self.old.world)) (settings_of self.old.world) (requests_of self.old.world)
+            (record outputs { vault_after = V.held vault.new })) }
+        ensures cut_round { (receipts : Bool) (outputs : Outputs) (before : List FedRun) (closes : ℕ)
+            → RunsBehind receipts D.functions (with_runs_of before self.old) closes closes outputs → outputs.vault_after ≡ V.held vault.old
+            → OnErr result (IsCutInRound receipts (D.functions (digests_of self.old.world)) (settings_of self.old.world) (requests_of self.old.world)
             (record outputs { vault_after = V.held vault.new })) }
         ensures host { AreOfOneHost self.old.world self.new.world }
         ensures stop { result ≢ Err RoundStop.WriteFault }
@@ -195,24 +207,29 @@ impl<'a, D: Digests + Sync> Runner<'a, D> {
         vault: &mut V,
         out: &mut O,
     ) -> Result<(), RoundStop>
-        requires runs { IsUnderWay D.functions self.old (V.held vault.old) }
+        requires runs { IsUnderWayBehind D.functions self.old (suc (shown_world self.old.world).phase) (shown_world self.old.world).phase (V.held vault.old) }
         requires served { IsAtClose (host_of (D.functions (digests_of self.old.world)) self.old.world)
             (shown_world self.old.world) self.old.end }
         requires last { (last ≡ true) ↔ IsLast (host_of (D.functions (digests_of self.old.world)) self.old.world)
             (shown_world self.old.world) }
-        ensures runs { (outputs : Outputs) → Runs receipts D.functions self.old outputs → outputs.vault_after ≡ V.held vault.old
-            → outputs.out_after ≡ O.held out.old
-            → OnOk result (RunsWhole receipts D.functions self.new (record outputs { vault_after = V.held vault.new; out_after = O.held out.new })) }
+        ensures runs { (outputs : Outputs) → RunsBehind receipts D.functions self.old (suc (shown_world self.old.world).phase) (shown_world self.old.world).phase outputs
+            → outputs.vault_after ≡ V.held vault.old → outputs.out_after ≡ O.held out.old
+            → OnOk result (RunsWhole receipts D.functions self.new (suc (shown_world self.old.world).phase) (record outputs { vault_after = V.held vault.new; out_after = O.held out.new })) }
         ensures ended { (last ≡ true) ⊎ (self.new.end ≢ None)
-            → OnOk result (IsAtEnd (host_of (D.functions (digests_of self.new.world)) self.new.world) (shown_world self.new.world) self.new.end) }
+            → OnOk result (IsAtEnd (host_of (D.functions (digests_of self.new.world)) self.new.world) (shown_world self.new.world) self.new.end
+            × (self.new.end ≡ None → (shown_world self.new.world).phase ≡ (shown_world self.old.world).phase)) }
         ensures kept { self.new.end ≡ None → self.old.end ≡ None }
         ensures opened { last ≡ false → self.new.end ≡ None
             → OnOk result (IsAtPhase (host_of (D.functions (digests_of self.new.world)) self.new.world) (shown_world self.new.world) self.new.end
             × ((shown_world self.new.world).phase ≡ suc (shown_world self.old.world).phase)) }
-        ensures cut { (outputs : Outputs) → Runs receipts D.functions self.old outputs → outputs.vault_after ≡ V.held vault.old
+        ensures cut { (outputs : Outputs) → RunsBehind receipts D.functions self.old (suc (shown_world self.old.world).phase) (shown_world self.old.world).phase outputs → outputs.vault_after ≡ V.held vault.old
             → outputs.out_after ≡ O.held out.old
             → OnErr result (IsCutOff receipts (D.functions (digests_of self.old.world)) (settings_of self.old.world) (requests_of self.old.world)
             (record outputs { vault_after = V.held vault.new; out_after = O.held out.new })) }
+        ensures cut_round { (outputs : Outputs) → RunsBehind receipts D.functions self.old (suc (shown_world self.old.world).phase) (shown_world self.old.world).phase outputs
+            → outputs.vault_after ≡ V.held vault.old → outputs.out_after ≡ O.held out.old → result ≡ Err RoundStop.VaultFault
+            → IsCutInRound receipts (D.functions (digests_of self.old.world)) (settings_of self.old.world) (requests_of self.old.world)
+            (record outputs { vault_after = V.held vault.new; out_after = O.held out.new }) }
         ensures host { AreOfOneHost self.old.world self.new.world }
         ensures vault_fault { result ≡ Err RoundStop.VaultFault → Rose (V.faults vault.old) (V.faults vault.new) }
         ensures write_fault { result ≡ Err RoundStop.WriteFault → Rose (O.faults out.old) (O.faults out.new) }
@@ -238,13 +255,19 @@ impl<'a, D: Digests + Sync> Runner<'a, D> {
         vault: &mut V,
     ) -> Result<Vec<Verdict>, RoundStop>
         requires runs { IsUnderWay D.functions self.old (V.held vault.old) }
-        ensures runs { (receipts : Bool) (outputs : Outputs) → Runs receipts D.functions self.old outputs → outputs.vault_after ≡ V.held vault.old
-            → OnOk result (Runs receipts D.functions self.new (record outputs { vault_after = V.held vault.new })) }
+        ensures runs { (receipts : Bool) (outputs : Outputs) (past : List Logs) → Runs receipts D.functions self.old past outputs
+            → IsBehindRounds (host_of (D.functions (digests_of self.old.world)) self.old.world) (suc (length past)) (shown_world self.old.world)
+            → outputs.vault_after ≡ V.held vault.old
+            → OnOk result (Runs receipts D.functions self.new (past ++ (logs_of (shown_world self.old.world) ∷ [])) (record outputs { vault_after = V.held vault.new })) }
         ensures handed { OnOk result (shown_world self.new.world ≡ all_handed_out (shown_world self.old.world)) }
         ensures settled { IfOk result (λ settled. AreVerdictsOn self.new.rounds.judged (map (λ fed. fed.run) self.new.rounds.runs) settled.items) }
         ensures end { self.new.end ≡ self.old.end }
-        ensures cut { (receipts : Bool) (outputs : Outputs) → Runs receipts D.functions self.old outputs → outputs.vault_after ≡ V.held vault.old
+        ensures cut { (receipts : Bool) (outputs : Outputs) → RunsSome receipts D.functions self.old outputs → outputs.vault_after ≡ V.held vault.old
             → OnErr result (IsCutOff receipts (D.functions (digests_of self.old.world)) (settings_of self.old.world) (requests_of self.old.world)
+            (record outputs { vault_after = V.held vault.new })) }
+        ensures cut_round { (receipts : Bool) (outputs : Outputs) (closes : ℕ) → RunsBehind receipts D.functions self.old (suc closes) closes outputs
+            → outputs.vault_after ≡ V.held vault.old
+            → OnErr result (IsCutInRound receipts (D.functions (digests_of self.old.world)) (settings_of self.old.world) (requests_of self.old.world)
             (record outputs { vault_after = V.held vault.new })) }
         ensures host { AreOfOneHost self.old.world self.new.world }
         ensures stop { result ≢ Err RoundStop.WriteFault }
@@ -268,18 +291,24 @@ impl<'a, D: Digests + Sync> Runner<'a, D> {
         gate: &G,
         vault: &mut V,
     ) -> Result<(), RoundStop>
-        requires runs { IsUnderWay D.functions self.old (V.held vault.old) }
+        requires runs { IsUnderWayBehind D.functions self.old (shown_world self.old.world).phase (shown_world self.old.world).phase (V.held vault.old) }
         requires begins { IsAtPhase (host_of (D.functions (digests_of self.old.world)) self.old.world)
             (shown_world self.old.world) self.old.end }
         requires workers { AllByRecursion (λ turn. turn.0 < length (shown_world self.old.world).workers)
             (turns_of (host_of (D.functions (digests_of self.old.world)) self.old.world) (shown_world self.old.world).phase) }
-        ensures runs { (receipts : Bool) (outputs : Outputs) → Runs receipts D.functions self.old outputs → outputs.vault_after ≡ V.held vault.old
-            → OnOk result (Runs receipts D.functions self.new (record outputs { vault_after = V.held vault.new })) }
+        ensures runs { (receipts : Bool) (outputs : Outputs)
+            → RunsBehind receipts D.functions self.old (shown_world self.old.world).phase (shown_world self.old.world).phase outputs → outputs.vault_after ≡ V.held vault.old
+            → OnOk result (RunsBehind receipts D.functions self.new (suc (shown_world self.old.world).phase) (shown_world self.old.world).phase
+            (record outputs { vault_after = V.held vault.new })) }
         ensures served { OnOk result (IsAtClose (host_of (D.functions (digests_of self.new.world)) self.new.world)
             (shown_world self.new.world) self.new.end) }
         ensures same_phase { OnOk result ((shown_world self.new.world).phase ≡ (shown_world self.old.world).phase) }
-        ensures cut { (receipts : Bool) (outputs : Outputs) → Runs receipts D.functions self.old outputs → outputs.vault_after ≡ V.held vault.old
+        ensures cut { (receipts : Bool) (outputs : Outputs) → RunsBehind receipts D.functions self.old (shown_world self.old.world).phase (shown_world self.old.world).phase outputs → outputs.vault_after ≡ V.held vault.old
             → OnErr result (IsCutOff receipts (D.functions (digests_of self.old.world)) (settings_of self.old.world) (requests_of self.old.world)
+            (record outputs { vault_after = V.held vault.new })) }
+        ensures cut_round { (receipts : Bool) (outputs : Outputs) → RunsBehind receipts D.functions self.old (shown_world self.old.world).phase (shown_world self.old.world).phase outputs
+            → outputs.vault_after ≡ V.held vault.old
+            → OnErr result (IsCutInRound receipts (D.functions (digests_of self.old.world)) (settings_of self.old.world) (requests_of self.old.world)
             (record outputs { vault_after = V.held vault.new })) }
         ensures host { AreOfOneHost self.old.world self.new.world }
         ensures stop { result ≢ Err RoundStop.WriteFault }
@@ -314,24 +343,31 @@ impl<'a, D: Digests + Sync> Runner<'a, D> {
         vault: &mut V,
         out: &mut O,
     ) -> Result<(), RoundStop>
-        requires runs { IsUnderWayWith receipts D.functions self.old (V.held vault.old) (O.held out.old) }
+        requires runs { IsUnderWayWith receipts D.functions self.old (shown_world self.old.world).phase (V.held vault.old) (O.held out.old) }
         requires begins { IsAtPhase (host_of (D.functions (digests_of self.old.world)) self.old.world)
             (shown_world self.old.world) self.old.end }
         requires workers { AllByRecursion (λ turn. turn.0 < length (shown_world self.old.world).workers)
             (turns_of (host_of (D.functions (digests_of self.old.world)) self.old.world) (shown_world self.old.world).phase) }
         requires at_end { (at_end ≡ true) ↔ (length (requests_of self.old.world) ≤ suc (shown_world self.old.world).phase) }
-        ensures runs { (outputs : Outputs) → Runs receipts D.functions self.old outputs → outputs.vault_after ≡ V.held vault.old
-            → outputs.out_after ≡ O.held out.old
-            → OnOk result (RunsWhole receipts D.functions self.new (record outputs { vault_after = V.held vault.new; out_after = O.held out.new })) }
+        ensures runs { (outputs : Outputs) → RunsBehind receipts D.functions self.old (shown_world self.old.world).phase (shown_world self.old.world).phase outputs
+            → outputs.vault_after ≡ V.held vault.old → outputs.out_after ≡ O.held out.old
+            → OnOk result (RunsWhole receipts D.functions self.new (suc (shown_world self.old.world).phase) (record outputs { vault_after = V.held vault.new; out_after = O.held out.new })) }
+        ensures to_end { (outputs : Outputs) → RunsBehind receipts D.functions self.old (shown_world self.old.world).phase (shown_world self.old.world).phase outputs
+            → outputs.vault_after ≡ V.held vault.old → outputs.out_after ≡ O.held out.old → (at_end ≡ true) ⊎ (self.new.end ≢ None)
+            → OnOk result (RunsToEnd receipts D.functions self.new (record outputs { vault_after = V.held vault.new; out_after = O.held out.new })) }
         ensures ended { (at_end ≡ true) ⊎ (self.new.end ≢ None)
             → OnOk result (IsAtEnd (host_of (D.functions (digests_of self.new.world)) self.new.world) (shown_world self.new.world) self.new.end) }
         ensures opened { at_end ≡ false → self.new.end ≡ None
             → OnOk result (IsAtPhase (host_of (D.functions (digests_of self.new.world)) self.new.world) (shown_world self.new.world) self.new.end
             × ((shown_world self.new.world).phase ≡ suc (shown_world self.old.world).phase)) }
-        ensures cut { (outputs : Outputs) → Runs receipts D.functions self.old outputs → outputs.vault_after ≡ V.held vault.old
+        ensures cut { (outputs : Outputs) → RunsBehind receipts D.functions self.old (shown_world self.old.world).phase (shown_world self.old.world).phase outputs → outputs.vault_after ≡ V.held vault.old
             → outputs.out_after ≡ O.held out.old
             → OnErr result (IsCutOff receipts (D.functions (digests_of self.old.world)) (settings_of self.old.world) (requests_of self.old.world)
             (record outputs { vault_after = V.held vault.new; out_after = O.held out.new })) }
+        ensures cut_round { (outputs : Outputs) → RunsBehind receipts D.functions self.old (shown_world self.old.world).phase (shown_world self.old.world).phase outputs
+            → outputs.vault_after ≡ V.held vault.old → outputs.out_after ≡ O.held out.old → result ≡ Err RoundStop.VaultFault
+            → IsCutInRound receipts (D.functions (digests_of self.old.world)) (settings_of self.old.world) (requests_of self.old.world)
+            (record outputs { vault_after = V.held vault.new; out_after = O.held out.new }) }
         ensures host { AreOfOneHost self.old.world self.new.world }
         ensures vault_fault { result ≡ Err RoundStop.VaultFault → Rose (V.faults vault.old) (V.faults vault.new) }
         ensures write_fault { result ≡ Err RoundStop.WriteFault → Rose (O.faults out.old) (O.faults out.new) }

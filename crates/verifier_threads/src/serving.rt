@@ -8,8 +8,8 @@ ghost use Rattle.host_core.specs.World.{set_up};
 ghost use Rattle.host_world.specs.Settings.{IsSettings};
 ghost use Rattle.host_world.specs.Shown.{shown_world, digests_of, requests_of, settings_of};
 ghost use Rattle.host_world.specs.Behind.{AreOfOneHost, host_of};
-ghost use Rattle.verifier_threads.specs.Serving.{Outputs, ServesTo, IsCutOff, setup_end};
-ghost use Rattle.verifier_threads.specs.Running.{Runs, RunsWhole, IsUnderWayWith, IsAtPhase, IsAtClose, IsAtEnd};
+ghost use Rattle.verifier_threads.specs.Serving.{Outputs, ServesTo, IsCutOff, IsCutInRound, setup_end};
+ghost use Rattle.verifier_threads.specs.Running.{RunsBehind, RunsToEnd, IsUnderWayWith, IsAtPhase, IsAtClose, IsAtEnd};
 
 use crate::ending::RunEnd;
 use crate::laws::a_header_begins_the_bundle;
@@ -85,7 +85,7 @@ fn serve_world<R: Threads + Wait + Sync, D: Digests + Sync, V: Sink, O: Sink, G:
     ensures name { V.name vault.new ≡ V.name vault.old }
 {
     scripts_ask_for_keys_in_range();
-    has_a_phase(world.requests());
+    a_script_has_a_phase(world.requests());
     let mut runner = Runner::new(alloc, world, vault)?;
     serve_phases(rt, &mut runner, receipts, gate, vault, out)?;
     runner.finish(out)
@@ -106,20 +106,24 @@ pub(crate) fn serve_phases<
     vault: &mut V,
     out: &mut O,
 ) -> Result<(), RoundStop>
-    requires runs { IsUnderWayWith receipts D.functions runner.old (V.held vault.old) (O.held out.old) }
+    requires runs { IsUnderWayWith receipts D.functions runner.old 0 (V.held vault.old) (O.held out.old) }
     requires begins { IsAtPhase (host_of (D.functions (digests_of runner.old.world)) runner.old.world)
         (shown_world runner.old.world) runner.old.end }
     requires first { (shown_world runner.old.world).phase ≡ 0 }
     requires tasks { AreTasks (settings_of runner.old.world).header.verifiers (requests_of runner.old.world) }
-    ensures runs { (outputs : Outputs) → Runs receipts D.functions runner.old outputs → outputs.vault_after ≡ V.held vault.old
+    ensures runs { (outputs : Outputs) → RunsBehind receipts D.functions runner.old 0 0 outputs → outputs.vault_after ≡ V.held vault.old
         → outputs.out_after ≡ O.held out.old
-        → OnOk result (RunsWhole receipts D.functions runner.new (record outputs { vault_after = V.held vault.new; out_after = O.held out.new })) }
+        → OnOk result (RunsToEnd receipts D.functions runner.new (record outputs { vault_after = V.held vault.new; out_after = O.held out.new })) }
     ensures ended { OnOk result (IsAtEnd (host_of (D.functions (digests_of runner.new.world)) runner.new.world)
         (shown_world runner.new.world) runner.new.end) }
-    ensures cut { (outputs : Outputs) → Runs receipts D.functions runner.old outputs → outputs.vault_after ≡ V.held vault.old
+    ensures cut { (outputs : Outputs) → RunsBehind receipts D.functions runner.old 0 0 outputs → outputs.vault_after ≡ V.held vault.old
         → outputs.out_after ≡ O.held out.old
         → OnErr result (IsCutOff receipts (D.functions (digests_of runner.old.world)) (settings_of runner.old.world) (requests_of runner.old.world)
         (record outputs { vault_after = V.held vault.new; out_after = O.held out.new })) }
+    ensures cut_round { (outputs : Outputs) → RunsBehind receipts D.functions runner.old 0 0 outputs → outputs.vault_after ≡ V.held vault.old
+        → outputs.out_after ≡ O.held out.old → result ≡ Err RoundStop.VaultFault
+        → IsCutInRound receipts (D.functions (digests_of runner.old.world)) (settings_of runner.old.world) (requests_of runner.old.world)
+        (record outputs { vault_after = V.held vault.new; out_after = O.held out.new }) }
     ensures host { AreOfOneHost runner.old.world runner.new.world }
     ensures vault_fault { result ≡ Err RoundStop.VaultFault → Rose (V.faults vault.old) (V.faults vault.new) }
     ensures write_fault { result ≡ Err RoundStop.WriteFault → Rose (O.faults out.old) (O.faults out.new) }
@@ -164,8 +168,8 @@ fn serve_nothing<V: Sink, O: Sink>(
     Ok(ended)
 }
 
-/// A script has a phase. It does nothing, and its contract is the fact.
-pub(crate) fn has_a_phase(requests: &Requests)
+/// A script has a phase. The function does nothing, and its contract is the law.
+pub(crate) fn a_script_has_a_phase(requests: &Requests)
     ensures some { 0 < length requests.now }
 {
     let _count = requests.len();

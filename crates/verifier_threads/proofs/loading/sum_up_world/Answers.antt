@@ -25,7 +25,7 @@ new-requires-2 g c = record {
   settings = c.requires.settings;
   counters = c.requires.counters;
   keys = c.scripts_ask_for_keys_in_range.ensures.keys c.args.world.settings.header.verifiers (requests_of c.args.world) c.requires.tasks;
-  some = omega (arith, c.has_a_phase.ensures.some, ap (λ (script : List (List Task)). length script) c.requests.ensures.value);
+  some = omega (arith, c.a_script_has_a_phase.ensures.some, ap (λ (script : List (List Task)). length script) c.requests.ensures.value);
 }
 
 pub serve_phases-requires-clause-runs : goal.serve_phases-requires-clause-runs

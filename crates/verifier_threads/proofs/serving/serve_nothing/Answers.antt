@@ -1,4 +1,4 @@
-use Rattle.std.proofs.Common.{Err, sym, ap, subst}
+use Rattle.std.proofs.Common.{Err, inl, refl, sym, ap, subst}
 use Rattle.std.proofs.lemmas.Result.{err_from_is_err_and}
 use Rattle.fv_outside.specs.Written.{Grows, GrowsByFront}
 use Rattle.report_text.specs.declared.status.Status.{Status}
@@ -14,7 +14,8 @@ returns-in_err-_rounds-clause-serves g c = λ receipts functions script.
     let p = err_from_is_err_and c.from_residual.result c.from_residual.ensures.1 in
     rw p.1
     (stops-so receipts functions c.args.settings.now script p.0 _
-    (c.a_header_begins_the_bundle.ensures.cut receipts functions script _ _ (g.O.Sink.held c.args.out.now) c.in_err-_rounds.ensures.front))
+    (c.a_header_begins_the_bundle.ensures.cut receipts functions script _ _ (g.O.Sink.held c.args.out.now) c.in_err-_rounds.ensures.front)
+    (λ is. inl (record { front = c.in_err-_rounds.ensures.front; out = refl })))
 
 pub returns-in_err-write_end-clause-serves : goal.returns-in_err-write_end-clause-serves
 returns-in_err-write_end-clause-serves g c = λ receipts functions script.

@@ -1,4 +1,4 @@
-use Rattle.std.proofs.Common.{List, length, refl, sym, ◌∙◌, ap, subst, arith}
+use Rattle.std.proofs.Common.{inl, inr, List, length, refl, sym, ◌∙◌, ap, subst, arith}
 use Rattle.std.proofs.lemmas.Result.{err_from_is_err_and}
 use Rattle.record_hash.specs.Functions.{DigestFunctions}
 use Rattle.script_text.specs.declared.task.Task.{Task}
@@ -9,9 +9,9 @@ use Rattle.host_world.specs.declared.settings.Settings.{Settings}
 use Rattle.host_world.specs.declared.world.World as code
 use Rattle.host_world.specs.Shown.{shown_world, digests_of, requests_of}
 use Rattle.host_world.specs.Behind.{host_of}
-use Rattle.verifier_threads.specs.Serving.{Outputs, IsCutOff, ServesTo}
+use Rattle.verifier_threads.specs.Serving.{Outputs, IsCutOff, IsCutInRound, ServesTo}
 use Rattle.verifier_threads.specs.Running.{IsAtPhase}
-use Rattle.verifier_threads.proofs.RunningLemmas.{of_one_host, host-back, stops-so, finishes-so}
+use Rattle.verifier_threads.proofs.RunningLemmas.{of_one_host, host-back, stops-so, came-so, finishes-so}
 use Rattle.verifier_threads.proofs.serving.serve_world.Goals as goal
 
 pub new-requires : goal.new-requires
@@ -20,7 +20,7 @@ new-requires g c = record {
   settings = c.requires.settings;
   counters = c.requires.counters;
   keys = c.scripts_ask_for_keys_in_range.ensures.keys c.args.world.settings.header.verifiers (requests_of c.args.world) c.requires.tasks;
-  some = omega (arith, c.has_a_phase.ensures.some, ap (λ (script : List (List Task)). length script) c.requests.ensures.value);
+  some = omega (arith, c.a_script_has_a_phase.ensures.some, ap (λ (script : List (List Task)). length script) c.requests.ensures.value);
 }
 
 pub serve_phases-requires-clause-runs : goal.serve_phases-requires-clause-runs
@@ -52,7 +52,8 @@ returns-in_err-runner-clause-serves g c =
     let p = err_from_is_err_and c.from_residual.result c.from_residual.ensures.1 in
     rw p.1
     (stops-so c.args.receipts (g.D.Digests.functions (digests_of c.args.world)) c.args.world.settings (requests_of c.args.world) p.0 _
-    (c.in_err-runner.ensures.cut c.args.receipts (g.O.Sink.held c.args.out.now)))
+    (c.in_err-runner.ensures.cut c.args.receipts (g.O.Sink.held c.args.out.now))
+    (λ is. inl (c.in_err-runner.ensures.header (g.O.Sink.held c.args.out.now))))
 
 pub returns-in_err-serve_phases-clause-serves : goal.returns-in_err-serve_phases-clause-serves
 returns-in_err-serve_phases-clause-serves g c =
@@ -62,7 +63,12 @@ returns-in_err-serve_phases-clause-serves g c =
     (subst (λ (w : code.World _). IsCutOff c.args.receipts (g.D.Digests.functions (digests_of w)) w.settings (requests_of w)
     (record { vault = g.V.Sink.held c.args.vault.now; vault_after = g.V.Sink.held c.serve_phases.new.vault; out = g.O.Sink.held c.args.out.now; out_after = g.O.Sink.held c.serve_phases.new.out }))
     c.in_ok-runner.ensures.world
-    (c.in_err-serve_phases.ensures.cut _ (c.in_ok-runner.ensures.runs c.args.receipts (g.O.Sink.held c.args.out.now)) refl refl)))
+    (c.in_err-serve_phases.ensures.cut _ (c.in_ok-runner.ensures.runs c.args.receipts (g.O.Sink.held c.args.out.now)) refl refl))
+    (λ is. inr
+    (subst (λ (w : code.World _). IsCutInRound c.args.receipts (g.D.Digests.functions (digests_of w)) w.settings (requests_of w)
+    (record { vault = g.V.Sink.held c.args.vault.now; vault_after = g.V.Sink.held c.serve_phases.new.vault; out = g.O.Sink.held c.args.out.now; out_after = g.O.Sink.held c.serve_phases.new.out }))
+    c.in_ok-runner.ensures.world
+    (c.in_err-serve_phases.ensures.cut_round _ (c.in_ok-runner.ensures.runs c.args.receipts (g.O.Sink.held c.args.out.now)) refl refl (came-so p.0 _ _ p.2 is)))))
 
 pub returns-clause-serves : goal.returns-clause-serves
 returns-clause-serves g c =

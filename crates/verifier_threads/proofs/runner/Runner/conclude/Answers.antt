@@ -18,7 +18,7 @@ unreachable-requires g c =
     let is = c.end.ensures.end f old.world.settings.header texts running.keeps.runs whole.all in
     c.in_default.not-Done (length (requests_of old.world))
     (is
-    ∙ ended-due c.requires.runs.0 f old.world.settings (requests_of old.world) (shown_world old.world) old.rounds old.end c.requires.runs.1 running c.requires.ended
+    ∙ ended-due c.requires.runs.0 f old.world.settings (requests_of old.world) (shown_world old.world) old.rounds old.end whole.past c.requires.runs.1 running c.requires.ended
     c.a_check_of_the_logs_ends_as_the_host_promises.ensures.whole (λ text. (g.met.D.Digests.text_digest_shape old.world.d.now text).size) c.in-None.is)
 
 pub returns-in-Done-clause-end : goal.returns-in-Done-clause-end
@@ -29,7 +29,7 @@ returns-in-Done-clause-end g c =
     let whole = c.requires.runs.2 in
     let running = whole.runs.running in
     let due = c.end.ensures.end f old.world.settings.header (texts_of running.logs) running.keeps.runs whole.all
-    ∙ ended-due c.requires.runs.0 f old.world.settings script (shown_world old.world) old.rounds old.end c.requires.runs.1 running c.requires.ended
+    ∙ ended-due c.requires.runs.0 f old.world.settings script (shown_world old.world) old.rounds old.end whole.past c.requires.runs.1 running c.requires.ended
     c.a_check_of_the_logs_ends_as_the_host_promises.ensures.whole (λ text. (g.met.D.Digests.text_digest_shape old.world.d.now text).size) c.in-None.is in
     let count : c.in-Done.epochs ≡ length script = done-same c.in-Done.epochs (length script) (sym c.in-Done.is ∙ due) in
     ap (λ (n : ℕ). ends.Done n) count ∙ ap (end_by (length script)) (sym c.in-None.is)

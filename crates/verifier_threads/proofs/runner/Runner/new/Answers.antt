@@ -1,6 +1,7 @@
-use Rattle.std.proofs.Common.{◌≡◌, None, length, map, refl, sym, ◌∙◌, ap, subst, arith}
+use Rattle.std.proofs.Common.{◌≡◌, ℕ, List, [], None, length, map, refl, sym, ◌∙◌, ap, subst, arith}
 use Rattle.std.proofs.lemmas.List.{length-map, length-replicate}
-use Rattle.fv_outside.proofs.WrittenLaws.{GrowsByFront-none}
+use Rattle.fv_outside.specs.Written.{Grows}
+use Rattle.fv_outside.proofs.WrittenLaws.{Grows-nil, GrowsByFront-none}
 use Rattle.lamport_clocks.specs.declared.header.Header.{Header}
 use Rattle.bundle_report.specs.Logs.{empty_logs}
 use Rattle.host_core.specs.World.{World}
@@ -9,11 +10,13 @@ use Rattle.host_world.specs.declared.settings.Settings.{Settings}
 use Rattle.host_world.specs.ShippedHost.{turn_of}
 use Rattle.host_world.specs.Shown.{shown_world, digests_of, requests_of}
 use Rattle.host_world.specs.Behind.{host_of}
-use Rattle.host_rounds.specs.SoFar.{Keeps}
-use Rattle.verifier_threads.specs.Serving.{IsCutOff}
+use Rattle.bundle_report.specs.Report.{told_by}
+use Rattle.host_rounds.specs.SoFar.{Keeps, lines_due}
+use Rattle.verifier_threads.specs.Serving.{IsCutOff, IsCutInHeader}
 use Rattle.verifier_threads.specs.Running.{IsAtPhase}
 use Rattle.verifier_threads.proofs.PassingLemmas.{err_any}
 use Rattle.verifier_threads.proofs.EndingLemmas.{running-new, set_up-begins, set_up-count}
+use Rattle.verifier_threads.proofs.NothingLemmas.{empty-are}
 use Rattle.verifier_threads.proofs.runner.Runner.new.Goals as goal
 
 pub returns-in_err-buffers-clause-cut : goal.returns-in_err-buffers-clause-cut
@@ -46,16 +49,35 @@ returns-clause-runs g c = λ receipts held.
     let host = host_of f world in
     let header_is : c.settings-settings.result.header ≡ world.settings.header = ap (λ (s : Settings). s.header) c.settings-settings.ensures.value in
     let count = set_up-count world.settings host (shown_world world) c.requires.settings refl c.requires.setup in
+    let header = world.settings.header in
+    let tell = told_by receipts f header in
     record {
-      running =
-          running-new receipts f world.settings (requests_of world) (shown_world world) c.in_ok-rounds.rounds (g.V.Sink.held c.args.vault.now) (g.V.Sink.held c.new.new.vault) held
-          (record { settings_fit = c.requires.settings; counters = c.requires.counters; keys = c.requires.keys; is = c.requires.setup; count = count })
-          (subst (λ (header : Header). Keeps f header (empty_logs header.verifiers) c.in_ok-rounds.rounds (g.V.Sink.held c.args.vault.now) (g.V.Sink.held c.new.new.vault)) header_is
-          (c.in_ok-rounds.ensures.keeps f))
-          c.in_ok-rounds.ensures.none;
-      buffers = c.in_ok-buffers.ensures.len ∙ ap (λ (header : Header). header.verifiers) header_is ∙ sym count;
-      counts = ap length c.in_ok-parcels.ensures.none ∙ length-replicate c.settings-settings.result.header.verifiers 0 ∙ ap (λ (header : Header). header.verifiers) header_is ∙ sym count;
+      past = [];
+      runs = record {
+        running =
+            running-new receipts f world.settings (requests_of world) (shown_world world) c.in_ok-rounds.rounds (g.V.Sink.held c.args.vault.now) (g.V.Sink.held c.new.new.vault) held
+            (record { settings_fit = c.requires.settings; counters = c.requires.counters; keys = c.requires.keys; is = c.requires.setup; count = count })
+            (subst (λ (header : Header). Keeps f header (empty_logs header.verifiers) [] c.in_ok-rounds.rounds (g.V.Sink.held c.args.vault.now) (g.V.Sink.held c.new.new.vault)) header_is
+            (c.in_ok-rounds.ensures.keeps f))
+            c.in_ok-rounds.ensures.none;
+        buffers = c.in_ok-buffers.ensures.len ∙ ap (λ (header : Header). header.verifiers) header_is ∙ sym count;
+        counts = ap length c.in_ok-parcels.ensures.none ∙ length-replicate c.settings-settings.result.header.verifiers 0 ∙ ap (λ (header : Header). header.verifiers) header_is ∙ sym count;
+      };
+      count = refl;
+      told = subst (Grows held held)
+          (sym (ap (λ (logs : List (List ℕ)). lines_due tell f header logs) (empty-are header.verifiers) ∙ c.logs_of_no_bytes_certify_nothing.ensures.lines tell f header))
+          (Grows-nil held);
     }
+
+pub returns-in_err-buffers-clause-header : goal.returns-in_err-buffers-clause-header
+returns-in_err-buffers-clause-header g c = λ held.
+    err_any c.from_residual.result (record { front = GrowsByFront-none (g.V.Sink.held c.args.vault.now) _; out = refl })
+
+pub returns-in_err-rounds-clause-header : goal.returns-in_err-rounds-clause-header
+returns-in_err-rounds-clause-header g c = λ held.
+    err_any _
+    (subst (λ (settings : Settings). IsCutInHeader settings (record { vault = g.V.Sink.held c.args.vault.now; vault_after = g.V.Sink.held c.new.new.vault; out = held; out_after = held }))
+    c.settings-settings.ensures.value (record { front = c.in_err-rounds.ensures.front; out = refl }))
 
 pub returns-clause-begins : goal.returns-clause-begins
 returns-clause-begins g c =

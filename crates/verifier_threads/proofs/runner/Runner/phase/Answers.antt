@@ -1,6 +1,8 @@
-use Rattle.std.proofs.Common.{List, length, Option, Ok, OnErr, refl, sym, ◌∙◌, ap}
+use Rattle.std.proofs.Common.{◌≡◌, inl, suc, ◌+◌, List, [], ◌∷◌, ◌++◌, length, Option, Ok, OnErr, refl, sym, ◌∙◌, ap, subst, arith}
 use Rattle.record_hash.specs.Functions.{DigestFunctions}
-use Rattle.host_core.specs.World.{World}
+use Rattle.record_text.specs.declared.request.Request.{Request}
+use Rattle.host_core.specs.Host.{Host}
+use Rattle.host_core.specs.World.{World, logs_of}
 use Rattle.host_shard.specs.Content.{Content}
 use Rattle.script_text.specs.declared.task.Task.{Task}
 use Rattle.host_world.specs.declared.fault.ClockEnd.{ClockEnd}
@@ -9,18 +11,20 @@ use Rattle.host_world.specs.Shown.{shown_world, digests_of}
 use Rattle.host_world.specs.Behind.{host_of}
 use Rattle.host_serving.specs.Leading.{first_of}
 use Rattle.certified_epochs.specs.declared.fed_run.FedRun.{FedRun}
-use Rattle.verifier_threads.specs.Serving.{IsCutOff}
-use Rattle.verifier_threads.specs.Running.{IsAtClose, all_handed_out}
+use Rattle.verifier_threads.specs.declared.runner.Runner.{Runner}
+use Rattle.verifier_threads.specs.InRounds.{IsBehindRounds}
+use Rattle.verifier_threads.specs.Serving.{IsCutOff, IsCutInRound}
+use Rattle.verifier_threads.specs.Running.{IsAtClose, all_handed_out, with_runs_of}
 use Rattle.verifier_threads.proofs.RunningLemmas.{one_host, host_same, of_one_host, host-back, running-workers}
 use Rattle.verifier_threads.proofs.StandingLemmas.{close_handed}
-use Rattle.verifier_threads.proofs.PassingLemmas.{err_any, ok_then, rounds-back, run-count, runs-behind, runs-fed, took-round}
+use Rattle.verifier_threads.proofs.PassingLemmas.{err_any, ok_then, rounds-back, run-count, runs-behind, runs-fed, behind-fed, behind-more, took-round}
 use Rattle.verifier_threads.proofs.PhaseLemmas.{moved, at-close}
-use Rattle.verifier_threads.proofs.CutLemmas.{runs-cut}
+use Rattle.verifier_threads.proofs.CutLemmas.{runs-cut, runs-cut_before}
 use Rattle.verifier_threads.proofs.runner.Runner.phase.Goals as goal
 
 pub serve_phase_at_once-requires-clause-behind : goal.serve_phase_at_once-requires-clause-behind
 serve_phase_at_once-requires-clause-behind g c κs within =
-    runs-behind c.requires.runs.0 g.D.Digests.functions c.args.self.now c.requires.runs.1 c.requires.runs.2
+    runs-behind c.requires.runs.0 g.D.Digests.functions c.args.self.now c.requires.runs.2.past c.requires.runs.1 c.requires.runs.2.runs
 
 pub serve_phase_at_once-requires-clause-begins : goal.serve_phase_at_once-requires-clause-begins
 serve_phase_at_once-requires-clause-begins g c κs within = c.requires.begins.begins
@@ -29,12 +33,12 @@ pub serve_phase_at_once-requires-clause-running : goal.serve_phase_at_once-requi
 serve_phase_at_once-requires-clause-running g c κs within = c.requires.begins.running
 
 pub serve_phase_at_once-requires-clause-counters : goal.serve_phase_at_once-requires-clause-counters
-serve_phase_at_once-requires-clause-counters g c κs within = c.requires.runs.2.running.counters
+serve_phase_at_once-requires-clause-counters g c κs within = c.requires.runs.2.runs.running.counters
 
 pub serve_phase_at_once-requires-clause-runs : goal.serve_phase_at_once-requires-clause-runs
 serve_phase_at_once-requires-clause-runs g c κs within =
-    let r = c.requires.runs.2.running in
-    ap (λ (rs : List FedRun). length rs) c.lend_runs-runs.ensures.runs ∙ run-count _ _ _ _ r.keeps.runs ∙ sym (running-workers _ _ _ _ _ _ _ _ r)
+    let r = c.requires.runs.2.runs.running in
+    ap (λ (rs : List FedRun). length rs) c.lend_runs-runs.ensures.runs ∙ run-count _ _ _ _ r.keeps.runs ∙ sym (running-workers _ _ _ _ _ _ _ _ _ r)
 
 pub serve_phase_at_once-requires-clause-parcels : goal.serve_phase_at_once-requires-clause-parcels
 serve_phase_at_once-requires-clause-parcels g c κs within = c.requires.runs.2.counts
@@ -47,13 +51,16 @@ set_down-requires g c =
         c.requires.runs.0,
         c.requires.runs.1,
         before,
-        runs-fed c.requires.runs.0 g.D.Digests.functions c.args.self.now c.requires.runs.1 c.requires.runs.2 c.serve_phase_at_once.new.world c.in_ok-self.field-0 c.in_ok-self.field-0
-            c.take_back.new.self before c.serve_phase_at_once.new.parcels c.serve_phase_at_once.ensures.host c.in_ok-self.ensures.leads
-            (ap (λ (e : Option ClockEnd). first_of e c.in_ok-self.field-0) (sym c.requires.begins.unended))
-            (rounds-back c.args.self.now.rounds c.lend_runs-runs.new.self c.take_back.new.self c.serve_phase_at_once.new.runs.items before c.lend_runs-runs.ensures.rest c.take_back.ensures.runs c.lend_runs-runs.ensures.runs)
-            c.in_ok-self.ensures.parcels,
-        took-round g.D.Digests.functions c.args.self.now.world c.serve_phase_at_once.new.world c.lend_runs-runs.new.self c.take_back.new.self before c.serve_phase_at_once.new.runs.items
-            c.serve_phase_at_once.ensures.host c.take_back.ensures.runs c.in_ok-self.ensures.taken,
+        (
+          c.requires.runs.2.past,
+          runs-fed c.requires.runs.0 g.D.Digests.functions c.args.self.now c.requires.runs.2.past c.requires.runs.1 c.requires.runs.2.runs c.serve_phase_at_once.new.world c.in_ok-self.field-0 c.in_ok-self.field-0
+              c.take_back.new.self before c.serve_phase_at_once.new.parcels c.serve_phase_at_once.ensures.host c.in_ok-self.ensures.leads
+              (ap (λ (e : Option ClockEnd). first_of e c.in_ok-self.field-0) (sym c.requires.begins.unended))
+              (rounds-back c.args.self.now.rounds c.lend_runs-runs.new.self c.take_back.new.self c.serve_phase_at_once.new.runs.items before c.lend_runs-runs.ensures.rest c.take_back.ensures.runs c.lend_runs-runs.ensures.runs)
+              c.in_ok-self.ensures.parcels,
+        ),
+        (took-round g.D.Digests.functions c.args.self.now.world c.serve_phase_at_once.new.world c.lend_runs-runs.new.self c.take_back.new.self before c.serve_phase_at_once.new.runs.items
+            c.serve_phase_at_once.ensures.host c.take_back.ensures.runs c.in_ok-self.ensures.taken),
         c.requires.runs.3,
       );
     }
@@ -61,21 +68,37 @@ set_down-requires g c =
 pub returns-in_err-self-clause-cut : goal.returns-in_err-self-clause-cut
 returns-in_err-self-clause-cut g c = λ receipts outputs runs held.
     err_any c.from_residual.result
-    (runs-cut c.what_is_due_stays_due.ensures.stays c.rounds_make_a_bundle.ensures.more receipts g.D.Digests.functions c.args.self.now outputs runs
+    (runs-cut receipts g.D.Digests.functions c.args.self.now outputs runs.past runs.runs c.what_is_due_stays_due.ensures.stays c.rounds_make_a_bundle.ensures.more
     (g.V.Sink.held c.args.vault.now) outputs.out_after held refl)
 
+pub returns-in_err-self-clause-cut_round : goal.returns-in_err-self-clause-cut_round
+returns-in_err-self-clause-cut_round g c = λ receipts outputs behind held.
+    err_any c.from_residual.result
+    (runs-cut_before receipts g.D.Digests.functions c.args.self.now outputs behind.past behind.runs _ _ behind.count (inl refl) behind.told
+    (g.V.Sink.held c.args.vault.now) held)
+
 pub returns-clause-runs : goal.returns-clause-runs
-returns-clause-runs g c = λ receipts outputs runs held.
+returns-clause-runs g c = λ receipts outputs behind held.
+    let functions = g.D.Digests.functions in
     let before = c.lend_runs-runs.result.items in
-    c.set_down.ensures.runs receipts outputs before
-    (runs-fed receipts g.D.Digests.functions c.args.self.now outputs runs c.serve_phase_at_once.new.world c.in_ok-self.field-0 c.in_ok-self.field-0
+    let old = c.args.self.now in
+    let phase = (shown_world old.world).phase in
+    let middle = c.serve_phase_at_once.new.world in
+    let lent : Runner _ = record old { world = middle; end = c.in_ok-self.field-0; rounds = c.take_back.new.self; parcels = c.serve_phase_at_once.new.parcels } in
+    let fed = behind-fed receipts functions old phase phase outputs behind c.serve_phase_at_once.new.world c.in_ok-self.field-0 c.in_ok-self.field-0
     c.take_back.new.self before c.serve_phase_at_once.new.parcels c.serve_phase_at_once.ensures.host c.in_ok-self.ensures.leads
     (ap (λ (e : Option ClockEnd). first_of e c.in_ok-self.field-0) (sym c.requires.begins.unended))
     (rounds-back c.args.self.now.rounds c.lend_runs-runs.new.self c.take_back.new.self c.serve_phase_at_once.new.runs.items before c.lend_runs-runs.ensures.rest c.take_back.ensures.runs c.lend_runs-runs.ensures.runs)
-    c.in_ok-self.ensures.parcels)
-    (took-round g.D.Digests.functions c.args.self.now.world c.serve_phase_at_once.new.world c.lend_runs-runs.new.self c.take_back.new.self before c.serve_phase_at_once.new.runs.items
-    c.serve_phase_at_once.ensures.host c.take_back.ensures.runs c.in_ok-self.ensures.taken)
-    held
+    c.in_ok-self.ensures.parcels in
+    let same = c.in_ok-self.ensures.phase in
+    let count = fed.count in
+    let stands = subst (λ (h : Host Content Request). IsBehindRounds h (suc (length fed.past)) (shown_world middle))
+    (sym (host_same functions old.world middle c.serve_phase_at_once.ensures.host)) (inl (omega (arith, same, count), c.in_ok-self.ensures.served)) in
+    ok_then c.set_down.result
+    (c.set_down.ensures.runs receipts outputs before fed.past fed.runs (took-round g.D.Digests.functions c.args.self.now.world c.serve_phase_at_once.new.world c.lend_runs-runs.new.self c.take_back.new.self before c.serve_phase_at_once.new.runs.items
+    c.serve_phase_at_once.ensures.host c.take_back.ensures.runs c.in_ok-self.ensures.taken) stands held)
+    (λ runs. behind-more receipts functions (with_runs_of before lent) phase phase outputs fed c.set_down.new.self (logs_of (shown_world middle)) (g.V.Sink.held c.set_down.new.vault)
+    c.set_down.ensures.host (omega arith) runs)
 
 pub returns-clause-served : goal.returns-clause-served
 returns-clause-served g c =
@@ -105,8 +128,27 @@ returns-clause-cut g c = λ receipts outputs runs held.
     let middle = c.serve_phase_at_once.new.world in
     of_one_host functions middle old (host-back old middle c.serve_phase_at_once.ensures.host)
     (λ (f : DigestFunctions) (settings : Settings) (script : List (List Task)). OnErr c.set_down.result (IsCutOff receipts f settings script (record outputs { vault_after = g.V.Sink.held c.set_down.new.vault })))
-    (c.set_down.ensures.cut receipts outputs before
-    (runs-fed receipts functions c.args.self.now outputs runs c.serve_phase_at_once.new.world c.in_ok-self.field-0 c.in_ok-self.field-0
+    (c.set_down.ensures.cut receipts outputs before (
+      runs.past,
+      runs-fed receipts functions c.args.self.now runs.past outputs runs.runs c.serve_phase_at_once.new.world c.in_ok-self.field-0 c.in_ok-self.field-0
+          c.take_back.new.self before c.serve_phase_at_once.new.parcels c.serve_phase_at_once.ensures.host c.in_ok-self.ensures.leads
+          (ap (λ (e : Option ClockEnd). first_of e c.in_ok-self.field-0) (sym c.requires.begins.unended))
+          (rounds-back c.args.self.now.rounds c.lend_runs-runs.new.self c.take_back.new.self c.serve_phase_at_once.new.runs.items before c.lend_runs-runs.ensures.rest c.take_back.ensures.runs c.lend_runs-runs.ensures.runs)
+          c.in_ok-self.ensures.parcels,
+    )
+    held)
+
+pub returns-clause-cut_round : goal.returns-clause-cut_round
+returns-clause-cut_round g c = λ receipts outputs behind held.
+    let functions = g.D.Digests.functions in
+    let before = c.lend_runs-runs.result.items in
+    let old = c.args.self.now.world in
+    let phase = (shown_world old).phase in
+    let middle = c.serve_phase_at_once.new.world in
+    of_one_host functions middle old (host-back old middle c.serve_phase_at_once.ensures.host)
+    (λ (f : DigestFunctions) (settings : Settings) (script : List (List Task)). OnErr c.set_down.result (IsCutInRound receipts f settings script (record outputs { vault_after = g.V.Sink.held c.set_down.new.vault })))
+    (c.set_down.ensures.cut_round receipts outputs before phase
+    (behind-fed receipts functions c.args.self.now phase phase outputs behind c.serve_phase_at_once.new.world c.in_ok-self.field-0 c.in_ok-self.field-0
     c.take_back.new.self before c.serve_phase_at_once.new.parcels c.serve_phase_at_once.ensures.host c.in_ok-self.ensures.leads
     (ap (λ (e : Option ClockEnd). first_of e c.in_ok-self.field-0) (sym c.requires.begins.unended))
     (rounds-back c.args.self.now.rounds c.lend_runs-runs.new.self c.take_back.new.self c.serve_phase_at_once.new.runs.items before c.lend_runs-runs.ensures.rest c.take_back.ensures.runs c.lend_runs-runs.ensures.runs)

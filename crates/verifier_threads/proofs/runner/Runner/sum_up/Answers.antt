@@ -28,7 +28,7 @@ returns-in_err-write_summary-clause-cut g c = λ receipts outputs whole.
     let out' = g.O.Sink.held c.write_summary.new.out in
     let says = c.conclude-end.ensures in
     err_any c.from_residual.result
-    (ended-cut_summary receipts f old.world.settings (requests_of old.world) (shown_world old.world) old.rounds old.end outputs whole.runs.running c.requires.ended whole.all
+    (ended-cut_summary receipts f old.world.settings (requests_of old.world) (shown_world old.world) old.rounds old.end whole.past outputs whole.runs.running c.requires.ended whole.all whole.count
     load out out' c.conclude-end.result says.end
     (subst (GrowsByFront out out')
     (same_summary load.seed load.ops old.rounds c.conclude-end.new.self.rounds c.status.result (status_at c.conclude-end.result) says.judged says.summary c.status.ensures.value)
@@ -42,7 +42,7 @@ returns-clause-summed g c = λ receipts outputs whole.
     let out = g.O.Sink.held c.args.out.now in
     let out' = g.O.Sink.held c.write_summary.new.out in
     let says = c.conclude-end.ensures in
-    ended-summed receipts f old.world.settings (requests_of old.world) (shown_world old.world) old.rounds old.end outputs whole.runs.running c.requires.ended whole.all
+    ended-summed receipts f old.world.settings (requests_of old.world) (shown_world old.world) old.rounds old.end whole.past outputs whole.runs.running c.requires.ended whole.all whole.count
     load out out' c.conclude-end.result says.end
     (subst (Grows out out')
     (same_summary load.seed load.ops old.rounds c.conclude-end.new.self.rounds c.status.result (status_at c.conclude-end.result) says.judged says.summary c.status.ensures.value)
