@@ -73,6 +73,10 @@ pub returns-in_err-buffers-clause-header : goal.returns-in_err-buffers-clause-he
 returns-in_err-buffers-clause-header g c = λ held.
     err_any c.from_residual.result (record { front = GrowsByFront-none (g.V.Sink.held c.args.vault.now) _; out = refl })
 
+pub returns-in_err-parcels-clause-header : goal.returns-in_err-parcels-clause-header
+returns-in_err-parcels-clause-header g c = λ held.
+    err_any _ (record { front = GrowsByFront-none (g.V.Sink.held c.args.vault.now) _; out = refl })
+
 pub returns-in_err-rounds-clause-header : goal.returns-in_err-rounds-clause-header
 returns-in_err-rounds-clause-header g c = λ held.
     err_any _
