@@ -15,6 +15,7 @@ use Rattle.log_codec.specs.declared.command.Command.{Command}
 use Rattle.host_world.specs.declared.fault.ClockEnd.{ClockEnd}
 use Rattle.host_world.specs.declared.settings.Settings.{Settings}
 use Rattle.verifier_threads.specs.declared.ending.RunEnd.{RunEnd}
+use Rattle.verifier_threads.specs.InRounds.{Logs}
 use Rattle.verifier_threads.specs.Serving.{AreOfRun, end_by, status_at}
 use Rattle.fastver_top.specs.Running.{Keeping, RunsTo, settings_for}
 use Rattle.fastver_top.specs.Generating.{GensTo, IsGenStatus, script_for}
@@ -95,17 +96,17 @@ module _ (most : ℕ) (bytes : List ℕ) (reading : Reading) (writing : Writing)
 -- ---- a run and a load
 
 -- a run whose events come to no clock's end has none
-none-ends : (functions : DigestFunctions) (settings : Settings) (script : List (List Task)) (logs : List (List Command)) (end : Option ClockEnd)
-    → NoClockEnds functions settings script → AreOfRun functions settings script logs end → end ≡ None
-none-ends functions settings script logs None going run = refl
-none-ends functions settings script logs (Some end) going run = absurd (going logs end run)
+none-ends : (functions : DigestFunctions) (settings : Settings) (script : List (List Task)) (rounds : List Logs) (logs : Logs) (end : Option ClockEnd)
+    → NoClockEnds functions settings script → AreOfRun functions settings script rounds logs end → end ≡ None
+none-ends functions settings script rounds logs None going run = refl
+none-ends functions settings script rounds logs (Some end) going run = absurd (going rounds logs end run)
 
 -- so it is done, with all its phases
-done-by : (functions : DigestFunctions) (settings : Settings) (script : List (List Task)) (logs : List (List Command)) (end : Option ClockEnd)
-    (result : RunEnd) → NoClockEnds functions settings script → AreOfRun functions settings script logs end → result ≡ end_by (length script) end
+done-by : (functions : DigestFunctions) (settings : Settings) (script : List (List Task)) (rounds : List Logs) (logs : Logs) (end : Option ClockEnd)
+    (result : RunEnd) → NoClockEnds functions settings script → AreOfRun functions settings script rounds logs end → result ≡ end_by (length script) end
     → status_at result ≡ statuses.Done (length script)
-done-by functions settings script logs end result going run is =
-    ap status_at is ∙ ap (λ (e : Option ClockEnd). status_at (end_by (length script) e)) (none-ends functions settings script logs end going run)
+done-by functions settings script rounds logs end result going run is =
+    ap status_at is ∙ ap (λ (e : Option ClockEnd). status_at (end_by (length script) e)) (none-ends functions settings script rounds logs end going run)
 
 -- bytes are one script
 one-script : {E : Type 0} (read : Result (List (List Task)) E) (script own : List (List Task)) → read ≡ Ok script → read ≡ Ok own → own ≡ script
@@ -121,7 +122,7 @@ module _ (functions : DigestFunctions) (run : RunWords) (most : ℕ) (bytes : Li
       (of_bytes (λ b. script_of run.numbers.verifiers b ≡ Ok served.script) reading.left bytes had.bytes_are served.read.good) in
       let own_going : NoClockEnds functions (settings_for run.numbers) served.script =
       subst (NoClockEnds functions (settings_for run.numbers)) (sym own) going in
-      inl (served.is ∙ done-by functions (settings_for run.numbers) served.script served.served.logs served.served.end served.end own_going
+      inl (served.is ∙ done-by functions (settings_for run.numbers) served.script served.served.rounds served.served.logs served.served.end served.end own_going
       served.served.run served.served.is ∙ ap (λ (s : List (List Task)). statuses.Done (length s)) own)
 
   pub run-answered : (result : Status) → IsRunStatus result → RunsTo functions run most result reading writing keeping
@@ -152,7 +153,7 @@ module _ (functions : DigestFunctions) (words : GenWords) (reading : Reading) (w
       → IsOrWantsMemory result (statuses.Done (length (script_for words)))
   gen-done result gens end =
       let summed = gens.summed end in
-      inl (summed.is ∙ done-by functions (settings_for words.numbers) (script_for words) summed.summed.logs summed.summed.end summed.end going
+      inl (summed.is ∙ done-by functions (settings_for words.numbers) (script_for words) summed.summed.rounds summed.summed.logs summed.summed.end summed.end going
       summed.summed.run summed.summed.is)
 
   pub gen-answered : (result : Status) → IsGenStatus result → GensTo functions words result writing keeping

@@ -1,5 +1,5 @@
 -- What a run does, by how it ends.
-use Rattle.std.proofs.Common.{◌≡◌, Bool, ◌⊎◌, ℕ, ◌+◌, List, ◌++◌, length, Option, Some, None, Ok, Err, inl, inr, refl, sym, ◌∙◌, ap, subst}
+use Rattle.std.proofs.Common.{◌≡◌, Bool, ◌⊎◌, ℕ, ◌+◌, List, map, ◌++◌, length, Option, Some, None, Ok, Err, inl, inr, refl, sym, ◌∙◌, ap, subst}
 use Rattle.fv_outside.specs.Consumed.{TookAtMost, TookJust}
 use Rattle.fv_outside.specs.Faults.{Rose}
 use Rattle.fv_outside.specs.Written.{Grows}
@@ -25,7 +25,8 @@ use Rattle.host_rounds.specs.SoFar.{lines_due, end_due}
 use Rattle.host_rounds.proofs.RoundLaws.{bundle-due, bundle-end, bundle-text}
 use Rattle.verifier_threads.specs.declared.ending.RunEnd.{RunEnd}
 use Rattle.verifier_threads.specs.declared.ending.RunEnd.TheVariants as ends
-use Rattle.verifier_threads.specs.Serving.{Outputs, AreOfRun, IsServed, IsCutOff, IsCutAtEnd, ServesTo, end_by, status_at, texts_of}
+use Rattle.verifier_threads.specs.InRounds.{Logs}
+use Rattle.verifier_threads.specs.Serving.{Outputs, AreOfRun, IsServed, IsCutOff, IsCutByVault, IsCutAtEnd, ServesTo, end_by, status_at, texts_of}
 use Rattle.fastver_top.specs.declared.scripts.ScriptStop.{ScriptStop}
 use Rattle.fastver_top.specs.declared.scripts.ScriptStop.TheVariants as scripts
 use Rattle.fastver_top.specs.Running.{HasScript, HasBadLine, ReadsScript, script_stopped, run_stopped, settings_for, Keeping, outputs_of, EndsServed, EndsCutOff, IsDueByCheck, IsAnswerOfCheck, IsNamedFor, IsUntouched, IsBehindScript, RunsTo}
@@ -39,7 +40,7 @@ module _ (receipts : Bool) (functions : DigestFunctions) (settings : Settings) (
     bytes = served.vault.bytes;
     vault = served.vault.grown;
     out = subst (λ (lines : List ℕ). Grows outputs.out outputs.out_after (lines ++ last_line (status_at end)))
-        (sym (bundle-due receipts functions settings.header (texts_of served.logs) served.vault.bytes served.vault.is_bundle)) served.out;
+        (sym (bundle-due receipts functions settings.header (texts_of served.logs) (map texts_of served.rounds) served.vault.bytes served.vault.is_bundle)) served.out;
   }
 
   -- no clock ended where all is done
@@ -48,22 +49,22 @@ module _ (receipts : Bool) (functions : DigestFunctions) (settings : Settings) (
   none-ended (Some end) phases epochs is = absurd (cc)
 
   -- the same text and status, where all is done
-  pub answer-of-check : ((logs : List (List Command)) → AreOfRun functions settings script logs None
+  pub answer-of-check : ((rounds : List Logs) (logs : Logs) → AreOfRun functions settings script rounds logs None
       → end_due functions settings.header (texts_of logs) ≡ bundles.Done (length script))
       → (end : RunEnd) (epochs : ℕ) → status_at end ≡ statuses.Done epochs → IsServed receipts functions settings script end outputs
       → IsAnswerOfCheck receipts functions (status_at end) outputs
   answer-of-check law end epochs done served =
       let none : served.end ≡ None = none-ended served.end (length script) epochs (sym (ap status_at served.is) ∙ done) in
-      let run : AreOfRun functions settings script served.logs None = subst (AreOfRun functions settings script served.logs) none served.run in
+      let run : AreOfRun functions settings script served.rounds served.logs None = subst (AreOfRun functions settings script served.rounds served.logs) none served.run in
       let status : status_at end ≡ status_of (end_due functions settings.header (texts_of served.logs)) =
-      ap status_at served.is ∙ ap (λ (e : Option ClockEnd). status_at (end_by (length script) e)) none ∙ sym (ap status_of (law served.logs run)) in
+      ap status_at served.is ∙ ap (λ (e : Option ClockEnd). status_at (end_by (length script) e)) none ∙ sym (ap status_of (law served.rounds served.logs run)) in
       record {
         bytes = served.vault.bytes;
         vault = served.vault.grown;
         out = subst (Grows outputs.out outputs.out_after)
             (ap (λ (s : Status). lines_due (told_by receipts functions settings.header) functions settings.header (texts_of served.logs) ++ last_line s) status
-            ∙ sym (bundle-text receipts functions settings.header (texts_of served.logs) served.vault.bytes served.vault.is_bundle)) served.out;
-        status = bundle-end receipts functions settings.header (texts_of served.logs) served.vault.bytes served.vault.is_bundle ∙ sym status;
+            ∙ sym (bundle-text receipts functions settings.header (texts_of served.logs) (map texts_of served.rounds) served.vault.bytes served.vault.is_bundle)) served.out;
+        status = bundle-end receipts functions settings.header (texts_of served.logs) (map texts_of served.rounds) served.vault.bytes served.vault.is_bundle ∙ sym status;
       }
 
 -- ---- how it ends
@@ -79,6 +80,7 @@ module _ (functions : DigestFunctions) (run : RunWords) (most : ℕ) (reading : 
     due = λ end. absurd end;
     checked = λ epochs is. absurd (cc);
     cut = λ _. cut;
+    cut_by_vault = λ is. absurd (cc);
     cut_report = λ is. absurd (cc);
     bad = λ line cause is. absurd (cc);
     good = λ behind. absurd behind;
@@ -104,6 +106,7 @@ module _ (functions : DigestFunctions) (run : RunWords) (most : ℕ) (reading : 
     due = λ end. absurd end;
     checked = λ epochs is. absurd (cc);
     cut = λ is. absurd (neither is);
+    cut_by_vault = λ is. absurd (cc);
     cut_report = λ is. absurd (cc);
     bad = λ line cause is. absurd (cc);
     good = λ behind. absurd behind;
@@ -133,6 +136,7 @@ module _ (functions : DigestFunctions) (run : RunWords) (most : ℕ) (reading : 
     due = λ end. absurd end;
     checked = λ epochs is. absurd (cc);
     cut = λ is. absurd (neither is);
+    cut_by_vault = λ is. absurd (cc);
     cut_report = λ is. absurd (cc);
     bad = λ line cause is. absurd (cc);
     good = λ behind. absurd behind;
@@ -162,6 +166,7 @@ module _ (functions : DigestFunctions) (run : RunWords) (most : ℕ) (reading : 
     due = λ end. absurd end;
     checked = λ epochs is. absurd (cc);
     cut = λ is. absurd (neither is);
+    cut_by_vault = λ is. absurd (cc);
     cut_report = λ is. absurd (cc);
     bad = λ line' cause' is. let same : line ≡ line' = cc in let same' : cause ≡ cause' = cc in
         subst (λ (l : ℕ). HasBadLine run.numbers.verifiers reading l cause') same (subst (HasBadLine run.numbers.verifiers reading line) same' bad);
@@ -186,14 +191,16 @@ module _ (functions : DigestFunctions) (run : RunWords) (most : ℕ) (reading : 
   -- the vault failed
   pub runs-vault_fault : (script : List (List Task)) → HasScript run.numbers.verifiers reading script → TookAtMost most reading.left reading.left_after
       → IsCutOff run.receipts functions (settings_for run.numbers) script (outputs_of writing keeping)
+      → IsCutByVault run.receipts functions (settings_for run.numbers) script (outputs_of writing keeping)
       → IsNamedFor run.logs keeping.name keeping.name_after ⊎ IsUntouched keeping.name keeping.name_after (outputs_of writing keeping)
       → Rose keeping.faults keeping.faults_after
       → RunsTo functions run most statuses.VaultFault reading writing keeping
-  runs-vault_fault script read within cut named rose = record {
+  runs-vault_fault script read within cut by_vault named rose = record {
     served = λ end. absurd end;
     due = λ end. absurd end;
     checked = λ epochs is. absurd (cc);
     cut = λ _. inr (record { script = script; read = read; cut = cut });
+    cut_by_vault = λ _. inr (record { script = script; read = read; cut = by_vault });
     cut_report = λ is. absurd (cc);
     bad = λ line cause is. absurd (cc);
     good = λ _. (script, read);
@@ -221,6 +228,7 @@ module _ (functions : DigestFunctions) (run : RunWords) (most : ℕ) (reading : 
     due = λ end. absurd end;
     checked = λ epochs is. absurd (cc);
     cut = λ is. absurd (neither is);
+    cut_by_vault = λ is. absurd (cc);
     cut_report = λ _. record { script = script; read = read; cut = cut };
     bad = λ line cause is. absurd (cc);
     good = λ _. (script, read);
@@ -248,6 +256,7 @@ module _ (functions : DigestFunctions) (run : RunWords) (most : ℕ) (reading : 
     due = λ _. due;
     checked = checked;
     cut = λ is. absurd (neither is);
+    cut_by_vault = λ is. absurd (subst IsEnd is end);
     cut_report = λ is. absurd (subst IsEnd is end);
     bad = λ line cause is. absurd (subst IsEnd is end);
     good = λ _. (served.script, served.read);
@@ -287,11 +296,11 @@ module _ (functions : DigestFunctions) (run : RunWords) (most : ℕ) (reading : 
         → (stop ≡ rounds.VaultFault → Rose keeping.faults keeping.faults_after) → (stop ≡ rounds.WriteFault → Rose writing.faults writing.faults_after)
         → RunsTo functions run most (run_stopped stop) reading writing keeping
     runs-stopped rounds.Memory served named first vault out = runs-memory (read.within (λ is. cc)) (inr (record { script = script; read = read.script; cut = served })) first
-    runs-stopped rounds.VaultFault served named first vault out = runs-vault_fault script read.script (read.within (λ is. cc)) served first (vault refl)
+    runs-stopped rounds.VaultFault served named first vault out = runs-vault_fault script read.script (read.within (λ is. cc)) served.0 served.1 first (vault refl)
     runs-stopped rounds.WriteFault served named first vault out = runs-write_fault script read.script (read.within (λ is. cc)) served (named (λ is. cc)) (out refl)
 
     -- it was
-    pub runs-served : ((logs : List (List Command)) → AreOfRun functions (settings_for run.numbers) script logs None
+    pub runs-served : ((rounds : List Logs) (logs : Logs) → AreOfRun functions (settings_for run.numbers) script rounds logs None
         → end_due functions (settings_for run.numbers).header (texts_of logs) ≡ bundles.Done (length script))
         → (end : RunEnd) → ServesTo run.receipts functions (settings_for run.numbers) script (Ok end) (outputs_of writing keeping)
         → IsNamedFor run.logs keeping.name keeping.name_after → RunsTo functions run most (status_at end) reading writing keeping

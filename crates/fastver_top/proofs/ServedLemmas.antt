@@ -24,6 +24,7 @@ use Rattle.host_world.specs.declared.settings.Settings.{Settings}
 use Rattle.host_fits.specs.Promise.{CanRun}
 use Rattle.host_rounds.specs.SoFar.{end_due}
 use Rattle.run_reports.specs.Runs.{HoldsOfRuns}
+use Rattle.verifier_threads.specs.InRounds.{Logs}
 use Rattle.verifier_threads.specs.Serving.{AreOfRun, AreServed, texts_of}
 
 -- ---- a script has a phase
@@ -92,9 +93,9 @@ EndsWithPhases = HoldsOfRuns (λ host world.
     ((i : ℕ) → i < length world.workers → HasAdvanced host world i 2)
     → end_due host.functions host.header (texts_of (logs_of world)) ≡ Done (suc world.phase))
 
-module _ (functions : DigestFunctions) (settings : Settings) (script : List (List Task)) (logs : List (List Command)) where
+module _ (functions : DigestFunctions) (settings : Settings) (script : List (List Task)) (rounds : List Logs) (logs : Logs) where
   served-end : EndsWithPhases → CanRun functions settings script → settings.header.first < 2 ^ 32 → 0 < length script
-      → AreServed functions settings script logs None → end_due functions settings.header (texts_of logs) ≡ Done (length script)
+      → AreServed functions settings script rounds logs None → end_due functions settings.header (texts_of logs) ≡ Done (length script)
   served-end promise can first some served =
       let host = shipped_host functions settings script in
       let whole = served.whole refl in
@@ -110,8 +111,8 @@ module _ (functions : DigestFunctions) (settings : Settings) (script : List (Lis
       ∙ ap Done (ap (λ (w : World _). suc w.phase) (sym served.way.is) ∙ count)
 
   pub run-end : EndsWithPhases → IsSettings settings → AreInRange script → GivesDigests functions.digest → settings.header.first < 2 ^ 32 → 0 < length script
-      → AreOfRun functions settings script logs None → end_due functions settings.header (texts_of logs) ≡ Done (length script)
+      → AreOfRun functions settings script rounds logs None → end_due functions settings.header (texts_of logs) ≡ Done (length script)
   run-end promise in_range keys digests first some run =
-      ⊎_elim (λ short. absurd (let no = (run.unserved short).1 in cc))
+      ⊎_elim (λ short. absurd (let no = (run.unserved short).2 in cc))
       (λ enough. served-end promise (record { in_range = in_range; counters = enough; keys = keys; digests = digests }) first some (run.served enough))
       (cases_lt settings.header.end settings.shards)

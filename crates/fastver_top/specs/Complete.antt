@@ -10,6 +10,7 @@ use Rattle.script_text.specs.declared.task.Task.{Task}
 use Rattle.log_codec.specs.declared.command.Command.{Command}
 use Rattle.host_world.specs.declared.fault.ClockEnd.{ClockEnd}
 use Rattle.host_world.specs.declared.settings.Settings.{Settings}
+use Rattle.verifier_threads.specs.InRounds.{Logs}
 use Rattle.verifier_threads.specs.Serving.{AreOfRun}
 use Rattle.fastver_top.specs.Running.{Keeping}
 
@@ -26,7 +27,7 @@ pub record Had (most : ℕ) (bytes : List ℕ) (reading : Reading) : Type 0 wher
 
 -- No clock ends: no run of this script comes to a clock's end, in whatever order its workers serve it.
 abbrev pub NoClockEnds : DigestFunctions → Settings → List (List Task) → Type 0
-NoClockEnds functions settings script = (logs : List (List Command)) (end : ClockEnd) → AreOfRun functions settings script logs (Some end) → ⊥
+NoClockEnds functions settings script = (rounds : List Logs) (logs : Logs) (end : ClockEnd) → AreOfRun functions settings script rounds logs (Some end) → ⊥
 
 -- this came, or memory was wanting
 abbrev pub IsOrWantsMemory : Status → Status → Type 0

@@ -24,7 +24,7 @@ use Rattle.host_world.specs.Settings.{shipped_cache}
 use Rattle.host_rounds.specs.declared.stops.RoundStop.{RoundStop}
 use Rattle.host_rounds.specs.declared.stops.RoundStop.TheVariants as rounds
 use Rattle.verifier_threads.specs.declared.ending.RunEnd.{RunEnd}
-use Rattle.verifier_threads.specs.Serving.{Outputs, IsServed, IsCutOff, IsCutAtEnd, status_at}
+use Rattle.verifier_threads.specs.Serving.{Outputs, IsServed, IsCutOff, IsCutByVault, IsCutAtEnd, status_at}
 use Rattle.fastver_top.specs.declared.scripts.ScriptStop.{ScriptStop}
 use Rattle.fastver_top.specs.declared.scripts.ScriptStop.TheVariants as scripts
 
@@ -136,6 +136,12 @@ module _ (functions : DigestFunctions) (run : RunWords) (result : Status) (readi
     pub read : HasScript run.numbers.verifiers reading script
     pub cut : IsCutOff run.receipts functions (settings_for run.numbers) script outputs
 
+  -- The vault failed in the header or in a round: the sink took all lines that the rounds up to the last close before certify.
+  pub record EndsCutByVault : Type 0 where
+    pub script : List (List Task)
+    pub read : HasScript run.numbers.verifiers reading script
+    pub cut : IsCutByVault run.receipts functions (settings_for run.numbers) script outputs
+
   -- The sink failed: it took a front of the lines that the vault's bytes certify, or at the last line of the report.
   pub record EndsCut : Type 0 where
     pub script : List (List Task)
@@ -182,6 +188,10 @@ pub record RunsTo (functions : DigestFunctions) (run : RunWords) (most : ℕ) (r
   -- the sink a front of the lines that this certifies
   pub cut : (result ≡ statuses.Memory) ⊎ (result ≡ statuses.VaultFault)
       → IsUntouched keeping.name keeping.name_after (outputs_of writing keeping) ⊎ EndsCutOff functions run result reading (outputs_of writing keeping)
+  -- and where the vault failed in a round, it has the whole bundle of the rounds before and a front of that round's frames, and the sink
+  -- all lines that the rounds up to the last close before certify
+  pub cut_by_vault : result ≡ statuses.VaultFault
+      → IsUntouched keeping.name keeping.name_after (outputs_of writing keeping) ⊎ EndsCutByVault functions run result reading (outputs_of writing keeping)
   -- where the sink failed too, or it has a front of the report
   pub cut_report : result ≡ statuses.WriteFault → EndsCut functions run result reading (outputs_of writing keeping)
   -- a script is bad where the first line outside the grammar is this one

@@ -57,7 +57,7 @@ returns-in-Ok-serve-clause-runs g c =
     let numbers = c.args.run.now.numbers in
     subst (λ (status : Status). RunsTo functions c.args.run.now c.args.limit status read wrote kept) (sym c.status-in-Ok-serve.ensures.value)
     (runs-served functions c.args.run.now c.args.limit read wrote kept c.in-Ok.requests c.in-Ok.ensures.reads
-    (λ logs. run-end functions (settings_for numbers) c.in-Ok.requests logs c.a_check_of_the_logs_ends_as_the_host_promises.ensures.whole
+    (λ rounds logs. run-end functions (settings_for numbers) c.in-Ok.requests rounds logs c.a_check_of_the_logs_ends_as_the_host_promises.ensures.whole
     (settings_in_range numbers c.requires.numbers) (c.scripts_ask_for_keys_in_range.ensures.keys numbers.verifiers c.in-Ok.requests c.in-Ok.ensures.tasks)
     (λ text. (c.digests_have_32_bytes.ensures.digests text).size) c.requires.numbers.first c.in-Ok.ensures.some)
     c.in-Ok-serve.end c.in-Ok-serve.ensures.serves (c.in-Ok-serve.ensures.named (λ is. cc)))
