@@ -23,6 +23,7 @@ use Rattle.host_world.specs.ShippedHost.{shipped_host}
 use Rattle.host_world.specs.Shown.{shown_world, digests_of, requests_of}
 use Rattle.host_world.specs.Behind.{before_each, with_logs}
 use Rattle.host_serving.proofs.LeadingLaws.{leads-none}
+use Rattle.host_serving.proofs.FormLaws.{run-none}
 use Rattle.host_rounds.specs.Round.{logs_with, round_text}
 use Rattle.host_rounds.specs.Bundle.{IsBundle, HasBundle}
 use Rattle.host_rounds.specs.SoFar.{RunsSoFar, lines_due}
@@ -93,7 +94,8 @@ module _ (opened : HeadersAreBundles) (follow : RoundsFollow) (functions : Diges
         run = record {
           served = λ _. record {
             world = world;
-            way = (None, leads-none own_host world);
+            end = None;
+            way = run-none own_host world;
             logs_are = refl;
             done = [];
             since = logs_of world;
@@ -142,7 +144,8 @@ module _ (receipts : Bool) (functions : DigestFunctions) (settings : Settings) (
   so_far = record {
     served = λ _. record {
       world = with_logs running.logs world;
-      way = (end, running.way);
+      end = end;
+      way = running.way;
       logs_are = logs-behind running.logs world.workers running.each;
       done = past;
       since = logs_of world;

@@ -32,9 +32,11 @@ use Rattle.host_world.specs.Settings.{IsSettings}
 use Rattle.host_world.specs.Behind.{AreInRange, AreOfOneHost, host_of, with_logs}
 use Rattle.host_world.proofs.FrontLaws.{before_each-none}
 use Rattle.host_fits.specs.Promise.{CanRun}
-use Rattle.host_serving.specs.Leading.{Leads}
+use Rattle.host_serving.specs.Leading.{Leads, LeadsAs}
+use Rattle.host_serving.specs.Form.{AreInRounds}
 use Rattle.host_serving.specs.Standing.{HasServedUpTo}
 use Rattle.host_serving.proofs.LeadingLaws.{leads-none}
+use Rattle.host_serving.proofs.FormLaws.{run-none}
 use Rattle.load_summary.specs.Summary.{summary_with_end}
 use Rattle.host_rounds.specs.SoFar.{RunsSoFar, Keeps, AllCounted, lines_due, summary_due, end_due}
 use Rattle.host_rounds.proofs.RoundLaws.{counted-none, summary-is}
@@ -106,7 +108,7 @@ running-new receipts functions settings script world rounds vault vault_after ou
       logs = logs;
       joined = refl;
       each = length-replicate settings.header.verifiers [] ∙ sym from.count;
-      way = subst (λ (w : World Content). Leads host (set_up host) w None) (sym same) (leads-none host (set_up host));
+      way = subst (λ (w : World Content). LeadsAs AreInRounds host (set_up host) w None) (sym same) (run-none host (set_up host));
       passed = (None, subst (λ (w : World Content). Leads host (set_up host) w None) (sym same) (leads-none host (set_up host)));
       keeps = subst (λ (all : List (List ℕ)). Keeps functions settings.header all [] rounds vault vault_after) (sym texts) keeps;
       written = subst (Grows out out) (sym (counted-none (told_by receipts functions settings.header) functions settings.header (texts_of logs) rounds none')) (Grows-nil out);

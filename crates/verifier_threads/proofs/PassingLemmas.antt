@@ -17,7 +17,8 @@ use Rattle.host_world.specs.declared.settings.Settings.{Settings}
 use Rattle.host_world.specs.declared.world.World as code
 use Rattle.host_world.specs.Shown.{shown_world, digests_of, requests_of}
 use Rattle.host_world.specs.Behind.{StandsBehind, AreOfOneHost, host_of}
-use Rattle.host_serving.specs.Leading.{Leads, first_of}
+use Rattle.host_serving.specs.Leading.{first_of}
+use Rattle.host_serving.proofs.FormLaws.{GoesOn}
 use Rattle.certified_epochs.specs.declared.fed_run.FedRun.{FedRun}
 use Rattle.host_rounds.specs.declared.stops.RoundStop.{RoundStop}
 use Rattle.host_rounds.specs.Feeding.{AllRead}
@@ -135,7 +136,7 @@ module _ (receipts : Bool) {D : Type 0} (functions : D → DigestFunctions) (old
 
   -- events lead its world on
   pub runs-led : (world : code.World D) (next end : Option ClockEnd) → AreOfOneHost old.world world
-      → Leads host_now (shown_world old.world) (shown_world world) next → end ≡ first_of old.end next
+      → GoesOn host_now (shown_world old.world) (shown_world world) old.end next → end ≡ first_of old.end next
       → Runs receipts functions (record old { world = world; end = end }) past outputs
   runs-led world next end same way is = record {
     running =
@@ -143,13 +144,13 @@ module _ (receipts : Bool) {D : Type 0} (functions : D → DigestFunctions) (old
         (λ (f : DigestFunctions) (settings : Settings) (script : List (List Task)). IsRunning receipts f settings script (shown_world world) old.rounds end past outputs)
         (subst (λ (e : Option ClockEnd). IsRunning receipts (functions (digests_of old.world)) old.world.settings (requests_of old.world) (shown_world world) old.rounds e past outputs) (sym is)
         (running-led _ _ _ _ (shown_world old.world) old.rounds old.end past outputs runs.running (shown_world world) next way));
-    buffers = runs.buffers ∙ sym (leads-length host_now (shown_world old.world) (shown_world world) next way);
-    counts = runs.counts ∙ sym (leads-length host_now (shown_world old.world) (shown_world world) next way);
+    buffers = runs.buffers ∙ sym (leads-length host_now (shown_world old.world) (shown_world world) next way.leads);
+    counts = runs.counts ∙ sym (leads-length host_now (shown_world old.world) (shown_world world) next way.leads);
   }
 
   -- the same where its verifiers' runs were lent, and others taken in their stead, with other counts
   pub runs-fed : (world : code.World D) (next end : Option ClockEnd) (back : RunsSoFar) (before : List FedRun) (parcels : Vec ℕ Global) → AreOfOneHost old.world world
-      → Leads host_now (shown_world old.world) (shown_world world) next → end ≡ first_of old.end next → with_runs before back ≡ old.rounds
+      → GoesOn host_now (shown_world old.world) (shown_world world) old.end next → end ≡ first_of old.end next → with_runs before back ≡ old.rounds
       → length parcels.items ≡ length old.parcels.items
       → Runs receipts functions (with_runs_of before (record old { world = world; end = end; rounds = back; parcels = parcels })) past outputs
   runs-fed world next end back before parcels same way is rounds_are many =
@@ -210,7 +211,7 @@ module _ (receipts : Bool) {D : Type 0} (functions : D → DigestFunctions) (old
 
   -- events lead its world on
   pub behind-led : (world : code.World D) (next end : Option ClockEnd) → AreOfOneHost old.world world
-      → Leads (host_of (functions (digests_of old.world)) old.world) (shown_world old.world) (shown_world world) next → end ≡ first_of old.end next
+      → GoesOn (host_of (functions (digests_of old.world)) old.world) (shown_world old.world) (shown_world world) old.end next → end ≡ first_of old.end next
       → RunsBehind receipts functions (record old { world = world; end = end }) phases closes outputs
   behind-led world next end same way is = record {
     past = behind.past;
@@ -221,7 +222,7 @@ module _ (receipts : Bool) {D : Type 0} (functions : D → DigestFunctions) (old
 
   -- the same where its verifiers' runs were lent, and others taken in their stead, with other counts
   pub behind-fed : (world : code.World D) (next end : Option ClockEnd) (back : RunsSoFar) (before : List FedRun) (parcels : Vec ℕ Global) → AreOfOneHost old.world world
-      → Leads (host_of (functions (digests_of old.world)) old.world) (shown_world old.world) (shown_world world) next → end ≡ first_of old.end next → with_runs before back ≡ old.rounds
+      → GoesOn (host_of (functions (digests_of old.world)) old.world) (shown_world old.world) (shown_world world) old.end next → end ≡ first_of old.end next → with_runs before back ≡ old.rounds
       → length parcels.items ≡ length old.parcels.items
       → RunsBehind receipts functions (with_runs_of before (record old { world = world; end = end; rounds = back; parcels = parcels })) phases closes outputs
   behind-fed world next end back before parcels same way is rounds_are many = record {

@@ -19,8 +19,10 @@ use Rattle.host_world.specs.ShippedHost.{shipped_host}
 use Rattle.host_world.specs.Shown.{digests_of, requests_of}
 use Rattle.host_world.specs.Behind.{IsBehindSetup, AreOfOneHost, host_of, with_logs}
 use Rattle.host_world.proofs.FrontLaws.{length-step}
-use Rattle.host_serving.specs.Leading.{Leads, first_of}
-use Rattle.host_serving.proofs.LeadingLaws.{leads-then, leads-with}
+use Rattle.host_serving.specs.Leading.{Leads, LeadsAs, first_of}
+use Rattle.host_serving.specs.Form.{AreInRounds}
+use Rattle.host_serving.proofs.LeadingLaws.{leads-with}
+use Rattle.host_serving.proofs.FormLaws.{GoesOn}
 use Rattle.host_rounds.specs.declared.stops.RoundStop.{RoundStop}
 use Rattle.host_rounds.specs.declared.stops.RoundStop.TheVariants as stops
 use Rattle.host_rounds.specs.Round.{logs_with}
@@ -91,7 +93,7 @@ module _ (receipts : Bool) (functions : DigestFunctions) (settings : Settings) (
       sym running.each ∙ sym (length-map running.logs (log_text short_keys)) ∙ running.keeps.runs.taken.whole
 
   -- events lead on
-  pub running-led : (later : World Content) (next : Option ClockEnd) → Leads own_host world later next
+  pub running-led : (later : World Content) (next : Option ClockEnd) → GoesOn own_host world later end next
       → IsRunning receipts functions settings script later rounds (first_of end next) past outputs
   running-led later next way = record {
     settings_fit = running.settings_fit;
@@ -99,11 +101,10 @@ module _ (receipts : Bool) (functions : DigestFunctions) (settings : Settings) (
     keys = running.keys;
     logs = running.logs;
     joined = running.joined;
-    each = running.each ∙ sym (leads-length own_host world later next way);
+    each = running.each ∙ sym (leads-length own_host world later next way.leads);
     passed = through-leads own_host 0 (no_logs settings.header.verifiers) (set_up own_host) past (with_logs running.logs world) (with_logs running.logs later) running.passed
-        (next, leads-with own_host running.logs world later next way);
-    way = leads-then own_host (set_up own_host) (with_logs running.logs world) (with_logs running.logs later) end next running.way
-        (leads-with own_host running.logs world later next way);
+        (next, leads-with own_host running.logs world later next way.leads);
+    way = way.on running.logs (set_up own_host) running.way;
     keeps = running.keeps;
     written = running.written;
   }
@@ -125,7 +126,7 @@ module _ (receipts : Bool) (functions : DigestFunctions) (settings : Settings) (
         logs = logs;
         joined = ap (λ (all : Logs). logged_with all (logs_of world)) running.joined ∙ sym (logged-more first past (logs_of world));
         each = logged_with-length running.logs (logs_of world) ∙ running.each ∙ sym (length-map world.workers with_no_log);
-        way = subst (λ (w : World Content). Leads own_host (set_up own_host) w end) (sym same) running.way;
+        way = subst (λ (w : World Content). LeadsAs AreInRounds own_host (set_up own_host) w end) (sym same) running.way;
         passed = subst (λ (w : World Content). LeadThrough own_host 0 first (set_up own_host) (past ++ (logs_of world ∷ [])) w) (sym same)
             (through-more own_host (suc (length past)) 0 first (set_up own_host) past (logs_of world) (with_logs running.logs world) (omega arith) running.passed
             (behind_with own_host (suc (length past)) running.logs world stands)

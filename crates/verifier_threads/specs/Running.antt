@@ -16,7 +16,8 @@ use Rattle.host_world.specs.Settings.{IsSettings}
 use Rattle.host_world.specs.Shown.{shown_world, digests_of, requests_of}
 use Rattle.host_world.specs.ShippedHost.{shipped_host}
 use Rattle.host_world.specs.Behind.{AreInRange, with_logs}
-use Rattle.host_serving.specs.Leading.{Leads, CanDoNoMore}
+use Rattle.host_serving.specs.Leading.{LeadsAs, CanDoNoMore}
+use Rattle.host_serving.specs.Form.{AreInRounds}
 use Rattle.host_serving.specs.Standing.{IsServedUpTo, IsServedOut, NoneStopped, SomeStopped, IsLowest, IsAllServed}
 use Rattle.worker_threads.specs.Phase.{first_stopped}
 use Rattle.certified_epochs.specs.declared.fed_run.FedRun.{FedRun}
@@ -49,7 +50,7 @@ pub record IsRunning (receipts : Bool) (functions : DigestFunctions) (settings :
   pub logs : Logs
   pub joined : logs ≡ logged_behind (no_logs settings.header.verifiers) past
   pub each : length logs ≡ length world.workers
-  pub way : Leads (shipped_host functions settings script) (machine.set_up (shipped_host functions settings script)) (with_logs logs world) end
+  pub way : LeadsAs AreInRounds (shipped_host functions settings script) (machine.set_up (shipped_host functions settings script)) (with_logs logs world) end
   pub passed : ArePassed (shipped_host functions settings script) past (with_logs logs world)
   pub keeps : Keeps functions settings.header (texts_of logs) (map texts_of past) rounds outputs.vault outputs.vault_after
   pub written : Grows outputs.out outputs.out_after (lines_counted (told_by receipts functions settings.header) functions settings.header (texts_of logs) rounds)

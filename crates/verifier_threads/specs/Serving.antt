@@ -17,7 +17,8 @@ use Rattle.script_text.specs.declared.task.Task.{Task}
 use Rattle.host_world.specs.declared.fault.ClockEnd.{ClockEnd}
 use Rattle.host_world.specs.declared.settings.Settings.{Settings}
 use Rattle.host_world.specs.ShippedHost.{shipped_host}
-use Rattle.host_serving.specs.Leading.{Leads, LeadsTo, CanDoNoMore}
+use Rattle.host_serving.specs.Leading.{LeadsAs, CanDoNoMore}
+use Rattle.host_serving.specs.Form.{AreInRounds}
 use Rattle.host_serving.specs.Standing.{IsLowest, IsAllServed}
 use Rattle.host_rounds.specs.declared.stops.RoundStop.{RoundStop}
 use Rattle.host_rounds.specs.declared.stops.RoundStop.TheVariants as stops
@@ -52,12 +53,12 @@ abbrev pub texts_of : List (List Command) → List (List ℕ)
 texts_of logs = map (log_text short_keys) logs
 
 module _ (functions : DigestFunctions) (settings : Settings) (script : List (List Task)) (rounds : List Logs) (logs : Logs) (end : Option ClockEnd) where
-  -- The logs of a world to which enabled events lead from the setup, and in which no more can be done. Where no clock
+  -- The logs of a world to which enabled events in rounds lead from the setup, and in which no more can be done. Where no clock
   -- ended on the way the whole script is served; else it is the first end that they come to, and that of the lowest worker whose clock
   -- ended in its round. They were logged in these rounds: where no clock ended, those are two of each phase.
   pub record AreServed : Type 0 where
     pub world : World Content
-    pub way : Leads (shipped_host functions settings script) (set_up (shipped_host functions settings script)) world end
+    pub way : LeadsAs AreInRounds (shipped_host functions settings script) (set_up (shipped_host functions settings script)) world end
     pub rests : CanDoNoMore (shipped_host functions settings script) world
     pub logs_are : logs ≡ logs_of world
     pub whole : end ≡ None → IsAllServed (shipped_host functions settings script) world
@@ -76,7 +77,8 @@ module _ (functions : DigestFunctions) (settings : Settings) (script : List (Lis
   -- what was logged since.
   pub record AreOnTheWay : Type 0 where
     pub world : World Content
-    pub way : LeadsTo (shipped_host functions settings script) (set_up (shipped_host functions settings script)) world
+    pub end : Option ClockEnd
+    pub way : LeadsAs AreInRounds (shipped_host functions settings script) (set_up (shipped_host functions settings script)) world end
     pub logs_are : logs ≡ logs_of world
     pub done : List Logs
     pub since : Logs

@@ -13,6 +13,7 @@ use Rattle.host_world.specs.declared.settings.Settings.{Settings}
 use Rattle.host_world.specs.Shown.{shown_world, digests_of, requests_of}
 use Rattle.host_world.specs.Behind.{host_of}
 use Rattle.host_serving.specs.Leading.{first_of}
+use Rattle.host_serving.proofs.FormLaws.{on_by_close}
 use Rattle.host_rounds.specs.SoFar.{lines_counted, lines_due}
 use Rattle.verifier_threads.specs.InRounds.{IsBehindRounds}
 use Rattle.verifier_threads.specs.Serving.{IsCutOff, IsCutInRound, texts_of}
@@ -38,7 +39,7 @@ pass_to_seal-requires-clause-runs g c κs within = (
   (
     c.requires.runs.2.past,
     runs-led c.requires.runs.0 g.D.Digests.functions c.args.self.now c.requires.runs.2.past c.requires.runs.1 c.requires.runs.2.runs c.close_phase.new.world c.in_ok-end.end c.earlier_end-self.result
-        c.close_phase.ensures.host c.in_ok-end.ensures.leads c.earlier_end-self.ensures.value,
+        c.close_phase.ensures.host (on_by_close _ _ _ _ _ c.in_ok-end.ensures.form) c.earlier_end-self.ensures.value,
   ),
   c.requires.runs.3,
 )
@@ -51,7 +52,7 @@ certify-requires g c =
     let middle = c.close_phase.new.world in
     let says = c.in_ok-end.ensures in
     let led = behind-led c.requires.runs.0 functions c.args.self.now (suc phase) phase c.requires.runs.1 c.requires.runs.2 c.close_phase.new.world c.in_ok-end.end c.earlier_end-self.result
-    c.close_phase.ensures.host c.in_ok-end.ensures.leads c.earlier_end-self.ensures.value in
+    c.close_phase.ensures.host (on_by_close _ _ _ _ _ c.in_ok-end.ensures.form) c.earlier_end-self.ensures.value in
     let stands = subst (λ (h : Host Content Request). IsBehindRounds h (suc (length led.past)) (shown_world middle))
     (sym (host_same functions old middle c.close_phase.ensures.host))
     (subst (λ (n : ℕ). IsBehindRounds (host_of (functions (digests_of old)) old) (suc n) (shown_world middle)) (sym led.count)
@@ -89,7 +90,7 @@ returns-in_err-settled-clause-cut g c = λ outputs runs held written.
     (c.in_err-settled.ensures.cut c.args.receipts outputs (
       runs.past,
       runs-led c.args.receipts functions c.args.self.now runs.past outputs runs.runs c.close_phase.new.world c.in_ok-end.end c.earlier_end-self.result
-          c.close_phase.ensures.host c.in_ok-end.ensures.leads c.earlier_end-self.ensures.value,
+          c.close_phase.ensures.host (on_by_close _ _ _ _ _ c.in_ok-end.ensures.form) c.earlier_end-self.ensures.value,
     )
     held)))
 
@@ -105,7 +106,7 @@ returns-in_err-settled-clause-cut_round g c = λ outputs behind held written fau
     (λ (f : DigestFunctions) (settings : Settings) (script : List (List Task)). IsCutInRound c.args.receipts f settings script (record outputs { vault_after = vault' }))
     (c.in_err-settled.ensures.cut_round c.args.receipts outputs phase
     (behind-led c.args.receipts functions c.args.self.now (suc phase) phase outputs behind c.close_phase.new.world c.in_ok-end.end c.earlier_end-self.result
-    c.close_phase.ensures.host c.in_ok-end.ensures.leads c.earlier_end-self.ensures.value)
+    c.close_phase.ensures.host (on_by_close _ _ _ _ _ c.in_ok-end.ensures.form) c.earlier_end-self.ensures.value)
     held))
 
 pub returns-clause-cut_round : goal.returns-clause-cut_round
@@ -120,7 +121,7 @@ returns-clause-runs g c = λ outputs behind held written.
     let says = c.in_ok-end.ensures in
     let vault' = g.V.Sink.held c.pass_to_seal.new.vault in
     let led = behind-led c.args.receipts functions c.args.self.now (suc phase) phase outputs behind c.close_phase.new.world c.in_ok-end.end c.earlier_end-self.result
-    c.close_phase.ensures.host c.in_ok-end.ensures.leads c.earlier_end-self.ensures.value in
+    c.close_phase.ensures.host (on_by_close _ _ _ _ _ c.in_ok-end.ensures.form) c.earlier_end-self.ensures.value in
     let stands = subst (λ (h : Host Content Request). IsBehindRounds h (suc (length led.past)) (shown_world middle))
     (sym (host_same functions old middle c.close_phase.ensures.host))
     (subst (λ (n : ℕ). IsBehindRounds (host_of (functions (digests_of old)) old) (suc n) (shown_world middle)) (sym led.count)
@@ -194,7 +195,7 @@ returns-clause-cut g c = λ outputs behind held written.
     let phase = (shown_world old).phase in
     let says = c.in_ok-end.ensures in
     let led = behind-led c.args.receipts functions c.args.self.now (suc phase) phase outputs behind c.close_phase.new.world c.in_ok-end.end c.earlier_end-self.result
-    c.close_phase.ensures.host c.in_ok-end.ensures.leads c.earlier_end-self.ensures.value in
+    c.close_phase.ensures.host (on_by_close _ _ _ _ _ c.in_ok-end.ensures.form) c.earlier_end-self.ensures.value in
     let stands = subst (λ (h : Host Content Request). IsBehindRounds h (suc (length led.past)) (shown_world middle))
     (sym (host_same functions old middle c.close_phase.ensures.host))
     (subst (λ (n : ℕ). IsBehindRounds (host_of (functions (digests_of old)) old) (suc n) (shown_world middle)) (sym led.count)

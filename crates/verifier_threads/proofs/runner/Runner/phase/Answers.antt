@@ -10,6 +10,7 @@ use Rattle.host_world.specs.declared.settings.Settings.{Settings}
 use Rattle.host_world.specs.Shown.{shown_world, digests_of}
 use Rattle.host_world.specs.Behind.{host_of}
 use Rattle.host_serving.specs.Leading.{first_of}
+use Rattle.host_serving.proofs.FormLaws.{on_by_phase}
 use Rattle.certified_epochs.specs.declared.fed_run.FedRun.{FedRun}
 use Rattle.verifier_threads.specs.declared.runner.Runner.{Runner}
 use Rattle.verifier_threads.specs.InRounds.{IsBehindRounds}
@@ -54,7 +55,7 @@ set_down-requires g c =
         (
           c.requires.runs.2.past,
           runs-fed c.requires.runs.0 g.D.Digests.functions c.args.self.now c.requires.runs.2.past c.requires.runs.1 c.requires.runs.2.runs c.serve_phase_at_once.new.world c.in_ok-self.field-0 c.in_ok-self.field-0
-              c.take_back.new.self before c.serve_phase_at_once.new.parcels c.serve_phase_at_once.ensures.host c.in_ok-self.ensures.leads
+              c.take_back.new.self before c.serve_phase_at_once.new.parcels c.serve_phase_at_once.ensures.host (on_by_phase _ _ _ _ _ c.requires.begins.unended c.requires.begins.begins c.requires.begins.running c.in_ok-self.ensures.form)
               (ap (λ (e : Option ClockEnd). first_of e c.in_ok-self.field-0) (sym c.requires.begins.unended))
               (rounds-back c.args.self.now.rounds c.lend_runs-runs.new.self c.take_back.new.self c.serve_phase_at_once.new.runs.items before c.lend_runs-runs.ensures.rest c.take_back.ensures.runs c.lend_runs-runs.ensures.runs)
               c.in_ok-self.ensures.parcels,
@@ -86,7 +87,7 @@ returns-clause-runs g c = λ receipts outputs behind held.
     let middle = c.serve_phase_at_once.new.world in
     let lent : Runner _ = record old { world = middle; end = c.in_ok-self.field-0; rounds = c.take_back.new.self; parcels = c.serve_phase_at_once.new.parcels } in
     let fed = behind-fed receipts functions old phase phase outputs behind c.serve_phase_at_once.new.world c.in_ok-self.field-0 c.in_ok-self.field-0
-    c.take_back.new.self before c.serve_phase_at_once.new.parcels c.serve_phase_at_once.ensures.host c.in_ok-self.ensures.leads
+    c.take_back.new.self before c.serve_phase_at_once.new.parcels c.serve_phase_at_once.ensures.host (on_by_phase _ _ _ _ _ c.requires.begins.unended c.requires.begins.begins c.requires.begins.running c.in_ok-self.ensures.form)
     (ap (λ (e : Option ClockEnd). first_of e c.in_ok-self.field-0) (sym c.requires.begins.unended))
     (rounds-back c.args.self.now.rounds c.lend_runs-runs.new.self c.take_back.new.self c.serve_phase_at_once.new.runs.items before c.lend_runs-runs.ensures.rest c.take_back.ensures.runs c.lend_runs-runs.ensures.runs)
     c.in_ok-self.ensures.parcels in
@@ -131,7 +132,7 @@ returns-clause-cut g c = λ receipts outputs runs held.
     (c.set_down.ensures.cut receipts outputs before (
       runs.past,
       runs-fed receipts functions c.args.self.now runs.past outputs runs.runs c.serve_phase_at_once.new.world c.in_ok-self.field-0 c.in_ok-self.field-0
-          c.take_back.new.self before c.serve_phase_at_once.new.parcels c.serve_phase_at_once.ensures.host c.in_ok-self.ensures.leads
+          c.take_back.new.self before c.serve_phase_at_once.new.parcels c.serve_phase_at_once.ensures.host (on_by_phase _ _ _ _ _ c.requires.begins.unended c.requires.begins.begins c.requires.begins.running c.in_ok-self.ensures.form)
           (ap (λ (e : Option ClockEnd). first_of e c.in_ok-self.field-0) (sym c.requires.begins.unended))
           (rounds-back c.args.self.now.rounds c.lend_runs-runs.new.self c.take_back.new.self c.serve_phase_at_once.new.runs.items before c.lend_runs-runs.ensures.rest c.take_back.ensures.runs c.lend_runs-runs.ensures.runs)
           c.in_ok-self.ensures.parcels,
@@ -149,7 +150,7 @@ returns-clause-cut_round g c = λ receipts outputs behind held.
     (λ (f : DigestFunctions) (settings : Settings) (script : List (List Task)). OnErr c.set_down.result (IsCutInRound receipts f settings script (record outputs { vault_after = g.V.Sink.held c.set_down.new.vault })))
     (c.set_down.ensures.cut_round receipts outputs before phase
     (behind-fed receipts functions c.args.self.now phase phase outputs behind c.serve_phase_at_once.new.world c.in_ok-self.field-0 c.in_ok-self.field-0
-    c.take_back.new.self before c.serve_phase_at_once.new.parcels c.serve_phase_at_once.ensures.host c.in_ok-self.ensures.leads
+    c.take_back.new.self before c.serve_phase_at_once.new.parcels c.serve_phase_at_once.ensures.host (on_by_phase _ _ _ _ _ c.requires.begins.unended c.requires.begins.begins c.requires.begins.running c.in_ok-self.ensures.form)
     (ap (λ (e : Option ClockEnd). first_of e c.in_ok-self.field-0) (sym c.requires.begins.unended))
     (rounds-back c.args.self.now.rounds c.lend_runs-runs.new.self c.take_back.new.self c.serve_phase_at_once.new.runs.items before c.lend_runs-runs.ensures.rest c.take_back.ensures.runs c.lend_runs-runs.ensures.runs)
     c.in_ok-self.ensures.parcels)
