@@ -50,12 +50,12 @@ returns-in-Err g c = record {
       let sum' : limit + 1 ≡ old.taken + (new.limit + 1 - old.taken) = omega (arith, next.rises, next.within, same) in
       subst (λ (stop : CheckStop). AnswersTo (check_answer c.args.receipts functions) reading_end limit (checking_stopped limit stop) read wrote) (sym c.from.ensures)
       (cut_answers c.args.receipts functions limit left left_then faults (g.S.Source.faults c.next.new.source) new wrote c.in-Err.stop
-      (took_first limit left left left_then faults faults _ old new come next.rises same next.within next.near (Err c.in-Err.stop) c.in-Err.stop refl next.having_read next.limit next.full next.beyond)
+      (took_first limit left left left_then faults faults _ old new come next.rises same next.within next.near (Err c.in-Err.stop) c.in-Err.stop refl next.took next.limit next.full next.beyond)
       (due_none c.args.receipts functions limit left left_then faults (g.S.Source.faults c.next.new.source) new
       (means_none limit left faults old new opening next.rises (Err c.in-Err.stop) (λ rest. refl) next.means next.header)
       (next.stopped.no_header ∙ next.header ∙ ap (λ (r : Reading). r.progress.header) opening) wrote refl)
       (λ is. next.fault (ap Err is))
-      (λ is. TookAtMost-from_read new.taken limit _ _ (HasRead-then _ _ _ _ _ _ come.having_read (next.having_read (fault_no_limit (Err c.in-Err.stop) c.in-Err.stop refl is)) sum) (omega (arith, next.within, same)))
+      (λ is. TookAtMost-from_read new.taken limit _ _ (HasRead-then _ _ _ _ _ _ come.having_read (next.took (fault_no_limit (Err c.in-Err.stop) c.in-Err.stop refl is)) sum) (omega (arith, next.within, same)))
       (λ is. TookJust-from_read (limit + 1) _ _ (HasRead-then _ _ _ _ _ _ come.having_read (next.limit (ap Err is)) sum'))
       (λ is. ends_behind limit left left left_then faults faults _ old new come next.rises same next.within next.near (next.beyond (ap Err is))));
 }
@@ -83,7 +83,7 @@ returns-in-Head g c = record {
       subst (λ (most : ℕ). AnswersTo (check_answer c.args.receipts functions) reading_end most (check_status most c.check_frames.result) read wrote) same
       (c.check_frames.ensures.answers left faults
       (come-more left left faults faults _ old new come next.rises (empty_logs c.in-Head.header.verifiers) _ _
-      (next.having_read (λ is. true≢false (ap is_ok is)))
+      (next.took (λ is. true≢false (ap is_ok is)))
       (means_header limit left faults old new opening next.rises c.in-Ok.next c.in-Head.header c.in-Head.is next.means next.header (λ verifier is. next.frame verifier (ap Ok is)))
       next.extent next.near next.never_falls));
 }
@@ -106,7 +106,7 @@ returns g c = record {
       let come = come_none limit left faults old opening in
       let same = next.same_limit ∙ ap (λ (r : Reading). r.limit) opening in
       let sum : new.taken ≡ old.taken + (new.taken - old.taken) = omega (arith, next.rises) in
-      let having_read = HasRead-then _ _ _ _ _ _ come.having_read (next.having_read (λ is. true≢false (ap is_ok is))) sum in
+      let having_read = HasRead-then _ _ _ _ _ _ come.having_read (next.took (λ is. true≢false (ap is_ok is))) sum in
       let known = next.header ∙ ap (λ (n : Next). header_then (Ok n) old.progress.header) c.in-End.is in
       let ends = ap Ok c.in-End.is in
       let wrote : Writing = record {

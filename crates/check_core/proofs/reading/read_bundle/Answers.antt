@@ -61,7 +61,7 @@ frames-preserved g c =
       within = omega (arith, next.within, next.same_limit, last.limit);
       position = next.split;
       header = c.in_ok-more.ensures.header ∙ ap (header_then (Ok c.in-Ok.next)) last.header ∙ sym next.header;
-      having_read = HasRead-then _ _ _ _ _ _ last.having_read (next.having_read (λ is. true≢false (ap is_ok is))) sum;
+      having_read = HasRead-then _ _ _ _ _ _ last.having_read (next.took (λ is. true≢false (ap is_ok is))) sum;
       means = ReadsAs-then _ _ _ _ _ _ _ _ last.having_read last.means
           (reads_next _ _ (logs_in c.frames.intake) (logs_in c.join.new.intake) c.frames.reader c.next.new.self c.in-Ok.next c.next.new.self.progress.body next.means next.header
           (λ header is. (next.head header (ap Ok is)).0) (λ verifier is. next.frame verifier (ap Ok is))
@@ -77,14 +77,14 @@ returns-in_err-more-clause-within g c = λ other.
     let last = c.frames.invariant in
     let next = c.in-Ok.ensures in
     let sum : c.next.new.self.taken ≡ c.frames.reader.taken + (c.next.new.self.taken - c.frames.reader.taken) = omega (arith, next.rises) in
-    TookAtMost-from_read _ _ _ _ (HasRead-then _ _ _ _ _ _ last.having_read (next.having_read (λ is. true≢false (ap is_ok is))) sum) (omega (arith, next.within, next.same_limit, last.limit))
+    TookAtMost-from_read _ _ _ _ (HasRead-then _ _ _ _ _ _ last.having_read (next.took (λ is. true≢false (ap is_ok is))) sum) (omega (arith, next.within, next.same_limit, last.limit))
 
 pub returns-in_err-more-clause-stops : goal.returns-in_err-more-clause-stops
 returns-in_err-more-clause-stops g c =
     let last = c.frames.invariant in
     let next = c.in-Ok.ensures in
     let sum : c.next.new.self.taken ≡ c.frames.reader.taken + (c.next.new.self.taken - c.frames.reader.taken) = omega (arith, next.rises) in
-    stops_near _ _ _ reading_end (HasRead-then _ _ _ _ _ _ last.having_read (next.having_read (λ is. true≢false (ap is_ok is))) sum)
+    stops_near _ _ _ reading_end (HasRead-then _ _ _ _ _ _ last.having_read (next.took (λ is. true≢false (ap is_ok is))) sum)
     (near-then _ _ _ _ _ _ _ _ _ last.having_read last.extent next.rises refl last.near next.near)
 
 pub returns-in-Err-clause-limit : goal.returns-in-Err-clause-limit
@@ -102,7 +102,7 @@ returns-in-Err-clause-within g c = λ other.
     let next = c.in-Err.ensures in
     let sum : c.next.new.self.taken ≡ c.frames.reader.taken + (c.next.new.self.taken - c.frames.reader.taken) = omega (arith, next.rises) in
     let apart = λ (is : c.in-Err.stop ≡ sources.InputLimit). other (ap Err (c.from.ensures ∙ ap stop_of is)) in
-    TookAtMost-from_read _ _ _ _ (HasRead-then _ _ _ _ _ _ last.having_read (next.having_read (λ is. apart cc)) sum) (omega (arith, next.within, next.same_limit, last.limit))
+    TookAtMost-from_read _ _ _ _ (HasRead-then _ _ _ _ _ _ last.having_read (next.took (λ is. apart cc)) sum) (omega (arith, next.within, next.same_limit, last.limit))
 
 pub returns-in-Err-clause-stops : goal.returns-in-Err-clause-stops
 returns-in-Err-clause-stops g c =
@@ -111,7 +111,7 @@ returns-in-Err-clause-stops g c =
     let sum : c.next.new.self.taken ≡ c.frames.reader.taken + (c.next.new.self.taken - c.frames.reader.taken) = omega (arith, next.rises) in
     let sum' : c.args.limit + 1 ≡ c.frames.reader.taken + (c.next.new.self.limit + 1 - c.frames.reader.taken) = omega (arith, next.same_limit, last.limit, last.within) in
     stops_stopped c.in-Err.stop c.next.new.self.taken c.args.limit _ _ reading_end
-    (λ other. HasRead-then _ _ _ _ _ _ last.having_read (next.having_read (λ is. other cc)) sum)
+    (λ other. HasRead-then _ _ _ _ _ _ last.having_read (next.took (λ is. other cc)) sum)
     (λ same. HasRead-then _ _ _ _ _ _ last.having_read (next.limit (ap Err same)) sum')
     (near-then _ _ _ _ _ _ _ _ _ last.having_read last.extent next.rises refl last.near next.near)
     (λ same. ReadsAs-back (λ (end : ℕ). c.args.limit < end) _ _ _ _ _ last.having_read last.extent
@@ -136,7 +136,7 @@ returns-clause-bundle g c =
     let old : Reading = c.frames.reader in
     let new : Reading = c.next.new.self in
     let sum : new.taken ≡ old.taken + (new.taken - old.taken) = omega (arith, next.rises) in
-    let read = HasRead-then old.taken _ new.taken _ _ _ last.having_read (next.having_read (λ is. true≢false (ap is_ok is))) sum in
+    let read = HasRead-then old.taken _ new.taken _ _ _ last.having_read (next.took (λ is. true≢false (ap is_ok is))) sum in
     let means = ReadsAs-then old.taken _ new.taken _ _ logged_of (behind_at (logs_in c.frames.intake) old) (behind_at (logs_in c.join.new.intake) new) last.having_read last.means
     (reads_next _ _ (logs_in c.frames.intake) (logs_in c.join.new.intake) old new c.in-Ok.next new.progress.body next.means next.header
     (λ header is. (next.head header (ap Ok is)).0) (λ verifier is. next.frame verifier (ap Ok is))
@@ -153,14 +153,14 @@ returns-clause-within g c = λ other.
     let last = c.frames.invariant in
     let next = c.in-Ok.ensures in
     let sum : c.next.new.self.taken ≡ c.frames.reader.taken + (c.next.new.self.taken - c.frames.reader.taken) = omega (arith, next.rises) in
-    TookAtMost-from_read _ _ _ _ (HasRead-then _ _ _ _ _ _ last.having_read (next.having_read (λ is. true≢false (ap is_ok is))) sum) (omega (arith, next.within, next.same_limit, last.limit))
+    TookAtMost-from_read _ _ _ _ (HasRead-then _ _ _ _ _ _ last.having_read (next.took (λ is. true≢false (ap is_ok is))) sum) (omega (arith, next.within, next.same_limit, last.limit))
 
 pub returns-clause-reached : goal.returns-clause-reached
 returns-clause-reached g c =
     let last = c.frames.invariant in
     let next = c.in-Ok.ensures in
     let sum : c.next.new.self.taken ≡ c.frames.reader.taken + (c.next.new.self.taken - c.frames.reader.taken) = omega (arith, next.rises) in
-    took_to_end _ _ _ reading_end (end_ahead c.next.new.self) (HasRead-then _ _ _ _ _ _ last.having_read (next.having_read (λ is. true≢false (ap is_ok is))) sum)
+    took_to_end _ _ _ reading_end (end_ahead c.next.new.self) (HasRead-then _ _ _ _ _ _ last.having_read (next.took (λ is. true≢false (ap is_ok is))) sum)
     (ReadsAs-then _ _ _ _ _ _ _ _ last.having_read last.extent next.extent sum) (next.reached (ap Ok (c.in_ok-more.ensures.end (ap Ok c.if-not-more.true))))
 
 pub returns-clause-stops : goal.returns-clause-stops
@@ -168,5 +168,5 @@ returns-clause-stops g c =
     let last = c.frames.invariant in
     let next = c.in-Ok.ensures in
     let sum : c.next.new.self.taken ≡ c.frames.reader.taken + (c.next.new.self.taken - c.frames.reader.taken) = omega (arith, next.rises) in
-    stops_near _ _ _ reading_end (HasRead-then _ _ _ _ _ _ last.having_read (next.having_read (λ is. true≢false (ap is_ok is))) sum)
+    stops_near _ _ _ reading_end (HasRead-then _ _ _ _ _ _ last.having_read (next.took (λ is. true≢false (ap is_ok is))) sum)
     (near-then _ _ _ _ _ _ _ _ _ last.having_read last.extent next.rises refl last.near next.near)

@@ -30,7 +30,7 @@ returns-in-Err-clause-having_read g c = λ other.
     let last = c.frames.invariant in
     let next = c.in-Err.ensures in
     let apart = λ (is : c.in-Err.stop ≡ sources.InputLimit). other (ap stopped is) in
-    HasRead-then _ _ _ _ _ _ last.having_read (next.having_read (λ is. apart cc)) (omega (arith, next.rises, last.rises))
+    HasRead-then _ _ _ _ _ _ last.having_read (next.took (λ is. apart cc)) (omega (arith, next.rises, last.rises))
 
 pub returns-in-Err-clause-limit : goal.returns-in-Err-clause-limit
 returns-in-Err-clause-limit g c = λ is.
@@ -102,7 +102,7 @@ frames-preserved g c =
       limit = same.limit ∙ next.same_limit ∙ last.limit;
       rises = omega (arith, same.taken, next.rises, last.rises);
       read = λ some. (omega (arith, same.taken, same.limit, next.within), omega (arith, same.taken, next.split, same.position));
-      having_read = HasRead-then _ _ _ _ _ _ last.having_read (next.having_read (λ is. true≢false (ap is_ok is))) (omega (arith, same.taken, next.rises, last.rises));
+      having_read = HasRead-then _ _ _ _ _ _ last.having_read (next.took (λ is. true≢false (ap is_ok is))) (omega (arith, same.taken, next.rises, last.rises));
       means = ReadsAs-then _ _ _ _ _ _ _ _ last.having_read last.means
           (reads_frame _ _ c.frames.self c.keep.new.self c.in-Frame.verifier c.frames.reader new c.keep.new.reader (Ok c.in-Ok.next) next.means came handed kept)
           (omega (arith, same.taken, next.rises, last.rises));
@@ -124,7 +124,7 @@ returns-in_err-keep-in-Frame-clause-having_read g c = λ other.
     let last = c.frames.invariant in
     let next = c.in-Ok.ensures in
     let taken = ap (λ (r : Reading). r.taken) c.in_err-keep-in-Frame.ensures.reader in
-    HasRead-then _ _ _ _ _ _ last.having_read (next.having_read (λ is. true≢false (ap is_ok is))) (omega (arith, taken, next.rises, last.rises))
+    HasRead-then _ _ _ _ _ _ last.having_read (next.took (λ is. true≢false (ap is_ok is))) (omega (arith, taken, next.rises, last.rises))
 
 pub returns-in_err-keep-in-Frame-clause-near : goal.returns-in_err-keep-in-Frame-clause-near
 returns-in_err-keep-in-Frame-clause-near g c =
@@ -150,7 +150,7 @@ pub returns-in-End-clause-having_read : goal.returns-in-End-clause-having_read
 returns-in-End-clause-having_read g c = λ other.
     let last = c.frames.invariant in
     let next = c.in-Ok.ensures in
-    HasRead-then _ _ _ _ _ _ last.having_read (next.having_read (λ is. true≢false (ap is_ok is))) (omega (arith, next.rises, last.rises))
+    HasRead-then _ _ _ _ _ _ last.having_read (next.took (λ is. true≢false (ap is_ok is))) (omega (arith, next.rises, last.rises))
 
 pub returns-in-End-clause-near : goal.returns-in-End-clause-near
 returns-in-End-clause-near g c =
