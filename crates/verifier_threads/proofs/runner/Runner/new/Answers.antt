@@ -75,7 +75,10 @@ returns-in_err-buffers-clause-header g c = λ held.
 
 pub returns-in_err-parcels-clause-header : goal.returns-in_err-parcels-clause-header
 returns-in_err-parcels-clause-header g c = λ held.
-    err_any _ (record { front = GrowsByFront-none (g.V.Sink.held c.args.vault.now) _; out = refl })
+    let vault = g.V.Sink.held c.args.vault.now in
+    err_any _
+    (subst (λ (settings : Settings). IsCutInHeader settings (record { vault = vault; vault_after = vault; out = held; out_after = held }))
+    c.settings-settings.ensures.value (record { front = GrowsByFront-none vault _; out = refl }))
 
 pub returns-in_err-rounds-clause-header : goal.returns-in_err-rounds-clause-header
 returns-in_err-rounds-clause-header g c = λ held.

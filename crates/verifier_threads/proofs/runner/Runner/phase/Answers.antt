@@ -42,7 +42,7 @@ serve_phase_at_once-requires-clause-runs g c κs within =
     ap (λ (rs : List FedRun). length rs) c.lend_runs-runs.ensures.runs ∙ run-count _ _ _ _ r.keeps.runs ∙ sym (running-workers _ _ _ _ _ _ _ _ _ r)
 
 pub serve_phase_at_once-requires-clause-parcels : goal.serve_phase_at_once-requires-clause-parcels
-serve_phase_at_once-requires-clause-parcels g c κs within = c.requires.runs.2.counts
+serve_phase_at_once-requires-clause-parcels g c κs within = c.requires.runs.2.runs.counts
 
 pub set_down-requires : goal.set_down-requires
 set_down-requires g c =
