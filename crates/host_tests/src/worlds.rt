@@ -35,12 +35,7 @@ fn header() -> Header
     ensures header { IsHeader result }
     ensures same { result ≡ (two_shards 2 most).header }
 {
-    Header {
-        verifiers: 2,
-        cache: 128,
-        first: 0,
-        end: 16_777_215,
-    }
+    Header::by_path(2, 128, 0, 16_777_215)
 }
 
 // A put of one byte at the key 5.
