@@ -1,6 +1,6 @@
 -- What the rounds of a host come to, for callers too, and what this crate's proofs rest on.
 pub mod RoundLaws
-pub mod BundleLemmas
+pub mod BundleLaws
 mod FramingLemmas
 mod OpeningLemmas
 mod RunLemmas

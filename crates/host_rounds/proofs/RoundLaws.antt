@@ -23,7 +23,7 @@ use Rattle.bundle_report.proofs.DueLaws.{lines-front, lines-due, due-stays}
 use Rattle.host_rounds.specs.Round.{logs_with, pieces_of}
 use Rattle.host_rounds.specs.Bundle.{IsBundle}
 use Rattle.host_rounds.specs.SoFar.{RunsSoFar, HaveRun, AllCounted, lines_counted, lines_due, operations_due, summary_due, end_due}
-use Rattle.host_rounds.proofs.BundleLemmas.{round-joined}
+use Rattle.host_rounds.proofs.BundleLaws.{round-joined}
 
 -- ---- what a check answers to the bundle of logs
 

@@ -30,7 +30,7 @@ use Rattle.host_rounds.specs.Round.{logs_with, pieces_of}
 use Rattle.host_rounds.specs.Feeding.{AllRead}
 use Rattle.load_summary.specs.Counting.{Counted, counted_of}
 use Rattle.host_rounds.specs.SoFar.{RunsSoFar, HaveRun, HaveRunSome, lines_counted, lines_due, operations_counted}
-use Rattle.host_rounds.proofs.BundleLemmas.{round-joined}
+use Rattle.host_rounds.proofs.BundleLaws.{round-joined}
 
 -- ---- results, and what was lent
 

@@ -16,7 +16,7 @@ use Rattle.bundle_report.specs.Answer.{answer_by, check_answer}
 use Rattle.bundle_report.proofs.DueLaws.{due-stays}
 use Rattle.host_log.specs.Frames.{frames_of, texts_of, frames_text, frames_of_pieces, pieces_text}
 use Rattle.host_rounds.specs.Bundle.{IsBundle}
-use Rattle.host_rounds.proofs.BundleLemmas.{pieces_in, rounds-text, rounds-joined, rounds-numbers}
+use Rattle.host_rounds.proofs.BundleLaws.{pieces_in, rounds-text, rounds-joined, rounds-numbers}
 use Rattle.host_rounds.specs.SoFar.{lines_due}
 
 -- ---- what is told of frames

@@ -14,9 +14,9 @@ returns-in-Err-clause-serves g c =
     let held = g.V.Sink.held c.args.vault.now in
     let out = g.O.Sink.held c.args.out.now in
     subst (λ (vault : Option (List ℕ)). IsCutOff receipts functions (settings_for c.args.run.now.numbers) script (record { vault = held; vault_after = vault; out = out; out_after = out })
-        × IsCutByVault receipts functions (settings_for c.args.run.now.numbers) script (record { vault = held; vault_after = vault; out = out; out_after = out }))
+    × IsCutByVault receipts functions (settings_for c.args.run.now.numbers) script (record { vault = held; vault_after = vault; out = out; out_after = out }))
     (sym c.name_vault.ensures.bytes)
     (subst (λ (settings : Settings). IsCutOff receipts functions settings script (record { vault = held; vault_after = held; out = out; out_after = out })
-        × IsCutByVault receipts functions settings script (record { vault = held; vault_after = held; out = out; out_after = out }))
+    × IsCutByVault receipts functions settings script (record { vault = held; vault_after = held; out = out; out_after = out }))
     c.settings_for-settings.ensures.value
     (c.a_header_begins_the_bundle.ensures.fault receipts functions script held held out (GrowsByFront-none held _)))

@@ -1,4 +1,4 @@
-use Rattle.host_rounds.proofs.BundleLemmas.{bundle-opened, bundle-more}
+use Rattle.host_rounds.proofs.BundleLaws.{bundle-opened, bundle-more}
 use Rattle.host_rounds.proofs.laws.rounds_make_a_bundle.Goals as goal
 
 pub returns : goal.returns
