@@ -2,12 +2,12 @@
 use Rattle.std.proofs.Common.{◌≡◌, ℕ, ◌==◌, Bool, true, false, List, [], ◌∷◌, map, Option, Some, None, IfSome, refl, if◌then◌else◌, zero, suc, ◌+◌, ◌++◌, get_or, ◌∙◌, ap}
 use Rattle.std.specs.List.{AllByRecursion}
 use Rattle.std.proofs.lemmas.List.Elements.{filter-append}
+use Rattle.record_text.specs.Longest.{longest_blob}
 use Rattle.log_codec.specs.declared.command.Command.{Command}
 use Rattle.record_hash.specs.Functions.{DigestFunctions}
 use Rattle.record_hash.specs.ShaDigests.{sha_under}
 use Rattle.record_hash.specs.Shapes.{IsDigest-sha256}
 use Rattle.lamport_clocks.specs.declared.header.Header.{Header}
-use Rattle.record_text.specs.Format.{short_keys}
 use Rattle.log_codec.specs.Log.{Log, read_log}
 use Rattle.merkle_records.specs.Merkle.{GivesDigests}
 use Rattle.merkle_records.specs.Scheme.{Scheme, scheme_of}
@@ -27,7 +27,7 @@ use Rattle.bundle_report.specs.Logged.{logged_of}
 use Rattle.bundle_report.specs.BundleReport.{histories_at}
 use Rattle.bundle_report.specs.Headline.{certified_exhibit, own_operations, KeepsEachLog, IsSoundAt, IsSound, IsShaSound}
 
-typed : (logs : List (List ℕ)) → AllByRecursion (AllByRecursion (IsTyped short_keys)) (map (λ (log : Log). log.commands) (map (read_log short_keys) logs))
+typed : (logs : List (List ℕ)) → AllByRecursion (AllByRecursion (IsTyped longest_blob)) (map (λ (log : Log). log.commands) (map (read_log longest_blob) logs))
 typed [] = tt
 typed (log ∷ logs) = (read_typed log, typed logs)
 
@@ -38,7 +38,7 @@ serial_in : (functions : DigestFunctions) (header : Header) (logs : List (List �
 serial_in functions header logs digests =
     let scheme = scheme_of functions header in
     let histories = histories_at scheme header logs in
-    sound functions header (map (λ (log : Log). log.commands) (map (read_log short_keys) logs)) (certified_count scheme header.first histories) digests (typed logs)
+    sound functions header (map (λ (log : Log). log.commands) (map (read_log longest_blob) logs)) (certified_count scheme header.first histories) digests (typed logs)
     (counted_balanced scheme (order_of histories) header.first (sealed_by_all histories))
 
 -- ---- each verifier's order
@@ -84,7 +84,7 @@ keeps_logs : (scheme : Scheme) (header : Header) (logs : List (List ℕ)) → Ke
 keeps_logs scheme header logs = λ verifier. go verifier (certified_count scheme header.first histories)
   where
     commands : List (List Command)
-    commands = map (λ (log : Log). log.commands) (map (read_log scheme.format) logs)
+    commands = map (λ (log : Log). log.commands) (map (read_log scheme.longest) logs)
 
     histories : List (List Event)
     histories = histories_of scheme header commands

@@ -157,12 +157,12 @@ module _ (scheme : Scheme) where
   parts-small header good index number [] = tt
   parts-small header good index number (log ∷ logs) =
       let machine = opening_machine number header in
-      let parts = parts_of (trace scheme machine (read_log scheme.format log).commands).done in
+      let parts = parts_of (trace scheme machine (read_log scheme.longest log).commands).done in
       let end = good.end in
       every-append IsSmall (option_to_list (slice_get parts index))
       (parts_at index (courses_from scheme header (suc number) logs))
       (every-at IsSmall parts index
-      (trace-small machine (read_log scheme.format log).commands
+      (trace-small machine (read_log scheme.longest log).commands
       (record {
         end = end;
         counter = omega arith;

@@ -19,7 +19,7 @@ use Rattle.bundle_report.specs.BundleReport.{histories_at}
 
 -- the exhibit of the certified epochs of histories
 abbrev pub certified_exhibit : Scheme → ℕ → List (List Event) → Exhibit
-certified_exhibit scheme first histories = exhibit_of scheme.format first (certified_count scheme first histories) histories
+certified_exhibit scheme first histories = exhibit_of first (certified_count scheme first histories) histories
 
 -- the exhibit of a bundle with this header, if it is good, and these logs
 abbrev pub exhibit_at : DigestFunctions → Option Header → List (List ℕ) → Exhibit

@@ -3,7 +3,7 @@ use Rattle.std.proofs.Common.{◌≡◌, ℕ, Bool, true, false, not, nat_le, if
 use Rattle.std.specs.Option.{option_map, option_to_list}
 use Rattle.std.proofs.lemmas.Bool.{true≢false}
 use Rattle.std.proofs.lemmas.Result.{IfOk-at_ok}
-use Rattle.tree_keys.specs.Path.{side}
+use Rattle.tree_keys.specs.Path.{side, is_data}
 use Rattle.tree_keys.proofs.PathLaws.{same_path-apart}
 use Rattle.lamport_clocks.specs.Clock.{received, sent, advanced}
 use Rattle.base_words.specs.Steps.{need}
@@ -12,7 +12,6 @@ use Rattle.record_text.specs.declared.value.Node.{Node}
 use Rattle.record_text.specs.declared.value.Pointer.{Pointer}
 use Rattle.record_text.specs.declared.value.Value.{Value}
 use Rattle.record_text.specs.declared.refusal.Refusal.{Refusal}
-use Rattle.record_text.specs.Format.{Format}
 use Rattle.record_text.specs.Same.{same_value}
 use Rattle.record_text.specs.Value.{node_side}
 use Rattle.log_codec.specs.declared.command.Command.{Command}
@@ -24,7 +23,7 @@ use Rattle.verifier_commands.specs.declared.changes.Family.{Family}
 use Rattle.verifier_commands.specs.declared.state.State.{State}
 use Rattle.verifier_commands.specs.Change.{Change, did_add_m}
 use Rattle.verifier_commands.specs.Changes.{node_of, above, above_on, leads_to, add_under, evict_under, defer_under, is_by_stamp}
-use Rattle.verifier_commands.specs.Transition.{Rules, is_root, is_data, is_full, transition}
+use Rattle.verifier_commands.specs.Transition.{Rules, is_root, is_full, transition}
 use Rattle.soundness.specs.Clash.{is_known}
 use Rattle.soundness.proofs.FamilyLaws.{IsAdd, on_empty, on_same, on_split, IsAdded, added_how}
 use Rattle.verifier_commands.proofs.InvertLaws.{need-ok, and_then-ok, timed-ok}
@@ -48,14 +47,14 @@ record IsAsAdded (holder : Entry) (path : List Bool) (value : Value) (child : En
   pub at_path : child.path ≡ path
   pub kept : is_known (above holder path) path ≡ true → child.value ≡ value
 
-as_added : (format : Format) (digest : List ℕ → List ℕ) (holder : Entry) (path : List Bool) (value : Value) (family : Family)
-    → add_under format digest holder path value ≡ Ok family → IsAsAdded holder path value family.child
-as_added format digest holder path value family is = go added.how
+as_added : (digest : List ℕ → List ℕ) (holder : Entry) (path : List Bool) (value : Value) (family : Family)
+    → add_under digest holder path value ≡ Ok family → IsAsAdded holder path value family.child
+as_added digest holder path value family is = go added.how
   where
-    added : IsAdded format digest holder path value family
-    added = added_how format digest holder path value family is
+    added : IsAdded digest holder path value family
+    added = added_how digest holder path value family is
 
-    go : IsAdd format digest holder path value added.on added.at family → IsAsAdded holder path value family.child
+    go : IsAdd digest holder path value added.on added.at family → IsAsAdded holder path value family.child
     go (on_empty none initial made) = record {
       at_path = ap (λ (f : Family). f.child.path) made;
       kept = λ known. ap (λ (f : Family). f.child.value) made;
@@ -97,10 +96,10 @@ told_of make found entry is = sym (ap (λ (o : Option Entry). option_to_list (op
 
 -- a family that is an add of a path under its holder is told
 family_told : (rules : Rules) (path : List Bool) (value : Value) (found : Option Entry) (holder : Entry) (family : Family) → found ≡ Some holder
-    → add_under rules.scheme.format rules.scheme.digest holder path value ≡ Ok family
+    → add_under rules.scheme.digest holder path value ≡ Ok family
     → audit_changes_by (did_add_m holder family.parent family.child) ≡ option_to_list (added_under found path value)
 family_told rules path value found holder family there is =
-    let added = as_added rules.scheme.format rules.scheme.digest holder path value family is in
+    let added = as_added rules.scheme.digest holder path value family is in
     ap (λ (k : List Bool). if is_known (above holder k) k then audits.AddM family.child.path family.child.value ∷ [] else []) added.at_path
     ∙ joined_told path value family.child (is_known (above holder path) path) added.kept added.at_path
     ∙ sym (ap (λ (o : Option Entry). option_to_list (added_under o path value)) there)
@@ -114,14 +113,14 @@ deed_told rules state (AddM path value parent) done is =
     let room = test-ok (is_full state) _ _ done fresh.1 in
     let told = audit_change_of rules.number state.cache.entries (AddM path value parent) in
     with_needed (DidAsTold told done) (entry_of parent state.cache.entries) _ _ done room.1 (λ holder there next.
-    let family = and_then-ok (add_under rules.scheme.format rules.scheme.digest holder path value) _ done next in
+    let family = and_then-ok (add_under rules.scheme.digest holder path value) _ done next in
     IfOk-at_ok (DidAsTold told) family.2 (family_told rules path value (entry_of parent state.cache.entries) holder family.0 there family.1))
 deed_told rules state (EvictM path parent) done is =
     let inner = test-ok (is_root path) _ _ done is in
     let told = audit_change_of rules.number state.cache.entries (EvictM path parent) in
     with_needed (DidAsTold told done) (entry_of path state.cache.entries) _ _ done inner.1 (λ child there next.
     with_needed (DidAsTold told done) (entry_of parent state.cache.entries) _ _ done next (λ holder here last.
-    let after = and_then-ok (evict_under rules.scheme.format rules.scheme.digest holder child) _ done last in
+    let after = and_then-ok (evict_under rules.scheme.digest holder child) _ done last in
     IfOk-at_ok (DidAsTold told) after.2 (told_of evicted_m (entry_of path state.cache.entries) child there)))
 deed_told rules state (AddB path value stamp verifier) done is =
     let inner = test-ok (is_root path) _ _ done is in
@@ -148,12 +147,12 @@ deed_told rules state (EvictBM path parent stamp) done is =
     IfOk-at_ok (DidAsTold told) clock.2 (told_of (evicted_with rules.number stamp) (entry_of path state.cache.entries) child there)))
 deed_told rules state (Get path value) done is =
     with_needed (DidAsTold None done) (entry_of path state.cache.entries) _ _ done is (λ entry there next.
-    let data_path = test-ok (not (is_data rules.scheme.format path)) _ _ done next in
+    let data_path = test-ok (not (is_data path)) _ _ done next in
     let same = test-ok (not (same_value entry.value value)) _ _ done data_path.1 in
     IfOk-at_ok (DidAsTold None) same.1 refl)
 deed_told rules state (Put path value) done is =
     with_needed (DidAsTold None done) (entry_of path state.cache.entries) _ _ done is (λ entry there next.
-    let data_path = test-ok (not (is_data rules.scheme.format path)) _ _ done next in
+    let data_path = test-ok (not (is_data path)) _ _ done next in
     IfOk-at_ok (DidAsTold None) data_path.1 refl)
 deed_told rules state NextEpoch done is =
     let turn = timed-ok (advanced state.clock) _ done is in

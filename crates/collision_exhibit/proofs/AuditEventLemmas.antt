@@ -5,7 +5,6 @@ use Rattle.std.proofs.lemmas.Bool.{cond-true, cond-false}
 use Rattle.std.proofs.lemmas.Grind.{flat_map-append}
 use Rattle.std.proofs.lemmas.List.Elements.{filter-append}
 use Rattle.record_text.specs.declared.element.Element.{Element}
-use Rattle.record_text.specs.Format.{short_keys}
 use Rattle.stamp_order.specs.Merged.{up_to}
 use Rattle.verifier_cache.specs.declared.entry.Entry.{Entry}
 use Rattle.verifier_commands.specs.Changes.{above}
@@ -95,19 +94,19 @@ uneven_in events epoch (suc count) =
 
 -- a join clashes where its pointer led to the child, with what was last evicted out
 clash_known : (event : Event) (child : Entry) (last : LastEvicted) (audited : List AuditEvent) (later : Option Strings) (known : Bool)
-    → clash_among short_keys last audited ≡ later
-    → clash_among short_keys last (map (audit_event_at event) (if known then audits.AddM child.path child.value ∷ [] else []) ++ audited)
-    ≡ option_or (clash_at short_keys last known child) later
+    → clash_among last audited ≡ later
+    → clash_among last (map (audit_event_at event) (if known then audits.AddM child.path child.value ∷ [] else []) ++ audited)
+    ≡ option_or (clash_at last known child) later
 clash_known event child last audited later true behind =
-    ap (option_or (differing short_keys (last child.path) child.value)) behind
+    ap (option_or (differing (last child.path) child.value)) behind
 clash_known event child last audited later false behind = behind
 
 -- the audit events of an event and those behind it clash where the event and what is behind it do
 clash_at_event : (event : Event) (change : Change) (last : LastEvicted) (audited : List AuditEvent) (changes : List Change)
-    → ((now : LastEvicted) → clash_among short_keys now audited ≡ first_clash short_keys now changes)
-    → clash_among short_keys last (map (audit_event_at event) (audit_changes_by change) ++ audited) ≡ first_clash short_keys last (change ∷ changes)
+    → ((now : LastEvicted) → clash_among now audited ≡ first_clash now changes)
+    → clash_among last (map (audit_event_at event) (audit_changes_by change) ++ audited) ≡ first_clash last (change ∷ changes)
 clash_at_event event (did_add_m parent after child) last audited changes behind =
-    clash_known event child last audited (first_clash short_keys last changes)
+    clash_known event child last audited (first_clash last changes)
     (is_known (above parent child.path) child.path) (behind last)
 clash_at_event event (did_evict_m parent after child) last audited changes behind = behind (last_evicted_after last (did_evict_m parent after child))
 clash_at_event event (did_add_b child element) last audited changes behind = behind last
@@ -119,7 +118,7 @@ clash_at_event event (did_next_epoch sealed) last audited changes behind = behin
 
 -- The first clash.
 pub clash_in : (events : List Event) (last : LastEvicted)
-    → clash_among short_keys last (audit_events_in events) ≡ first_clash short_keys last (map (λ event. event.change) events)
+    → clash_among last (audit_events_in events) ≡ first_clash last (map (λ event. event.change) events)
 clash_in [] last = refl
 clash_in (event ∷ events) last =
     clash_at_event event event.change last (audit_events_in events) (map (λ (event : Event). event.change) events) (clash_in events)
@@ -175,15 +174,15 @@ shown_in events None None = refl
 
 -- The exhibit of the audit events is the exhibit of the histories.
 pub exhibit_audit_events : (histories : List (List Event)) (first count : ℕ)
-    → exhibit_among short_keys first count (audit_events_in (order_of histories)) ≡ exhibit_of short_keys first count histories
+    → exhibit_among first count (audit_events_in (order_of histories)) ≡ exhibit_of first count histories
 exhibit_audit_events histories first count =
-    ap (λ (uneven : Option ℕ). shown_by audited uneven (clash_among short_keys none_evicted (audit_events_within first count audited)))
+    ap (λ (uneven : Option ℕ). shown_by audited uneven (clash_among none_evicted (audit_events_within first count audited)))
     (uneven_in events first count)
-    ∙ ap (λ (kept : List AuditEvent). shown_by audited (first_uneven events first count) (clash_among short_keys none_evicted kept))
+    ∙ ap (λ (kept : List AuditEvent). shown_by audited (first_uneven events first count) (clash_among none_evicted kept))
     (within_acts first count histories)
     ∙ ap (shown_by audited (first_uneven events first count)) (clash_in (order_within first count histories) none_evicted)
     ∙ shown_in events (first_uneven events first count)
-    (first_clash short_keys none_evicted (map (λ (event : Event). event.change) (order_within first count histories)))
+    (first_clash none_evicted (map (λ (event : Event). event.change) (order_within first count histories)))
   where
     events : List Event
     events = order_of histories

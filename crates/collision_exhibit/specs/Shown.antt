@@ -5,7 +5,6 @@ use Rattle.std.specs.Option.{option_or}
 use Rattle.record_text.specs.declared.element.Element.{Element}
 use Rattle.record_text.specs.declared.exhibit.Exhibit.{Exhibit}
 use Rattle.record_text.specs.declared.exhibit.Exhibit.TheVariants as exhibits
-use Rattle.record_text.specs.Format.{Format}
 use Rattle.stamp_order.specs.Merged.{up_to}
 use Rattle.soundness.specs.Certified.{of_epoch}
 use Rattle.soundness.specs.Clash.{LastEvicted, Strings, none_evicted, with_last_evicted, differing}
@@ -55,16 +54,16 @@ last_evicted_by last (audits.AddB element) = last
 last_evicted_by last (audits.EvictB element) = last
 
 -- what went out and what came back for it, if their texts differ
-abbrev pub clash_by : Format → LastEvicted → AuditChange → Option Strings
-clash_by format last (audits.AddM path value) = differing format (last path) value
-clash_by format last (audits.EvictM path value) = None
-clash_by format last (audits.AddB element) = None
-clash_by format last (audits.EvictB element) = None
+abbrev pub clash_by : LastEvicted → AuditChange → Option Strings
+clash_by last (audits.AddM path value) = differing (last path) value
+clash_by last (audits.EvictM path value) = None
+clash_by last (audits.AddB element) = None
+clash_by last (audits.EvictB element) = None
 
 -- the first clash among audit events
-abbrev pub clash_among : Format → LastEvicted → List AuditEvent → Option Strings
-clash_among format last [] = None
-clash_among format last (item ∷ audited) = option_or (clash_by format last item.change) (clash_among format (last_evicted_by last item.change) audited)
+abbrev pub clash_among : LastEvicted → List AuditEvent → Option Strings
+clash_among last [] = None
+clash_among last (item ∷ audited) = option_or (clash_by last item.change) (clash_among (last_evicted_by last item.change) audited)
 
 -- the audit events of so many epochs from this one on
 abbrev pub audit_events_within : ℕ → ℕ → List AuditEvent → List AuditEvent
@@ -80,5 +79,5 @@ shown_by audited None (Some shown) = exhibits.Strings shown.0 shown.1
 shown_by audited None None = exhibits.Clean
 
 -- The exhibit of so many epochs from the first on, by audit events that stand in order.
-abbrev pub exhibit_among : Format → ℕ → ℕ → List AuditEvent → Exhibit
-exhibit_among format first count audited = shown_by audited (uneven_among audited first count) (clash_among format none_evicted (audit_events_within first count audited))
+abbrev pub exhibit_among : ℕ → ℕ → List AuditEvent → Exhibit
+exhibit_among first count audited = shown_by audited (uneven_among audited first count) (clash_among none_evicted (audit_events_within first count audited))

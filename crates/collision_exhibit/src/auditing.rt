@@ -2,7 +2,6 @@
 ghost use Rattle.std.specs.Prelude.{◌≡◌, ℕ, List, IfOk, None, length, map};
 ghost use Rattle.lamport_clocks.specs.declared.header.Header.{Header};
 ghost use Rattle.record_hash.specs.Functions.{DigestFunctions};
-ghost use Rattle.record_text.specs.Format.{format_of, short_keys};
 ghost use Rattle.merkle_records.specs.Scheme.{scheme_of};
 ghost use Rattle.soundness.specs.Clash.{none_evicted};
 ghost use Rattle.lamport_clocks.specs.Header.{IsHeader};
@@ -37,7 +36,7 @@ pub fn audit<D: Digests>(
 ) -> Result<Exhibit, Memory>
     requires header { IsHeader header.now }
     requires count { length logs.now ≡ header.now.verifiers }
-    ensures exhibit { IfOk result (λ exhibit. exhibit ≡ exhibit_of (format_of header.now) header.now.first epochs
+    ensures exhibit { IfOk result (λ exhibit. exhibit ≡ exhibit_of header.now.first epochs
         (histories_read (scheme_of (D.functions d.now) header.now) header.now (map (λ log. log.items) logs.now))) }
 {
     let runs = run_logs(alloc, d, header, logs)?;
@@ -54,7 +53,7 @@ pub fn exhibit_of_runs(
     requires audited { AreAudited (map (λ run. run.course) runs.items) }
     ensures exhibit { (functions : DigestFunctions) (header : Header) (logs : List (List ℕ))
         → map (λ run. run.course) runs.items ≡ audited_courses functions header logs
-        → IfOk result (λ exhibit. exhibit ≡ exhibit_of (format_of header) first epochs
+        → IfOk result (λ exhibit. exhibit ≡ exhibit_of first epochs
         (histories_read (scheme_of functions header) header logs)) }
 {
     let audited = ordered_events(alloc, runs)?;
@@ -64,7 +63,7 @@ pub fn exhibit_of_runs(
 // What audit events in order show over so many epochs from the first on.
 fn shown(alloc: Global, audited: &[AuditEvent], first: u32, epochs: u64) -> Result<Exhibit, Memory>
     requires own_stamps { HaveOwnStamps (evicted_elements audited.now) }
-    ensures exhibit { IfOk result (λ exhibit. exhibit ≡ exhibit_among short_keys first epochs audited.now) }
+    ensures exhibit { IfOk result (λ exhibit. exhibit ≡ exhibit_among first epochs audited.now) }
 {
     match first_uneven(alloc, audited, first, epochs)? {
         Some(epoch) => {
@@ -83,7 +82,7 @@ fn strings(
     first: u32,
     epochs: u64,
 ) -> Result<Exhibit, Memory>
-    ensures exhibit { IfOk result (λ exhibit. exhibit ≡ shown_by audited.now None (clash_among short_keys none_evicted (audit_events_within first epochs audited.now))) }
+    ensures exhibit { IfOk result (λ exhibit. exhibit ≡ shown_by audited.now None (clash_among none_evicted (audit_events_within first epochs audited.now))) }
 {
     match first_clash(alloc, audited, first, epochs)? {
         Some(clash) => Ok(Exhibit::Strings(clash.evicted, clash.added)),

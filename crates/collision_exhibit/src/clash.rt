@@ -1,7 +1,6 @@
 //! The first record that came back by its digest, with another text than the one that went out.
 ghost use Rattle.std.specs.Prelude.{◌≡◌, IfOk, OnOk, OnErr, Some};
 ghost use Rattle.std.specs.Option.{option_map};
-ghost use Rattle.record_text.specs.Format.{short_keys};
 ghost use Rattle.soundness.specs.Clash.{none_evicted, differing};
 ghost use Rattle.collision_exhibit.specs.Shown.{audit_events_within, clash_among, clash_by, last_evicted_by};
 ghost use Rattle.collision_exhibit.specs.LastEvicted.{last_evicted_at};
@@ -28,7 +27,7 @@ pub(crate) fn first_clash(
     first: u32,
     epochs: u64,
 ) -> Result<Option<Clash>, Memory>
-    ensures clash { IfOk result (λ found. option_map (λ c. (c.evicted, c.added)) found ≡ clash_among short_keys none_evicted (audit_events_within first epochs audited.now)) }
+    ensures clash { IfOk result (λ found. option_map (λ c. (c.evicted, c.added)) found ≡ clash_among none_evicted (audit_events_within first epochs audited.now)) }
 {
     let mut last = LastEvictedValues::new(alloc);
     for item in audited {
@@ -52,7 +51,7 @@ fn is_within(item: &AuditEvent, first: u32, epochs: u64) -> bool
 
 // What went out and what came back for it by this change, if their texts differ.
 fn clash_by(last: &LastEvictedValues, change: &AuditChange) -> Option<Clash>
-    ensures value { option_map (λ c. (c.evicted, c.added)) result ≡ clash_by short_keys (last_evicted_at last.now) change.now }
+    ensures value { option_map (λ c. (c.evicted, c.added)) result ≡ clash_by (last_evicted_at last.now) change.now }
 {
     match change {
         AuditChange::AddM(path, added) => match last.get(path) {
@@ -65,7 +64,7 @@ fn clash_by(last: &LastEvictedValues, change: &AuditChange) -> Option<Clash>
 
 // The texts of two values, if they differ.
 fn differing(evicted: &Value, added: &Value) -> Option<Clash>
-    ensures value { option_map (λ c. (c.evicted, c.added)) result ≡ differing short_keys (Some evicted.now) added.now }
+    ensures value { option_map (λ c. (c.evicted, c.added)) result ≡ differing (Some evicted.now) added.now }
 {
     let evicted = ValueText::of(evicted);
     let added = ValueText::of(added);

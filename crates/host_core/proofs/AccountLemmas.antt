@@ -9,9 +9,9 @@ use Rattle.std.proofs.lemmas.Bool.Decides.{nat_tests}
 use Rattle.lamport_clocks.specs.Reading.{Reading}
 use Rattle.lamport_clocks.specs.Clock.{last_epoch, sealed_by_advancing}
 use Rattle.lamport_clocks.specs.declared.clock.ClockFault.TheVariants as faults
+use Rattle.record_text.specs.Longest.{longest_of}
 use Rattle.base_words.specs.Steps.{test}
 use Rattle.record_text.specs.declared.request.Request.{Request}
-use Rattle.record_text.specs.Format.{format_of}
 use Rattle.log_codec.specs.declared.command.Command.{Command}
 use Rattle.log_codec.specs.declared.command.Command.TheVariants.{NextEpoch}
 use Rattle.stamp_order.proofs.InOrderLaws.{every-append}
@@ -53,7 +53,7 @@ module _ {C R : Type 0} (host : Host C R) (i : ℕ) where
   -- The log is accepted, and the verifier rests behind it; it answers what the script asks first, and seals the epochs
   -- before its clock's.
   pub record IsRightAccount (account : Account) : Type 0 where
-    pub typed : AllByRecursion (IsTyped (format_of host.header)) account.log
+    pub typed : AllByRecursion (IsTyped (longest_of host.header)) account.log
     pub accepted : IsAccepted (machinery host i) (opening i host.header) account.log
     pub rests : state_from (machinery host i) (opening i host.header) account.log ≡ resting host i account.clock
     pub is_clock : IsClock host account.clock
@@ -62,7 +62,7 @@ module _ {C R : Type 0} (host : Host C R) (i : ℕ) where
 
   -- commands that a verifier at rest accepts, and what it answers and seals
   pub record IsMore (clock : Reading) (commands : List Command) (next : Reading) (answers : List (ℕ × Request)) : Type 0 where
-    pub typed : AllByRecursion (IsTyped (format_of host.header)) commands
+    pub typed : AllByRecursion (IsTyped (longest_of host.header)) commands
     pub accepted : IsAccepted (machinery host i) (resting host i clock) commands
     pub rests : state_from (machinery host i) (resting host i clock) commands ≡ resting host i next
     pub is_clock : IsClock host next
@@ -105,7 +105,7 @@ module _ {C R : Type 0} (host : Host C R) (i : ℕ) where
       → take account.served (script_of host i) ++ answers ≡ take (account.served + more) (script_of host i)
       → IsRightAccount (with_more account commands next more)
   more_right account commands next answers more right new asks = record {
-    typed = every-append (IsTyped (format_of host.header)) account.log commands right.typed new.typed;
+    typed = every-append (IsTyped (longest_of host.header)) account.log commands right.typed new.typed;
     accepted = accepted-append (machinery host i) (opening i host.header) account.log commands right.accepted
         (subst (λ (state : State). IsAccepted (machinery host i) state commands) (sym right.rests) new.accepted);
     rests = state-append (machinery host i) (opening i host.header) account.log commands right.accepted

@@ -10,7 +10,6 @@ use Rattle.lamport_clocks.specs.Stamp.{IsLater}
 use Rattle.lamport_clocks.specs.Reading.{Reading}
 use Rattle.lamport_clocks.specs.declared.stamp.Stamp.{Stamp}
 use Rattle.record_text.specs.declared.value.Value.{Value}
-use Rattle.record_text.specs.Format.{format_of}
 use Rattle.log_codec.specs.declared.command.Command.{Command}
 use Rattle.log_codec.specs.declared.command.Command.TheVariants.{NextEpoch}
 use Rattle.stamp_order.specs.declared.moment.Moment.{Moment}
@@ -114,7 +113,7 @@ module _ {C R : Type 0} (mirrors : ℕ → List C → Type 0) (keeping : Keeping
   -- Of a path: its records come back as they left; what is kept of it is what was last evicted; and all this was up to
   -- the stamp of its shard's frontier.
   pub record IsClearPath (path : List Bool) (events : List Event) (contents : ℕ → List C) : Type 0 where
-    pub clear : first_clash (format_of host.header) none_evicted (changes_in (touched path events)) ≡ None
+    pub clear : first_clash none_evicted (changes_in (touched path events)) ≡ None
     pub kept : (s : ℕ) → keeping.home path ≡ Some s
         → IsKept (last_evicted_behind none_evicted (changes_in (touched path events))) path (keeping.kept s (contents s) path)
     pub up_to : (s : ℕ) → keeping.home path ≡ Some s
@@ -142,7 +141,7 @@ module _ {C R : Type 0} (mirrors : ℕ → List C → Type 0) (keeping : Keeping
       → ((s : ℕ) → keeping.home path ≡ Some s → after s ≡ before s)
       → IsClearPath path old before → IsClearPath path new after
   same_path_clear path old new before after same contents was = record {
-    clear = ap (λ (zs : List Event). first_clash (format_of host.header) none_evicted (changes_in (merged event_moment zs))) same ∙ was.clear;
+    clear = ap (λ (zs : List Event). first_clash none_evicted (changes_in (merged event_moment zs))) same ∙ was.clear;
     kept = λ s home.
         subst (λ (zs : List Event). IsKept (last_evicted_behind none_evicted (changes_in (merged event_moment zs))) path (keeping.kept s (after s) path)) (sym same)
         (subst (λ (cs : List C). IsKept (last_evicted_behind none_evicted (changes_in (touched path old))) path (keeping.kept s cs path)) (sym (contents s home))
@@ -169,13 +168,13 @@ module _ {C R : Type 0} (mirrors : ℕ → List C → Type 0) (keeping : Keeping
       → IsClearDeed mirrors keeping host i (resting host i clock) commands s (before s) (after s)
       → IsClearPath path old before → IsClearPath path new after
   own_path_clear path s i index clock commands old new before after own split deed was = record {
-    clear = ap (λ (zs : List Event). first_clash (format_of host.header) none_evicted (changes_in zs)) order
-        ∙ clash-append (format_of host.header) none_evicted (touched path old) more was.clear
+    clear = ap (λ (zs : List Event). first_clash none_evicted (changes_in zs)) order
+        ∙ clash-append none_evicted (touched path old) more was.clear
         (deed.clear index path (last_evicted_behind none_evicted (changes_in (touched path old))) own (was.kept s own));
     kept = λ t home.
         subst (λ (k : ℕ). IsKept (last_evicted_behind none_evicted (changes_in (touched path new))) path (keeping.kept k (after k) path)) (same t home)
         (subst (λ (last : LastEvicted). IsKept last path (keeping.kept s (after s) path))
-        (sym (ap (λ (zs : List Event). last_evicted_behind none_evicted (changes_in zs)) order ∙ last-append (format_of host.header) none_evicted (touched path old) more))
+        (sym (ap (λ (zs : List Event). last_evicted_behind none_evicted (changes_in zs)) order ∙ last-append none_evicted (touched path old) more))
         (deed.keeps index path (last_evicted_behind none_evicted (changes_in (touched path old))) own (was.kept s own)));
     up_to = λ t home.
         subst (λ (k : ℕ). AllByRecursion (λ event. IsNotAfter event.at (keeping.front (after k))) (touching path new)) (same t home)
@@ -343,10 +342,10 @@ module _ {C R : Type 0} (mirrors : ℕ → List C → Type 0) (keeping : Keeping
 
       go : (o : Option ℕ) → keeping.home path ≡ o → IsClearPath path (setup ++ others) (contents_in (map unmoved host.setup.after))
       go None is = record {
-        clear = ap (λ (zs : List Event). first_clash (format_of host.header) none_evicted (changes_in (merged event_moment zs))) whole
-            ∙ ap (λ (zs : List Event). first_clash (format_of host.header) none_evicted (changes_in zs))
+        clear = ap (λ (zs : List Event). first_clash none_evicted (changes_in (merged event_moment zs))) whole
+            ∙ ap (λ (zs : List Event). first_clash none_evicted (changes_in zs))
             (merged-fixed event_moment (touching path setup) setup_sorted)
-            ∙ ap (λ (events : List Event). first_clash (format_of host.header) none_evicted (changes_in (touching path events))) (told host 0 host.setup.commands)
+            ∙ ap (λ (events : List Event). first_clash none_evicted (changes_in (touching path events))) (told host 0 host.setup.commands)
             ∙ clear.setup_clear path is;
         kept = λ s home. absurd (none-some s (sym is ∙ home));
         up_to = λ s home. absurd (none-some s (sym is ∙ home));
@@ -354,7 +353,7 @@ module _ {C R : Type 0} (mirrors : ℕ → List C → Type 0) (keeping : Keeping
       go (Some t) is =
           let none : touching path (setup ++ others) ≡ [] = whole ∙ ap (touching path) (told host 0 host.setup.commands) ∙ (clear.setup_apart path t is).0 in
           record {
-            clear = ap (λ (zs : List Event). first_clash (format_of host.header) none_evicted (changes_in (merged event_moment zs))) none;
+            clear = ap (λ (zs : List Event). first_clash none_evicted (changes_in (merged event_moment zs))) none;
             kept = λ s home.
                 subst (λ (o : Option Value). IsKept (last_evicted_behind none_evicted (changes_in (touched path (setup ++ others)))) path o)
                 (sym (ap (λ (cs : List C). keeping.kept s cs path) (contents_is s) ∙ (clear.setup_apart path s home).1)) tt;

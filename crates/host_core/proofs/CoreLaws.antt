@@ -1,7 +1,7 @@
 -- The laws of the world, for whatever says that a shard mirrors: a type of its contents, or a test.
 use Rattle.std.proofs.Common.{ℕ, suc, ◌<◌, List, [], ◌∷◌, map, length, get_or, arith}
 use Rattle.std.specs.List.{AllByRecursion}
-use Rattle.record_text.specs.Format.{Format, format_of}
+use Rattle.record_text.specs.Longest.{longest_of}
 use Rattle.soundness.specs.Sound.{AreTyped}
 use Rattle.soundness.specs.Typed.{IsTyped}
 use Rattle.host_core.specs.Host.{Host}
@@ -14,18 +14,18 @@ use Rattle.host_core.proofs.ScriptLemmas.{AreLeft, progress_left, setup_left, is
 use Rattle.host_core.proofs.PromiseLemmas.{sound_behind, some_worker, are_accepted, are_answered, are_sealed, is_even, is_in_phase, is_behind_close, sealed_permuted, all_certified, is_whole}
 
 -- the logs of typed accounts are typed
-typed_logs : (format : Format) (workers : List Worker) (d : Account)
-    → ((i : ℕ) → i < length (map account_of workers) → AllByRecursion (IsTyped format) (get_or (map account_of workers) i d).log)
-    → AreTyped format (map (λ worker. worker.log) workers)
-typed_logs format [] d all = tt
-typed_logs format (worker ∷ workers) d all =
-    (all 0 (omega arith), typed_logs format workers d (λ i within. all (suc i) (omega (arith, within))))
+typed_logs : (longest : ℕ) (workers : List Worker) (d : Account)
+    → ((i : ℕ) → i < length (map account_of workers) → AllByRecursion (IsTyped longest) (get_or (map account_of workers) i d).log)
+    → AreTyped longest (map (λ worker. worker.log) workers)
+typed_logs longest [] d all = tt
+typed_logs longest (worker ∷ workers) d all =
+    (all 0 (omega arith), typed_logs longest workers d (λ i within. all (suc i) (omega (arith, within))))
 
 module _ {C R : Type 0} (mirrors : ℕ → List C → Type 0) (host : Host C R) where
   -- each command of a log is typed
-  pub always_typed : HoldsBehind mirrors host (λ world. AreTyped (format_of host.header) (logs_of world))
+  pub always_typed : HoldsBehind mirrors host (λ world. AreTyped (longest_of host.header) (logs_of world))
   always_typed fit events enabled =
-      typed_logs (format_of host.header) (run_events host (set_up host) events).workers _
+      typed_logs (longest_of host.header) (run_events host (set_up host) events).workers _
       (λ i within. ((sound_behind mirrors host fit events enabled).right.each i within).typed)
 
   pub always_accepted : HoldsBehind mirrors host (AreAccepted host)

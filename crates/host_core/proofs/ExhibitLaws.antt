@@ -4,7 +4,7 @@ use Rattle.std.specs.List.{AllByRecursion}
 use Rattle.record_text.specs.declared.exhibit.Exhibit.{Exhibit}
 use Rattle.record_text.specs.declared.exhibit.Exhibit.TheVariants.{Clean}
 use Rattle.record_text.specs.declared.operation.Operation.{Operation}
-use Rattle.record_text.specs.Format.{format_of}
+use Rattle.record_text.specs.Longest.{longest_of}
 use Rattle.stamp_order.proofs.MergedLaws.{merged-filter, merged-sorts}
 use Rattle.stamp_order.specs.Serial.{IsSerial}
 use Rattle.soundness.specs.History.{Event}
@@ -39,21 +39,21 @@ module _ {C R : Type 0} (mirrors : ℕ → List C → Type 0) (keeping : Keeping
   accounts = map account_of world.workers
 
   -- no record came back with another text, in all of the merged order
-  order_clear : first_clash (format_of host.header) none_evicted (changes_in (order_of (histories_in host accounts))) ≡ None
+  order_clear : first_clash none_evicted (changes_in (order_of (histories_in host accounts))) ≡ None
   order_clear =
-      by_paths (format_of host.header) none_evicted (λ path. none_evicted) (order_of (histories_in host accounts)) (λ path. refl)
-      (λ path. ap (λ (zs : List Event). first_clash (format_of host.header) none_evicted (changes_in zs))
+      by_paths none_evicted (λ path. none_evicted) (order_of (histories_in host accounts)) (λ path. refl)
+      (λ path. ap (λ (zs : List Event). first_clash none_evicted (changes_in zs))
       (merged-filter event_moment (λ event. touches path event.change) (all_from host 0 accounts))
       ∙ (clear path).clear)
 
   -- nor of any number of epochs
-  within_clear : (hs : List (List Event)) (count : ℕ) → first_clash (format_of host.header) none_evicted (changes_in (order_of hs)) ≡ None
-      → first_clash (format_of host.header) none_evicted (changes_in (order_within host.header.first count hs)) ≡ None
+  within_clear : (hs : List (List Event)) (count : ℕ) → first_clash none_evicted (changes_in (order_of hs)) ≡ None
+      → first_clash none_evicted (changes_in (order_within host.header.first count hs)) ≡ None
   within_clear hs zero none = refl
   within_clear hs (suc count) none =
       let split = split_up_to event_moment (host.header.first + count) (order_of hs) (merged-sorts event_moment (all_events hs)) in
-      clash-front (format_of host.header) none_evicted (order_within host.header.first (suc count) hs) split.0
-      (ap (λ (zs : List Event). first_clash (format_of host.header) none_evicted (changes_in zs)) (sym split.1) ∙ none)
+      clash-front none_evicted (order_within host.header.first (suc count) hs) split.0
+      (ap (λ (zs : List Event). first_clash none_evicted (changes_in zs)) (sym split.1) ∙ none)
 
   -- There is nothing to show.
   pub nothing_to_show : HasNothingToShow host world
@@ -63,19 +63,19 @@ module _ {C R : Type 0} (mirrors : ℕ → List C → Type 0) (keeping : Keeping
       let even : first_uneven (order_of hs) host.header.first count ≡ None =
       ap (first_uneven (order_of hs) host.header.first) (all_certified mirrors host world sound_world some)
       ∙ none_uneven mirrors host world sound_world some in
-      let none : first_clash (format_of host.header) none_evicted (changes_in (order_within host.header.first count hs)) ≡ None =
+      let none : first_clash none_evicted (changes_in (order_within host.header.first count hs)) ≡ None =
       within_clear hs count
-      (ap (λ (hs : List (List Event)). first_clash (format_of host.header) none_evicted (changes_in (order_of hs))) (histories_are host world)
+      (ap (λ (hs : List (List Event)). first_clash none_evicted (changes_in (order_of hs))) (histories_are host world)
       ∙ order_clear) in
-      ap (λ (o : Option ℕ). exhibit_by (order_of hs) o (first_clash (format_of host.header) none_evicted (changes_in (order_within host.header.first count hs)))) even
+      ap (λ (o : Option ℕ). exhibit_by (order_of hs) o (first_clash none_evicted (changes_in (order_within host.header.first count hs)))) even
       ∙ ap (exhibit_by (order_of hs) None) none
 
   -- ---- serial
 
   -- the logs of right accounts are typed
   typed_logs : (workers : List Worker) (d : Account)
-      → ((i : ℕ) → i < length (map account_of workers) → AllByRecursion (IsTyped (format_of host.header)) (get_or (map account_of workers) i d).log)
-      → AreTyped (format_of host.header) (map (λ worker. worker.log) workers)
+      → ((i : ℕ) → i < length (map account_of workers) → AllByRecursion (IsTyped (longest_of host.header)) (get_or (map account_of workers) i d).log)
+      → AreTyped (longest_of host.header) (map (λ worker. worker.log) workers)
   typed_logs [] d all = tt
   typed_logs (worker ∷ workers) d all =
       (all 0 (omega arith), typed_logs workers d (λ i within. all (suc i) (omega (arith, within))))

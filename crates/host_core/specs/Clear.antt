@@ -8,7 +8,6 @@ use Rattle.lamport_clocks.specs.Stamp.{IsLater}
 use Rattle.lamport_clocks.specs.declared.stamp.Stamp.{Stamp}
 use Rattle.record_text.specs.declared.value.Value.{Value}
 use Rattle.record_text.specs.declared.exhibit.Exhibit.TheVariants.{Clean}
-use Rattle.record_text.specs.Format.{format_of}
 use Rattle.log_codec.specs.declared.command.Command.{Command}
 use Rattle.merkle_records.specs.Merkle.{GivesDigests}
 use Rattle.stamp_order.specs.Serial.{IsSerial}
@@ -69,7 +68,7 @@ module _ {C R : Type 0} (mirrors : ℕ → List C → Type 0) (keeping : Keeping
     pub apart : (index : ℕ) (path : List Bool) → (keeping.home path ≡ Some s → ⊥)
         → touching_of host i from commands index path ≡ []
     pub clear : (index : ℕ) (path : List Bool) (last : LastEvicted) → keeping.home path ≡ Some s → IsKept last path (keeping.kept s old path)
-        → first_clash (format_of host.header) last (changes_in (touching_of host i from commands index path)) ≡ None
+        → first_clash last (changes_in (touching_of host i from commands index path)) ≡ None
     pub keeps : (index : ℕ) (path : List Bool) (last : LastEvicted) → keeping.home path ≡ Some s → IsKept last path (keeping.kept s old path)
         → IsKept (last_evicted_behind last (changes_in (touching_of host i from commands index path))) path (keeping.kept s new path)
     pub behind : (index : ℕ) (path : List Bool)
@@ -81,7 +80,7 @@ module _ {C R : Type 0} (mirrors : ℕ → List C → Type 0) (keeping : Keeping
   -- Whatever the host does is clear. The setup touches no path below a frontier, and no shard keeps a record behind it.
   pub record IsClear : Type 0 where
     pub setup_clear : (path : List Bool) → keeping.home path ≡ None
-        → first_clash (format_of host.header) none_evicted
+        → first_clash none_evicted
         (changes_in (touching_of host 0 (opening 0 host.header) host.setup.commands 0 path)) ≡ None
     pub setup_apart : (path : List Bool) (s : ℕ) → keeping.home path ≡ Some s
         → (touching_of host 0 (opening 0 host.header) host.setup.commands 0 path ≡ [])
@@ -101,7 +100,7 @@ module _ {C R : Type 0} (host : Host C R) (world : World C) where
   -- an audit of the certified epochs has nothing to show
   abbrev pub HasNothingToShow : Type 0
   HasNothingToShow =
-      exhibit_of (format_of host.header) host.header.first (certified_count (scheme host) host.header.first (histories host world)) (histories host world) ≡ Clean
+      exhibit_of host.header.first (certified_count (scheme host) host.header.first (histories host world)) (histories host world) ≡ Clean
 
   -- the answers of the certified epochs are serial, whatever functions the digests are
   abbrev pub IsServedSerially : Type 0

@@ -7,7 +7,7 @@ use Rattle.lamport_clocks.specs.Clock.{opening_reading}
 use Rattle.record_text.specs.declared.element.Element.{Element}
 use Rattle.record_text.specs.declared.operation.Operation.{Operation}
 use Rattle.record_text.specs.declared.request.Request.{Request}
-use Rattle.record_text.specs.Format.{format_of}
+use Rattle.record_text.specs.Longest.{longest_of}
 use Rattle.log_codec.specs.declared.command.Command.{Command}
 use Rattle.verifier_commands.specs.declared.state.State.{State}
 use Rattle.verifier_commands.specs.State.{opening}
@@ -62,7 +62,7 @@ pub record IsClock {C R : Type 0} (host : Host C R) (clock : Reading) : Type 0 w
 -- pending elements of the contents before, evict those of the contents after, and answer these requests.
 pub record IsDeed {C R : Type 0} (host : Host C R) (i : ℕ) (from : State) (commands : List Command) (clock : Reading)
     (old new : List C) (answers : List (ℕ × Request)) : Type 0 where
-  pub typed : AllByRecursion (IsTyped (format_of host.header)) commands
+  pub typed : AllByRecursion (IsTyped (longest_of host.header)) commands
   pub accepted : IsAccepted (machinery host i) from commands
   pub rests : state_from (machinery host i) from commands ≡ resting host i clock
   pub is_clock : IsClock host clock

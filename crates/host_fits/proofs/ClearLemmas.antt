@@ -9,7 +9,6 @@ use Rattle.lamport_clocks.specs.Reading.{Reading}
 use Rattle.lamport_clocks.specs.Clock.{is_open}
 use Rattle.lamport_clocks.proofs.ClockLaws.{open_epochs, greater_than_other}
 use Rattle.record_text.specs.declared.value.Value.{Value}
-use Rattle.record_text.specs.Format.{Format}
 use Rattle.record_text.specs.Texts.{value_text}
 use Rattle.record_text.proofs.SameTestLaws.{same_bytes-self}
 use Rattle.verifier_cache.specs.declared.entry.Entry.{Entry}
@@ -23,25 +22,25 @@ use Rattle.host_laws.specs.Carried.{IsCarried}
 use Rattle.host_laws.specs.Served.{IsFrom}
 
 -- a child whose value is the one that was last evicted doesn't clash
-no_clash : (format : Format) (last : LastEvicted) (known : Bool) (child : Entry) (path : List Bool) → child.path ≡ path
-    → (known ≡ true → last path ≡ Some child.value) → clash_at format last known child ≡ None
-no_clash format last false child path is same = refl
-no_clash format last true child path is same =
-    ap (λ (k : List Bool). differing format (last k) child.value) is
-    ∙ (ap (λ (o : Option Value). differing format o child.value) (same refl)
-    ∙ ap (λ (b : Bool). if b then None else Some (value_text format child.value, value_text format child.value)) (same_bytes-self (value_text format child.value)))
+no_clash : (last : LastEvicted) (known : Bool) (child : Entry) (path : List Bool) → child.path ≡ path
+    → (known ≡ true → last path ≡ Some child.value) → clash_at last known child ≡ None
+no_clash last false child path is same = refl
+no_clash last true child path is same =
+    ap (λ (k : List Bool). differing (last k) child.value) is
+    ∙ (ap (λ (o : Option Value). differing o child.value) (same refl)
+    ∙ ap (λ (b : Bool). if b then None else Some (value_text child.value, value_text child.value)) (same_bytes-self (value_text child.value)))
 
 kept_some : (last : LastEvicted) (path : List Bool) (before : Option Value) (value : Value) → IsKept last path before → before ≡ Some value → last path ≡ Some value
 kept_some last path before value kept is = subst (IsKept last path) is kept
 
 -- what is carried as it is kept shows no clash
-pub carried-clear : (format : Format) (last : LastEvicted) (path : List Bool) (before after : Option Value) (changes : List Change)
-    → IsCarried path before after changes → IsKept last path before → first_clash format last changes ≡ None
-carried-clear format last path before after changes (inl none) kept = ap (λ (cs : List Change). first_clash format last cs) none.0
-carried-clear format last path before after changes (inr visited) kept =
-    ap (λ (cs : List Change). first_clash format last cs) visited.all
+pub carried-clear : (last : LastEvicted) (path : List Bool) (before after : Option Value) (changes : List Change)
+    → IsCarried path before after changes → IsKept last path before → first_clash last changes ≡ None
+carried-clear last path before after changes (inl none) kept = ap (λ (cs : List Change). first_clash last cs) none.0
+carried-clear last path before after changes (inr visited) kept =
+    ap (λ (cs : List Change). first_clash last cs) visited.all
     ∙ ap (λ (o : Option Strings). option_or o None)
-    (no_clash format last (is_known (above visited.parent visited.child.path) visited.child.path) visited.child path visited.child_path
+    (no_clash last (is_known (above visited.parent visited.child.path) visited.child.path) visited.child path visited.child_path
     (λ known. kept_some last path before visited.child.value kept
     (visited.brought (ap (λ (k : List Bool). is_known (above visited.parent k) k) (sym visited.child_path) ∙ known))))
 

@@ -4,7 +4,7 @@ use Rattle.std.specs.List.{AllByRecursion}
 use Rattle.lamport_clocks.specs.Reading.{Reading}
 use Rattle.record_text.specs.declared.element.Element.{Element}
 use Rattle.record_text.specs.declared.request.Request.{Request}
-use Rattle.record_text.specs.Format.{format_of}
+use Rattle.record_text.specs.Longest.{longest_of}
 use Rattle.log_codec.specs.declared.command.Command.{Command}
 use Rattle.verifier_commands.specs.declared.state.State.{State}
 use Rattle.soundness.specs.History.{Event}
@@ -21,7 +21,7 @@ use Rattle.host_fits.proofs.EventLemmas.{run-state, IsOfEpoch, run-steady, added
 
 pub is_deed : {C R : Type 0} (host : Host C R) (i : ℕ) (from : State) (commands : List Command) (told : Told) (clock : Reading) (old new : List C) (answers : List (ℕ × Request))
     → run (rules_under (scheme host) host.header i) from commands ≡ Ok (told, resting host i clock)
-    → AllByRecursion (IsTyped (format_of host.header)) commands → IsClock host clock → clock.at.epoch ≡ from.clock.at.epoch
+    → AllByRecursion (IsTyped (longest_of host.header)) commands → IsClock host clock → clock.at.epoch ≡ from.clock.at.epoch
     → AreStamped host clock.at.epoch new → added_told told ≡ pending_of host old → evicted_told told ≡ pending_of host new
     → map (ask_of from.clock.at.epoch) (accesses_told told) ≡ answers
     → IsDeed host i from commands clock old new answers

@@ -6,7 +6,7 @@ use Rattle.lamport_clocks.specs.declared.stamp.Stamp.{Stamp}
 use Rattle.lamport_clocks.specs.Stamp.{IsLater}
 use Rattle.lamport_clocks.specs.Reading.{Reading}
 use Rattle.record_text.specs.declared.request.Request.{Request}
-use Rattle.record_text.specs.Format.{format_of}
+use Rattle.record_text.specs.Longest.{longest_of}
 use Rattle.log_codec.specs.declared.command.Command.{Command}
 use Rattle.verifier_commands.specs.Change.{Change}
 use Rattle.verifier_commands.specs.declared.state.State.{State}
@@ -53,9 +53,9 @@ clear_deed : (setting : Setting) (worker : ℕ) (from last : State) (commands : 
 clear_deed setting worker from last commands told s old new runs once own behind up_to rises = record {
   apart = λ index path not_home. ap (λ (events : List Event). touching path events) (history.events worker index) ∙ touching-none path worker index told (own path not_home);
   clear = λ index path before home kept.
-      ap (λ (events : List Event). first_clash (format_of setting.settings.header) before (changes_in (touching path events))) (history.events worker index)
-      ∙ (ap (λ (changes : List Change). first_clash (format_of setting.settings.header) before changes) (touching-events path worker index told)
-      ∙ carried-clear (format_of setting.settings.header) before path (kept_of old path) (kept_of new path) (carried path told) (once path) kept);
+      ap (λ (events : List Event). first_clash before (changes_in (touching path events))) (history.events worker index)
+      ∙ (ap (λ (changes : List Change). first_clash before changes) (touching-events path worker index told)
+      ∙ carried-clear before path (kept_of old path) (kept_of new path) (carried path told) (once path) kept);
   keeps = λ index path before home kept.
       subst (λ (events : List Event). IsKept (last_evicted_behind before (changes_in (touching path events))) path (kept_of new path)) (sym (history.events worker index))
       (subst (λ (changes : List Change). IsKept (last_evicted_behind before changes) path (kept_of new path)) (sym (touching-events path worker index told))
@@ -82,7 +82,7 @@ clear_none : (setting : Setting) (worker : ℕ) (from last : State) (commands : 
 clear_none setting worker from last commands told s old new runs none same rises = record {
   apart = λ index path not_home. untouched index path;
   clear = λ index path before home kept.
-      ap (λ (events : List Event). first_clash (format_of setting.settings.header) before (changes_in events)) (untouched index path);
+      ap (λ (events : List Event). first_clash before (changes_in events)) (untouched index path);
   keeps = λ index path before home kept.
       subst (λ (events : List Event). IsKept (last_evicted_behind before (changes_in events)) path (kept_of new path)) (sym (untouched index path))
       (subst (IsKept before path) (sym (same path)) kept);
@@ -125,17 +125,17 @@ module _ (setting : Setting) (worker : ℕ) (clock : Reading) (s : ℕ) (content
       (all-weaker (IsWithin (Some (pending_shard mirrors.shard)) (Some (pending_shard left))) (λ stamp. IsNotAfter stamp left.stamp) (λ stamp is. not_after stamp left.stamp is.1) did.told did.within))
       (front setting worker clock s 0 contents request found serves).rises
     where
-      mirrors : SeatsMirror (format_of setting.settings.header) setting.functions.digest contents
+      mirrors : SeatsMirror (longest_of setting.settings.header) setting.functions.digest contents
       mirrors = serves.ready.mirrored.mirrors
 
-      plan : IsPlanned (format_of setting.settings.header) setting.functions.digest worker clock (get_or contents 0 vacant) request found
+      plan : IsPlanned setting.functions.digest worker clock (get_or contents 0 vacant) request found
       plan = planned setting worker clock s 0 contents request found serves
 
       left : Shard
-      left = served (format_of setting.settings.header) setting.functions.digest worker mirrors.shard plan.is.links request clock
+      left = served setting.functions.digest worker mirrors.shard plan.is.links request clock
 
       after : found.after ≡ cold left
-      after = plan.is.content ∙ ap (λ (cs : List Content). content_after (format_of setting.settings.header) setting.functions.digest worker (get_or cs 0 vacant) plan.is.links request clock) mirrors.is
+      after = plan.is.content ∙ ap (λ (cs : List Content). content_after setting.functions.digest worker (get_or cs 0 vacant) plan.is.links request clock) mirrors.is
 
       behind : set contents 0 found.after ≡ cold left ∷ mirrors.places
       behind = ap (λ (c : Content). set contents 0 c) after ∙ ap (λ (cs : List Content). set cs 0 (cold left)) mirrors.is
@@ -156,7 +156,7 @@ module _ (setting : Setting) (worker : ℕ) (clock : Reading) (s : ℕ) (content
       (subst (λ (cs : List Content). (path : List Bool) → kept_of (set cs (suc k) found.after) path ≡ kept_of cs path) (sym mirrors.is) (λ path. refl))
       (front setting worker clock s (suc k) contents request found serves).rises
     where
-      mirrors : SeatsMirror (format_of setting.settings.header) setting.functions.digest contents
+      mirrors : SeatsMirror (longest_of setting.settings.header) setting.functions.digest contents
       mirrors = serves.ready.mirrored.mirrors
 
       did : PlanRuns (rules_under (scheme (ranged setting)) setting.settings.header worker) (resting (ranged setting) worker clock) (get_or contents (suc k) vacant) found.after request

@@ -1,12 +1,13 @@
 -- What the shipped host keeps at the places of a shard, as the proofs speak of it.
 use Rattle.std.specs.Prelude.{◌≡◌, ℕ, ◌^◌, ◌<◌, ◌≤◌, ◌&&◌, nat_lt, Bool, List, [], ◌∷◌, length, take, IfSome, Option, Some, None, if◌then◌else◌}
 use Rattle.tree_keys.specs.Bits.{number_of}
+use Rattle.tree_keys.specs.Path.{key_bits}
 use Rattle.lamport_clocks.specs.declared.stamp.Stamp.{Stamp}
 use Rattle.lamport_clocks.specs.Reading.{Reading}
 use Rattle.record_hash.specs.Functions.{DigestFunctions}
 use Rattle.record_text.specs.declared.request.Request.{Request}
 use Rattle.record_text.specs.declared.value.Value.{Value}
-use Rattle.record_text.specs.Format.{path_bits, format_of}
+use Rattle.record_text.specs.Longest.{longest_of}
 use Rattle.merkle_records.specs.Merkle.{GivesDigests}
 use Rattle.script_text.specs.declared.task.Task.{Task}
 use Rattle.host_shard.specs.Content.{Content, cold, hot, vacant}
@@ -37,15 +38,15 @@ bits_in setting = frontier_bits setting.settings.shards
 abbrev pub ranged : Setting → Host Content Request
 ranged setting = record (shipped_host setting.functions setting.settings setting.script) {
   owns = λ s seats seat request.
-      nat_lt request.key (2 ^ path_bits (format_of setting.settings.header)) && is_place_of (format_of setting.settings.header) seats seat request;
+      nat_lt request.key (2 ^ key_bits) && is_place_of (longest_of setting.settings.header) seats seat request;
 }
 
 -- What the proofs take of its numbers: a worker at least, shards that can be set up, a cache with room for each path
 -- above a key, digests of 32 bytes, and a threshold of a touch or more if there is one.
 pub record IsSetting (setting : Setting) : Type 0 where
   pub some : 1 ≤ setting.settings.header.verifiers
-  pub shards : CanSetUp (format_of setting.settings.header) setting.settings.header (bits_in setting)
-  pub room : path_bits (format_of setting.settings.header) < setting.settings.header.cache
+  pub shards : CanSetUp setting.settings.header (bits_in setting)
+  pub room : key_bits < setting.settings.header.cache
   pub digests : GivesDigests setting.functions.digest
   pub threshold : IfSome setting.settings.hot (λ least. 0 < least)
 
@@ -54,11 +55,11 @@ pub record IsSetting (setting : Setting) : Type 0 where
 -- for a request at a content
 abbrev pub served_at : Setting → ℕ → Reading → Content → Request → Done Content
 served_at setting worker clock content request =
-    let format = format_of setting.settings.header in
-    let links = links_of format content request.key in
+    let longest = longest_of setting.settings.header in
+    let links = links_of content request.key in
     record {
-      commands = commands_of format content links request clock;
-      after = content_after format setting.functions.digest worker content links request clock;
+      commands = commands_of content links request clock;
+      after = content_after setting.functions.digest worker content links request clock;
       clock = clock_after content clock;
     }
 
@@ -86,7 +87,7 @@ frontier_in (vacant ∷ rest) = []
 
 -- The contents of a shard's places mirror, its frontier is the path of its number, and it waits since the first epoch or later.
 pub record PlacesMirror (setting : Setting) (s : ℕ) (contents : List Content) : Type 0 where
-  pub mirrors : SeatsMirror (format_of setting.settings.header) setting.functions.digest contents
+  pub mirrors : SeatsMirror (longest_of setting.settings.header) setting.functions.digest contents
   pub levels : length (frontier_in contents) ≡ bits_in setting
   pub number : number_of (frontier_in contents) ≡ s
   pub from_first : setting.settings.header.first ≤ (front_of contents).epoch

@@ -13,7 +13,7 @@ use Rattle.tree_keys.specs.Path.{same_path}
 use Rattle.lamport_clocks.specs.declared.stamp.Stamp.{Stamp}
 use Rattle.lamport_clocks.specs.Clock.{opening_reading}
 use Rattle.record_text.specs.declared.element.Element.{Element}
-use Rattle.record_text.specs.Format.{Format, format_of}
+use Rattle.record_text.specs.Longest.{longest_of}
 use Rattle.verifier_cache.specs.declared.entry.Entry.{Entry}
 use Rattle.verifier_commands.specs.declared.state.State.{State}
 use Rattle.verifier_commands.specs.State.{opening, root_entry}
@@ -76,26 +76,26 @@ numbered_below (suc levels) bits path short =
 -- ---- new places
 
 module _ (setting : Setting) (is_setting : IsSetting setting) where
-  abbrev format : Format
-  format = format_of setting.settings.header
+  abbrev longest : ℕ
+  longest = longest_of setting.settings.header
 
   abbrev first : ℕ
   first = setting.settings.header.first
 
   abbrev after_of : List (List Bool) → List (List Content)
-  after_of frontiers = map new_seats (first_contents format first frontiers)
+  after_of frontiers = map new_seats (first_contents first frontiers)
 
   new_places : (frontiers : List (List Bool)) (number : ℕ) → AreNumbered (bits_in setting) number frontiers → (s : ℕ) → s < length (after_of frontiers)
       → PlacesMirror setting (number + s) (get_or (after_of frontiers) s [])
   new_places [] number numbered s within = absurd (omega arith)
   new_places (frontier ∷ frontiers) number numbered zero within = record {
     mirrors = record {
-      shard = new_shard format frontier (first_stamp first frontier) 0;
+      shard = new_shard frontier (first_stamp first frontier) 0;
       places = replicate hot_places vacant;
       is = refl;
       four = refl;
       hot_alone = (tt, (tt, (tt, (tt, tt))));
-      mirrored = new_mirrors format setting.functions.digest frontier (first_stamp first frontier) 0 (omega (arith, numbered.1, is_setting.shards.some)) (omega (arith, numbered.1, is_setting.shards.short));
+      mirrored = new_mirrors longest setting.functions.digest frontier (first_stamp first frontier) 0 (omega (arith, numbered.1, is_setting.shards.some)) (omega (arith, numbered.1, is_setting.shards.short));
       blobs = tt;
       in_range = tt;
     };
@@ -114,15 +114,15 @@ module _ (setting : Setting) (is_setting : IsSetting setting) where
 
   -- what waits there
   waits_first : (frontiers : List (List Bool)) → pending_of (ranged setting) (flat_map (λ contents. contents) (after_of frontiers))
-      ≡ flat_map (λ content. waiting (pending format content)) (first_contents format first frontiers)
+      ≡ flat_map (λ content. waiting (pending content)) (first_contents first frontiers)
   waits_first [] = refl
   waits_first (frontier ∷ frontiers) =
-      flat_map-append (λ (content : Content). waiting (pending format content)) (first_content format first frontier ∷ replicate hot_places vacant) (flat_map (λ contents. contents) (after_of frontiers))
-      ∙ (ap (λ (xs : List Element). (waiting (pending format (first_content format first frontier)) ++ xs) ++ pending_of (ranged setting) (flat_map (λ contents. contents) (after_of frontiers)))
-      (waiting_behind format hot_places)
-      ∙ ap (λ (xs : List Element). waiting (pending format (first_content format first frontier)) ++ xs) (waits_first frontiers))
+      flat_map-append (λ (content : Content). waiting (pending content)) (first_content first frontier ∷ replicate hot_places vacant) (flat_map (λ contents. contents) (after_of frontiers))
+      ∙ (ap (λ (xs : List Element). (waiting (pending (first_content first frontier)) ++ xs) ++ pending_of (ranged setting) (flat_map (λ contents. contents) (after_of frontiers)))
+      (waiting_behind hot_places)
+      ∙ ap (λ (xs : List Element). waiting (pending (first_content first frontier)) ++ xs) (waits_first frontiers))
 
-  stamped_first : (frontiers : List (List Bool)) → AllByRecursion (IsStamped (ranged setting) first) (flat_map (λ content. waiting (pending format content)) (first_contents format first frontiers))
+  stamped_first : (frontiers : List (List Bool)) → AllByRecursion (IsStamped (ranged setting) first) (flat_map (λ content. waiting (pending content)) (first_contents first frontiers))
   stamped_first [] = tt
   stamped_first (frontier ∷ frontiers) = ((is_setting.some, refl), stamped_first frontiers)
 
@@ -153,20 +153,20 @@ module _ (setting : Setting) (is_setting : IsSetting setting) where
   -- ---- nothing clashes
 
   -- paths that come in as new ones don't clash
-  new_clear : (path : List Bool) (told : Told) (last : LastEvicted) → AllByRecursion (λ (one : Stamp × Change). IsNew one.1) told → first_clash format last (carried path told) ≡ None
+  new_clear : (path : List Bool) (told : Told) (last : LastEvicted) → AllByRecursion (λ (one : Stamp × Change). IsNew one.1) told → first_clash last (carried path told) ≡ None
   new_clear path [] last new = refl
   new_clear path (one ∷ told) last new = behind one.1 new.0 (λ other. new_clear path told other new.1)
     where
-      behind : (change : Change) → IsNew change → ((other : LastEvicted) → first_clash format other (carried path told) ≡ None)
-          → first_clash format last (carrying path change ++ carried path told) ≡ None
+      behind : (change : Change) → IsNew change → ((other : LastEvicted) → first_clash other (carried path told) ≡ None)
+          → first_clash last (carrying path change ++ carried path told) ≡ None
       behind (did_add_m parent after child) is rest = go (same_path child.path path)
         where
-          go : (b : Bool) → first_clash format last ((if b then did_add_m parent after child ∷ [] else []) ++ carried path told) ≡ None
-          go true = ap (λ (k : Bool). option_or (clash_at format last k child) (first_clash format last (carried path told))) is ∙ rest last
+          go : (b : Bool) → first_clash last ((if b then did_add_m parent after child ∷ [] else []) ++ carried path told) ≡ None
+          go true = ap (λ (k : Bool). option_or (clash_at last k child) (first_clash last (carried path told))) is ∙ rest last
           go false = rest last
       behind (did_evict_m parent after child) is rest = go (same_path child.path path)
         where
-          go : (b : Bool) → first_clash format last ((if b then did_evict_m parent after child ∷ [] else []) ++ carried path told) ≡ None
+          go : (b : Bool) → first_clash last ((if b then did_evict_m parent after child ∷ [] else []) ++ carried path told) ≡ None
           go true = rest (last_evicted_after last (did_evict_m parent after child))
           go false = rest last
       behind (did_add_b child element) is rest = rest last
@@ -182,10 +182,10 @@ module _ (setting : Setting) (is_setting : IsSetting setting) where
   abbrev events : List Event
   events = events_from (machinery (ranged setting) 0) 0 0 (opening 0 setting.settings.header) (ranged setting).setup.commands
 
-  pub setup_clear : (path : List Bool) → first_clash format none_evicted (changes_in (touching path events)) ≡ None
+  pub setup_clear : (path : List Bool) → first_clash none_evicted (changes_in (touching path events)) ≡ None
   setup_clear path =
-      ap (λ (es : List Event). first_clash format none_evicted (changes_in (touching path es))) (history.events 0 0)
-      ∙ (ap (λ (changes : List Change). first_clash format none_evicted changes) (touching-events path 0 0 ran.told)
+      ap (λ (es : List Event). first_clash none_evicted (changes_in (touching path es))) (history.events 0 0)
+      ∙ (ap (λ (changes : List Change). first_clash none_evicted changes) (touching-events path 0 0 ran.told)
       ∙ new_clear path ran.told none_evicted ran.new)
 
   none_kept : (frontiers : List (List Bool)) (s : ℕ) (path : List Bool) → kept_of (get_or (after_of frontiers) s []) path ≡ None

@@ -12,7 +12,6 @@ use Rattle.tree_keys.proofs.BitsLaws.{bits_of-number_of}
 use Rattle.tree_keys.proofs.PathLaws.{is_prefix-take, is_prefix-true}
 use Rattle.tree_keys.proofs.SideLaws.{prefix_cases, prefix_of_side}
 use Rattle.merkle_records.proofs.KindLaws.{length-side}
-use Rattle.record_text.specs.Format.{Format}
 use Rattle.host_shard.specs.Content.{vacant, pending}
 use Rattle.host_laws.specs.Served.{waiting}
 use Rattle.host_core.specs.Host.{Done}
@@ -62,9 +61,9 @@ vacant_behind (suc seats) zero = refl
 vacant_behind (suc seats) (suc j) = vacant_behind seats j
 
 -- and nothing waits there
-pub waiting_behind : (format : Format) (seats : ℕ) → flat_map (λ content. waiting (pending format content)) (replicate seats vacant) ≡ []
-waiting_behind format zero = refl
-waiting_behind format (suc seats) = waiting_behind format seats
+pub waiting_behind : (seats : ℕ) → flat_map (λ content. waiting (pending content)) (replicate seats vacant) ≡ []
+waiting_behind zero = refl
+waiting_behind (suc seats) = waiting_behind seats
 
 -- ---- the paths of a shard
 

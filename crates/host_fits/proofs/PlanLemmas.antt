@@ -3,7 +3,7 @@ use Rattle.std.proofs.Common.{◌≡◌, ℕ, ◌≤◌, List, Some, None, sym, 
 use Rattle.lamport_clocks.specs.Reading.{Reading}
 use Rattle.record_hash.specs.Functions.{DigestFunctions}
 use Rattle.record_text.specs.declared.request.Request.{Request}
-use Rattle.record_text.specs.Format.{Format, format_of}
+use Rattle.record_text.specs.Longest.{longest_of}
 use Rattle.log_codec.specs.declared.command.Command.{Command}
 use Rattle.merkle_records.specs.Merkle.{Digest}
 use Rattle.script_text.specs.declared.task.Task.{Task}
@@ -20,38 +20,38 @@ use Rattle.host_fits.proofs.Keeping.{setting_of, served_at}
 use Rattle.host_fits.proofs.PlaceLemmas.{past_none, within_some}
 
 -- the links to a key that a content serves are one list
-links_are : (format : Format) (digest : Digest) (content : Content) (key : ℕ) (links : List Link) → CanServe format digest content key
-    → AreLinks format content key links → links ≡ links_of format content key
-links_are format digest (cold shard) key links can way = shard_chain_is format shard (key_path format key) can.fits can.own links way
-links_are format digest (hot found) key links can way = way
-links_are format digest vacant key links can way = absurd can
+links_are : (longest : ℕ) (digest : Digest) (content : Content) (key : ℕ) (links : List Link) → CanServe longest digest content key
+    → AreLinks content key links → links ≡ links_of content key
+links_are longest digest (cold shard) key links can way = shard_chain_is longest shard (key_path key) can.fits can.own links way
+links_are longest digest (hot found) key links can way = way
+links_are longest digest vacant key links can way = absurd can
 
 module _ (functions : DigestFunctions) (settings : Settings) (script : List (List Task)) (worker : ℕ) where
-  abbrev format : Format
-  format = format_of settings.header
+  abbrev longest : ℕ
+  longest = longest_of settings.header
 
   pub plan_served : (content after : Content) (request : Request) (clock later : Reading) (plan : Plan)
-      → CanServe format functions.digest content request.key
-      → IsPlan format functions.digest worker content request clock plan after later
+      → CanServe longest functions.digest content request.key
+      → IsPlan functions.digest worker content request clock plan after later
       → (clock_after content clock).at.counter ≤ clock.end
       → (shipped_host functions settings script).serve worker clock content request ≡ Some (record { commands = plan.commands; after = after; clock = later })
   plan_served content after request clock later plan can is within =
       within_some clock.end (clock_after content clock).at.counter (served_at (setting_of functions settings script) worker clock content request) within
       ∙ ap (λ (d : Done Content). Some d) same
     where
-      links : is.links ≡ links_of format content request.key
-      links = links_are format functions.digest content request.key is.links can is.way
+      links : is.links ≡ links_of content request.key
+      links = links_are longest functions.digest content request.key is.links can is.way
 
       done_by : List Command → Content → Reading → Done Content
       done_by commands left reading = record { commands = commands; after = left; clock = reading }
 
       by_links : List Link → Done Content
-      by_links ls = done_by (commands_of format content ls request clock) (content_after format functions.digest worker content ls request clock) (clock_after content clock)
+      by_links ls = done_by (commands_of content ls request clock) (content_after functions.digest worker content ls request clock) (clock_after content clock)
 
-      same : by_links (links_of format content request.key) ≡ done_by plan.commands after later
+      same : by_links (links_of content request.key) ≡ done_by plan.commands after later
       same =
           ap (λ (ls : List Link). by_links ls) (sym links)
-          ∙ (ap (λ (cs : List Command). done_by cs (content_after format functions.digest worker content is.links request clock) (clock_after content clock)) (sym is.commands)
+          ∙ (ap (λ (cs : List Command). done_by cs (content_after functions.digest worker content is.links request clock) (clock_after content clock)) (sym is.commands)
           ∙ (ap (λ (c : Content). done_by plan.commands c (clock_after content clock)) (sym is.content)
           ∙ ap (λ (r : Reading). done_by plan.commands after r) (sym is.clock)))
 

@@ -7,7 +7,7 @@ use Rattle.lamport_clocks.specs.Reading.{Reading}
 use Rattle.lamport_clocks.specs.Clock.{is_open}
 use Rattle.record_text.specs.declared.element.Element.{Element}
 use Rattle.record_text.specs.declared.operation.Operation.{Operation}
-use Rattle.record_text.specs.Format.{Format, format_of}
+use Rattle.record_text.specs.Longest.{longest_of}
 use Rattle.merkle_records.specs.Merkle.{Digest}
 use Rattle.verifier_cache.specs.Cache.{Held}
 use Rattle.verifier_commands.specs.Transition.{Rules}
@@ -55,8 +55,8 @@ pub record Moves (setting : Setting) (worker epoch : ℕ) (clock : Reading) (s :
 
 module _ (setting : Setting) (worker epoch : ℕ) (clock : Reading) (s : ℕ) (contents : List Content) (found : Done (List Content))
     (moves : Moves setting worker epoch clock s contents found) where
-  abbrev format : Format
-  format = format_of setting.settings.header
+  abbrev longest : ℕ
+  longest = longest_of setting.settings.header
 
   abbrev digest : Digest
   digest = setting.functions.digest
@@ -67,31 +67,31 @@ module _ (setting : Setting) (worker epoch : ℕ) (clock : Reading) (s : ℕ) (c
   abbrev cache : Held
   cache = (ranged setting).cache worker
 
-  abbrev mirrors : SeatsMirror format digest contents
+  abbrev mirrors : SeatsMirror longest digest contents
   mirrors = moves.ready.mirrored.mirrors
 
   abbrev old : Stage
   old = stage_at mirrors.shard mirrors.places clock
 
-  there : StageMirrors format digest old
-  there = stage_mirrors format digest contents clock mirrors
+  there : StageMirrors longest digest old
+  there = stage_mirrors longest digest contents clock mirrors
 
-  moved_so : IsMoved format digest worker setting.settings.hot old found
-  moved_so = seats_moved format digest worker setting.settings.hot clock contents found moves.settled.digests moves.settled.threshold mirrors moves.is
+  moved_so : IsMoved digest worker setting.settings.hot old found
+  moved_so = seats_moved longest digest worker setting.settings.hot clock contents found moves.settled.digests moves.settled.threshold mirrors moves.is
 
-  keeps : MoveKeeps format digest worker clock found
-  keeps = move_keeps format digest worker setting.settings.hot clock contents found moves.settled.digests moves.settled.threshold mirrors moves.is
+  keeps : MoveKeeps longest digest worker clock found
+  keeps = move_keeps longest digest worker setting.settings.hot clock contents found moves.settled.digests moves.settled.threshold mirrors moves.is
 
   abbrev new : Stage
   new = moved_so.new
 
   -- the elements of seats are those of their stage
-  waits_there : waiting_at format contents ≡ waiting_in format old
+  waits_there : waiting_at contents ≡ waiting_in old
   waits_there =
-      ap (waiting_at format) mirrors.is
-      ∙ ap (λ (xs : List Element). pending_shard mirrors.shard ∷ xs) (waits-hot format mirrors.places mirrors.hot_alone)
+      ap waiting_at mirrors.is
+      ∙ ap (λ (xs : List Element). pending_shard mirrors.shard ∷ xs) (waits-hot mirrors.places mirrors.hot_alone)
 
-  stamped : AllByRecursion (IsStamped (ranged setting) epoch) (waiting_in format old)
+  stamped : AllByRecursion (IsStamped (ranged setting) epoch) (waiting_in old)
   stamped = subst (AllByRecursion (IsStamped (ranged setting) epoch)) waits_there moves.ready.stamped
 
   from_first : setting.settings.header.first ≤ epoch
@@ -105,7 +105,7 @@ module _ (setting : Setting) (worker epoch : ℕ) (clock : Reading) (s : ℕ) (c
     room = moves.settled.room;
     takable = all-each (IsStamped (ranged setting) epoch) (IsTakable rules clock)
         (λ element is. (is.0, open_before clock setting.settings.header.first epoch element.stamp.epoch moves.ready.is_clock.first moves.turned is.1 from_first))
-        (waiting_in format old) stamped;
+        (waiting_in old) stamped;
     counters = moved_so.within;
   }
 
@@ -120,27 +120,27 @@ module _ (setting : Setting) (worker epoch : ℕ) (clock : Reading) (s : ℕ) (c
 
   -- the new places have no shard
   still_alone : AllByRecursion IsHotPlace new.places
-  still_alone = subst (λ (st : Stage). AllByRecursion IsHotPlace st.places) (sym moved_so.is.after) (hot-moved format digest worker old moved_so.is.descents mirrors.hot_alone)
+  still_alone = subst (λ (st : Stage). AllByRecursion IsHotPlace st.places) (sym moved_so.is.after) (hot-moved digest worker old moved_so.is.descents mirrors.hot_alone)
 
-  waits_then : waiting_at format found.after ≡ waiting_in format new
+  waits_then : waiting_at found.after ≡ waiting_in new
   waits_then =
-      ap (waiting_at format) moved_so.after
-      ∙ ap (λ (xs : List Element). pending_shard new.shard ∷ xs) (waits-hot format new.places still_alone)
+      ap waiting_at moved_so.after
+      ∙ ap (λ (xs : List Element). pending_shard new.shard ∷ xs) (waits-hot new.places still_alone)
 
   clock_end : found.clock.end ≡ clock.end
   clock_end =
       ap (λ (c : Reading). c.end) (moved_so.clock ∙ ap (λ (st : Stage). st.clock) moved_so.is.after)
-      ∙ (each-end format digest worker (begun worker old) moved_so.is.descents ∙ renewing_each-end clock (touched_in mirrors.places))
+      ∙ (each-end longest digest worker (begun worker old) moved_so.is.descents ∙ renewing_each-end clock (touched_in mirrors.places))
 
   counters : found.clock.at.counter ≤ clock.end
   counters =
       subst (λ (c : Reading). c.at.counter ≤ clock.end)
-      (sym (moved_so.clock ∙ move_clock format digest worker setting.settings.hot old new found.commands moved_so.is))
+      (sym (moved_so.clock ∙ move_clock digest worker setting.settings.hot old new found.commands moved_so.is))
       (not_past clock.end _ (λ past. moved_so.within (record { promotable = moved_so.is.promotable; are_promotable = moved_so.is.are_promotable; past = past })))
 
   rest_deed : IsDeed (ranged setting) worker (resting (ranged setting) worker clock) found.commands found.clock contents found.after []
   rest_deed = record {
-    typed = move_typed format digest worker setting.settings.hot old new found.commands moves.settled.digests moves.settled.threshold there moved_so.is;
+    typed = move_typed longest digest worker setting.settings.hot old new found.commands moves.settled.digests moves.settled.threshold there moved_so.is;
     accepted = deed.accepted;
     rests = deed.rests ∙ ap (λ (c : Reading). resting (ranged setting) worker c) (sym moved_so.clock);
     is_clock = record {
@@ -154,7 +154,7 @@ module _ (setting : Setting) (worker epoch : ℕ) (clock : Reading) (s : ℕ) (c
     epoch = keeps.same_epoch.epoch;
     stamped = all-each (λ (element : Element). (element.verifier ≡ worker) × (element.stamp.epoch ≡ clock.at.epoch)) (IsStamped (ranged setting) found.clock.at.epoch)
         (λ element is. (subst (λ (n : ℕ). n < setting.settings.header.verifiers) (sym is.0) moves.ready.known, is.1 ∙ sym keeps.same_epoch.epoch))
-        (waiting_at format found.after) keeps.waits;
+        (waiting_at found.after) keeps.waits;
     added = λ index x. deed.added worker index x ∙ ap (λ (xs : List Element). count_of x xs) (sym waits_there);
     evicted = λ index x. deed.evicted worker index x ∙ ap (λ (xs : List Element). count_of x xs) (sym waits_then);
     answered = λ index. ap (λ (operations : List Operation). map (λ (operation : Operation). (operation.stamp.epoch, request_of operation)) operations) (deed.unanswered worker index);
@@ -165,7 +165,7 @@ module _ (setting : Setting) (worker epoch : ℕ) (clock : Reading) (s : ℕ) (c
   frontier_new =
       ap frontier_in moved_so.after
       ∙ (ap (λ (st : Stage). st.shard.frontier) moved_so.is.after
-      ∙ (each-frontier format digest worker (begun worker old) moved_so.is.descents ∙ ap frontier_in (sym mirrors.is)))
+      ∙ (each-frontier longest digest worker (begun worker old) moved_so.is.descents ∙ ap frontier_in (sym mirrors.is)))
 
   rest_mirrors : PlacesMirror setting s found.after
   rest_mirrors = record {

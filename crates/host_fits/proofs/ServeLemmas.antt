@@ -6,6 +6,7 @@ use Rattle.std.proofs.lemmas.Bool.{ltb-true}
 use Rattle.std.proofs.lemmas.Bool.Decides.{nat_tests}
 use Rattle.tree_keys.specs.Bits.{number_of}
 use Rattle.tree_keys.specs.BitsLaws.{number_back}
+use Rattle.tree_keys.specs.Path.{key_bits}
 use Rattle.lamport_clocks.specs.declared.stamp.Stamp.{Stamp}
 use Rattle.lamport_clocks.specs.Reading.{Reading}
 use Rattle.lamport_clocks.specs.Clock.{is_open}
@@ -13,7 +14,7 @@ use Rattle.record_text.specs.declared.element.Element.{Element}
 use Rattle.record_text.specs.declared.request.Request.{Request}
 use Rattle.record_text.specs.declared.value.Value.{Value}
 use Rattle.record_text.specs.declared.value.Value.TheVariants as values
-use Rattle.record_text.specs.Format.{Format, path_bits, format_of}
+use Rattle.record_text.specs.Longest.{longest_of}
 use Rattle.log_codec.specs.declared.command.Command.{Command}
 use Rattle.merkle_records.specs.Merkle.{Digest}
 use Rattle.verifier_cache.specs.declared.entry.Entry.{Entry}
@@ -68,7 +69,7 @@ bare_if false root is = inl refl
 
 pub bare_at_rest : (setting : Setting) (worker : ℕ) → IsBare (resting_cache setting.functions setting.settings.header (bits_in setting) worker).entries
 bare_at_rest setting worker =
-    bare_if (worker == 0) (new_entry [] (values.Node (set_up_root (format_of setting.settings.header) setting.functions.digest (bits_in setting))) Root) refl
+    bare_if (worker == 0) (new_entry [] (values.Node (set_up_root setting.functions.digest (bits_in setting))) Root) refl
 
 open_now : (clock : Reading) (epoch : ℕ) → epoch ≡ clock.at.epoch → is_open clock epoch ≡ true
 open_now clock epoch same = grind (arith, nat_tests)
@@ -92,13 +93,13 @@ pub record FrontLeft (clock : Reading) (old new : List Content) : Type 0 where
   pub rises : IsNotAfter (front_of old) (front_of new)
   pub since : ((front_of new).epoch ≡ clock.at.epoch) ⊎ (front_of new ≡ front_of old)
 
-front_there : (format : Format) (digest : Digest) (worker : ℕ) (clock : Reading) (request : Request) (links : List Link) (shard : Shard) (places : List Content)
+front_there : (digest : Digest) (worker : ℕ) (clock : Reading) (request : Request) (links : List Link) (shard : Shard) (places : List Content)
     (seat : ℕ) (after : Content) → is_open clock shard.stamp.epoch ≡ true
-    → after ≡ content_after format digest worker (get_or (cold shard ∷ places) seat vacant) links request clock
+    → after ≡ content_after digest worker (get_or (cold shard ∷ places) seat vacant) links request clock
     → FrontLeft clock (cold shard ∷ places) (set (cold shard ∷ places) seat after)
-front_there format digest worker clock request links shard places zero after open' is =
+front_there digest worker clock request links shard places zero after open' is =
     subst (λ (c : Content). FrontLeft clock (cold shard ∷ places) (c ∷ places)) (sym is) (record { frontier = refl; rises = renewing-rises clock shard.stamp open'; since = inl refl })
-front_there format digest worker clock request links shard places (suc k) after open' is =
+front_there digest worker clock request links shard places (suc k) after open' is =
     record { frontier = refl; rises = inr (refl, omega arith); since = inr refl }
 
 -- ---- a request
@@ -112,8 +113,8 @@ pub record Serves (setting : Setting) (worker : ℕ) (clock : Reading) (s seat :
 
 module _ (setting : Setting) (worker : ℕ) (clock : Reading) (s seat : ℕ) (contents : List Content) (request : Request) (found : Done Content)
     (serves : Serves setting worker clock s seat contents request found) where
-  abbrev format : Format
-  format = format_of setting.settings.header
+  abbrev longest : ℕ
+  longest = longest_of setting.settings.header
 
   abbrev digest : Digest
   digest = setting.functions.digest
@@ -124,34 +125,34 @@ module _ (setting : Setting) (worker : ℕ) (clock : Reading) (s seat : ℕ) (co
   abbrev rules : Rules
   rules = rules_under (scheme (ranged setting)) setting.settings.header worker
 
-  abbrev mirrors : SeatsMirror format digest contents
+  abbrev mirrors : SeatsMirror longest digest contents
   mirrors = serves.ready.mirrored.mirrors
 
   abbrev hot_keys : List (List Bool)
-  hot_keys = hot_paths format mirrors.places
+  hot_keys = hot_paths mirrors.places
 
-  range : (nat_lt request.key (2 ^ path_bits format) ≡ true) × (is_place_of format contents seat request ≡ true)
-  range = both (nat_lt request.key (2 ^ path_bits format)) (is_place_of format contents seat request) serves.owns
+  range : (nat_lt request.key (2 ^ key_bits) ≡ true) × (is_place_of longest contents seat request ≡ true)
+  range = both (nat_lt request.key (2 ^ key_bits)) (is_place_of longest contents seat request) serves.owns
 
-  small : request.key < 2 ^ path_bits format
-  small = ltb-true request.key (2 ^ path_bits format) range.0
+  small : request.key < 2 ^ key_bits
+  small = ltb-true request.key (2 ^ key_bits) range.0
 
-  there : SeatServes format digest hot_keys content request
-  there = seat_serves format digest contents mirrors seat request small range.1
+  there : SeatServes longest digest hot_keys content request
+  there = seat_serves longest digest contents mirrors seat request small range.1
 
-  pub planned : IsPlanned format digest worker clock content request found
-  planned = served_is_planned format digest worker clock content request found there.own serves.is
+  pub planned : IsPlanned digest worker clock content request found
+  planned = served_is_planned longest digest worker clock content request found there.own serves.is
 
-  keeps : ServeKeeps format digest worker clock contents seat found
-  keeps = serve_keeps format digest worker clock contents seat request found serves.settled.digests mirrors small range.1 serves.is
+  keeps : ServeKeeps longest digest worker clock contents seat found
+  keeps = serve_keeps longest digest worker clock contents seat request found serves.settled.digests mirrors small range.1 serves.is
 
   counters : (clock_after content clock).at.counter ≤ clock.end
   counters = (done_within clock.end (clock_after content clock).at.counter (served_at setting worker clock content request) found serves.is).1
 
-  stamped : AllByRecursion (IsStamped (ranged setting) clock.at.epoch) (waiting (pending format content))
-  stamped = waits_there format (IsStamped (ranged setting) clock.at.epoch) contents seat serves.ready.stamped
+  stamped : AllByRecursion (IsStamped (ranged setting) clock.at.epoch) (waiting (pending content))
+  stamped = waits_there (IsStamped (ranged setting) clock.at.epoch) contents seat serves.ready.stamped
 
-  opens : (c : Content) → AllByRecursion (IsStamped (ranged setting) clock.at.epoch) (waiting (pending format c)) → IsOpenAt clock c
+  opens : (c : Content) → AllByRecursion (IsStamped (ranged setting) clock.at.epoch) (waiting (pending c)) → IsOpenAt clock c
   opens (cold shard) all = open_now clock shard.stamp.epoch all.0.1
   opens (hot record') all = open_now clock record'.stamp.epoch all.0.1
   opens vacant all = tt
@@ -161,7 +162,7 @@ module _ (setting : Setting) (worker : ℕ) (clock : Reading) (s seat : ℕ) (co
     rest = record {
       bare = bare_at_rest setting worker;
       room = serves.settled.room;
-      known = λ element is. (of_waiting (IsStamped (ranged setting) clock.at.epoch) (pending format content) element stamped is).0;
+      known = λ element is. (of_waiting (IsStamped (ranged setting) clock.at.epoch) (pending content) element stamped is).0;
       open_epoch = opens content stamped;
     };
     counters = counters;
@@ -170,7 +171,7 @@ module _ (setting : Setting) (worker : ℕ) (clock : Reading) (s seat : ℕ) (co
   pub runs : PlanRuns rules (resting (ranged setting) worker clock) content found.after request planned.plan found.clock
   runs =
       plan_runs rules (resting (ranged setting) worker clock) content found.after request planned.plan found.clock can
-      (mirrors_serve format digest hot_keys content request.key there.mirrors there.own there.cold_there) planned.is
+      (mirrors_serve longest digest hot_keys content request.key there.mirrors there.own there.cold_there) planned.is
 
   pub logged : run rules (resting (ranged setting) worker clock) found.commands ≡ Ok (runs.told, resting (ranged setting) worker found.clock)
   logged = ap (λ (commands : List Command). run rules (resting (ranged setting) worker clock) commands) planned.logged ∙ runs.runs
@@ -180,15 +181,15 @@ module _ (setting : Setting) (worker : ℕ) (clock : Reading) (s seat : ℕ) (co
   clock_is (hot record') within = record { first = serves.ready.is_clock.first; end = serves.ready.is_clock.end; reading = record { within = within; from_first = serves.ready.is_clock.reading.from_first } }
   clock_is vacant within = serves.ready.is_clock
 
-  renewed : AllByRecursion (IsStamped (ranged setting) found.clock.at.epoch) (waiting (pending format found.after))
+  renewed : AllByRecursion (IsStamped (ranged setting) found.clock.at.epoch) (waiting (pending found.after))
   renewed =
       all-each (λ (element : Element). (element.verifier ≡ worker) × (element.stamp.epoch ≡ clock.at.epoch)) (IsStamped (ranged setting) found.clock.at.epoch)
       (λ element is. (subst (λ (n : ℕ). n < setting.settings.header.verifiers) (sym is.0) serves.ready.known, is.1 ∙ sym keeps.same_epoch.epoch))
-      (waiting (pending format found.after)) keeps.waits
+      (waiting (pending found.after)) keeps.waits
 
-  asked : map (ask_of clock.at.epoch) (access_for format request planned.plan.answer ∷ []) ≡ (clock.at.epoch, told request) ∷ []
+  asked : map (ask_of clock.at.epoch) (access_for request planned.plan.answer ∷ []) ≡ (clock.at.epoch, told request) ∷ []
   asked =
-      ap asks (ap (λ (k : ℕ). record { put = request.put; key = k; value = if request.put then planned.plan.answer else None }) (number_back (path_bits format) request.key small)
+      ap asks (ap (λ (k : ℕ). record { put = request.put; key = k; value = if request.put then planned.plan.answer else None }) (number_back key_bits request.key small)
       ∙ ap (λ (v : Option (List ℕ)). record { put = request.put; key = request.key; value = v }) (asked_so request (value_found content planned.is.links) planned.plan.answer planned.is.answer))
     where
       asks : Request → List (ℕ × Request)
@@ -198,22 +199,22 @@ module _ (setting : Setting) (worker : ℕ) (clock : Reading) (s seat : ℕ) (co
   serve_deed =
       is_deed (ranged setting) worker (resting (ranged setting) worker clock) found.commands runs.told found.clock (content ∷ []) (found.after ∷ []) ((clock.at.epoch, told request) ∷ [])
       logged
-      (subst (AllByRecursion (IsTyped format)) (sym planned.logged)
-      (plan_typed format digest worker hot_keys content found.after request clock found.clock planned.plan there.fits there.mirrors there.own there.cold_there planned.is))
+      (subst (AllByRecursion (IsTyped longest)) (sym planned.logged)
+      (plan_typed longest digest worker hot_keys content found.after request clock found.clock planned.plan there.fits there.mirrors there.own there.cold_there planned.is))
       (subst (IsClock (ranged setting)) (sym planned.is.clock) (clock_is content counters))
       keeps.same_epoch.epoch
-      (subst (AllByRecursion (IsStamped (ranged setting) found.clock.at.epoch)) (sym (append-nil (waiting (pending format found.after)))) renewed)
-      (runs.added ∙ sym (append-nil (waiting (pending format content))))
-      (runs.evicted ∙ sym (append-nil (waiting (pending format found.after))))
+      (subst (AllByRecursion (IsStamped (ranged setting) found.clock.at.epoch)) (sym (append-nil (waiting (pending found.after)))) renewed)
+      (runs.added ∙ sym (append-nil (waiting (pending content))))
+      (runs.evicted ∙ sym (append-nil (waiting (pending found.after))))
       (ap (λ (xs : List Access). map (ask_of clock.at.epoch) xs) runs.access ∙ asked)
 
   shard_stamped : IsStamped (ranged setting) clock.at.epoch (pending_shard mirrors.shard)
-  shard_stamped = (subst (λ (cs : List Content). AllByRecursion (IsStamped (ranged setting) clock.at.epoch) (waiting_at format cs)) mirrors.is serves.ready.stamped).0
+  shard_stamped = (subst (λ (cs : List Content). AllByRecursion (IsStamped (ranged setting) clock.at.epoch) (waiting_at cs)) mirrors.is serves.ready.stamped).0
 
   pub front : FrontLeft clock contents (set contents seat found.after)
   front =
-      subst (λ (cs : List Content). found.after ≡ content_after format digest worker (get_or cs seat vacant) planned.is.links request clock → FrontLeft clock cs (set cs seat found.after)) (sym mirrors.is)
-      (front_there format digest worker clock request planned.is.links mirrors.shard mirrors.places seat found.after (open_now clock mirrors.shard.stamp.epoch shard_stamped.1))
+      subst (λ (cs : List Content). found.after ≡ content_after digest worker (get_or cs seat vacant) planned.is.links request clock → FrontLeft clock cs (set cs seat found.after)) (sym mirrors.is)
+      (front_there digest worker clock request planned.is.links mirrors.shard mirrors.places seat found.after (open_now clock mirrors.shard.stamp.epoch shard_stamped.1))
       planned.is.content
 
   -- the seats mirror again

@@ -3,8 +3,8 @@ use Rattle.std.proofs.Common.{◌≡◌, ℕ, zero, suc, ◌^◌, ◌<◌, ◌�
 use Rattle.std.proofs.lemmas.Bool.Decides.{nat_tests}
 use Rattle.std.proofs.lemmas.Nat.{pow_pos}
 use Rattle.std.proofs.Math.Nat.{pow-suc}
+use Rattle.tree_keys.specs.Path.{key_bits}
 use Rattle.record_hash.specs.Functions.{DigestFunctions}
-use Rattle.record_text.specs.Format.{path_bits, format_of}
 use Rattle.script_text.specs.declared.task.Task.{Task}
 use Rattle.host_plan.specs.Setup.{IsShardCount}
 use Rattle.host_world.specs.declared.settings.Settings.{Settings}
@@ -65,5 +65,5 @@ is_setting functions settings script can = record {
     two : 2 ≤ settings.shards
     two = two_shards settings.shards can.in_range.shards
 
-    width : path_bits (format_of settings.header) ≡ 64
+    width : key_bits ≡ 64
     width = refl

@@ -14,7 +14,7 @@ use Rattle.tree_keys.specs.Path.{is_prefix}
 use Rattle.record_hash.specs.Functions.{DigestFunctions}
 use Rattle.record_text.specs.declared.element.Element.{Element}
 use Rattle.record_text.specs.declared.request.Request.{Request}
-use Rattle.record_text.specs.Format.{Format, format_of}
+use Rattle.record_text.specs.Longest.{longest_of}
 use Rattle.merkle_records.specs.Merkle.{Digest}
 use Rattle.script_text.specs.declared.task.Task.{Task}
 use Rattle.host_shard.specs.declared.link.Link.{Link}
@@ -60,33 +60,33 @@ renew_epoch : (clock : Reading) (found : List HotRecord) → (renewing_each cloc
 renew_epoch clock [] = refl
 renew_epoch clock (one ∷ more) = renew_epoch (renewing clock one.stamp) more
 
-transfer_epoch : (format : Format) (digest : Digest) (worker : ℕ) (stage : Stage) (transfer : Transfer) (links : List Link)
-    → (done_by format digest worker stage transfer links).clock.at.epoch ≡ stage.clock.at.epoch
-transfer_epoch format digest worker stage (demotes found) links = refl
-transfer_epoch format digest worker stage (promotes key) links = refl
+transfer_epoch : (digest : Digest) (worker : ℕ) (stage : Stage) (transfer : Transfer) (links : List Link)
+    → (done_by digest worker stage transfer links).clock.at.epoch ≡ stage.clock.at.epoch
+transfer_epoch digest worker stage (demotes found) links = refl
+transfer_epoch digest worker stage (promotes key) links = refl
 
-descents_epoch : (format : Format) (digest : Digest) (worker : ℕ) (stage : Stage) (descents : List Descent)
-    → (done_by_each format digest worker stage descents).clock.at.epoch ≡ stage.clock.at.epoch
-descents_epoch format digest worker stage [] = refl
-descents_epoch format digest worker stage (descent ∷ descents) =
-    descents_epoch format digest worker (done_by format digest worker stage descent.transfer descent.links) descents
-    ∙ transfer_epoch format digest worker stage descent.transfer descent.links
+descents_epoch : (digest : Digest) (worker : ℕ) (stage : Stage) (descents : List Descent)
+    → (done_by_each digest worker stage descents).clock.at.epoch ≡ stage.clock.at.epoch
+descents_epoch digest worker stage [] = refl
+descents_epoch digest worker stage (descent ∷ descents) =
+    descents_epoch digest worker (done_by digest worker stage descent.transfer descent.links) descents
+    ∙ transfer_epoch digest worker stage descent.transfer descent.links
 
-move_epoch : (format : Format) (digest : Digest) (worker : ℕ) (threshold : Option ℕ) (clock : Reading) (contents : List Content) (done : Done (List Content))
-    → move_seats format digest worker threshold (stage_of clock contents) ≡ Some done → done.clock.at.epoch ≡ clock.at.epoch
-move_epoch format digest worker threshold clock [] done is = absurd (none-some done is)
-move_epoch format digest worker threshold clock (cold shard ∷ rest) done is =
+move_epoch : (longest : ℕ) (digest : Digest) (worker : ℕ) (threshold : Option ℕ) (clock : Reading) (contents : List Content) (done : Done (List Content))
+    → move_seats digest worker threshold (stage_of clock contents) ≡ Some done → done.clock.at.epoch ≡ clock.at.epoch
+move_epoch longest digest worker threshold clock [] done is = absurd (none-some done is)
+move_epoch longest digest worker threshold clock (cold shard ∷ rest) done is =
     ap (λ (d : Done (List Content)). d.clock.at.epoch)
-    (sym (done_within clock.end (clock_needed stage promotable).at.counter (done_with format digest worker stage (descents_of format digest worker stage promotable)) done is).0)
-    ∙ (descents_epoch format digest worker (begun worker stage) (descents_of format digest worker stage promotable) ∙ renew_epoch clock (touched_in rest))
+    (sym (done_within clock.end (clock_needed stage promotable).at.counter (done_with digest worker stage (descents_of digest worker stage promotable)) done is).0)
+    ∙ (descents_epoch digest worker (begun worker stage) (descents_of digest worker stage promotable) ∙ renew_epoch clock (touched_in rest))
   where
     stage : Stage
     stage = record { shard = shard; places = rest; clock = clock }
 
     promotable : List ℕ
-    promotable = promotable_in format stage threshold
-move_epoch format digest worker threshold clock (hot found ∷ rest) done is = absurd (none-some done is)
-move_epoch format digest worker threshold clock (vacant ∷ rest) done is = absurd (none-some done is)
+    promotable = promotable_in stage threshold
+move_epoch longest digest worker threshold clock (hot found ∷ rest) done is = absurd (none-some done is)
+move_epoch longest digest worker threshold clock (vacant ∷ rest) done is = absurd (none-some done is)
 
 module _ (functions : DigestFunctions) (settings : Settings) (script : List (List Task)) where
   abbrev host : Host Content Request
@@ -95,8 +95,8 @@ module _ (functions : DigestFunctions) (settings : Settings) (script : List (Lis
   abbrev setting : Setting
   setting = setting_of functions settings script
 
-  abbrev format : Format
-  format = format_of settings.header
+  abbrev longest : ℕ
+  longest = longest_of settings.header
 
   -- ---- the clock
 
@@ -104,15 +104,15 @@ module _ (functions : DigestFunctions) (settings : Settings) (script : List (Lis
   renewed : (content : Content) (clock : Reading) (element : Element) → host.pending content ≡ element ∷ []
       → clock_after content clock ≡ renewing clock element.stamp
   renewed (cold shard) clock element is = ap (λ (x : Element). renewing clock x.stamp) (one_same (pending_shard shard) element is)
-  renewed (hot found) clock element is = ap (λ (x : Element). renewing clock x.stamp) (one_same (pending_hot format found) element is)
+  renewed (hot found) clock element is = ap (λ (x : Element). renewing clock x.stamp) (one_same (pending_hot found) element is)
   renewed vacant clock element is = absurd (none_one element is)
 
   -- and it is left with that stamp
   leaves_one : (worker : ℕ) (content : Content) (links : List Link) (request : Request) (clock : Reading) (element : Element) → host.pending content ≡ element ∷ []
-      → (new : Element) × (host.pending (content_after format functions.digest worker content links request clock) ≡ new ∷ []) × (new.stamp ≡ (clock_after content clock).at)
+      → (new : Element) × (host.pending (content_after functions.digest worker content links request clock) ≡ new ∷ []) × (new.stamp ≡ (clock_after content clock).at)
   leaves_one worker (cold shard) links request clock element is =
-      (pending_shard (served format functions.digest worker shard links request clock), refl, refl)
-  leaves_one worker (hot found) links request clock element is = (pending_hot format (served_hot worker found request clock), refl, refl)
+      (pending_shard (served functions.digest worker shard links request clock), refl, refl)
+  leaves_one worker (hot found) links request clock element is = (pending_hot (served_hot worker found request clock), refl, refl)
   leaves_one worker vacant links request clock element is = absurd (none_one element is)
 
   moves_on : (worker : ℕ) (clock : Reading) (before : Content) (request : Request) (done : Done Content) → HasOne host before
@@ -126,7 +126,7 @@ module _ (functions : DigestFunctions) (settings : Settings) (script : List (Lis
             let of_epoch = subst (λ (xs : List Element). AllByRecursion (λ (e : Element). e.stamp.epoch ≡ clock.at.epoch) xs) one.1 all in
             subst (λ (xs : List Element). AllByRecursion (λ (e : Element). e.stamp.counter < (clock_after before clock).at.counter) xs) (sym one.1)
             (subst (λ (r : Reading). one.0.stamp.counter < r.at.counter) (sym after) (omega (arith, greater_than_other clock.at one.0.stamp of_epoch.0)), tt);
-        new = leaves_one worker before (links_of format before request.key) request clock one.0 one.1;
+        new = leaves_one worker before (links_of before request.key) request clock one.0 one.1;
       })
     where
       after : clock_after before clock ≡ renewing clock one.0.stamp
@@ -136,21 +136,21 @@ module _ (functions : DigestFunctions) (settings : Settings) (script : List (Lis
 
   -- what comes of a content serves the same keys
   serves_after : (seats : List Content) (key : ℕ) (worker : ℕ) (content : Content) (links : List Link) (request : Request) (clock : Reading)
-      → serves_key format seats key (content_after format functions.digest worker content links request clock) ≡ serves_key format seats key content
+      → serves_key seats key (content_after functions.digest worker content links request clock) ≡ serves_key seats key content
   serves_after seats key worker (cold shard) links request clock = refl
   serves_after seats key worker (hot found) links request clock = refl
   serves_after seats key worker vacant links request clock = refl
 
   hot_after : (key worker : ℕ) (content : Content) (links : List Link) (request : Request) (clock : Reading)
-      → is_hot_at key (content_after format functions.digest worker content links request clock) ≡ is_hot_at key content
+      → is_hot_at key (content_after functions.digest worker content links request clock) ≡ is_hot_at key content
   hot_after key worker (cold shard) links request clock = refl
   hot_after key worker (hot found) links request clock = refl
   hot_after key worker vacant links request clock = refl
 
   -- of the other seats it counts only whether one has the key
   serves_as : (old new : List Content) (key : ℕ) (content : Content) → list_any (is_hot_at key) new ≡ list_any (is_hot_at key) old
-      → serves_key format new key content ≡ serves_key format old key content
-  serves_as old new key (cold shard) same = ap (λ (b : Bool). is_prefix shard.frontier (key_path format key) && not b) same
+      → serves_key new key content ≡ serves_key old key content
+  serves_as old new key (cold shard) same = ap (λ (b : Bool). is_prefix shard.frontier (key_path key) && not b) same
   serves_as old new key (hot found) same = refl
   serves_as old new key vacant same = refl
 
@@ -159,17 +159,17 @@ module _ (functions : DigestFunctions) (settings : Settings) (script : List (Lis
       → host.serve worker clock (get_or contents seat vacant) request ≡ Some done
       → (other : ℕ) (ask : Request) → host.owns s (set contents seat done.after) other ask ≡ host.owns s contents other ask
   owners worker clock s seat contents request done one is other ask =
-      ap (λ (b : Bool). b && is_blob format ask.value)
+      ap (λ (b : Bool). b && is_blob longest ask.value)
       (serves_as contents (set contents seat done.after) ask.key (get_or (set contents seat done.after) other vacant) hot_keys ∙ go (nat_eq other seat) refl)
     where
-      left : done.after ≡ content_after format functions.digest worker (get_or contents seat vacant) (links_of format (get_or contents seat vacant) request.key) request clock
+      left : done.after ≡ content_after functions.digest worker (get_or contents seat vacant) (links_of (get_or contents seat vacant) request.key) request clock
       left = ap (λ (d : Done Content). d.after)
           (sym (done_within clock.end (clock_after (get_or contents seat vacant) clock).at.counter (served_at setting worker clock (get_or contents seat vacant) request) done is).0)
 
       hot_keys : list_any (is_hot_at ask.key) (set contents seat done.after) ≡ list_any (is_hot_at ask.key) contents
       hot_keys = any_set (is_hot_at ask.key) contents seat done.after
           (ap (λ (c : Content). is_hot_at ask.key c) left
-          ∙ hot_after ask.key worker (get_or contents seat vacant) (links_of format (get_or contents seat vacant) request.key) request clock)
+          ∙ hot_after ask.key worker (get_or contents seat vacant) (links_of (get_or contents seat vacant) request.key) request clock)
 
       within : (b : Bool) → nat_lt seat (length contents) ≡ b → seat < length contents
       within true inside = grind (arith, nat_tests)
@@ -177,24 +177,24 @@ module _ (functions : DigestFunctions) (settings : Settings) (script : List (Lis
           let past : length contents ≤ seat = grind (arith, nat_tests) in
           absurd (none_one one.0 (sym (ap (λ (c : Content). host.pending c) (get_or_past contents seat vacant past)) ∙ one.1))
 
-      here : serves_key format contents ask.key (get_or (set contents seat done.after) seat vacant) ≡ serves_key format contents ask.key (get_or contents seat vacant)
+      here : serves_key contents ask.key (get_or (set contents seat done.after) seat vacant) ≡ serves_key contents ask.key (get_or contents seat vacant)
       here =
-          ap (λ (c : Content). serves_key format contents ask.key c)
+          ap (λ (c : Content). serves_key contents ask.key c)
           (get_or-set_same contents seat done.after vacant (within (nat_lt seat (length contents)) refl) ∙ left)
-          ∙ serves_after contents ask.key worker (get_or contents seat vacant) (links_of format (get_or contents seat vacant) request.key) request clock
+          ∙ serves_after contents ask.key worker (get_or contents seat vacant) (links_of (get_or contents seat vacant) request.key) request clock
 
       go : (b : Bool) → nat_eq other seat ≡ b
-          → serves_key format contents ask.key (get_or (set contents seat done.after) other vacant) ≡ serves_key format contents ask.key (get_or contents other vacant)
+          → serves_key contents ask.key (get_or (set contents seat done.after) other vacant) ≡ serves_key contents ask.key (get_or contents other vacant)
       go true same =
           let at : other ≡ seat = grind (arith, nat_tests) in
-          subst (λ (n : ℕ). serves_key format contents ask.key (get_or (set contents seat done.after) n vacant) ≡ serves_key format contents ask.key (get_or contents n vacant)) (sym at) here
+          subst (λ (n : ℕ). serves_key contents ask.key (get_or (set contents seat done.after) n vacant) ≡ serves_key contents ask.key (get_or contents n vacant)) (sym at) here
       go false apart =
           let elsewhere : other ≢ seat = grind (arith, nat_tests) in
-          ap (λ (c : Content). serves_key format contents ask.key c) (get_or-set_other contents seat other done.after vacant elsewhere)
+          ap (λ (c : Content). serves_key contents ask.key c) (get_or-set_other contents seat other done.after vacant elsewhere)
 
-  owner_waits : (seats : List Content) (key : ℕ) (content : Content) → serves_key format seats key content ≡ true → HasOne host content
+  owner_waits : (seats : List Content) (key : ℕ) (content : Content) → serves_key seats key content ≡ true → HasOne host content
   owner_waits seats key (cold shard) owns = (pending_shard shard, refl)
-  owner_waits seats key (hot found) owns = (pending_hot format found, refl)
+  owner_waits seats key (hot found) owns = (pending_hot found, refl)
   owner_waits seats key vacant owns = absurd (false≢true owns)
 
   -- ---- where a clock ends
@@ -229,10 +229,10 @@ module _ (functions : DigestFunctions) (settings : Settings) (script : List (Lis
     owners = owners;
     waits = λ s seat contents request owns.
         owner_waits contents request.key (get_or contents seat vacant)
-        (both (serves_key format contents request.key (get_or contents seat vacant)) (is_blob format request.value) owns).0;
+        (both (serves_key contents request.key (get_or contents seat vacant)) (is_blob longest request.value) owns).0;
     ends = ends;
   }
 
   -- Nor does a close of a shard leave the epoch.
   pub moves_keep_epoch : MovesKeepEpoch host
-  moves_keep_epoch worker clock s contents done is = move_epoch format functions.digest worker settings.hot clock contents done is
+  moves_keep_epoch worker clock s contents done is = move_epoch longest functions.digest worker settings.hot clock contents done is

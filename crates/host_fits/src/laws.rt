@@ -3,7 +3,7 @@ ghost use Rattle.std.specs.Prelude.{◌≡◌, ℕ, ◌<◌, ◌≤◌, List, If
 ghost use Rattle.lamport_clocks.specs.Reading.{Reading};
 ghost use Rattle.record_hash.specs.Functions.{DigestFunctions};
 ghost use Rattle.record_text.specs.declared.request.Request.{Request};
-ghost use Rattle.record_text.specs.Format.{format_of};
+ghost use Rattle.record_text.specs.Longest.{longest_of};
 ghost use Rattle.log_codec.specs.declared.command.Command.{Command};
 ghost use Rattle.merkle_records.specs.Merkle.{GivesDigests};
 ghost use Rattle.script_text.specs.declared.task.Task.{Task};
@@ -44,8 +44,8 @@ pub fn scripts_ask_for_keys_in_range()
 pub fn plans_are_what_the_host_does()
     ensures served { (functions : DigestFunctions) (settings : Settings) (script : List (List Task)) (worker : ℕ)
         (content after : Content) (request : Request) (clock later : Reading) (plan : Plan)
-        → CanServe (format_of settings.header) functions.digest content request.key
-        → IsPlan (format_of settings.header) functions.digest worker content request clock plan after later
+        → CanServe (longest_of settings.header) functions.digest content request.key
+        → IsPlan functions.digest worker content request clock plan after later
         → (clock_after content clock).at.counter ≤ clock.end
         → (shipped_host functions settings script).serve worker clock content request
         ≡ Some (record { commands = plan.commands; after = after; clock = later }) }
@@ -60,15 +60,15 @@ pub fn moves_are_what_the_host_does()
     ensures moved { (functions : DigestFunctions) (settings : Settings) (script : List (List Task)) (worker s : ℕ)
         (old new : Stage) (commands : List Command)
         → GivesDigests functions.digest → IfSome settings.hot (λ least. 0 < least)
-        → StageMirrors (format_of settings.header) functions.digest old
-        → IsMove (format_of settings.header) functions.digest worker settings.hot old commands new
-        → (move.IsPastEnd (format_of settings.header) settings.hot old → ⊥)
+        → StageMirrors (longest_of settings.header) functions.digest old
+        → IsMove functions.digest worker settings.hot old commands new
+        → (move.IsPastEnd settings.hot old → ⊥)
         → (shipped_host functions settings script).move worker old.clock s (seats_of old)
         ≡ Some (record { commands = commands; after = seats_of new; clock = new.clock }) }
     ensures ended { (functions : DigestFunctions) (settings : Settings) (script : List (List Task)) (worker s : ℕ) (old : Stage)
         → GivesDigests functions.digest → IfSome settings.hot (λ least. 0 < least)
-        → StageMirrors (format_of settings.header) functions.digest old
-        → move.IsPastEnd (format_of settings.header) settings.hot old
+        → StageMirrors (longest_of settings.header) functions.digest old
+        → move.IsPastEnd settings.hot old
         → (shipped_host functions settings script).move worker old.clock s (seats_of old) ≡ None }
 {}
 

@@ -1,17 +1,16 @@
 -- Each link of a chain to a key fits under the one before.
-use Rattle.std.proofs.Common.{◌≡◌, ◌⊎◌, ◌<◌, Bool, true, false, not, List, length, Option, Some, None, if◌then◌else◌, eq-eqb, nat_eq, refl, sym, ◌∙◌, ap, subst, inl, inr, arith}
+use Rattle.std.proofs.Common.{ℕ, ◌≡◌, ◌⊎◌, ◌<◌, Bool, true, false, not, List, length, Option, Some, None, if◌then◌else◌, eq-eqb, nat_eq, refl, sym, ◌∙◌, ap, subst, inl, inr, arith}
 use Rattle.std.specs.Option.{unwrap_or}
 use Rattle.std.proofs.lemmas.Bool.{false≢true}
 use Rattle.std.proofs.lemmas.Bool.Decides.{nat_tests}
 use Rattle.std.proofs.lemmas.Option.{none-some, same_Some}
-use Rattle.tree_keys.specs.Path.{side, is_prefix, common}
+use Rattle.tree_keys.specs.Path.{side, is_prefix, common, key_bits, IsData, IsNodePath}
 use Rattle.tree_keys.proofs.PathLaws.{same_path-apart}
 use Rattle.tree_keys.proofs.SideLaws.{is_prefix-self, prefix_of_side, side_of_prefix}
 use Rattle.record_text.specs.declared.value.Pointer.{Pointer}
 use Rattle.record_text.specs.declared.value.Node.{Node}
 use Rattle.record_text.specs.declared.value.Value.{Value}
 use Rattle.record_text.specs.declared.value.Value.TheVariants as values
-use Rattle.record_text.specs.Format.{Format, path_bits}
 use Rattle.record_text.specs.Value.{IsPointer, IsSide, IsOf, node_side, empty_node, initial_value}
 use Rattle.merkle_records.specs.Merkle.{Digest, taken_over}
 use Rattle.merkle_records.proofs.KindLaws.{is_prefix-side, length-side, IsSide-node_side, IsOf-with_side}
@@ -26,11 +25,11 @@ use Rattle.host_laws.proofs.FamilyLemmas.{Fits, fits_new, fits_known, fits_fork}
 
 -- Records on the way to a whole key: each value is of its path's kind, and each pointer to a path that begins the key
 -- leads to a record with its digest.
-pub record LeadTo (format : Format) (digest : Digest) (tree : Tree) (key : List Bool) : Type 0 where
-  pub whole : length key ≡ path_bits format
-  pub kinds : (path : List Bool) (value : Value) → tree path ≡ Some value → IsOf format path value
+pub record LeadTo (longest : ℕ) (digest : Digest) (tree : Tree) (key : List Bool) : Type 0 where
+  pub whole : IsData key
+  pub kinds : (path : List Bool) (value : Value) → tree path ≡ Some value → IsOf longest path value
   pub fresh : (path : List Bool) (on : Bool) (pointer : Pointer) → IsPointerIn tree path on pointer → is_prefix pointer.path key ≡ true → pointer.deferred ≡ false
-  pub kept : (path : List Bool) (on : Bool) (pointer : Pointer) → IsPointerIn tree path on pointer → is_prefix pointer.path key ≡ true → IsKept format digest tree pointer
+  pub kept : (path : List Bool) (on : Bool) (pointer : Pointer) → IsPointerIn tree path on pointer → is_prefix pointer.path key ≡ true → IsKept digest tree pointer
 
 -- the pointers of a value are of some record
 abbrev pub AreOf : Tree → Value → Type 0
@@ -42,15 +41,15 @@ Leads key link pointer =
     (pointer.path ≡ link.path) ⊎ ((which : Bool) × (pointer_of link.taken which ≡ Some pointer) × (side link.path key ≡ Some (not which)))
 
 -- how the link that comes next stands under the path before
-pub record IsNext (format : Format) (digest : Digest) (tree : Tree) (key at : List Bool) (value : Value) (link : Link) : Type 0 where
+pub record IsNext (longest : ℕ) (digest : Digest) (tree : Tree) (key at : List Bool) (value : Value) (link : Link) : Type 0 where
   pub node : Node
   pub is_node : value ≡ values.Node node
   pub on : Bool
-  pub fits : Fits format digest at node on link.path link.value link.taken
+  pub fits : Fits digest at node on link.path link.value link.taken
   pub on_side : side at key ≡ Some on
   pub begins : is_prefix link.path key ≡ true
-  pub added : IsOf format link.path link.value
-  pub kind : IsOf format link.path link.taken
+  pub added : IsOf longest link.path link.value
+  pub kind : IsOf longest link.path link.taken
   pub known : AreOf tree link.taken
   pub brought : leads_to (node_side node on) link.path ≡ true → tree link.path ≡ Some link.taken
   pub leads : (pointer : Pointer) → node_side node on ≡ Some pointer → Leads key link pointer
@@ -58,8 +57,8 @@ pub record IsNext (format : Format) (digest : Digest) (tree : Tree) (key at : Li
       → (pointer.path ≡ link.path) × (tree link.path ≡ Some link.taken)
 
 -- a path that has no record yet has no pointer
-pub initial_none : (format : Format) (path : List Bool) (on : Bool) (pointer : Pointer) → pointer_of (initial_value format path) on ≡ Some pointer → ⊥
-initial_none format path on pointer is = go (nat_eq (length path) (path_bits format)) is
+pub initial_none : (path : List Bool) (on : Bool) (pointer : Pointer) → pointer_of (initial_value path) on ≡ Some pointer → ⊥
+initial_none path on pointer is = go (nat_eq (length path) key_bits) is
   where
     side_none : (which : Bool) → node_side empty_node which ≡ Some pointer → ⊥
     side_none true found = none-some pointer found
@@ -70,16 +69,16 @@ initial_none format path on pointer is = go (nat_eq (length path) (path_bits for
     go false found = side_none on found
 
 -- a data path starts with none
-initial_data : (format : Format) (path : List Bool) → length path ≡ path_bits format → IsOf format path (initial_value format path)
-initial_data format path whole =
-    subst (λ (b : Bool). IsOf format path (if b then values.Blob None else values.Node empty_node)) (sym (eq-eqb (length path) (path_bits format) whole)) (whole, tt)
+initial_data : (longest : ℕ) (path : List Bool) → IsData path → IsOf longest path (initial_value path)
+initial_data longest path whole =
+    subst (λ (b : Bool). IsOf longest path (if b then values.Blob None else values.Node empty_node)) (sym (eq-eqb (length path) key_bits whole)) (whole, tt)
 
 -- and a shorter one with no pointers
-pub initial_node : (format : Format) (path : List Bool) → length path < path_bits format → IsOf format path (initial_value format path)
-initial_node format path short = go (nat_eq (length path) (path_bits format)) refl
+pub initial_node : (longest : ℕ) (path : List Bool) → IsNodePath path → IsOf longest path (initial_value path)
+initial_node longest path short = go (nat_eq (length path) key_bits) refl
   where
-    go : (b : Bool) → nat_eq (length path) (path_bits format) ≡ b → IsOf format path (if b then values.Blob None else values.Node empty_node)
-    go true same = let whole : length path ≡ path_bits format = grind (arith, nat_tests) in absurd (omega (arith, whole, short))
+    go : (b : Bool) → nat_eq (length path) key_bits ≡ b → IsOf longest path (if b then values.Blob None else values.Node empty_node)
+    go true same = let whole : IsData path = grind (arith, nat_tests) in absurd (omega (arith, whole, short))
     go false apart = (short, tt, tt)
 
 -- what takes a pointer over has that pointer alone
@@ -97,20 +96,20 @@ not_not : (b : Bool) → not (not b) ≡ b
 not_not true = refl
 not_not false = refl
 
-module _ (format : Format) (digest : Digest) (tree : Tree) (key : List Bool) (lead : LeadTo format digest tree key) where
+module _ (longest : ℕ) (digest : Digest) (tree : Tree) (key : List Bool) (lead : LeadTo longest digest tree key) where
   -- where the pointer leads nowhere
   next_new : (at : List Bool) (node : Node) (on : Bool) → side at key ≡ Some on → node_side node on ≡ None
-      → IsNext format digest tree key at (values.Node node) (new_link format key)
+      → IsNext longest digest tree key at (values.Node node) (new_link key)
   next_new at node on below none = record {
     node = node;
     is_node = refl;
     on = on;
-    fits = fits_new format digest at key node on below none;
+    fits = fits_new digest at key node on below none;
     on_side = below;
     begins = is_prefix-self key;
-    added = initial_data format key lead.whole;
-    kind = initial_data format key lead.whole;
-    known = λ which pointer is. absurd (initial_none format key which pointer is);
+    added = initial_data longest key lead.whole;
+    kind = initial_data longest key lead.whole;
+    known = λ which pointer is. absurd (initial_none key which pointer is);
     brought = λ is. absurd (false≢true (ap (λ (o : Option Pointer). leads_to o key) (sym none) ∙ is));
     leads = λ pointer is. absurd (none-some pointer (sym none ∙ is));
     straight = λ pointer is begins. absurd (none-some pointer (sym none ∙ is));
@@ -118,15 +117,15 @@ module _ (format : Format) (digest : Digest) (tree : Tree) (key : List Bool) (le
 
   -- where it leads to the key or above it
   next_known : (at : List Bool) (node : Node) (on : Bool) (pointer : Pointer) → side at key ≡ Some on → node_side node on ≡ Some pointer
-      → IsOf format at (values.Node node) → AreOf tree (values.Node node) → is_prefix pointer.path key ≡ true
-      → IsNext format digest tree key at (values.Node node) (known_link format tree pointer.path)
+      → IsOf longest at (values.Node node) → AreOf tree (values.Node node) → is_prefix pointer.path key ≡ true
+      → IsNext longest digest tree key at (values.Node node) (known_link tree pointer.path)
   next_known at node on pointer below points kind known begins =
-      subst (λ (o : Option Value). IsNext format digest tree key at (values.Node node) (link_of (unwrap_or o (initial_value format pointer.path)))) (sym kept.there)
+      subst (λ (o : Option Value). IsNext longest digest tree key at (values.Node node) (link_of (unwrap_or o (initial_value pointer.path)))) (sym kept.there)
       (record {
         node = node;
         is_node = refl;
         on = on;
-        fits = fits_known format digest at node on pointer kept.value there points (lead.fresh origin.0 origin.1 pointer origin.2 begins) kept.digest_of;
+        fits = fits_known digest at node on pointer kept.value there points (lead.fresh origin.0 origin.1 pointer origin.2 begins) kept.digest_of;
         on_side = below;
         begins = begins;
         added = lead.kinds pointer.path kept.value kept.there;
@@ -143,26 +142,26 @@ module _ (format : Format) (digest : Digest) (tree : Tree) (key : List Bool) (le
       origin : (path : List Bool) × (which : Bool) × IsPointerIn tree path which pointer
       origin = known on pointer points
 
-      kept : IsKept format digest tree pointer
+      kept : IsKept digest tree pointer
       kept = lead.kept origin.0 origin.1 pointer origin.2 begins
 
       there : side at pointer.path ≡ Some on
-      there = side_of_prefix at pointer.path on (subst (IsSide format at on) points (IsSide-node_side format at node on kind)).below
+      there = side_of_prefix at pointer.path on (subst (IsSide at on) points (IsSide-node_side longest at node on kind)).below
 
   -- where it leads past the key
   next_fork : (at : List Bool) (node : Node) (on : Bool) (pointer : Pointer) → side at key ≡ Some on → node_side node on ≡ Some pointer
-      → IsOf format at (values.Node node) → AreOf tree (values.Node node) → is_prefix pointer.path key ≡ false
-      → IsNext format digest tree key at (values.Node node) (fork_link format key pointer)
+      → IsOf longest at (values.Node node) → AreOf tree (values.Node node) → is_prefix pointer.path key ≡ false
+      → IsNext longest digest tree key at (values.Node node) (fork_link key pointer)
   next_fork at node on pointer below points kind known apart = record {
     node = node;
     is_node = refl;
     on = on;
-    fits = fits_fork format digest at fork node on where_to.which pointer where_to.below points where_to.path_side;
+    fits = fits_fork digest at fork node on where_to.which pointer where_to.below points where_to.path_side;
     on_side = below;
     begins = prefix_of_side fork key (not where_to.which) where_to.key_side;
-    added = initial_node format fork (omega (arith, length-side fork pointer.path where_to.which where_to.path_side, of_side.fits));
-    kind = subst (λ (s : Option Bool). IsOf format fork (values.Node (taken_over s pointer))) (sym where_to.path_side)
-        (IsOf-with_side format fork empty_node where_to.which (Some pointer) (omega (arith, length-side fork pointer.path where_to.which where_to.path_side, of_side.fits), tt, tt)
+    added = initial_node longest fork (omega (arith, length-side fork pointer.path where_to.which where_to.path_side, of_side.fits));
+    kind = subst (λ (s : Option Bool). IsOf longest fork (values.Node (taken_over s pointer))) (sym where_to.path_side)
+        (IsOf-with_side longest fork empty_node where_to.which (Some pointer) (omega (arith, length-side fork pointer.path where_to.which where_to.path_side, of_side.fits), tt, tt)
         (record { below = is_prefix-side fork pointer.path where_to.which where_to.path_side; fits = of_side.fits; digest = of_side.digest }));
     known = λ which other is. known_over which other (subst (λ (s : Option Bool). node_side (taken_over s pointer) which ≡ Some other) where_to.path_side is);
     brought = λ is. absurd (false≢true (sym (same_path-apart pointer.path fork (below_apart fork pointer.path where_to.which where_to.path_side)) ∙ (ap (λ (o : Option Pointer). leads_to o fork) (sym points) ∙ is)));
@@ -173,8 +172,8 @@ module _ (format : Format) (digest : Digest) (tree : Tree) (key : List Bool) (le
       fork : List Bool
       fork = common pointer.path key
 
-      of_side : IsPointer format at on pointer
-      of_side = subst (IsSide format at on) points (IsSide-node_side format at node on kind)
+      of_side : IsPointer at on pointer
+      of_side = subst (IsSide at on) points (IsSide-node_side longest at node on kind)
 
       where_to : Parts at pointer.path key on
       where_to = parts at pointer.path key on (side_of_prefix at pointer.path on of_side.below) below apart (omega (arith, of_side.fits, lead.whole))
@@ -191,18 +190,18 @@ module _ (format : Format) (digest : Digest) (tree : Tree) (key : List Bool) (le
           (taken_pointer where_to.which which pointer other is).1 (known on pointer points)
 
   -- The link that comes next fits.
-  pub next_fits : (at : List Bool) (value : Value) (link : Link) → IsOf format at value → AreOf tree value
-      → IsNextLink format tree key at value link → IsNext format digest tree key at value link
+  pub next_fits : (at : List Bool) (value : Value) (link : Link) → IsOf longest at value → AreOf tree value
+      → IsNextLink tree key at value link → IsNext longest digest tree key at value link
   next_fits at (values.Blob blob) link kind known next =
       absurd (omega (arith, length-side at key next.on next.on_side, kind.0, lead.whole))
   next_fits at (values.Node node) link kind known next =
-      subst (IsNext format digest tree key at (values.Node node)) (sym next.next) (branch (node_side node next.on) refl)
+      subst (IsNext longest digest tree key at (values.Node node)) (sym next.next) (branch (node_side node next.on) refl)
     where
       tested : (pointer : Pointer) → node_side node next.on ≡ Some pointer → (b : Bool) → is_prefix pointer.path key ≡ b
-          → IsNext format digest tree key at (values.Node node) (if b then known_link format tree pointer.path else fork_link format key pointer)
+          → IsNext longest digest tree key at (values.Node node) (if b then known_link tree pointer.path else fork_link key pointer)
       tested pointer points true begins = next_known at node next.on pointer next.on_side points kind known begins
       tested pointer points false apart = next_fork at node next.on pointer next.on_side points kind known apart
 
-      branch : (o : Option Pointer) → node_side node next.on ≡ o → IsNext format digest tree key at (values.Node node) (next_link format tree key o)
+      branch : (o : Option Pointer) → node_side node next.on ≡ o → IsNext longest digest tree key at (values.Node node) (next_link tree key o)
       branch None none = next_new at node next.on next.on_side none
       branch (Some pointer) points = tested pointer points (is_prefix pointer.path key) refl

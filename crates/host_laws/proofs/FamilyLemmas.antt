@@ -8,7 +8,6 @@ use Rattle.record_text.specs.declared.value.Node.{Node}
 use Rattle.record_text.specs.declared.value.Value.{Value}
 use Rattle.record_text.specs.declared.value.Value.TheVariants as values
 use Rattle.record_text.specs.declared.refusal.Refusal.TheVariants as refusals
-use Rattle.record_text.specs.Format.{Format}
 use Rattle.record_text.specs.Value.{node_side, with_side, initial_value}
 use Rattle.record_text.specs.Texts.{value_text}
 use Rattle.record_text.specs.Same.{same_bytes, same_value}
@@ -31,11 +30,11 @@ parent_of at node hold on = set_kid (new_entry at (values.Node node) hold) on tr
 
 -- A child fits under a node: it is added with one value and stands then with another, and the node's pointer of
 -- its side leads to it and is not deferred.
-pub record Fits (format : Format) (digest : Digest) (at : List Bool) (node : Node) (on : Bool) (path : List Bool) (value taken : Value) : Type 0 where
+pub record Fits (digest : Digest) (at : List Bool) (node : Node) (on : Bool) (path : List Bool) (value taken : Value) : Type 0 where
   pub middle : Node
   pub pointer : Pointer
   pub below : side at path ≡ Some on
-  pub added : (hold : Hold) → add_under format digest (new_entry at (values.Node node) hold) path value
+  pub added : (hold : Hold) → add_under digest (new_entry at (values.Node node) hold) path value
       ≡ Ok (record { parent = parent_of at middle hold on; child = new_entry path taken M })
   pub points : node_side middle on ≡ Some pointer
   pub to : pointer.path ≡ path
@@ -59,19 +58,19 @@ parent_there : (at path : List Bool) (node : Node) (hold : Hold) (on kid : Bool)
 parent_there at path node hold on kid below = ap (λ (s : Option Bool). above_on s (Some node)) below
 
 -- a child that was added leaves again
-pub leaves : (format : Format) (digest : Digest) (at : List Bool) (node : Node) (on : Bool) (path : List Bool) (value taken last : Value) (hold : Hold)
-    → (fits : Fits format digest at node on path value taken)
-    → evict_under format digest (parent_of at fits.middle hold on) (new_entry path last M)
-    ≡ Ok (new_entry at (values.Node (pointing format digest node on path last)) hold)
-leaves format digest at node on path value taken last hold fits =
+pub leaves : (digest : Digest) (at : List Bool) (node : Node) (on : Bool) (path : List Bool) (value taken last : Value) (hold : Hold)
+    → (fits : Fits digest at node on path value taken)
+    → evict_under digest (parent_of at fits.middle hold on) (new_entry path last M)
+    ≡ Ok (new_entry at (values.Node (pointing digest node on path last)) hold)
+leaves digest at node on path value taken last hold fits =
     need-there (above parent path) refusals.NotBelow _ _ (record { on = on; node = fits.middle })
     (parent_there at path fits.middle hold on true fits.below)
     (test-passed (not (leads_to (node_side fits.middle on) path)) refusals.NotChild _ _ leads
     (test-passed (has_kid (new_entry path last M)) refusals.HasChild _ _ refl
     (test-passed (holds_wrong M (kid_of parent on) (is_deferred (node_side fits.middle on))) refusals.WrongHold _ _ held
     (ap (λ (e : Entry). Ok e)
-    (kid_gone at fits.middle (pointing format digest fits.middle on path last) hold on
-    ∙ ap (λ (n : Node). new_entry at (values.Node n) hold) (fits.over (Some (pointer_to format digest path last))))))))
+    (kid_gone at fits.middle (pointing digest fits.middle on path last) hold on
+    ∙ ap (λ (n : Node). new_entry at (values.Node n) hold) (fits.over (Some (pointer_to digest path last))))))))
   where
     parent : Entry
     parent = parent_of at fits.middle hold on
@@ -101,12 +100,12 @@ kid_clear at node hold true = refl
 kid_clear at node hold false = refl
 
 -- where the pointer leads nowhere, a path with its initial value
-pub fits_new : (format : Format) (digest : Digest) (at key : List Bool) (node : Node) (on : Bool)
+pub fits_new : (digest : Digest) (at key : List Bool) (node : Node) (on : Bool)
     → side at key ≡ Some on → node_side node on ≡ None
-    → Fits format digest at node on key (initial_value format key) (initial_value format key)
-fits_new format digest at key node on below none = record {
-  middle = pointing format digest node on key (initial_value format key);
-  pointer = pointer_to format digest key (initial_value format key);
+    → Fits digest at node on key (initial_value key) (initial_value key)
+fits_new digest at key node on below none = record {
+  middle = pointing digest node on key (initial_value key);
+  pointer = pointer_to digest key (initial_value key);
   below = below;
   added = added;
   points = pointing-there node on _;
@@ -118,23 +117,23 @@ fits_new format digest at key node on below none = record {
     above_it : Parent
     above_it = record { on = on; node = node }
 
-    added : (hold : Hold) → add_under format digest (new_entry at (values.Node node) hold) key (initial_value format key)
-        ≡ Ok (record { parent = parent_of at (pointing format digest node on key (initial_value format key)) hold on; child = new_entry key (initial_value format key) M })
+    added : (hold : Hold) → add_under digest (new_entry at (values.Node node) hold) key (initial_value key)
+        ≡ Ok (record { parent = parent_of at (pointing digest node on key (initial_value key)) hold on; child = new_entry key (initial_value key) M })
     added hold =
         need-there (above (new_entry at (values.Node node) hold) key) refusals.NotBelow _ _ above_it
         (ap (λ (s : Option Bool). above_on s (Some node)) below)
-        (ap (λ (c : AddCase). add_by format digest (new_entry at (values.Node node) hold) above_it key (initial_value format key) c)
+        (ap (λ (c : AddCase). add_by digest (new_entry at (values.Node node) hold) above_it key (initial_value key) c)
         (ap (λ (o : Option Pointer). case_of o key) none)
-        ∙ test-passed (not (same_value (initial_value format key) (initial_value format key))) refusals.NotInitial _ _
-        (ap (λ (b : Bool). not b) (same_value-self (initial_value format key)))
-        (ap (λ (o : Option Pointer). Ok (family_of (new_entry at (values.Node node) hold) above_it (added_by format digest node on key (initial_value format key) o (case_of o key)) key None)) none))
+        ∙ test-passed (not (same_value (initial_value key) (initial_value key))) refusals.NotInitial _ _
+        (ap (λ (b : Bool). not b) (same_value-self (initial_value key)))
+        (ap (λ (o : Option Pointer). Ok (family_of (new_entry at (values.Node node) hold) above_it (added_by digest node on key (initial_value key) o (case_of o key)) key None)) none))
 
 -- where it leads to the path, with the digest of its value
-pub fits_known : (format : Format) (digest : Digest) (at : List Bool) (node : Node) (on : Bool) (pointer : Pointer) (value : Value)
+pub fits_known : (digest : Digest) (at : List Bool) (node : Node) (on : Bool) (pointer : Pointer) (value : Value)
     → side at pointer.path ≡ Some on → node_side node on ≡ Some pointer → pointer.deferred ≡ false
-    → pointer.digest ≡ digest (value_text format value)
-    → Fits format digest at node on pointer.path value value
-fits_known format digest at node on pointer value below points fresh kept = record {
+    → pointer.digest ≡ digest (value_text value)
+    → Fits digest at node on pointer.path value value
+fits_known digest at node on pointer value below points fresh kept = record {
   middle = node;
   pointer = pointer;
   below = below;
@@ -155,24 +154,24 @@ fits_known format digest at node on pointer value below points fresh kept = reco
     same =
         ap (λ (b : Bool). if b then cases.Same else if is_some (side path pointer.path) then cases.Split else cases.Foreign) (same_path-self path)
 
-    right : not (has_digest (node_side node on) (digest (value_text format value))) ≡ false
+    right : not (has_digest (node_side node on) (digest (value_text value))) ≡ false
     right =
-        ap (λ (o : Option Pointer). not (has_digest o (digest (value_text format value)))) points
-        ∙ (ap (λ (d : List ℕ). not (same_bytes d (digest (value_text format value)))) kept
-        ∙ ap (λ (b : Bool). not b) (same_bytes-self (digest (value_text format value))))
+        ap (λ (o : Option Pointer). not (has_digest o (digest (value_text value)))) points
+        ∙ (ap (λ (d : List ℕ). not (same_bytes d (digest (value_text value)))) kept
+        ∙ ap (λ (b : Bool). not b) (same_bytes-self (digest (value_text value))))
 
-    added : (hold : Hold) → add_under format digest (new_entry at (values.Node node) hold) path value
+    added : (hold : Hold) → add_under digest (new_entry at (values.Node node) hold) path value
         ≡ Ok (record { parent = parent_of at node hold on; child = new_entry path value M })
     added hold =
         need-there (above (new_entry at (values.Node node) hold) path) refusals.NotBelow _ _ above_it
         (ap (λ (s : Option Bool). above_on s (Some node)) below)
-        (ap (λ (c : AddCase). add_by format digest (new_entry at (values.Node node) hold) above_it path value c)
+        (ap (λ (c : AddCase). add_by digest (new_entry at (values.Node node) hold) above_it path value c)
         (ap (λ (o : Option Pointer). case_of o path) points ∙ same)
         ∙ test-passed (is_deferred (node_side node on)) refusals.Deferred _ _ (ap (λ (o : Option Pointer). is_deferred o) points ∙ fresh)
-        (test-passed (not (has_digest (node_side node on) (digest (value_text format value)))) refusals.WrongDigest _ _ right
+        (test-passed (not (has_digest (node_side node on) (digest (value_text value)))) refusals.WrongDigest _ _ right
         (test-passed (kid_of (new_entry at (values.Node node) hold) on) refusals.HasChild _ _ (kid_clear at node hold on)
-        (ap (λ (o : Option Pointer). Ok (family_of (new_entry at (values.Node node) hold) above_it (added_by format digest node on path value o (case_of o path)) path None)) points
-        ∙ ap (λ (c : AddCase). Ok (family_of (new_entry at (values.Node node) hold) above_it (added_by format digest node on path value (Some pointer) c) path None)) same))))
+        (ap (λ (o : Option Pointer). Ok (family_of (new_entry at (values.Node node) hold) above_it (added_by digest node on path value o (case_of o path)) path None)) points
+        ∙ ap (λ (c : AddCase). Ok (family_of (new_entry at (values.Node node) hold) above_it (added_by digest node on path value (Some pointer) c) path None)) same))))
 
 -- a child without kids is the same with a kid bit cleared
 lone : (path : List Bool) (value : Value) (hold : Hold) (on : Bool) → set_kid (new_entry path value hold) on false ≡ new_entry path value hold
@@ -180,12 +179,12 @@ lone path value hold true = refl
 lone path value hold false = refl
 
 -- where it leads below the path: the path takes the pointer over
-pub fits_fork : (format : Format) (digest : Digest) (at fork : List Bool) (node : Node) (on which : Bool) (pointer : Pointer)
+pub fits_fork : (digest : Digest) (at fork : List Bool) (node : Node) (on which : Bool) (pointer : Pointer)
     → side at fork ≡ Some on → node_side node on ≡ Some pointer → side fork pointer.path ≡ Some which
-    → Fits format digest at node on fork (initial_value format fork) (values.Node (taken_over (side fork pointer.path) pointer))
-fits_fork format digest at fork node on which pointer below points further = record {
-  middle = pointing format digest node on fork (initial_value format fork);
-  pointer = pointer_to format digest fork (initial_value format fork);
+    → Fits digest at node on fork (initial_value fork) (values.Node (taken_over (side fork pointer.path) pointer))
+fits_fork digest at fork node on which pointer below points further = record {
+  middle = pointing digest node on fork (initial_value fork);
+  pointer = pointer_to digest fork (initial_value fork);
   below = below;
   added = added;
   points = pointing-there node on _;
@@ -212,25 +211,25 @@ fits_fork format digest at fork node on which pointer below points further = rec
         ∙ (ap (λ (b : Bool). set_kid (new_entry fork taken M) which b) (kid_clear at node hold on)
         ∙ lone fork taken M which)
 
-    added : (hold : Hold) → add_under format digest (new_entry at (values.Node node) hold) fork (initial_value format fork)
-        ≡ Ok (record { parent = parent_of at (pointing format digest node on fork (initial_value format fork)) hold on; child = new_entry fork taken M })
+    added : (hold : Hold) → add_under digest (new_entry at (values.Node node) hold) fork (initial_value fork)
+        ≡ Ok (record { parent = parent_of at (pointing digest node on fork (initial_value fork)) hold on; child = new_entry fork taken M })
     added hold =
         need-there (above (new_entry at (values.Node node) hold) fork) refusals.NotBelow _ _ above_it
         (ap (λ (s : Option Bool). above_on s (Some node)) below)
-        (ap (λ (c : AddCase). add_by format digest (new_entry at (values.Node node) hold) above_it fork (initial_value format fork) c)
+        (ap (λ (c : AddCase). add_by digest (new_entry at (values.Node node) hold) above_it fork (initial_value fork) c)
         (ap (λ (o : Option Pointer). case_of o fork) points ∙ parts)
-        ∙ test-passed (not (same_value (initial_value format fork) (initial_value format fork))) refusals.NotInitial _ _
-        (ap (λ (b : Bool). not b) (same_value-self (initial_value format fork)))
-        (ap (λ (o : Option Pointer). Ok (family_of (new_entry at (values.Node node) hold) above_it (added_by format digest node on fork (initial_value format fork) o (case_of o fork)) fork (leads_below fork o))) points
-        ∙ (ap (λ (c : AddCase). Ok (family_of (new_entry at (values.Node node) hold) above_it (added_by format digest node on fork (initial_value format fork) (Some pointer) c) fork (side fork pointer.path))) parts
-        ∙ ap (λ (e : Entry). Ok (record { parent = parent_of at (pointing format digest node on fork (initial_value format fork)) hold on; child = e })) (child hold))))
+        ∙ test-passed (not (same_value (initial_value fork) (initial_value fork))) refusals.NotInitial _ _
+        (ap (λ (b : Bool). not b) (same_value-self (initial_value fork)))
+        (ap (λ (o : Option Pointer). Ok (family_of (new_entry at (values.Node node) hold) above_it (added_by digest node on fork (initial_value fork) o (case_of o fork)) fork (leads_below fork o))) points
+        ∙ (ap (λ (c : AddCase). Ok (family_of (new_entry at (values.Node node) hold) above_it (added_by digest node on fork (initial_value fork) (Some pointer) c) fork (side fork pointer.path))) parts
+        ∙ ap (λ (e : Entry). Ok (record { parent = parent_of at (pointing digest node on fork (initial_value fork)) hold on; child = e })) (child hold))))
 
 -- its pointer
-pub fits_new-pointer : (format : Format) (digest : Digest) (at key : List Bool) (node : Node) (on : Bool)
+pub fits_new-pointer : (digest : Digest) (at key : List Bool) (node : Node) (on : Bool)
     → (below : side at key ≡ Some on) (none : node_side node on ≡ None)
-    → (fits_new format digest at key node on below none).pointer ≡ pointer_to format digest key (initial_value format key)
+    → (fits_new digest at key node on below none).pointer ≡ pointer_to digest key (initial_value key)
 unfolding fits_new
-fits_new-pointer format digest at key node on below none = refl
+fits_new-pointer digest at key node on below none = refl
 
 -- ---- the child is lent
 
@@ -239,11 +238,11 @@ abbrev pub lending : Node → Bool → Pointer → Node
 lending node on pointer = with_side node on (Some (deferred_pointer pointer))
 
 -- a child that was added is deferred
-pub is_lent : (format : Format) (digest : Digest) (at : List Bool) (node : Node) (on : Bool) (path : List Bool) (value taken : Value) (hold : Hold)
-    → (fits : Fits format digest at node on path value taken)
+pub is_lent : (digest : Digest) (at : List Bool) (node : Node) (on : Bool) (path : List Bool) (value taken : Value) (hold : Hold)
+    → (fits : Fits digest at node on path value taken)
     → defer_under (parent_of at fits.middle hold on) (new_entry path taken M)
     ≡ Ok (new_entry at (values.Node (lending node on fits.pointer)) hold)
-is_lent format digest at node on path value taken hold fits =
+is_lent digest at node on path value taken hold fits =
     need-there (above parent path) refusals.NotBelow _ _ (record { on = on; node = fits.middle })
     (parent_there at path fits.middle hold on true fits.below)
     (test-passed (not (leads_to (node_side fits.middle on) path)) refusals.NotChild _ _ leads

@@ -3,12 +3,11 @@ use Rattle.std.proofs.Common.{◌≡◌, ℕ, zero, suc, ◌+◌, ◌<◌, Bool,
 use Rattle.std.specs.List.{AllByRecursion, IsAmong}
 use Rattle.std.proofs.lemmas.Bool.{false≢true}
 use Rattle.std.proofs.lemmas.Option.{none-some, same_Some}
-use Rattle.tree_keys.specs.Path.{same_path}
+use Rattle.tree_keys.specs.Path.{same_path, key_bits, IsNodePath}
 use Rattle.tree_keys.proofs.PathLaws.{same_path-true}
 use Rattle.lamport_clocks.specs.declared.stamp.Stamp.{Stamp}
 use Rattle.record_text.specs.declared.value.Pointer.{Pointer}
 use Rattle.record_text.specs.declared.value.Value.{Value}
-use Rattle.record_text.specs.Format.{Format, path_bits}
 use Rattle.record_text.specs.Value.{IsOf, initial_value}
 use Rattle.merkle_records.specs.Merkle.{Digest}
 use Rattle.host_shard.specs.Tree.{IsPointerIn, IsReached, at_start, pointer_of}
@@ -24,14 +23,14 @@ pub among_none : {X : Type 0} (x : X) → IsAmong [] x → ⊥
 among_none x is = omega (arith, is.1)
 
 -- A shard without records mirrors.
-pub new_mirrors : (format : Format) (digest : Digest) (frontier : List Bool) (stamp : Stamp) (evictor : ℕ) → 0 < length frontier → length frontier < path_bits format
-    → IsMirrored format digest (new_shard format frontier stamp evictor) []
-new_mirrors format digest frontier stamp evictor below_root short = record {
+pub new_mirrors : (longest : ℕ) (digest : Digest) (frontier : List Bool) (stamp : Stamp) (evictor : ℕ) → 0 < length frontier → IsNodePath frontier
+    → IsMirrored longest digest (new_shard frontier stamp evictor) []
+new_mirrors longest digest frontier stamp evictor below_root short = record {
   fits = record {
     below_root = below_root;
     no_data = short;
     kinds = λ path value there. let is = only path value there in
-        subst (λ (k : List Bool). IsOf format k value) (sym is.0) (subst (IsOf format frontier) is.1 (initial_node format frontier short));
+        subst (λ (k : List Bool). IsOf longest k value) (sym is.0) (subst (IsOf longest frontier) is.1 (initial_node longest frontier short));
   };
   mirrors = record {
     kept = λ path on pointer is fresh. absurd (no_pointer path on pointer is);
@@ -43,47 +42,47 @@ new_mirrors format digest frontier stamp evictor below_root short = record {
   };
 }
   where
-    only : (path : List Bool) (value : Value) → tree_of (new_shard format frontier stamp evictor) path ≡ Some value → (path ≡ frontier) × (initial_value format frontier ≡ value)
+    only : (path : List Bool) (value : Value) → tree_of (new_shard frontier stamp evictor) path ≡ Some value → (path ≡ frontier) × (initial_value frontier ≡ value)
     only path value there = go (same_path path frontier) refl there
       where
-        go : (b : Bool) → same_path path frontier ≡ b → (if b then Some (initial_value format frontier) else None) ≡ Some value → (path ≡ frontier) × (initial_value format frontier ≡ value)
-        go true same is = (same_path-true path frontier same, same_Some (initial_value format frontier) value is)
+        go : (b : Bool) → same_path path frontier ≡ b → (if b then Some (initial_value frontier) else None) ≡ Some value → (path ≡ frontier) × (initial_value frontier ≡ value)
+        go true same is = (same_path-true path frontier same, same_Some (initial_value frontier) value is)
         go false apart is = absurd (none-some value is)
 
-    no_pointer : (path : List Bool) (on : Bool) (pointer : Pointer) → IsPointerIn (tree_of (new_shard format frontier stamp evictor)) path on pointer → ⊥
+    no_pointer : (path : List Bool) (on : Bool) (pointer : Pointer) → IsPointerIn (tree_of (new_shard frontier stamp evictor)) path on pointer → ⊥
     no_pointer path on pointer is =
-        initial_none format frontier on pointer (ap (λ (v : Value). pointer_of v on) (only path is.value is.there).1 ∙ is.leads)
+        initial_none frontier on pointer (ap (λ (v : Value). pointer_of v on) (only path is.value is.there).1 ∙ is.leads)
 
-    reached : (path : List Bool) → is_some (tree_of (new_shard format frontier stamp evictor) path) ≡ true → IsReached (tree_of (new_shard format frontier stamp evictor)) frontier path
+    reached : (path : List Bool) → is_some (tree_of (new_shard frontier stamp evictor) path) ≡ true → IsReached (tree_of (new_shard frontier stamp evictor)) frontier path
     reached path there = go (same_path path frontier) refl there
       where
-        go : (b : Bool) → same_path path frontier ≡ b → is_some (if b then Some (initial_value format frontier) else None) ≡ true
-            → IsReached (tree_of (new_shard format frontier stamp evictor)) frontier path
+        go : (b : Bool) → same_path path frontier ≡ b → is_some (if b then Some (initial_value frontier) else None) ≡ true
+            → IsReached (tree_of (new_shard frontier stamp evictor)) frontier path
         go true same is =
-            subst (IsReached (tree_of (new_shard format frontier stamp evictor)) frontier) (sym (same_path-true path frontier same)) at_start
+            subst (IsReached (tree_of (new_shard frontier stamp evictor)) frontier) (sym (same_path-true path frontier same)) at_start
         go false apart is = absurd (false≢true is)
 
 -- the shards of a setup mirror
-pub first_mirror : (format : Format) (digest : Digest) (first levels : ℕ) (path : List Bool) → 0 < length path → length path + levels < path_bits format
-    → AllByRecursion (ContentMirrors format digest []) (first_contents format first (paths_below levels path))
-first_mirror format digest first zero path below short =
-    (new_mirrors format digest path (first_stamp first path) 0 below (omega (arith, short)), tt)
-first_mirror format digest first (suc levels) path below short =
+pub first_mirror : (longest : ℕ) (digest : Digest) (first levels : ℕ) (path : List Bool) → 0 < length path → length path + levels < key_bits
+    → AllByRecursion (ContentMirrors longest digest []) (first_contents first (paths_below levels path))
+first_mirror longest digest first zero path below short =
+    (new_mirrors longest digest path (first_stamp first path) 0 below (omega (arith, short)), tt)
+first_mirror longest digest first (suc levels) path below short =
     let near = length-child path false in
     let far = length-child path true in
-    subst (AllByRecursion (ContentMirrors format digest []))
-    (sym (first_contents-append format first (paths_below levels (child path false)) (paths_below levels (child path true))))
-    (all-append (ContentMirrors format digest []) (first_contents format first (paths_below levels (child path false))) _
-    (first_mirror format digest first levels (child path false) (omega (arith, near)) (omega (arith, near, short)))
-    (first_mirror format digest first levels (child path true) (omega (arith, far)) (omega (arith, far, short))))
+    subst (AllByRecursion (ContentMirrors longest digest []))
+    (sym (first_contents-append first (paths_below levels (child path false)) (paths_below levels (child path true))))
+    (all-append (ContentMirrors longest digest []) (first_contents first (paths_below levels (child path false))) _
+    (first_mirror longest digest first levels (child path false) (omega (arith, near)) (omega (arith, near, short)))
+    (first_mirror longest digest first levels (child path true) (omega (arith, far)) (omega (arith, far, short))))
 
 -- all shards of a setup mirror
-pub contents_mirror : (format : Format) (digest : Digest) (first bits : ℕ) → 0 < bits → bits < path_bits format
-    → AllByRecursion (ContentMirrors format digest []) (setup_contents format first bits)
-contents_mirror format digest first zero some short = absurd (omega arith)
-contents_mirror format digest first (suc levels) some short =
-    subst (AllByRecursion (ContentMirrors format digest []))
-    (sym (first_contents-append format first (paths_below levels (child [] false)) (paths_below levels (child [] true))))
-    (all-append (ContentMirrors format digest []) (first_contents format first (paths_below levels (child [] false))) _
-    (first_mirror format digest first levels (child [] false) (omega arith) (omega (arith, short)))
-    (first_mirror format digest first levels (child [] true) (omega arith) (omega (arith, short))))
+pub contents_mirror : (longest : ℕ) (digest : Digest) (first bits : ℕ) → 0 < bits → bits < key_bits
+    → AllByRecursion (ContentMirrors longest digest []) (setup_contents first bits)
+contents_mirror longest digest first zero some short = absurd (omega arith)
+contents_mirror longest digest first (suc levels) some short =
+    subst (AllByRecursion (ContentMirrors longest digest []))
+    (sym (first_contents-append first (paths_below levels (child [] false)) (paths_below levels (child [] true))))
+    (all-append (ContentMirrors longest digest []) (first_contents first (paths_below levels (child [] false))) _
+    (first_mirror longest digest first levels (child [] false) (omega arith) (omega (arith, short)))
+    (first_mirror longest digest first levels (child [] true) (omega arith) (omega (arith, short))))

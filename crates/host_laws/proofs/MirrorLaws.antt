@@ -3,14 +3,13 @@ use Rattle.std.proofs.Common.{◌≡◌, ℕ, ◌<◌, Bool, true, false, List, 
 use Rattle.std.specs.List.{IsAmong, AllByRecursion}
 use Rattle.std.proofs.lemmas.Bool.{false≢true}
 use Rattle.tree_keys.specs.BitsLaws.{length-bits_of}
-use Rattle.tree_keys.specs.Path.{side, same_path}
+use Rattle.tree_keys.specs.Path.{side, same_path, key_bits, IsData}
 use Rattle.tree_keys.proofs.PathLaws.{same_path-true}
 use Rattle.lamport_clocks.specs.Reading.{Reading}
 use Rattle.record_text.specs.declared.request.Request.{Request}
 use Rattle.record_text.specs.declared.value.Pointer.{Pointer}
 use Rattle.record_text.specs.declared.value.Value.{Value}
 use Rattle.record_text.specs.declared.value.Value.TheVariants as values
-use Rattle.record_text.specs.Format.{Format, path_bits}
 use Rattle.record_text.specs.Value.{IsBlob, IsOf}
 use Rattle.merkle_records.specs.Merkle.{Digest, GivesDigests}
 use Rattle.log_codec.specs.declared.command.Command.{Command}
@@ -33,41 +32,41 @@ use Rattle.host_laws.proofs.FrontierLaws.{leads, frontier_there, frontier_of}
 use Rattle.host_laws.proofs.PartLemmas.{whole_none, kept_after, waits_after, hot_waits_after, reached_after, kinds_after, keeps_record, key_record}
 
 -- the value at a chain's end is of its path's kind
-pub last_kind : (format : Format) (digest : Digest) (tree : Tree) (key : List Bool) → LeadTo format digest tree key
-    → (path : List Bool) (value : Value) (links : List Link) → IsOf format path value → AreOf tree value → IsChain format tree key path value links
-    → IsOf format key (last_value value links)
-last_kind format digest tree key lead path value [] kind known chain = subst (λ (k : List Bool). IsOf format k value) chain kind
-last_kind format digest tree key lead path value (link ∷ links) kind known chain =
-    let next = next_fits format digest tree key lead path value link kind known chain.0 in
-    last_kind format digest tree key lead link.path link.taken links next.kind next.known chain.1
+pub last_kind : (longest : ℕ) (digest : Digest) (tree : Tree) (key : List Bool) → LeadTo longest digest tree key
+    → (path : List Bool) (value : Value) (links : List Link) → IsOf longest path value → AreOf tree value → IsChain tree key path value links
+    → IsOf longest key (last_value value links)
+last_kind longest digest tree key lead path value [] kind known chain = subst (λ (k : List Bool). IsOf longest k value) chain kind
+last_kind longest digest tree key lead path value (link ∷ links) kind known chain =
+    let next = next_fits longest digest tree key lead path value link kind known chain.0 in
+    last_kind longest digest tree key lead link.path link.taken links next.kind next.known chain.1
 
 -- a request leaves its key a value of its kind
-pub after_kind : (format : Format) (request : Request) (found : Value) → IsBlob format request.value → length (key_path format request.key) ≡ path_bits format
-    → IsOf format (key_path format request.key) found → IsOf format (key_path format request.key) (value_after request found)
-after_kind format request found fits whole kind = go request.put
+pub after_kind : (longest : ℕ) (request : Request) (found : Value) → IsBlob longest request.value → IsData (key_path request.key)
+    → IsOf longest (key_path request.key) found → IsOf longest (key_path request.key) (value_after request found)
+after_kind longest request found fits whole kind = go request.put
   where
-    go : (b : Bool) → IsOf format (key_path format request.key) (if b then values.Blob request.value else found)
+    go : (b : Bool) → IsOf longest (key_path request.key) (if b then values.Blob request.value else found)
     go true = (whole, fits)
     go false = kind
 
 -- The shard mirrors again once it served a request, with the same keys hot.
-pub served_mirrors : (format : Format) (digest : Digest) (worker : ℕ) (shard : Shard) (hot_keys : List (List Bool)) (links : List Link) (request : Request) (clock : Reading)
-    → GivesDigests digest → IsBlob format request.value → IsMirrored format digest shard hot_keys → IsKeyOf format shard (key_path format request.key)
-    → (IsAmong hot_keys (key_path format request.key) → ⊥)
-    → IsChain format (tree_of shard) (key_path format request.key) shard.frontier shard.value links
-    → IsMirrored format digest (served format digest worker shard links request clock) hot_keys
-served_mirrors format digest worker shard hot_keys links request clock digests fits_blob mirrored own not_hot chain = record {
+pub served_mirrors : (longest : ℕ) (digest : Digest) (worker : ℕ) (shard : Shard) (hot_keys : List (List Bool)) (links : List Link) (request : Request) (clock : Reading)
+    → GivesDigests digest → IsBlob longest request.value → IsMirrored longest digest shard hot_keys → IsKeyOf shard (key_path request.key)
+    → (IsAmong hot_keys (key_path request.key) → ⊥)
+    → IsChain (tree_of shard) (key_path request.key) shard.frontier shard.value links
+    → IsMirrored longest digest (served digest worker shard links request clock) hot_keys
+served_mirrors longest digest worker shard hot_keys links request clock digests fits_blob mirrored own not_hot chain = record {
   fits = record {
     below_root = mirrored.fits.below_root;
     no_data = mirrored.fits.no_data;
-    kinds = kinds_after format digest tree shard.records shard.frontier shard.value key last lead links chain kind is_top digests kind_last;
+    kinds = kinds_after longest digest tree shard.records shard.frontier shard.value key last lead links chain kind is_top digests kind_last;
   };
   mirrors = record {
-    kept = kept_after format digest tree shard.records shard.frontier shard.value key last lead links chain kind is_top mirrored.mirrors.reached bare mirrored.mirrors.kept;
-    waits = waits_after format digest tree shard.records shard.frontier shard.value key last lead links chain kind is_top hot_keys mirrored.mirrors.reached bare mirrored.mirrors.waits;
-    reached = reached_after format digest tree shard.records shard.frontier shard.value key last lead links chain kind is_top mirrored.mirrors.reached;
+    kept = kept_after longest digest tree shard.records shard.frontier shard.value key last lead links chain kind is_top mirrored.mirrors.reached bare mirrored.mirrors.kept;
+    waits = waits_after longest digest tree shard.records shard.frontier shard.value key last lead links chain kind is_top hot_keys mirrored.mirrors.reached bare mirrored.mirrors.waits;
+    reached = reached_after longest digest tree shard.records shard.frontier shard.value key last lead links chain kind is_top mirrored.mirrors.reached;
     hot_waits = λ h among.
-        hot_waits_after format digest tree shard.records shard.frontier shard.value key last lead links chain kind is_top mirrored.mirrors.reached h
+        hot_waits_after longest digest tree shard.records shard.frontier shard.value key last lead links chain kind is_top mirrored.mirrors.reached h
         (mirrored.mirrors.hot_keys.whole h among) (λ same. not_hot (subst (IsAmong hot_keys) same among)) (mirrored.mirrors.hot_waits h among);
     hot_keys = mirrored.mirrors.hot_keys;
     touched = touched_after;
@@ -75,15 +74,15 @@ served_mirrors format digest worker shard hot_keys links request clock digests f
 }
   where
     key : List Bool
-    key = key_path format request.key
+    key = key_path request.key
 
     tree : Tree
     tree = tree_of shard
 
-    lead : LeadTo format digest tree key
-    lead = leads format digest shard key (record { hot = hot_keys; fits = mirrored.fits; mirrors = mirrored.mirrors; own = own; cold = not_hot })
+    lead : LeadTo longest digest tree key
+    lead = leads longest digest shard key (record { hot = hot_keys; fits = mirrored.fits; mirrors = mirrored.mirrors; own = own; cold = not_hot })
 
-    kind : IsOf format shard.frontier shard.value
+    kind : IsOf longest shard.frontier shard.value
     kind = mirrored.fits.kinds shard.frontier shard.value (frontier_there shard)
 
     is_top : (k : List Bool) → tree k ≡ tree k
@@ -92,108 +91,108 @@ served_mirrors format digest worker shard hot_keys links request clock digests f
     last : Value
     last = value_after request (last_value shard.value links)
 
-    kind_last : IsOf format key last
+    kind_last : IsOf longest key last
     kind_last =
-        after_kind format request (last_value shard.value links) fits_blob own.whole
-        (last_kind format digest tree key lead shard.frontier shard.value links kind (frontier_of shard) chain)
+        after_kind longest request (last_value shard.value links) fits_blob own.whole
+        (last_kind longest digest tree key lead shard.frontier shard.value links kind (frontier_of shard) chain)
 
     bare : (on : Bool) → pointer_of last on ≡ None
     bare on = go (pointer_of last on) refl
       where
         go : (o : Option Pointer) → pointer_of last on ≡ o → pointer_of last on ≡ None
         go None none = none
-        go (Some pointer) is = absurd (whole_none format key last on pointer kind_last own.whole is)
+        go (Some pointer) is = absurd (whole_none longest key last on pointer kind_last own.whole is)
 
-    touched_after : (k : List Bool) → 0 < touched shard.touches key k → IsSome (closed_records format digest false shard.records links last k)
+    touched_after : (k : List Bool) → 0 < touched shard.touches key k → IsSome (closed_records digest false shard.records links last k)
     touched_after k some = go (same_path k key) refl some
       where
-        below : (s : Option Bool) → side shard.frontier key ≡ s → IsSome s → IsSome (closed_records format digest false shard.records links last key)
+        below : (s : Option Bool) → side shard.frontier key ≡ s → IsSome s → IsSome (closed_records digest false shard.records links last key)
         below None none is = absurd (false≢true is)
         below (Some on) under is =
-            key_record format digest tree shard.records shard.frontier shard.value key last lead shard.frontier shard.value links on kind (frontier_of shard) chain under
+            key_record longest digest tree shard.records shard.frontier shard.value key last lead shard.frontier shard.value links on kind (frontier_of shard) chain under
 
         go : (b : Bool) → same_path k key ≡ b → 0 < (if b then one_more (shard.touches k) else shard.touches k)
-            → IsSome (closed_records format digest false shard.records links last k)
+            → IsSome (closed_records digest false shard.records links last k)
         go true same some' =
-            subst (λ (j : List Bool). IsSome (closed_records format digest false shard.records links last j)) (sym (same_path-true k key same))
+            subst (λ (j : List Bool). IsSome (closed_records digest false shard.records links last j)) (sym (same_path-true k key same))
             (below (side shard.frontier key) refl own.below)
         go false apart some' =
-            keeps_record format digest tree shard.records shard.frontier shard.value key last lead links k (mirrored.mirrors.touched k some')
+            keeps_record longest digest tree shard.records shard.frontier shard.value key last lead links k (mirrored.mirrors.touched k some')
 
 -- A content mirrors again once it served a request.
-pub plan_mirrors : (format : Format) (digest : Digest) (worker : ℕ) (hot_keys : List (List Bool)) (content after : Content) (request : Request)
+pub plan_mirrors : (longest : ℕ) (digest : Digest) (worker : ℕ) (hot_keys : List (List Bool)) (content after : Content) (request : Request)
     (clock later : Reading) (plan : Plan)
-    → GivesDigests digest → IsBlob format request.value → ContentMirrors format digest hot_keys content → Owns format content request.key → IsCold format hot_keys content request.key
-    → IsPlan format digest worker content request clock plan after later → ContentMirrors format digest hot_keys after
-plan_mirrors format digest worker hot_keys (cold shard) after request clock later plan digests fits_blob mirrored owns not_hot is =
-    subst (ContentMirrors format digest hot_keys) (sym is.content)
-    (served_mirrors format digest worker shard hot_keys is.links request clock digests fits_blob mirrored owns.1 not_hot is.way)
-plan_mirrors format digest worker hot_keys (hot found) after request clock later plan digests fits_blob mirrored owns not_hot is =
-    subst (ContentMirrors format digest hot_keys) (sym is.content) (go request.put)
+    → GivesDigests digest → IsBlob longest request.value → ContentMirrors longest digest hot_keys content → Owns longest content request.key → IsCold hot_keys content request.key
+    → IsPlan digest worker content request clock plan after later → ContentMirrors longest digest hot_keys after
+plan_mirrors longest digest worker hot_keys (cold shard) after request clock later plan digests fits_blob mirrored owns not_hot is =
+    subst (ContentMirrors longest digest hot_keys) (sym is.content)
+    (served_mirrors longest digest worker shard hot_keys is.links request clock digests fits_blob mirrored owns.1 not_hot is.way)
+plan_mirrors longest digest worker hot_keys (hot found) after request clock later plan digests fits_blob mirrored owns not_hot is =
+    subst (ContentMirrors longest digest hot_keys) (sym is.content) (go request.put)
   where
-    go : (b : Bool) → IsBlob format (if b then request.value else found.value)
+    go : (b : Bool) → IsBlob longest (if b then request.value else found.value)
     go true = fits_blob
     go false = mirrored
-plan_mirrors format digest worker hot_keys vacant after request clock later plan digests fits_blob mirrored owns not_hot is = absurd owns
+plan_mirrors longest digest worker hot_keys vacant after request clock later plan digests fits_blob mirrored owns not_hot is = absurd owns
 
 -- A content that mirrors can serve a key that it owns.
-pub mirrors_serve : (format : Format) (digest : Digest) (hot_keys : List (List Bool)) (content : Content) (key : ℕ)
-    → ContentMirrors format digest hot_keys content → Owns format content key → IsCold format hot_keys content key → CanServe format digest content key
-mirrors_serve format digest hot_keys (cold shard) key mirrored owns not_hot =
+pub mirrors_serve : (longest : ℕ) (digest : Digest) (hot_keys : List (List Bool)) (content : Content) (key : ℕ)
+    → ContentMirrors longest digest hot_keys content → Owns longest content key → IsCold hot_keys content key → CanServe longest digest content key
+mirrors_serve longest digest hot_keys (cold shard) key mirrored owns not_hot =
     record { hot = hot_keys; fits = mirrored.fits; mirrors = mirrored.mirrors; own = owns.1; cold = not_hot }
-mirrors_serve format digest hot_keys (hot found) key mirrored owns not_hot = owns
-mirrors_serve format digest hot_keys vacant key mirrored owns not_hot = absurd owns
+mirrors_serve longest digest hot_keys (hot found) key mirrored owns not_hot = owns
+mirrors_serve longest digest hot_keys vacant key mirrored owns not_hot = absurd owns
 
 -- ---- the kinds of what is logged
 
-typed-append : (format : Format) (first second : List Command) → AllByRecursion (IsTyped format) first → AllByRecursion (IsTyped format) second
-    → AllByRecursion (IsTyped format) (first ++ second)
-typed-append format first second one two = all-append (IsTyped format) first second one two
+typed-append : (longest : ℕ) (first second : List Command) → AllByRecursion (IsTyped longest) first → AllByRecursion (IsTyped longest) second
+    → AllByRecursion (IsTyped longest) (first ++ second)
+typed-append longest first second one two = all-append (IsTyped longest) first second one two
 
-command_typed : (format : Format) (request : Request) (found : Value) → IsBlob format request.value → IsTyped format (command_of format request found)
-command_typed format request found fits = go request.put
+command_typed : (longest : ℕ) (request : Request) (found : Value) → IsBlob longest request.value → IsTyped longest (command_of request found)
+command_typed longest request found fits = go request.put
   where
-    go : (b : Bool) → IsTyped format (if b then Put (key_path format request.key) (values.Blob request.value) else Get (key_path format request.key) found)
-    go true = (length-bits_of (path_bits format) request.key, fits)
+    go : (b : Bool) → IsTyped longest (if b then Put (key_path request.key) (values.Blob request.value) else Get (key_path request.key) found)
+    go true = (length-bits_of key_bits request.key, fits)
     go false = tt
 
-visit_typed : (format : Format) (digest : Digest) (tree : Tree) (key : List Bool) → LeadTo format digest tree key
-    → (inner : List Command) → AllByRecursion (IsTyped format) inner
-    → (path : List Bool) (value : Value) (links : List Link) → IsOf format path value → AreOf tree value → IsChain format tree key path value links
-    → AllByRecursion (IsTyped format) (visit path links inner)
-visit_typed format digest tree key lead inner typed path value [] kind known chain = typed
-visit_typed format digest tree key lead inner typed path value (link ∷ links) kind known chain =
-    let next = next_fits format digest tree key lead path value link kind known chain.0 in (
+visit_typed : (longest : ℕ) (digest : Digest) (tree : Tree) (key : List Bool) → LeadTo longest digest tree key
+    → (inner : List Command) → AllByRecursion (IsTyped longest) inner
+    → (path : List Bool) (value : Value) (links : List Link) → IsOf longest path value → AreOf tree value → IsChain tree key path value links
+    → AllByRecursion (IsTyped longest) (visit path links inner)
+visit_typed longest digest tree key lead inner typed path value [] kind known chain = typed
+visit_typed longest digest tree key lead inner typed path value (link ∷ links) kind known chain =
+    let next = next_fits longest digest tree key lead path value link kind known chain.0 in (
       next.added,
-      typed-append format (visit link.path links inner) (EvictM link.path path ∷ [])
-          (visit_typed format digest tree key lead inner typed link.path link.taken links next.kind next.known chain.1) (tt, tt),
+      typed-append longest (visit link.path links inner) (EvictM link.path path ∷ [])
+          (visit_typed longest digest tree key lead inner typed link.path link.taken links next.kind next.known chain.1) (tt, tt),
     )
 
 -- The commands of a plan are of their paths' kinds.
-pub plan_typed : (format : Format) (digest : Digest) (worker : ℕ) (hot_keys : List (List Bool)) (content after : Content) (request : Request)
+pub plan_typed : (longest : ℕ) (digest : Digest) (worker : ℕ) (hot_keys : List (List Bool)) (content after : Content) (request : Request)
     (clock later : Reading) (plan : Plan)
-    → IsBlob format request.value → ContentMirrors format digest hot_keys content → Owns format content request.key → IsCold format hot_keys content request.key
-    → IsPlan format digest worker content request clock plan after later → AllByRecursion (IsTyped format) plan.commands
-plan_typed format digest worker hot_keys (cold shard) after request clock later plan fits_blob mirrored owns not_hot is =
-    subst (AllByRecursion (IsTyped format)) (sym is.commands) (
+    → IsBlob longest request.value → ContentMirrors longest digest hot_keys content → Owns longest content request.key → IsCold hot_keys content request.key
+    → IsPlan digest worker content request clock plan after later → AllByRecursion (IsTyped longest) plan.commands
+plan_typed longest digest worker hot_keys (cold shard) after request clock later plan fits_blob mirrored owns not_hot is =
+    subst (AllByRecursion (IsTyped longest)) (sym is.commands) (
       kind,
-      typed-append format (visit shard.frontier is.links inner) _
-          (visit_typed format digest (tree_of shard) key lead inner (command_typed format request _ fits_blob, tt) shard.frontier shard.value is.links kind (frontier_of shard) is.way)
+      typed-append longest (visit shard.frontier is.links inner) _
+          (visit_typed longest digest (tree_of shard) key lead inner (command_typed longest request _ fits_blob, tt) shard.frontier shard.value is.links kind (frontier_of shard) is.way)
           (tt, tt),
     )
   where
     key : List Bool
-    key = key_path format request.key
+    key = key_path request.key
 
-    lead : LeadTo format digest (tree_of shard) key
-    lead = leads format digest shard key (record { hot = hot_keys; fits = mirrored.fits; mirrors = mirrored.mirrors; own = owns.1; cold = not_hot })
+    lead : LeadTo longest digest (tree_of shard) key
+    lead = leads longest digest shard key (record { hot = hot_keys; fits = mirrored.fits; mirrors = mirrored.mirrors; own = owns.1; cold = not_hot })
 
-    kind : IsOf format shard.frontier shard.value
+    kind : IsOf longest shard.frontier shard.value
     kind = mirrored.fits.kinds shard.frontier shard.value (frontier_there shard)
 
     inner : List Command
-    inner = command_of format request (last_value shard.value is.links) ∷ []
-plan_typed format digest worker hot_keys (hot found) after request clock later plan fits_blob mirrored owns not_hot is =
-    subst (AllByRecursion (IsTyped format)) (sym is.commands)
-    ((length-bits_of (path_bits format) found.key, mirrored), (command_typed format request _ fits_blob, (tt, tt)))
-plan_typed format digest worker hot_keys vacant after request clock later plan fits_blob mirrored owns not_hot is = absurd owns
+    inner = command_of request (last_value shard.value is.links) ∷ []
+plan_typed longest digest worker hot_keys (hot found) after request clock later plan fits_blob mirrored owns not_hot is =
+    subst (AllByRecursion (IsTyped longest)) (sym is.commands)
+    ((length-bits_of key_bits found.key, mirrored), (command_typed longest request _ fits_blob, (tt, tt)))
+plan_typed longest digest worker hot_keys vacant after request clock later plan fits_blob mirrored owns not_hot is = absurd owns

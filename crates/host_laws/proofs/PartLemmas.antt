@@ -1,9 +1,9 @@
 -- The paths of a chain once it is closed: which pointers stand there, and which have stayed as they were.
-use Rattle.std.proofs.Common.{◌≡◌, ◌≢◌, ◌⊎◌, ◌≤◌, Bool, true, false, not, List, [], ◌∷◌, length, Option, Some, None, is_some, IsSome, if◌then◌else◌, refl, sym, ◌∙◌, ap, subst, inl, inr, arith}
+use Rattle.std.proofs.Common.{ℕ, ◌≡◌, ◌≢◌, ◌⊎◌, ◌≤◌, Bool, true, false, not, List, [], ◌∷◌, length, Option, Some, None, is_some, IsSome, if◌then◌else◌, refl, sym, ◌∙◌, ap, subst, inl, inr, arith}
 use Rattle.std.specs.List.{IsAmong}
 use Rattle.std.proofs.lemmas.Bool.{false≢true}
 use Rattle.std.proofs.lemmas.Option.{none-some, same_Some}
-use Rattle.tree_keys.specs.Path.{side, is_prefix, same_path}
+use Rattle.tree_keys.specs.Path.{side, is_prefix, same_path, IsData, IsPath}
 use Rattle.tree_keys.proofs.PathLaws.{same_path-self, same_path-true, same_path-apart}
 use Rattle.tree_keys.proofs.SideLaws.{side-self, is_prefix-self, is_prefix-trans, prefix_of_side, side_of_prefix, prefix_cases, side-prefix, side-trans}
 use Rattle.verifier_commands.proofs.BelowLaws.{below_apart}
@@ -11,7 +11,6 @@ use Rattle.record_text.specs.declared.value.Pointer.{Pointer}
 use Rattle.record_text.specs.declared.value.Node.{Node}
 use Rattle.record_text.specs.declared.value.Value.{Value}
 use Rattle.record_text.specs.declared.value.Value.TheVariants as values
-use Rattle.record_text.specs.Format.{Format, path_bits}
 use Rattle.record_text.specs.Value.{IsOf, IsSide, node_side, with_side}
 use Rattle.merkle_records.specs.Merkle.{Digest, GivesDigests, pointer_to}
 use Rattle.merkle_records.proofs.KindLaws.{IsSide-node_side, IsOf-with_side, is_prefix-side, node_side-with_side}
@@ -30,45 +29,45 @@ one_or_other false true = inr refl
 one_or_other false false = inl refl
 
 -- the pointer of a value of a path's kind leads below it on its side
-pub pointer_side : (format : Format) (path : List Bool) (value : Value) (on : Bool) (pointer : Pointer) → IsOf format path value
+pub pointer_side : (longest : ℕ) (path : List Bool) (value : Value) (on : Bool) (pointer : Pointer) → IsOf longest path value
     → pointer_of value on ≡ Some pointer → side path pointer.path ≡ Some on
-pointer_side format path (values.Blob blob) on pointer kind is = absurd (none-some pointer is)
-pointer_side format path (values.Node node) on pointer kind is =
-    side_of_prefix path pointer.path on (subst (IsSide format path on) is (IsSide-node_side format path node on kind)).below
+pointer_side longest path (values.Blob blob) on pointer kind is = absurd (none-some pointer is)
+pointer_side longest path (values.Node node) on pointer kind is =
+    side_of_prefix path pointer.path on (subst (IsSide path on) is (IsSide-node_side longest path node on kind)).below
 
 -- a value's path isn't longer than a whole one
-length-kind : (format : Format) (path : List Bool) (value : Value) → IsOf format path value → length path ≤ path_bits format
-length-kind format path (values.Blob blob) kind = omega (arith, kind.0)
-length-kind format path (values.Node node) kind = omega (arith, kind.0)
+length-kind : (longest : ℕ) (path : List Bool) (value : Value) → IsOf longest path value → IsPath path
+length-kind longest path (values.Blob blob) kind = omega (arith, kind.0)
+length-kind longest path (values.Node node) kind = omega (arith, kind.0)
 
 -- a whole path has no pointers
-pub whole_none : (format : Format) (path : List Bool) (value : Value) (on : Bool) (pointer : Pointer) → IsOf format path value
-    → length path ≡ path_bits format → pointer_of value on ≡ Some pointer → ⊥
-whole_none format path (values.Blob blob) on pointer kind whole is = none-some pointer is
-whole_none format path (values.Node node) on pointer kind whole is = omega (arith, kind.0, whole)
+pub whole_none : (longest : ℕ) (path : List Bool) (value : Value) (on : Bool) (pointer : Pointer) → IsOf longest path value
+    → IsData path → pointer_of value on ≡ Some pointer → ⊥
+whole_none longest path (values.Blob blob) on pointer kind whole is = none-some pointer is
+whole_none longest path (values.Node node) on pointer kind whole is = omega (arith, kind.0, whole)
 
-module _ (format : Format) (digest : Digest) (tree base : Tree) (frontier : List Bool) (top : Value) (key : List Bool) (last : Value)
-    (lead : LeadTo format digest tree key) where
+module _ (longest : ℕ) (digest : Digest) (tree base : Tree) (frontier : List Bool) (top : Value) (key : List Bool) (last : Value)
+    (lead : LeadTo longest digest tree key) where
   -- the records afterwards, where these links are closed
   abbrev pub full_of : List Link → Tree
-  full_of links = with_record (closed_records format digest false base links last) frontier (closed_value format digest false frontier top links last)
+  full_of links = with_record (closed_records digest false base links last) frontier (closed_value digest false frontier top links last)
 
   -- each path of the chain has its value at the end
   abbrev pub Stands : Tree → List Bool → Value → List Link → Type 0
   Stands full at value [] = full at ≡ Some last
   Stands full at value (link ∷ links) =
-      (full at ≡ Some (closed_value format digest false at value (link ∷ links) last)) × Stands full link.path link.taken links
+      (full at ≡ Some (closed_value digest false at value (link ∷ links) last)) × Stands full link.path link.taken links
 
   -- a path of the chain, with its value before and the links behind it
   pub record IsPart (full : Tree) (path : List Bool) (value : Value) (links : List Link) : Type 0 where
-    pub chain : IsChain format tree key path value links
-    pub kind : IsOf format path value
+    pub chain : IsChain tree key path value links
+    pub kind : IsOf longest path value
     pub known : AreOf tree value
     pub stands : Stands full path value links
     pub reached : IsReached full frontier path
 
   pub part_there : (full : Tree) (path : List Bool) (value : Value) (links : List Link) → IsPart full path value links
-      → full path ≡ Some (closed_value format digest false path value links last)
+      → full path ≡ Some (closed_value digest false path value links last)
   part_there full path value [] part = part.stands
   part_there full path value (link ∷ links) part = part.stands.0
 
@@ -78,16 +77,16 @@ module _ (format : Format) (digest : Digest) (tree base : Tree) (frontier : List
 
   -- how the next link stands under a path of the chain
   pub part_link : (full : Tree) (path : List Bool) (value : Value) (link : Link) (links : List Link) → IsPart full path value (link ∷ links)
-      → IsNext format digest tree key path value link
-  part_link full path value link links part = next_fits format digest tree key lead path value link part.kind part.known part.chain.0
+      → IsNext longest digest tree key path value link
+  part_link full path value link links part = next_fits longest digest tree key lead path value link part.kind part.known part.chain.0
 
   -- a path's value at the end: its own but for the pointer to the next link
-  pub closed_is : (path : List Bool) (value : Value) (link : Link) (links : List Link) → (next : IsNext format digest tree key path value link)
-      → closed_value format digest false path value (link ∷ links) last
-      ≡ values.Node (with_side next.node next.on (Some (pointer_to format digest link.path (closed_value format digest false link.path link.taken links last))))
+  pub closed_is : (path : List Bool) (value : Value) (link : Link) (links : List Link) → (next : IsNext longest digest tree key path value link)
+      → closed_value digest false path value (link ∷ links) last
+      ≡ values.Node (with_side next.node next.on (Some (pointer_to digest link.path (closed_value digest false link.path link.taken links last))))
   closed_is path value link links next =
-      ap (λ (v : Value). closed_value format digest false path v (link ∷ links) last) next.is_node
-      ∙ ap (λ (s : Option Bool). aimed_on next.node (pointer_to format digest link.path (closed_value format digest false link.path link.taken links last)) s) next.fits.below
+      ap (λ (v : Value). closed_value digest false path v (link ∷ links) last) next.is_node
+      ∙ ap (λ (s : Option Bool). aimed_on next.node (pointer_to digest link.path (closed_value digest false link.path link.taken links last)) s) next.fits.below
 
   pub part_next : (full : Tree) (path : List Bool) (value : Value) (link : Link) (links : List Link) → IsPart full path value (link ∷ links)
       → IsPart full link.path link.taken links
@@ -98,9 +97,9 @@ module _ (format : Format) (digest : Digest) (tree base : Tree) (frontier : List
         kind = next.kind;
         known = next.known;
         stands = part.stands.1;
-        reached = by_pointer path next.on (pointer_to format digest link.path (closed_value format digest false link.path link.taken links last)) part.reached
+        reached = by_pointer path next.on (pointer_to digest link.path (closed_value digest false link.path link.taken links last)) part.reached
             (record {
-              value = closed_value format digest false path value (link ∷ links) last;
+              value = closed_value digest false path value (link ∷ links) last;
               there = part.stands.0;
               leads = ap (λ (v : Value). pointer_of v next.on) (closed_is path value link links next) ∙ node_side-with_side next.node next.on _;
             });
@@ -115,10 +114,10 @@ module _ (format : Format) (digest : Digest) (tree base : Tree) (frontier : List
       let next = part_link full path value link links part in
       let other : next.on ≡ not on = same_Some next.on (not on) (sym next.on_side ∙ apart) in
       record {
-        value = closed_value format digest false path value (link ∷ links) last;
+        value = closed_value digest false path value (link ∷ links) last;
         there = part.stands.0;
         leads = ap (λ (v : Value). pointer_of v on) (closed_is path value link links next)
-            ∙ (other_side next.node on next.on (pointer_to format digest link.path (closed_value format digest false link.path link.taken links last)) other
+            ∙ (other_side next.node on next.on (pointer_to digest link.path (closed_value digest false link.path link.taken links last)) other
             ∙ (ap (λ (v : Value). pointer_of v on) (sym next.is_node) ∙ is));
       }
     where
@@ -130,7 +129,7 @@ module _ (format : Format) (digest : Digest) (tree base : Tree) (frontier : List
 
   -- A pointer of a chain's path at the end: the one to the next link, or one that was there on the other side.
   pub data Standing (full : Tree) (path : List Bool) (value : Value) (on : Bool) (pointer : Pointer) : Type 0 where
-    closes : (to : List Bool) (became : Value) → pointer ≡ pointer_to format digest to became → full to ≡ Some became → Standing full path value on pointer
+    closes : (to : List Bool) (became : Value) → pointer ≡ pointer_to digest to became → full to ≡ Some became → Standing full path value on pointer
     stays : pointer_of value on ≡ Some pointer → side path key ≡ Some (not on) → Standing full path value on pointer
 
   pub part_pointer : (full : Tree) (path : List Bool) (value : Value) (links : List Link) (on : Bool) (pointer : Pointer) → IsPart full path value links
@@ -140,13 +139,13 @@ module _ (format : Format) (digest : Digest) (tree base : Tree) (frontier : List
       absurd (none-some pointer (sym (ap (λ (v : Value). pointer_of v on) (same_Some is.value last (sym is.there ∙ part.stands)) ∙ bare on) ∙ is.leads))
   part_pointer full path value (link ∷ links) on pointer part bare is = go (one_or_other on next.on)
     where
-      next : IsNext format digest tree key path value link
+      next : IsNext longest digest tree key path value link
       next = part_link full path value link links part
 
       became : Value
-      became = closed_value format digest false link.path link.taken links last
+      became = closed_value digest false link.path link.taken links last
 
-      found : node_side (with_side next.node next.on (Some (pointer_to format digest link.path became))) on ≡ Some pointer
+      found : node_side (with_side next.node next.on (Some (pointer_to digest link.path became))) on ≡ Some pointer
       found =
           sym (ap (λ (v : Value). pointer_of v on) (same_Some is.value _ (sym is.there ∙ part.stands.0) ∙ closed_is path value link links next)) ∙ is.leads
 
@@ -159,41 +158,41 @@ module _ (format : Format) (digest : Digest) (tree base : Tree) (frontier : List
       go : (on ≡ next.on) ⊎ (next.on ≡ not on) → Standing full path value on pointer
       go (inl same) =
           closes link.path became
-          (same_Some pointer _ (sym found ∙ (ap (λ (s : Bool). node_side (with_side next.node next.on (Some (pointer_to format digest link.path became))) s) same ∙ node_side-with_side next.node next.on _)))
+          (same_Some pointer _ (sym found ∙ (ap (λ (s : Bool). node_side (with_side next.node next.on (Some (pointer_to digest link.path became))) s) same ∙ node_side-with_side next.node next.on _)))
           (part_there full link.path link.taken links (part_next full path value link links part))
       go (inr other) =
-          stays (ap (λ (v : Value). pointer_of v on) next.is_node ∙ (sym (other_side next.node on next.on (pointer_to format digest link.path became) other) ∙ found))
+          stays (ap (λ (v : Value). pointer_of v on) next.is_node ∙ (sym (other_side next.node on next.on (pointer_to digest link.path became) other) ∙ found))
           (next.on_side ∙ ap (λ (s : Bool). Some s) other)
 
   -- a path's value at the end is of its kind
-  pub closed_kind : (full : Tree) (path : List Bool) (value : Value) (links : List Link) → GivesDigests digest → IsOf format key last
-      → IsPart full path value links → IsOf format path (closed_value format digest false path value links last)
-  closed_kind full path value [] digests kind part = subst (λ (k : List Bool). IsOf format k last) (sym part.chain) kind
+  pub closed_kind : (full : Tree) (path : List Bool) (value : Value) (links : List Link) → GivesDigests digest → IsOf longest key last
+      → IsPart full path value links → IsOf longest path (closed_value digest false path value links last)
+  closed_kind full path value [] digests kind part = subst (λ (k : List Bool). IsOf longest k last) (sym part.chain) kind
   closed_kind full path value (link ∷ links) digests kind part =
       let next = part_link full path value link links part in
-      let became = closed_value format digest false link.path link.taken links last in
-      subst (IsOf format path) (sym (closed_is path value link links next))
-      (IsOf-with_side format path next.node next.on (Some (pointer_to format digest link.path became))
-      (subst (IsOf format path) next.is_node part.kind)
-      (record { below = is_prefix-side path link.path next.on next.fits.below; fits = length-kind format link.path link.taken next.kind; digest = digests _ }))
+      let became = closed_value digest false link.path link.taken links last in
+      subst (IsOf longest path) (sym (closed_is path value link links next))
+      (IsOf-with_side longest path next.node next.on (Some (pointer_to digest link.path became))
+      (subst (IsOf longest path) next.is_node part.kind)
+      (record { below = is_prefix-side path link.path next.on next.fits.below; fits = length-kind longest link.path link.taken next.kind; digest = digests _ }))
 
   -- ---- the chain in the records
 
-  stands : (full : Tree) (path : List Bool) (value : Value) (links : List Link) → IsOf format path value → AreOf tree value
-      → IsChain format tree key path value links
-      → full path ≡ Some (closed_value format digest false path value links last)
-      → ((k : List Bool) (on : Bool) → side path k ≡ Some on → full k ≡ closed_records format digest false base links last k)
+  stands : (full : Tree) (path : List Bool) (value : Value) (links : List Link) → IsOf longest path value → AreOf tree value
+      → IsChain tree key path value links
+      → full path ≡ Some (closed_value digest false path value links last)
+      → ((k : List Bool) (on : Bool) → side path k ≡ Some on → full k ≡ closed_records digest false base links last k)
       → Stands full path value links
   stands full path value [] kind known chain here agrees = here
   stands full path value (link ∷ links) kind known chain here agrees =
-      let next = next_fits format digest tree key lead path value link kind known chain.0 in
-      let became = closed_value format digest false link.path link.taken links last in (
+      let next = next_fits longest digest tree key lead path value link kind known chain.0 in
+      let became = closed_value digest false link.path link.taken links last in (
         here,
         stands full link.path link.taken links next.kind next.known chain.1
             (agrees link.path next.on next.fits.below
-            ∙ ap (λ (b : Bool). if b then Some became else closed_records format digest false base links last link.path) (same_path-self link.path))
+            ∙ ap (λ (b : Bool). if b then Some became else closed_records digest false base links last link.path) (same_path-self link.path))
             (λ k on below. agrees k next.on (side-trans path link.path k next.on on next.fits.below below)
-            ∙ ap (λ (b : Bool). if b then Some became else closed_records format digest false base links last k)
+            ∙ ap (λ (b : Bool). if b then Some became else closed_records digest false base links last k)
             (same_path-apart k link.path (below_apart link.path k on below))),
       )
 
@@ -205,7 +204,7 @@ module _ (format : Format) (digest : Digest) (tree base : Tree) (frontier : List
 
   -- a path is one of the links, or is kept as before
   find : (full : Tree) (k path : List Bool) (value : Value) (links : List Link) → IsPart full path value links
-      → Part full k ⊎ (closed_records format digest false base links last k ≡ base k)
+      → Part full k ⊎ (closed_records digest false base links last k ≡ base k)
   find full k path value [] part = inr refl
   find full k path value (link ∷ links) part = go (same_path k link.path) refl (find full k link.path link.taken links next)
     where
@@ -213,17 +212,17 @@ module _ (format : Format) (digest : Digest) (tree base : Tree) (frontier : List
       next = part_next full path value link links part
 
       became : Value
-      became = closed_value format digest false link.path link.taken links last
+      became = closed_value digest false link.path link.taken links last
 
-      go : (b : Bool) → same_path k link.path ≡ b → Part full k ⊎ (closed_records format digest false base links last k ≡ base k)
-          → Part full k ⊎ (closed_records format digest false base (link ∷ links) last k ≡ base k)
+      go : (b : Bool) → same_path k link.path ≡ b → Part full k ⊎ (closed_records digest false base links last k ≡ base k)
+          → Part full k ⊎ (closed_records digest false base (link ∷ links) last k ≡ base k)
       go true same rest =
           inl (subst (Part full) (sym (same_path-true k link.path same)) (record { value = link.taken; links = links; is = next }))
       go false apart (inl found) = inl found
       go false apart (inr kept) =
-          inr (ap (λ (b : Bool). if b then Some became else closed_records format digest false base links last k) apart ∙ kept)
+          inr (ap (λ (b : Bool). if b then Some became else closed_records digest false base links last k) apart ∙ kept)
 
-  module _ (links : List Link) (chain : IsChain format tree key frontier top links) (kind : IsOf format frontier top)
+  module _ (links : List Link) (chain : IsChain tree key frontier top links) (kind : IsOf longest frontier top)
       (is_top : (k : List Bool) → tree k ≡ with_record base frontier top k) where
     -- the records afterwards
     abbrev pub full : Tree
@@ -242,29 +241,29 @@ module _ (format : Format) (digest : Digest) (tree base : Tree) (frontier : List
       kind = kind;
       known = top_known;
       stands = stands full frontier top links kind top_known chain
-          (ap (λ (b : Bool). if b then Some became else closed_records format digest false base links last frontier) (same_path-self frontier))
-          (λ k on below. ap (λ (b : Bool). if b then Some became else closed_records format digest false base links last k)
+          (ap (λ (b : Bool). if b then Some became else closed_records digest false base links last frontier) (same_path-self frontier))
+          (λ k on below. ap (λ (b : Bool). if b then Some became else closed_records digest false base links last k)
           (same_path-apart k frontier (below_apart frontier k on below)));
       reached = at_start;
     }
       where
         became : Value
-        became = closed_value format digest false frontier top links last
+        became = closed_value digest false frontier top links last
 
     -- each path is one of the chain, or has its record as before
     pub classify : (k : List Bool) → Part full k ⊎ (full k ≡ tree k)
     classify k = go (same_path k frontier) refl (find full k frontier top links first_part)
       where
         became : Value
-        became = closed_value format digest false frontier top links last
+        became = closed_value digest false frontier top links last
 
-        go : (b : Bool) → same_path k frontier ≡ b → Part full k ⊎ (closed_records format digest false base links last k ≡ base k)
+        go : (b : Bool) → same_path k frontier ≡ b → Part full k ⊎ (closed_records digest false base links last k ≡ base k)
             → Part full k ⊎ (full k ≡ tree k)
         go true same rest =
             inl (subst (Part full) (sym (same_path-true k frontier same)) (record { value = top; links = links; is = first_part }))
         go false apart (inl found) = inl found
         go false apart (inr kept) =
-            inr (ap (λ (b : Bool). if b then Some became else closed_records format digest false base links last k) apart
+            inr (ap (λ (b : Bool). if b then Some became else closed_records digest false base links last k) apart
             ∙ (kept ∙ sym (is_top k ∙ ap (λ (b : Bool). if b then Some top else base k) apart)))
 
     -- what doesn't begin the key has its record as before
@@ -288,7 +287,7 @@ module _ (format : Format) (digest : Digest) (tree base : Tree) (frontier : List
         further (on_chain path reached (is_prefix-trans path pointer.path key (prefix_of_side path pointer.path on here) begins))
       where
         here : side path pointer.path ≡ Some on
-        here = pointer_side format path is.value on pointer (lead.kinds path is.value is.there) is.leads
+        here = pointer_side longest path is.value on pointer (lead.kinds path is.value is.there) is.leads
 
         toward : side path key ≡ Some on
         toward = side-prefix path pointer.path key on here begins
@@ -328,10 +327,10 @@ module _ (format : Format) (digest : Digest) (tree base : Tree) (frontier : List
 
             behind : (ls : List Link) → IsPart full path at.value ls → Kept pointer
             behind [] part =
-                absurd (whole_none format path at.value on pointer part.kind (ap (λ (k : List Bool). length k) part.chain ∙ lead.whole) leads)
+                absurd (whole_none longest path at.value on pointer part.kind (ap (λ (k : List Bool). length k) part.chain ∙ lead.whole) leads)
             behind (link ∷ ls) part = turn (one_or_other on next.on)
               where
-                next : IsNext format digest tree key path at.value link
+                next : IsNext longest digest tree key path at.value link
                 next = part_link full path at.value link ls part
 
                 after : IsPart full link.path link.taken ls
@@ -366,7 +365,7 @@ module _ (format : Format) (digest : Digest) (tree base : Tree) (frontier : List
 
     -- a pointer that is there afterwards: one that closes a link, or one that was there and doesn't lead to the key
     pub data Origin (pointer : Pointer) : Type 0 where
-      closes_link : (to : List Bool) (became : Value) → pointer ≡ pointer_to format digest to became → full to ≡ Some became → Origin pointer
+      closes_link : (to : List Bool) (became : Value) → pointer ≡ pointer_to digest to became → full to ≡ Some became → Origin pointer
       was_there : (path : List Bool) (on : Bool) → IsPointerIn tree path on pointer → is_prefix pointer.path key ≡ false → Origin pointer
 
     -- each record is reached
@@ -382,7 +381,7 @@ module _ (format : Format) (digest : Digest) (tree base : Tree) (frontier : List
           where
             apart : pointer_of part.value on ≡ Some pointer → side k key ≡ Some (not on) → is_prefix pointer.path key ≡ false
             apart leads other =
-                sides_apart k pointer.path key on (not on) (pointer_side format k part.value on pointer part.is.kind leads) other (other_side on)
+                sides_apart k pointer.path key on (not on) (pointer_side longest k part.value on pointer part.is.kind leads) other (other_side on)
               where
                 other_side : (b : Bool) → b ≢ not b
                 other_side true same = false≢true (sym same)
@@ -410,18 +409,18 @@ module _ (format : Format) (digest : Digest) (tree base : Tree) (frontier : List
             not_prefix there false not_so = not_so
             not_prefix there true begins =
                 absurd (false≢true (sym apart
-                ∙ is_prefix-trans k pointer.path key (prefix_of_side k pointer.path on (pointer_side format k is.value on pointer (lead.kinds k is.value there) is.leads)) begins))
+                ∙ is_prefix-trans k pointer.path key (prefix_of_side k pointer.path on (pointer_side longest k is.value on pointer (lead.kinds k is.value there) is.leads)) begins))
 
     -- ---- mirroring
 
     pub kept_after : AreReached tree → ((side' : Bool) → pointer_of last side' ≡ None)
-        → ((path : List Bool) (on : Bool) (pointer : Pointer) → IsPointerIn tree path on pointer → pointer.deferred ≡ false → IsKept format digest tree pointer)
-        → (k : List Bool) (on : Bool) (pointer : Pointer) → IsPointerIn full k on pointer → pointer.deferred ≡ false → IsKept format digest full pointer
+        → ((path : List Bool) (on : Bool) (pointer : Pointer) → IsPointerIn tree path on pointer → pointer.deferred ≡ false → IsKept digest tree pointer)
+        → (k : List Bool) (on : Bool) (pointer : Pointer) → IsPointerIn full k on pointer → pointer.deferred ≡ false → IsKept digest full pointer
     kept_after reached bare kept k on pointer is fresh = go (origin k on pointer reached bare is)
       where
-        go : Origin pointer → IsKept format digest full pointer
+        go : Origin pointer → IsKept digest full pointer
         go (closes_link to became same there) =
-            subst (IsKept format digest full) (sym same) (record { value = became; there = there; digest_of = refl })
+            subst (IsKept digest full) (sym same) (record { value = became; there = there; digest_of = refl })
         go (was_there path side' was apart) =
             let before = kept path side' pointer was fresh in
             record { value = before.value; there = off_chain pointer.path apart ∙ before.there; digest_of = before.digest_of }
@@ -435,7 +434,7 @@ module _ (format : Format) (digest : Digest) (tree base : Tree) (frontier : List
         go (closes_link to became same there) = absurd (false≢true (ap (λ (p : Pointer). p.deferred) (sym same) ∙ deferred))
         go (was_there path side' was apart) = waits path side' pointer was deferred
 
-    pub hot_waits_after : AreReached tree → (h : List Bool) → length h ≡ path_bits format → h ≢ key → IsWaiting tree h → IsWaiting full h
+    pub hot_waits_after : AreReached tree → (h : List Bool) → IsData h → h ≢ key → IsWaiting tree h → IsWaiting full h
     hot_waits_after reached h whole cold is =
         let there = reached is.at (ap (λ (o : Option Value). is_some o) is.is.there) in
         go (kept_pointer is.at is.on is.pointer there (still_reached is.at there) is.is)
@@ -454,48 +453,48 @@ module _ (format : Format) (digest : Digest) (tree base : Tree) (frontier : List
         go (inl part) = part.is.reached
         go (inr same) = still_reached k (reached k (subst (λ (o : Option Value). IsSome o) same there))
 
-    pub kinds_after : GivesDigests digest → IsOf format key last → (k : List Bool) (value : Value) → full k ≡ Some value → IsOf format k value
+    pub kinds_after : GivesDigests digest → IsOf longest key last → (k : List Bool) (value : Value) → full k ≡ Some value → IsOf longest k value
     kinds_after digests kind_last k value there = go (classify k)
       where
-        go : Part full k ⊎ (full k ≡ tree k) → IsOf format k value
+        go : Part full k ⊎ (full k ≡ tree k) → IsOf longest k value
         go (inl part) =
-            subst (IsOf format k) (same_Some _ value (sym (part_there full k part.value part.links part.is) ∙ there))
+            subst (IsOf longest k) (same_Some _ value (sym (part_there full k part.value part.links part.is) ∙ there))
             (closed_kind full k part.value part.links digests kind_last part.is)
         go (inr same) = lead.kinds k value (sym same ∙ there)
 
   -- ---- which paths have records
 
   -- a path that had a record has one
-  pub keeps_record : (links : List Link) (k : List Bool) → IsSome (base k) → IsSome (closed_records format digest false base links last k)
+  pub keeps_record : (links : List Link) (k : List Bool) → IsSome (base k) → IsSome (closed_records digest false base links last k)
   keeps_record [] k there = there
   keeps_record (link ∷ links) k there = go (same_path k link.path) (keeps_record links k there)
     where
-      go : (b : Bool) → IsSome (closed_records format digest false base links last k)
-          → IsSome (if b then Some (closed_value format digest false link.path link.taken links last) else closed_records format digest false base links last k)
+      go : (b : Bool) → IsSome (closed_records digest false base links last k)
+          → IsSome (if b then Some (closed_value digest false link.path link.taken links last) else closed_records digest false base links last k)
       go true rest = refl
       go false rest = rest
 
   -- and so has the key
-  pub key_record : (path : List Bool) (value : Value) (links : List Link) (on : Bool) → IsOf format path value → AreOf tree value
-      → IsChain format tree key path value links → side path key ≡ Some on
-      → IsSome (closed_records format digest false base links last key)
+  pub key_record : (path : List Bool) (value : Value) (links : List Link) (on : Bool) → IsOf longest path value → AreOf tree value
+      → IsChain tree key path value links → side path key ≡ Some on
+      → IsSome (closed_records digest false base links last key)
   key_record path value [] on kind known chain below =
       absurd (none-some on (sym (ap (λ (k : List Bool). side k key) chain ∙ side-self key) ∙ below))
   key_record path value (link ∷ links) on kind known chain below =
-      let next = next_fits format digest tree key lead path value link kind known chain.0 in
+      let next = next_fits longest digest tree key lead path value link kind known chain.0 in
       key_behind link links next.begins (λ which under. key_record link.path link.taken links which next.kind next.known chain.1 under)
     where
       key_behind : (link : Link) (links : List Link) → is_prefix link.path key ≡ true
-          → ((which : Bool) → side link.path key ≡ Some which → IsSome (closed_records format digest false base links last key))
-          → IsSome (closed_records format digest false base (link ∷ links) last key)
+          → ((which : Bool) → side link.path key ≡ Some which → IsSome (closed_records digest false base links last key))
+          → IsSome (closed_records digest false base (link ∷ links) last key)
       key_behind link links begins rest = go (same_path key link.path) refl
         where
           further : same_path key link.path ≡ false → (link.path ≡ key) ⊎ ((which : Bool) × (side link.path key ≡ Some which))
-              → IsSome (closed_records format digest false base links last key)
+              → IsSome (closed_records digest false base links last key)
           further apart (inl same) = absurd (false≢true (sym apart ∙ (ap (same_path key) same ∙ same_path-self key)))
           further apart (inr under) = rest under.0 under.1
 
           go : (b : Bool) → same_path key link.path ≡ b
-              → IsSome (if b then Some (closed_value format digest false link.path link.taken links last) else closed_records format digest false base links last key)
+              → IsSome (if b then Some (closed_value digest false link.path link.taken links last) else closed_records digest false base links last key)
           go true same = refl
           go false apart = further apart (prefix_cases link.path key begins)

@@ -2,7 +2,7 @@
 use Rattle.std.proofs.Common.{◌≡◌, ℕ, suc, ◌+◌, ◌*◌, ◌<◌, ◌≤◌, Bool, true, false, List, [], ◌∷◌, ◌++◌, length, Option, Some, None, IsSome, Ok, Err, append-nil, if◌then◌else◌, refl, sym, ◌∙◌, ap, subst, inl, inr, arith}
 use Rattle.std.specs.Int.{Width, w8, w16, w32, w64, w128, byte_len}
 use Rattle.std.specs.List.{AllByRecursion}
-use Rattle.tree_keys.specs.Path.{side, IsBelow}
+use Rattle.tree_keys.specs.Path.{side, IsBelow, key_bits}
 use Rattle.tree_keys.specs.BitsLaws.{length-bits_of}
 use Rattle.lamport_clocks.specs.declared.stamp.Stamp.{Stamp}
 use Rattle.lamport_clocks.specs.Stamp.{IsLater}
@@ -13,7 +13,6 @@ use Rattle.record_text.specs.declared.element.Element.{Element}
 use Rattle.record_text.specs.declared.request.Request.{Request}
 use Rattle.record_text.specs.declared.value.Value.{Value}
 use Rattle.record_text.specs.declared.value.Value.TheVariants as values
-use Rattle.record_text.specs.Format.{Format, path_bits}
 use Rattle.record_text.specs.declared.refusal.Refusal.TheVariants as refusals
 use Rattle.log_codec.specs.declared.command.Command.{Command}
 use Rattle.verifier_cache.specs.declared.entry.Hold.TheVariants.{B}
@@ -81,8 +80,8 @@ within_between rules element left new clock told is_taken within is_left at_cloc
     inside (one ∷ more) all = (subst (IsWithin (Some element) (Some left)) (sym all.0) here, inside more all.1)
 
 -- the access of a request with this answer
-abbrev answered : Format → Request → Value → List Access
-answered format request value = record { put = request.put; path = key_path format request.key; value = value } ∷ []
+abbrev answered : Request → Value → List Access
+answered request value = record { put = request.put; path = key_path request.key; value = value } ∷ []
 
 -- an element alone
 abbrev handed_out : List Bool → Stamp → ℕ → Value → List Element
@@ -92,29 +91,29 @@ handed_out path stamp number value = record { path = path; value = value; stamp 
 
 -- along the chain, behind the frontier
 cold_way : (rules : Rules) (clock : Reading) (shard : Shard) (request : Request) (links : List Link)
-    → IsServable rules.scheme.format rules.scheme.digest shard (key_path rules.scheme.format request.key)
-    → IsChain rules.scheme.format (tree_of shard) (key_path rules.scheme.format request.key) shard.frontier shard.value links
+    → IsServable rules.scheme.longest rules.scheme.digest shard (key_path request.key)
+    → IsChain (tree_of shard) (key_path request.key) shard.frontier shard.value links
     → Visited rules shard.records shard.frontier B shard.value links clock request (last_value shard.value links)
 cold_way rules clock shard request links servable chain =
     visited rules (tree_of shard) shard.records clock request
-    (leads rules.scheme.format rules.scheme.digest shard (key_path rules.scheme.format request.key) servable) shard.frontier B shard.value links
+    (leads rules.scheme.longest rules.scheme.digest shard (key_path request.key) servable) shard.frontier B shard.value links
     (servable.fits.kinds shard.frontier shard.value (frontier_there shard)) (frontier_of shard) (frontier_based shard) chain
 
 -- there is room for it
 cold_roomy : (rules : Rules) (state : State) (shard : Shard) (request : Request) (links : List Link) → IsResting rules state (cold shard)
-    → IsServable rules.scheme.format rules.scheme.digest shard (key_path rules.scheme.format request.key)
-    → IsChain rules.scheme.format (tree_of shard) (key_path rules.scheme.format request.key) shard.frontier shard.value links
+    → IsServable rules.scheme.longest rules.scheme.digest shard (key_path request.key)
+    → IsChain (tree_of shard) (key_path request.key) shard.frontier shard.value links
     → suc (length state.cache.entries + length links) ≤ state.cache.room
 cold_roomy rules state shard request links rest servable chain =
     let few = length-bare state.cache.entries rest.bare in
-    let short = chain_length rules.scheme.format rules.scheme.digest (tree_of shard) (key_path rules.scheme.format request.key)
-    (leads rules.scheme.format rules.scheme.digest shard (key_path rules.scheme.format request.key) servable) shard.frontier shard.value links
+    let short = chain_length rules.scheme.longest rules.scheme.digest (tree_of shard) (key_path request.key)
+    (leads rules.scheme.longest rules.scheme.digest shard (key_path request.key) servable) shard.frontier shard.value links
     (servable.fits.kinds shard.frontier shard.value (frontier_there shard)) (frontier_of shard) chain in
     omega (arith, servable.fits.below_root, servable.own.whole, rest.room)
 
 cold_runs : (rules : Rules) (state : State) (shard : Shard) (after : Content) (request : Request) (plan : Plan) (later : Reading)
-    → CanTake rules state (cold shard) → IsServable rules.scheme.format rules.scheme.digest shard (key_path rules.scheme.format request.key)
-    → IsPlan rules.scheme.format rules.scheme.digest rules.number (cold shard) request state.clock plan after later
+    → CanTake rules state (cold shard) → IsServable rules.scheme.longest rules.scheme.digest shard (key_path request.key)
+    → IsPlan rules.scheme.digest rules.number (cold shard) request state.clock plan after later
     → PlanRuns rules state (cold shard) after request plan later
 cold_runs rules state shard after request plan later can servable is = record {
   told = told;
@@ -125,19 +124,19 @@ cold_runs rules state shard after request plan later can servable is = record {
   added = ap (λ (xs : List Element). pending_shard shard ∷ xs) (added_told-append way.told _ ∙ ap (λ (xs : List Element). xs ++ []) way.added);
   evicted = evicted_told-append way.told _
       ∙ (ap (λ (xs : List Element). xs ++ pending_shard left ∷ []) way.evicted
-      ∙ ap (λ (c : Content). waiting (pending format c)) (sym is.content));
+      ∙ ap (λ (c : Content). waiting (pending c)) (sym is.content));
   access = accesses_told-append way.told _
       ∙ (ap (λ (xs : List Access). xs ++ []) way.accesses
-      ∙ ap (answered format request) (sym is.answer));
+      ∙ ap (answered request) (sym is.answer));
   once = λ path. subst (λ (c : Content). IsCarried path (shard.records path) (kept_in c path) (carried path told)) (sym is.content)
       (subst (IsCarried path (shard.records path) (left.records path)) (sym (carried_way path)) (way.once path));
   own = λ path not_below. carried_way path ∙ way.outside path (not_there path not_below);
-  within = subst (λ (c : Content). AllByRecursion (λ (one : Stamp × Change). IsWithin (Some (pending_shard shard)) (pending format c) one.0) told) (sym is.content)
+  within = subst (λ (c : Content). AllByRecursion (λ (one : Stamp × Change). IsWithin (Some (pending_shard shard)) (pending c) one.0) told) (sym is.content)
       (within_between rules (pending_shard shard) (pending_shard left) new state.clock way.told can.rest.open_epoch can.counters refl way.at_clock);
 }
   where
-    format : Format
-    format = rules.scheme.format
+    longest : ℕ
+    longest = rules.scheme.longest
 
     apart : is_root shard.frontier ≡ false
     apart = not_root shard.frontier servable.fits.below_root
@@ -146,10 +145,10 @@ cold_runs rules state shard after request plan later can servable is = record {
     way = cold_way rules (taking state.clock shard.stamp) shard request is.links servable is.way
 
     new : Value
-    new = closed_value format rules.scheme.digest false shard.frontier shard.value is.links (value_after request (last_value shard.value is.links))
+    new = closed_value rules.scheme.digest false shard.frontier shard.value is.links (value_after request (last_value shard.value is.links))
 
     left : Shard
-    left = served format rules.scheme.digest rules.number shard is.links request state.clock
+    left = served rules.scheme.digest rules.number shard is.links request state.clock
 
     told : Told
     told = told_between rules (pending_shard shard) new state.clock way.told
@@ -182,22 +181,22 @@ put_or_stay false new old = refl
 
 -- at the hot key itself
 hot_end : (rules : Rules) (clock : Reading) (found : HotRecord) (request : Request) → found.key ≡ request.key
-    → IsEnd rules (key_path rules.scheme.format found.key) (values.Blob found.value) clock request B
+    → IsEnd rules (key_path found.key) (values.Blob found.value) clock request B
 hot_end rules clock found request same =
-    subst (λ (key : ℕ). IsEnd rules (key_path rules.scheme.format key) (values.Blob found.value) clock request B) (sym same)
-    (works_request rules (values.Blob found.value) clock request B (length-bits_of (path_bits rules.scheme.format) request.key))
+    subst (λ (key : ℕ). IsEnd rules (key_path key) (values.Blob found.value) clock request B) (sym same)
+    (works_request rules (values.Blob found.value) clock request B (length-bits_of key_bits request.key))
 
-hot_apart : (format : Format) (key : ℕ) → is_root (key_path format key) ≡ false
-hot_apart format key = not_root (key_path format key) (omega (arith, length-bits_of (path_bits format) key, some_bits format.word))
+hot_apart : (key : ℕ) → is_root (key_path key) ≡ false
+hot_apart key = not_root (key_path key) (omega (arith, length-bits_of key_bits key, some_bits w64))
 
 hot_roomy : (rules : Rules) (state : State) (found : HotRecord) → IsResting rules state (hot found) → suc (length state.cache.entries + 0) ≤ state.cache.room
 hot_roomy rules state found rest =
     let few = length-bare state.cache.entries rest.bare in
-    omega (arith, some_bits rules.scheme.format.word, rest.room)
+    omega (arith, some_bits w64, rest.room)
 
 hot_runs : (rules : Rules) (state : State) (found : HotRecord) (after : Content) (request : Request) (plan : Plan) (later : Reading)
     → CanTake rules state (hot found) → found.key ≡ request.key
-    → IsPlan rules.scheme.format rules.scheme.digest rules.number (hot found) request state.clock plan after later
+    → IsPlan rules.scheme.digest rules.number (hot found) request state.clock plan after later
     → PlanRuns rules state (hot found) after request plan later
 hot_runs rules state found after request plan later can same is = record {
   told = told;
@@ -208,25 +207,25 @@ hot_runs rules state found after request plan later can same is = record {
   added = ap (λ (xs : List Element). element ∷ xs) at_end.added;
   evicted = ap (λ (xs : List Element). xs ++ handed_out path (renewing state.clock found.stamp).at rules.number new) (sym (append-nil (evicted_by (change_by request path B (values.Blob found.value)))) ∙ at_end.evicted)
       ∙ (ap (handed_out path (renewing state.clock found.stamp).at rules.number) (put_or_stay request.put request.value found.value)
-      ∙ ap (λ (c : Content). waiting (pending format c)) (sym is.content));
-  access = at_end.accesses ∙ ap (answered format request) (sym is.answer);
+      ∙ ap (λ (c : Content). waiting (pending c)) (sym is.content));
+  access = at_end.accesses ∙ ap (answered request) (sym is.answer);
   once = λ k. subst (λ (c : Content). IsCarried k None (kept_in c k) (carried k told)) (sym is.content) (inl (carried_none k, refl));
   own = λ k not_below. carried_none k;
-  within = subst (λ (c : Content). AllByRecursion (λ (one : Stamp × Change). IsWithin (Some element) (pending format c) one.0) told) (sym is.content)
-      (within_between rules element (pending_hot format left) new state.clock inner can.rest.open_epoch can.counters refl (refl, tt));
+  within = subst (λ (c : Content). AllByRecursion (λ (one : Stamp × Change). IsWithin (Some element) (pending c) one.0) told) (sym is.content)
+      (within_between rules element (pending_hot left) new state.clock inner can.rest.open_epoch can.counters refl (refl, tt));
 }
   where
-    format : Format
-    format = rules.scheme.format
+    longest : ℕ
+    longest = rules.scheme.longest
 
     element : Element
-    element = pending_hot format found
+    element = pending_hot found
 
     path : List Bool
-    path = key_path format found.key
+    path = key_path found.key
 
     apart : is_root path ≡ false
-    apart = hot_apart format found.key
+    apart = hot_apart found.key
 
     at_end : IsEnd rules path (values.Blob found.value) (taking state.clock found.stamp) request B
     at_end = hot_end rules (taking state.clock found.stamp) found request same
@@ -251,8 +250,8 @@ hot_runs rules state found after request plan later can same is = record {
 
 -- The plan of a request runs.
 pub plan_runs : (rules : Rules) (state : State) (content after : Content) (request : Request) (plan : Plan) (later : Reading)
-    → CanTake rules state content → CanServe rules.scheme.format rules.scheme.digest content request.key
-    → IsPlan rules.scheme.format rules.scheme.digest rules.number content request state.clock plan after later
+    → CanTake rules state content → CanServe rules.scheme.longest rules.scheme.digest content request.key
+    → IsPlan rules.scheme.digest rules.number content request state.clock plan after later
     → PlanRuns rules state content after request plan later
 plan_runs rules state (cold shard) after request plan later can serves is = cold_runs rules state shard after request plan later can serves is
 plan_runs rules state (hot found) after request plan later can serves is = hot_runs rules state found after request plan later can serves is
@@ -260,16 +259,16 @@ plan_runs rules state vacant after request plan later can serves is = absurd ser
 
 -- Where its counters would pass the end, a request is refused for that.
 pub request_ends : (rules : Rules) (state : State) (content : Content) (request : Request) (links : List Link)
-    → IsResting rules state content → CanServe rules.scheme.format rules.scheme.digest content request.key → AreLinks rules.scheme.format content request.key links
-    → IsPastEnd content state.clock → run rules state (commands_of rules.scheme.format content links request state.clock) ≡ Err refusals.ClockEnd
+    → IsResting rules state content → CanServe rules.scheme.longest rules.scheme.digest content request.key → AreLinks content request.key links
+    → IsPastEnd content state.clock → run rules state (commands_of content links request state.clock) ≡ Err refusals.ClockEnd
 request_ends rules state (cold shard) request links rest servable way past =
     let apart = not_root shard.frontier servable.fits.below_root in
     let did = cold_way rules (taking state.clock shard.stamp) shard request links servable way in
     between_ends rules state (pending_shard shard) (length links) _ did.told _ apart (clear-bare state.cache.entries shard.frontier rest.bare apart)
     (cold_roomy rules state shard request links rest servable way) (rest.known (pending_shard shard) refl) rest.open_epoch past did.works
 request_ends rules state (hot found) request links rest same way past =
-    let apart = hot_apart rules.scheme.format found.key in
+    let apart = hot_apart found.key in
     let did = hot_end rules (taking state.clock found.stamp) found request same in
-    between_ends rules state (pending_hot rules.scheme.format found) 0 _ _ _ apart (clear-bare state.cache.entries (key_path rules.scheme.format found.key) rest.bare apart)
-    (hot_roomy rules state found rest) (rest.known (pending_hot rules.scheme.format found) refl) rest.open_epoch past did.works
+    between_ends rules state (pending_hot found) 0 _ _ _ apart (clear-bare state.cache.entries (key_path found.key) rest.bare apart)
+    (hot_roomy rules state found rest) (rest.known (pending_hot found) refl) rest.open_epoch past did.works
 request_ends rules state vacant request links rest serves way past = absurd serves

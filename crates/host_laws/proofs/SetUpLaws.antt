@@ -3,7 +3,7 @@ use Rattle.std.proofs.Common.{◌≡◌, ℕ, zero, suc, ◌+◌, ◌*◌, ◌^�
 use Rattle.std.specs.List.{AllByRecursion, flat_map}
 use Rattle.std.proofs.lemmas.List.Concat.{flat_map-append}
 use Rattle.tree_keys.specs.Bits.{number_of}
-use Rattle.tree_keys.specs.Path.{side, same_path}
+use Rattle.tree_keys.specs.Path.{side, same_path, key_bits}
 use Rattle.tree_keys.proofs.PathLaws.{same_path-apart}
 use Rattle.lamport_clocks.specs.declared.header.Header.{Header}
 use Rattle.lamport_clocks.specs.declared.stamp.Stamp.{Stamp}
@@ -13,7 +13,6 @@ use Rattle.record_text.specs.declared.value.Pointer.{Pointer}
 use Rattle.record_text.specs.declared.value.Node.{Node}
 use Rattle.record_text.specs.declared.value.Value.{Value}
 use Rattle.record_text.specs.declared.value.Value.TheVariants as values
-use Rattle.record_text.specs.Format.{Format, path_bits}
 use Rattle.record_text.specs.Value.{node_side, with_side, empty_node, initial_value}
 use Rattle.log_codec.specs.declared.command.Command.{Command}
 use Rattle.log_codec.specs.declared.command.Command.TheVariants.{AddM, EvictM}
@@ -44,8 +43,8 @@ use Rattle.host_laws.proofs.NumberLaws.{number_of-none, number_of-child, count_f
 use Rattle.host_laws.proofs.ContentsLaws.{length-child, side-child, first_contents-append, initial_is_node}
 
 -- the elements with which contents wait
-abbrev waiting_all : Format → List Content → List Element
-waiting_all format contents = flat_map (λ content. waiting (pending format content)) contents
+abbrev waiting_all : List Content → List Element
+waiting_all contents = flat_map (λ content. waiting (pending content)) contents
 
 -- the same clocks by other counts
 works_at : (rules : Rules) (depth : ℕ) (at : List Bool) (hold : Hold) (old new : Value) (first end from to start stop : ℕ) (commands : List Command) (told : Told)
@@ -74,11 +73,11 @@ module _ (scheme : Scheme) (verifiers first end : ℕ) where
   pub record IsSetUp (levels : ℕ) (parent : List Bool) (on : Bool) (node : Node) (hold : Hold) : Type 0 where
     pub told : Told
     pub works : Works rules (suc levels) parent hold (values.Node node) (first_clock first end (number_of (child parent on) * 2 ^ levels))
-        (set_up scheme.format first levels (child parent on) parent) told
-        (values.Node (with_side node on (Some (set_up_pointer scheme.format scheme.digest levels (child parent on)))))
+        (set_up first levels (child parent on) parent) told
+        (values.Node (with_side node on (Some (set_up_pointer scheme.digest levels (child parent on)))))
         (first_clock first end ((number_of (child parent on) + 1) * 2 ^ levels))
     pub added : added_told told ≡ []
-    pub evicted : evicted_told told ≡ waiting_all scheme.format (first_contents scheme.format first (paths_below levels (child parent on)))
+    pub evicted : evicted_told told ≡ waiting_all (first_contents first (paths_below levels (child parent on)))
     pub accesses : accesses_told told ≡ []
     pub new : AllByRecursion (λ (one : Stamp × Change). IsNew one.1) told
     pub apart : (k : List Bool) → length (child parent on) + levels < length k → carried k told ≡ []
@@ -88,11 +87,11 @@ module _ (scheme : Scheme) (verifiers first end : ℕ) where
       → (number_of (child parent on) + 1) * 2 ^ 0 ≤ end → IsSetUp 0 parent on node hold
   set_up_last parent on node hold none within = record {
     told = told;
-    works = works_at rules 1 parent hold (values.Node node) (values.Node (lent_node (set_up_pointer scheme.format scheme.digest 0 path))) first end
-        count (1 + count) (count * 2 ^ 0) ((count + 1) * 2 ^ 0) (set_up scheme.format first 0 path parent) told (omega arith) (omega arith)
-        (subst (λ (p : Pointer). Works rules 1 parent hold (values.Node node) clock (set_up scheme.format first 0 path parent) (told_by p) (values.Node (lent_node (deferred_pointer p))) (giving clock))
-        (fits_new-pointer scheme.format scheme.digest parent path node on below none)
-        (lends rules parent path hold node on (initial_value scheme.format path) (initial_value scheme.format path) clock fits (omega (arith, within))));
+    works = works_at rules 1 parent hold (values.Node node) (values.Node (lent_node (set_up_pointer scheme.digest 0 path))) first end
+        count (1 + count) (count * 2 ^ 0) ((count + 1) * 2 ^ 0) (set_up first 0 path parent) told (omega arith) (omega arith)
+        (subst (λ (p : Pointer). Works rules 1 parent hold (values.Node node) clock (set_up first 0 path parent) (told_by p) (values.Node (lent_node (deferred_pointer p))) (giving clock))
+        (fits_new-pointer scheme.digest parent path node on below none)
+        (lends rules parent path hold node on (initial_value path) (initial_value path) clock fits (omega (arith, within))));
     added = refl;
     evicted = refl;
     accesses = refl;
@@ -112,50 +111,50 @@ module _ (scheme : Scheme) (verifiers first end : ℕ) where
       below : side parent path ≡ Some on
       below = side-child parent on
 
-      fits : Fits scheme.format scheme.digest parent node on path (initial_value scheme.format path) (initial_value scheme.format path)
-      fits = fits_new scheme.format scheme.digest parent path node on below none
+      fits : Fits scheme.digest parent node on path (initial_value path) (initial_value path)
+      fits = fits_new scheme.digest parent path node on below none
 
       came : Change
-      came = did_add_m (new_entry parent (values.Node node) hold) (parent_of parent fits.middle hold on) (new_entry path (initial_value scheme.format path) M)
+      came = did_add_m (new_entry parent (values.Node node) hold) (parent_of parent fits.middle hold on) (new_entry path (initial_value path) M)
 
       lent_node : Pointer → Node
       lent_node pointer = with_side node on (Some pointer)
 
       told_by : Pointer → Told
-      told_by pointer = told_lent 0 parent hold node fits.middle (lending node on pointer) on path (initial_value scheme.format path) clock (giving clock)
+      told_by pointer = told_lent 0 parent hold node fits.middle (lending node on pointer) on path (initial_value path) clock (giving clock)
 
       told : Told
-      told = told_by (pointer_to scheme.format scheme.digest path (initial_value scheme.format path))
+      told = told_by (pointer_to scheme.digest path (initial_value path))
 
   -- a path above two that are set up
   set_up_above : (levels : ℕ) (parent : List Bool) (on : Bool) (node : Node) (hold : Hold) → node_side node on ≡ None
-      → length (child parent on) + suc levels < path_bits scheme.format
+      → length (child parent on) + suc levels < key_bits
       → (near : IsSetUp levels (child parent on) false empty_node M)
-      → IsSetUp levels (child parent on) true (with_side empty_node false (Some (set_up_pointer scheme.format scheme.digest levels (child (child parent on) false)))) M
+      → IsSetUp levels (child parent on) true (with_side empty_node false (Some (set_up_pointer scheme.digest levels (child (child parent on) false)))) M
       → IsSetUp (suc levels) parent on node hold
   set_up_above levels parent on node hold none short near far = record {
     told = told;
     works = subst (λ (commands : List Command). Works rules (suc (suc levels)) parent hold (values.Node node) (first_clock first end (n * 2 ^ suc levels)) (AddM path initial parent ∷ commands) told
         (values.Node left) (first_clock first end ((n + 1) * 2 ^ suc levels)))
-        (append_assoc (set_up format first levels (child path false) path) (set_up format first levels (child path true) path) (EvictM path parent ∷ []))
+        (append_assoc (set_up first levels (child path false) path) (set_up first levels (child path true) path) (EvictM path parent ∷ []))
         (descend rules (suc levels) parent path hold node on initial initial (values.Node inner) (first_clock first end (n * 2 ^ suc levels)) (first_clock first end ((n + 1) * 2 ^ suc levels)) _ both fits
-        (subst (λ (v : Value). Works rules (suc levels) path M v (first_clock first end (n * 2 ^ suc levels)) (set_up format first levels (child path false) path ++ set_up format first levels (child path true) path) both (values.Node inner) (first_clock first end ((n + 1) * 2 ^ suc levels)))
-        (sym (initial_is_node format path (omega (arith, short)))) works));
+        (subst (λ (v : Value). Works rules (suc levels) path M v (first_clock first end (n * 2 ^ suc levels)) (set_up first levels (child path false) path ++ set_up first levels (child path true) path) both (values.Node inner) (first_clock first end ((n + 1) * 2 ^ suc levels)))
+        (sym (initial_is_node path (omega (arith, short)))) works));
     added = added_told-append both last ∙ (ap (λ (xs : List Element). xs ++ []) (added_told-append near.told far.told ∙ (ap (λ (xs : List Element). xs ++ added_told far.told) near.added ∙ far.added)));
     evicted = evicted_told-append both last
         ∙ (append-nil (evicted_told both)
         ∙ (evicted_told-append near.told far.told
         ∙ (ap (λ (xs : List Element). xs ++ evicted_told far.told) near.evicted
-        ∙ (ap (λ (xs : List Element). waiting_all format (first_contents format first (paths_below levels (child path false))) ++ xs) far.evicted
-        ∙ (sym (flat_map-append (λ (content : Content). waiting (pending format content)) (first_contents format first (paths_below levels (child path false))) (first_contents format first (paths_below levels (child path true))))
-        ∙ ap (λ (contents : List Content). waiting_all format contents) (sym (first_contents-append format first (paths_below levels (child path false)) (paths_below levels (child path true)))))))));
+        ∙ (ap (λ (xs : List Element). waiting_all (first_contents first (paths_below levels (child path false))) ++ xs) far.evicted
+        ∙ (sym (flat_map-append (λ (content : Content). waiting (pending content)) (first_contents first (paths_below levels (child path false))) (first_contents first (paths_below levels (child path true))))
+        ∙ ap (λ (contents : List Content). waiting_all contents) (sym (first_contents-append first (paths_below levels (child path false)) (paths_below levels (child path true)))))))));
     accesses = accesses_told-append both last ∙ (ap (λ (xs : List _). xs ++ []) (accesses_told-append near.told far.told ∙ (ap (λ (xs : List _). xs ++ accesses_told far.told) near.accesses ∙ far.accesses)));
     new = (is_new parent path node hold on below none, all-append (λ (one : Stamp × Change). IsNew one.1) both last (all-append (λ (one : Stamp × Change). IsNew one.1) near.told far.told near.new far.new) (tt, tt));
     apart = apart;
   }
     where
-      format : Format
-      format = scheme.format
+      longest : ℕ
+      longest = scheme.longest
 
       path : List Bool
       path = child parent on
@@ -164,19 +163,19 @@ module _ (scheme : Scheme) (verifiers first end : ℕ) where
       n = number_of path
 
       initial : Value
-      initial = initial_value format path
+      initial = initial_value path
 
       below : side parent path ≡ Some on
       below = side-child parent on
 
-      fits : Fits format scheme.digest parent node on path initial initial
-      fits = fits_new format scheme.digest parent path node on below none
+      fits : Fits scheme.digest parent node on path initial initial
+      fits = fits_new scheme.digest parent path node on below none
 
       inner : Node
-      inner = record { side0 = Some (set_up_pointer format scheme.digest levels (child path false)); side1 = Some (set_up_pointer format scheme.digest levels (child path true)) }
+      inner = record { side0 = Some (set_up_pointer scheme.digest levels (child path false)); side1 = Some (set_up_pointer scheme.digest levels (child path true)) }
 
       left : Node
-      left = pointing format scheme.digest node on path (values.Node inner)
+      left = pointing scheme.digest node on path (values.Node inner)
 
       both : Told
       both = near.told ++ far.told
@@ -194,7 +193,7 @@ module _ (scheme : Scheme) (verifiers first end : ℕ) where
       two = number_of-child path true
 
       works : Works rules (suc levels) path M (values.Node empty_node) (first_clock first end (n * 2 ^ suc levels))
-          (set_up format first levels (child path false) path ++ set_up format first levels (child path true) path) both (values.Node inner) (first_clock first end ((n + 1) * 2 ^ suc levels))
+          (set_up first levels (child path false) path ++ set_up first levels (child path true) path) both (values.Node inner) (first_clock first end ((n + 1) * 2 ^ suc levels))
       works =
           works-append rules (suc levels) path M (values.Node empty_node) _ (values.Node inner) _ (first_clock first end (number_of (child path true) * 2 ^ levels)) _ _ _ near.told far.told
           (works_at rules (suc levels) path M (values.Node empty_node) _ first end _ _ (n * 2 ^ suc levels) (number_of (child path true) * 2 ^ levels) _ near.told
@@ -212,7 +211,7 @@ module _ (scheme : Scheme) (verifiers first end : ℕ) where
           ∙ far.apart k (omega (arith, longer, length-child path true))))
 
   pub is_set_up : (levels : ℕ) (parent : List Bool) (on : Bool) (node : Node) (hold : Hold) → node_side node on ≡ None
-      → length (child parent on) + levels < path_bits scheme.format → (number_of (child parent on) + 1) * 2 ^ levels ≤ end → IsSetUp levels parent on node hold
+      → length (child parent on) + levels < key_bits → (number_of (child parent on) + 1) * 2 ^ levels ≤ end → IsSetUp levels parent on node hold
   is_set_up zero parent on node hold none short within = set_up_last parent on node hold none within
   is_set_up (suc levels) parent on node hold none short within =
       let path : List Bool = child parent on in
@@ -222,23 +221,23 @@ module _ (scheme : Scheme) (verifiers first end : ℕ) where
       let last = count_last (number_of path) (number_of (child path true)) (2 ^ levels) levels two refl in
       set_up_above levels parent on node hold none short
       (is_set_up levels path false empty_node M refl (omega (arith, length-child path false, short)) (omega (arith, middle, last, within)))
-      (is_set_up levels path true (with_side empty_node false (Some (set_up_pointer scheme.format scheme.digest levels (child path false)))) M refl
+      (is_set_up levels path true (with_side empty_node false (Some (set_up_pointer scheme.digest levels (child path false)))) M refl
       (omega (arith, length-child path true, short)) (omega (arith, last, within)))
 
 -- the values that come in are of their paths' kinds
-set_up_typed : (format : Format) (first levels : ℕ) (path parent : List Bool) → length path + levels < path_bits format
-    → AllByRecursion (IsTyped format) (set_up format first levels path parent)
-set_up_typed format first zero path parent short = (initial_node format path (omega (arith, short)), (tt, tt))
-set_up_typed format first (suc levels) path parent short = (
-  initial_node format path (omega (arith, short)),
-  all-append (IsTyped format) (set_up format first levels (child path false) path) _
-      (set_up_typed format first levels (child path false) path (omega (arith, length-child path false, short)))
-      (all-append (IsTyped format) (set_up format first levels (child path true) path) (EvictM path parent ∷ [])
-      (set_up_typed format first levels (child path true) path (omega (arith, length-child path true, short))) (tt, tt)),
+set_up_typed : (longest : ℕ) (first levels : ℕ) (path parent : List Bool) → length path + levels < key_bits
+    → AllByRecursion (IsTyped longest) (set_up first levels path parent)
+set_up_typed longest first zero path parent short = (initial_node longest path (omega (arith, short)), (tt, tt))
+set_up_typed longest first (suc levels) path parent short = (
+  initial_node longest path (omega (arith, short)),
+  all-append (IsTyped longest) (set_up first levels (child path false) path) _
+      (set_up_typed longest first levels (child path false) path (omega (arith, length-child path false, short)))
+      (all-append (IsTyped longest) (set_up first levels (child path true) path) (EvictM path parent ∷ [])
+      (set_up_typed longest first levels (child path true) path (omega (arith, length-child path true, short))) (tt, tt)),
 )
 
 -- The setup runs.
-pub setup_runs : (scheme : Scheme) (header : Header) (bits : ℕ) → CanSetUp scheme.format header bits → SetupRuns scheme header bits
+pub setup_runs : (scheme : Scheme) (header : Header) (bits : ℕ) → CanSetUp header bits → SetupRuns scheme header bits
 setup_runs scheme header zero can = absurd (omega (arith, can.some))
 setup_runs scheme header (suc levels) can = record {
   told = told;
@@ -246,21 +245,21 @@ setup_runs scheme header (suc levels) can = record {
   added = added_told-append near.told far.told ∙ (ap (λ (xs : List Element). xs ++ added_told far.told) near.added ∙ far.added);
   evicted = evicted_told-append near.told far.told
       ∙ (ap (λ (xs : List Element). xs ++ evicted_told far.told) near.evicted
-      ∙ (ap (λ (xs : List Element). waiting_all format (first_contents format first (paths_below levels (child [] false))) ++ xs) far.evicted
-      ∙ (sym (flat_map-append (λ (content : Content). waiting (pending format content)) (first_contents format first (paths_below levels (child [] false))) (first_contents format first (paths_below levels (child [] true))))
-      ∙ ap (λ (contents : List Content). waiting_all format contents) (sym (first_contents-append format first (paths_below levels (child [] false)) (paths_below levels (child [] true)))))));
+      ∙ (ap (λ (xs : List Element). waiting_all (first_contents first (paths_below levels (child [] false))) ++ xs) far.evicted
+      ∙ (sym (flat_map-append (λ (content : Content). waiting (pending content)) (first_contents first (paths_below levels (child [] false))) (first_contents first (paths_below levels (child [] true))))
+      ∙ ap (λ (contents : List Content). waiting_all contents) (sym (first_contents-append first (paths_below levels (child [] false)) (paths_below levels (child [] true)))))));
   accesses = accesses_told-append near.told far.told ∙ (ap (λ (xs : List _). xs ++ accesses_told far.told) near.accesses ∙ far.accesses);
   new = all-append (λ (one : Stamp × Change). IsNew one.1) near.told far.told near.new far.new;
   apart = λ k longer. carried-append k near.told far.told
       ∙ (ap (λ (changes : List Change). changes ++ carried k far.told) (near.apart k (omega (arith, longer)))
       ∙ far.apart k (omega (arith, longer)));
-  typed = all-append (IsTyped format) (set_up format first levels (child [] false) []) _
-      (set_up_typed format first levels (child [] false) [] (omega (arith, can.short)))
-      (set_up_typed format first levels (child [] true) [] (omega (arith, can.short)));
+  typed = all-append (IsTyped longest) (set_up first levels (child [] false) []) _
+      (set_up_typed longest first levels (child [] false) [] (omega (arith, can.short)))
+      (set_up_typed longest first levels (child [] true) [] (omega (arith, can.short)));
 }
   where
-    format : Format
-    format = scheme.format
+    longest : ℕ
+    longest = scheme.longest
 
     first : ℕ
     first = header.first
@@ -278,18 +277,18 @@ setup_runs scheme header (suc levels) can = record {
     near = is_set_up scheme header.verifiers first header.end levels [] false empty_node Root refl (omega (arith, can.short))
         (subst (λ (n : ℕ). (n + 1) * 2 ^ levels ≤ header.end) (sym one) (omega (arith, can.counters)))
 
-    far : IsSetUp scheme header.verifiers first header.end levels [] true (with_side empty_node false (Some (set_up_pointer format scheme.digest levels (child [] false)))) Root
-    far = is_set_up scheme header.verifiers first header.end levels [] true (with_side empty_node false (Some (set_up_pointer format scheme.digest levels (child [] false)))) Root refl (omega (arith, can.short))
+    far : IsSetUp scheme header.verifiers first header.end levels [] true (with_side empty_node false (Some (set_up_pointer scheme.digest levels (child [] false)))) Root
+    far = is_set_up scheme header.verifiers first header.end levels [] true (with_side empty_node false (Some (set_up_pointer scheme.digest levels (child [] false)))) Root refl (omega (arith, can.short))
         (subst (λ (n : ℕ). (n + 1) * 2 ^ levels ≤ header.end) (sym two) (omega (arith, can.counters)))
 
     told : Told
     told = near.told ++ far.told
 
-    works : Works rules (suc levels) [] Root (values.Node empty_node) (first_clock first header.end 0) (setup_commands format first (suc levels)) told
-        (values.Node (set_up_root format scheme.digest (suc levels))) (first_clock first header.end (2 ^ suc levels))
+    works : Works rules (suc levels) [] Root (values.Node empty_node) (first_clock first header.end 0) (setup_commands first (suc levels)) told
+        (values.Node (set_up_root scheme.digest (suc levels))) (first_clock first header.end (2 ^ suc levels))
     works =
-        works-append rules (suc levels) [] Root (values.Node empty_node) _ (values.Node (set_up_root format scheme.digest (suc levels))) _ (first_clock first header.end (1 * 2 ^ levels)) _ _ _ near.told far.told
+        works-append rules (suc levels) [] Root (values.Node empty_node) _ (values.Node (set_up_root scheme.digest (suc levels))) _ (first_clock first header.end (1 * 2 ^ levels)) _ _ _ near.told far.told
         (works_at rules (suc levels) [] Root (values.Node empty_node) _ first header.end _ _ 0 (1 * 2 ^ levels) _ near.told
         (ap (λ (n : ℕ). n * 2 ^ levels) one ∙ omega arith) (ap (λ (n : ℕ). (n + 1) * 2 ^ levels) one) near.works)
-        (works_at rules (suc levels) [] Root _ (values.Node (set_up_root format scheme.digest (suc levels))) first header.end _ _ (1 * 2 ^ levels) (2 ^ suc levels) _ far.told
+        (works_at rules (suc levels) [] Root _ (values.Node (set_up_root scheme.digest (suc levels))) first header.end _ _ (1 * 2 ^ levels) (2 ^ suc levels) _ far.told
         (ap (λ (n : ℕ). n * 2 ^ levels) two) (ap (λ (n : ℕ). (n + 1) * 2 ^ levels) two ∙ omega arith) far.works)

@@ -1,6 +1,6 @@
 -- A request along its chain: its commands work behind the entry at the chain's head, and each path of the chain comes
 -- into the cache once and leaves it once.
-use Rattle.std.proofs.Common.{◌≡◌, suc, Bool, true, false, List, [], ◌∷◌, ◌++◌, length, Option, Some, None, append-nil, if◌then◌else◌, refl, sym, ◌∙◌, ap, subst, inl, inr}
+use Rattle.std.proofs.Common.{ℕ, ◌≡◌, suc, Bool, true, false, List, [], ◌∷◌, ◌++◌, length, Option, Some, None, append-nil, if◌then◌else◌, refl, sym, ◌∙◌, ap, subst, inl, inr}
 use Rattle.std.specs.List.{AllByRecursion}
 use Rattle.std.proofs.lemmas.Bool.{false≢true}
 use Rattle.std.proofs.lemmas.Option.{none-some}
@@ -13,7 +13,6 @@ use Rattle.record_text.specs.declared.request.Request.{Request}
 use Rattle.record_text.specs.declared.value.Node.{Node}
 use Rattle.record_text.specs.declared.value.Value.{Value}
 use Rattle.record_text.specs.declared.value.Value.TheVariants as values
-use Rattle.record_text.specs.Format.{Format}
 use Rattle.record_text.specs.Value.{IsOf}
 use Rattle.merkle_records.specs.Merkle.{Digest, pointing, pointer_to}
 use Rattle.verifier_cache.specs.declared.entry.Hold.{Hold}
@@ -42,15 +41,15 @@ use Rattle.host_laws.proofs.ChainLaws.{LeadTo, AreOf, IsNext, next_fits}
 pub record Visited (rules : Rules) (base : Tree) (at : List Bool) (hold : Hold) (value : Value) (links : List Link)
     (clock : Reading) (request : Request) (found : Value) : Type 0 where
   pub told : Told
-  pub works : Works rules (length links) at hold value clock (visit at links (command_of rules.scheme.format request found ∷ [])) told
-      (closed_value rules.scheme.format rules.scheme.digest false at value links (value_after request found)) clock
+  pub works : Works rules (length links) at hold value clock (visit at links (command_of request found ∷ [])) told
+      (closed_value rules.scheme.digest false at value links (value_after request found)) clock
   pub added : added_told told ≡ []
   pub evicted : evicted_told told ≡ []
-  pub accesses : accesses_told told ≡ access_by rules.scheme.format request found ∷ []
+  pub accesses : accesses_told told ≡ access_by request found ∷ []
   pub at_clock : AllByRecursion (λ (one : Stamp × Change). one.0 ≡ clock.at) told
   pub outside : (path : List Bool) → side at path ≡ None → carried path told ≡ []
   pub once : (path : List Bool) → IsCarried path (base path)
-      (closed_records rules.scheme.format rules.scheme.digest false base links (value_after request found) path) (carried path told)
+      (closed_records rules.scheme.digest false base links (value_after request found) path) (carried path told)
 
 -- ---- one link more
 
@@ -87,16 +86,16 @@ carried_link-own at hold node middle left on path taken last clock told none =
     evict = did_evict_m (parent_of at middle hold on) (new_entry at (values.Node left) hold) (new_entry path last M)
 
 module _ (rules : Rules) (tree base : Tree) (clock : Reading) (request : Request)
-    (lead : LeadTo rules.scheme.format rules.scheme.digest tree (key_path rules.scheme.format request.key)) where
+    (lead : LeadTo rules.scheme.longest rules.scheme.digest tree (key_path request.key)) where
   -- the format, and the path of the key
-  abbrev format : Format
-  format = rules.scheme.format
+  abbrev longest : ℕ
+  longest = rules.scheme.longest
 
   abbrev digest : Digest
   digest = rules.scheme.digest
 
   abbrev key : List Bool
-  key = key_path rules.scheme.format request.key
+  key = key_path request.key
 
   -- below this path the records are those of the tree
   abbrev pub IsBased : List Bool → Type 0
@@ -117,13 +116,13 @@ module _ (rules : Rules) (tree base : Tree) (clock : Reading) (request : Request
       }
 
   visited_link : (at : List Bool) (hold : Hold) (link : Link) (links : List Link) (value found : Value) → IsBased at
-      → (next : IsNext format digest tree key at value link)
+      → (next : IsNext longest digest tree key at value link)
       → Visited rules base link.path M link.taken links clock request found
       → Visited rules base at hold (values.Node next.node) (link ∷ links) clock request found
   visited_link at hold link links value found based next rest = record {
     told = told;
-    works = subst (λ (v : Value). Works rules (suc (length links)) at hold (values.Node next.node) clock (visit at (link ∷ links) (command_of format request found ∷ [])) told v clock)
-        (sym (ap (λ (s : Option Bool). aimed_on next.node (pointer_to format digest link.path became) s) next.fits.below))
+    works = subst (λ (v : Value). Works rules (suc (length links)) at hold (values.Node next.node) clock (visit at (link ∷ links) (command_of request found ∷ [])) told v clock)
+        (sym (ap (λ (s : Option Bool). aimed_on next.node (pointer_to digest link.path became) s) next.fits.below))
         (descend rules (length links) at link.path hold next.node next.on link.value link.taken became clock clock _ rest.told next.fits rest.works);
     added = added_told-append rest.told _ ∙ ap (λ (xs : List _). xs ++ []) rest.added;
     evicted = evicted_told-append rest.told _ ∙ ap (λ (xs : List _). xs ++ []) rest.evicted;
@@ -134,10 +133,10 @@ module _ (rules : Rules) (tree base : Tree) (clock : Reading) (request : Request
   }
     where
       became : Value
-      became = closed_value format digest false link.path link.taken links (value_after request found)
+      became = closed_value digest false link.path link.taken links (value_after request found)
 
       left : Node
-      left = pointing format digest next.node next.on link.path became
+      left = pointing digest next.node next.on link.path became
 
       told : Told
       told = told_visit at hold next.node next.fits.middle next.on link.path link.taken became left clock rest.told clock
@@ -157,7 +156,7 @@ module _ (rules : Rules) (tree base : Tree) (clock : Reading) (request : Request
           sym (based link.path next.on next.fits.below)
           ∙ next.brought (sym (ap (λ (s : Option Bool). is_known (above_on s (Some next.node)) link.path) next.fits.below) ∙ is)
 
-      own : IsVisited link.path (base link.path) (closed_records format digest false base (link ∷ links) (value_after request found) link.path) (carried link.path told)
+      own : IsVisited link.path (base link.path) (closed_records digest false base (link ∷ links) (value_after request found) link.path) (carried link.path told)
       own = record {
         parent = new_entry at (values.Node next.node) hold;
         between = parent_of at next.fits.middle hold next.on;
@@ -169,35 +168,35 @@ module _ (rules : Rules) (tree base : Tree) (clock : Reading) (request : Request
         child_path = refl;
         gone_path = refl;
         brought = brought;
-        kept = ap (λ (b : Bool). if b then Some became else closed_records format digest false base links (value_after request found) link.path) (same_path-self link.path);
+        kept = ap (λ (b : Bool). if b then Some became else closed_records digest false base links (value_after request found) link.path) (same_path-self link.path);
       }
 
-      once : (path : List Bool) → IsCarried path (base path) (closed_records format digest false base (link ∷ links) (value_after request found) path) (carried path told)
+      once : (path : List Bool) → IsCarried path (base path) (closed_records digest false base (link ∷ links) (value_after request found) path) (carried path told)
       once path = go (same_path link.path path) refl
         where
           go : (b : Bool) → same_path link.path path ≡ b
-              → IsCarried path (base path) (closed_records format digest false base (link ∷ links) (value_after request found) path) (carried path told)
+              → IsCarried path (base path) (closed_records digest false base (link ∷ links) (value_after request found) path) (carried path told)
           go true same =
-              subst (λ (k : List Bool). IsCarried k (base k) (closed_records format digest false base (link ∷ links) (value_after request found) k) (carried k told))
+              subst (λ (k : List Bool). IsCarried k (base k) (closed_records digest false base (link ∷ links) (value_after request found) k) (carried k told))
               (same_path-true link.path path same) (inr own)
           go false apart =
-              subst (λ (changes : List Change). IsCarried path (base path) (closed_records format digest false base (link ∷ links) (value_after request found) path) changes)
+              subst (λ (changes : List Change). IsCarried path (base path) (closed_records digest false base (link ∷ links) (value_after request found) path) changes)
               (sym (carried_link-other at hold next.node next.fits.middle left next.on link.path path link.taken became clock clock rest.told apart))
               (subst (λ (after : Option Value). IsCarried path (base path) after (carried path rest.told))
-              (sym (ap (λ (b : Bool). if b then Some became else closed_records format digest false base links (value_after request found) path) other))
+              (sym (ap (λ (b : Bool). if b then Some became else closed_records digest false base links (value_after request found) path) other))
               (rest.once path))
             where
               other : same_path path link.path ≡ false
               other = same_path-apart path link.path (λ same. false≢true (sym apart ∙ (ap (same_path link.path) same ∙ same_path-self link.path)))
 
   -- A request works along its chain.
-  pub visited : (at : List Bool) (hold : Hold) (value : Value) (links : List Link) → IsOf format at value → AreOf tree value → IsBased at
-      → IsChain format tree key at value links
+  pub visited : (at : List Bool) (hold : Hold) (value : Value) (links : List Link) → IsOf longest at value → AreOf tree value → IsBased at
+      → IsChain tree key at value links
       → Visited rules base at hold value links clock request (last_value value links)
   visited at hold value [] kind known based chain =
       subst (λ (k : List Bool). Visited rules base k hold value [] clock request value) (sym chain) (visited_end hold value)
   visited at hold value (link ∷ links) kind known based chain =
-      let next = next_fits format digest tree key lead at value link kind known chain.0 in
+      let next = next_fits longest digest tree key lead at value link kind known chain.0 in
       let rest = visited link.path M link.taken links next.kind next.known
       (λ k on below. based k next.on (side-trans at link.path k next.on on next.fits.below below)) chain.1 in
       subst (λ (v : Value). Visited rules base at hold v (link ∷ links) clock request (last_value link.taken links)) (sym next.is_node)

@@ -12,7 +12,6 @@ use Rattle.record_text.specs.declared.value.Node.{Node}
 use Rattle.record_text.specs.declared.value.Value.{Value}
 use Rattle.record_text.specs.declared.value.Value.TheVariants as values
 use Rattle.record_text.specs.declared.refusal.Refusal.TheVariants as refusals
-use Rattle.record_text.specs.Format.{Format}
 use Rattle.log_codec.specs.declared.command.Command.{Command}
 use Rattle.log_codec.specs.declared.command.Command.TheVariants.{AddM, EvictM, EvictBM}
 use Rattle.merkle_records.specs.Merkle.{Digest, pointing}
@@ -88,7 +87,7 @@ clear-below at path on front entry below is clear k begins =
 
 -- the child comes in
 comes : (rules : Rules) (at path : List Bool) (hold : Hold) (node : Node) (on : Bool) (value taken : Value) (clock : Reading)
-    (front : List Entry) (room : ℕ) → (fits : Fits rules.scheme.format rules.scheme.digest at node on path value taken)
+    (front : List Entry) (room : ℕ) → (fits : Fits rules.scheme.digest at node on path value taken)
     → IsClear at front → suc (suc (length front)) ≤ room
     → transition rules (standing front room clock (new_entry at (values.Node node) hold)) (AddM path value at)
     ≡ Ok (
@@ -101,7 +100,7 @@ comes rules at path hold node on value taken clock front room fits clear roomy =
     (ap (λ (o : Option Entry). is_some o) (clear-below at path on front before fits.below refl clear path (is_prefix-self path)))
     (test-passed (is_full (standing front room clock before)) refusals.CacheFull _ _ full
     (need-there (entry_of at (front ++ before ∷ [])) refusals.ParentNotCached _ _ before (entry_of-last front before here)
-    (and_then-there (add_under rules.scheme.format rules.scheme.digest before path value) _ _ _ (fits.added hold)
+    (and_then-there (add_under rules.scheme.digest before path value) _ _ _ (fits.added hold)
     (ap (λ (entries : List Entry). Ok (did_add_m before parent child, with_entries (standing front room clock before) (entries ++ child ∷ [])))
     (replaced-last front before parent here (same_path-self at)))))))
   where
@@ -165,9 +164,9 @@ told_visit at hold node middle on path taken last left clock told after =
 -- Commands that work behind a child work behind its parent, between the add and the evict of the child.
 pub descend : (rules : Rules) (depth : ℕ) (at path : List Bool) (hold : Hold) (node : Node) (on : Bool) (value taken last : Value)
     (clock after : Reading) (inner : List Command) (told : Told)
-    → (fits : Fits rules.scheme.format rules.scheme.digest at node on path value taken)
+    → (fits : Fits rules.scheme.digest at node on path value taken)
     → Works rules depth path M taken clock inner told last after
-    → let left = pointing rules.scheme.format rules.scheme.digest node on path last in
+    → let left = pointing rules.scheme.digest node on path last in
     Works rules (suc depth) at hold (values.Node node) clock (AddM path value at ∷ (inner ++ EvictM path at ∷ []))
     (told_visit at hold node fits.middle on path taken last left clock told after) (values.Node left) after
 descend rules depth at path hold node on value taken last clock after inner told fits works front room clear roomy =
@@ -177,8 +176,8 @@ descend rules depth at path hold node on value taken last clock after inner told
     (works (front ++ parent ∷ []) room (clear-below at path on front parent fits.below refl clear) inside)
     (run-one rules _ (EvictM path at) _ (standing front room after later) evicted))
   where
-    format : Format
-    format = rules.scheme.format
+    longest : ℕ
+    longest = rules.scheme.longest
 
     digest : Digest
     digest = rules.scheme.digest
@@ -190,13 +189,13 @@ descend rules depth at path hold node on value taken last clock after inner told
     gone = new_entry path last M
 
     later : Entry
-    later = new_entry at (values.Node (pointing format digest node on path last)) hold
+    later = new_entry at (values.Node (pointing digest node on path last)) hold
 
     inside : suc (length (front ++ parent ∷ []) + depth) ≤ room
     inside = omega (arith, length-append front (parent ∷ []))
 
-    both : Family at path hold on fits.middle (pointing format digest node on path last) last front
-    both = family at path hold on fits.middle (pointing format digest node on path last) last front fits.below clear
+    both : Family at path hold on fits.middle (pointing digest node on path last) last front
+    both = family at path hold on fits.middle (pointing digest node on path last) last front fits.below clear
 
     evicted : transition rules (standing (front ++ parent ∷ []) room after gone) (EvictM path at)
         ≡ Ok (did_evict_m parent later gone, standing front room after later)
@@ -204,7 +203,7 @@ descend rules depth at path hold node on value taken last clock after inner told
         test-passed (is_root path) refusals.IsRoot _ _ (not_root at path on fits.below)
         (need-there (entry_of path ((front ++ parent ∷ []) ++ gone ∷ [])) refusals.NotCached _ _ gone both.child_there
         (need-there (entry_of at ((front ++ parent ∷ []) ++ gone ∷ [])) refusals.ParentNotCached _ _ parent both.parent_there
-        (and_then-there (evict_under format digest parent gone) _ _ later (leaves format digest at node on path value taken last hold fits)
+        (and_then-there (evict_under digest parent gone) _ _ later (leaves digest at node on path value taken last hold fits)
         (ap (λ (entries : List Entry). Ok (did_evict_m parent later gone, with_entries (standing (front ++ parent ∷ []) room after gone) entries)) both.gone))))
 
 -- ---- a child that comes and is lent
@@ -218,7 +217,7 @@ told_lent number at hold node middle left on path taken clock later =
 
 -- A child comes in by its digest and is handed out with the next counter.
 pub lends : (rules : Rules) (at path : List Bool) (hold : Hold) (node : Node) (on : Bool) (value taken : Value) (clock : Reading)
-    → (fits : Fits rules.scheme.format rules.scheme.digest at node on path value taken)
+    → (fits : Fits rules.scheme.digest at node on path value taken)
     → (giving clock).at.counter ≤ clock.end
     → let left = lending node on fits.pointer in
     Works rules 1 at hold (values.Node node) clock (AddM path value at ∷ EvictBM path at (giving clock).at ∷ [])
@@ -249,7 +248,7 @@ lends rules at path hold node on value taken clock fits counters front room clea
         test-passed (is_root path) refusals.IsRoot _ _ (not_root at path on fits.below)
         (need-there (entry_of path ((front ++ parent ∷ []) ++ child ∷ [])) refusals.NotCached _ _ child both.child_there
         (need-there (entry_of at ((front ++ parent ∷ []) ++ child ∷ [])) refusals.ParentNotCached _ _ parent both.parent_there
-        (and_then-there (defer_under parent child) _ _ later (is_lent rules.scheme.format rules.scheme.digest at node on path value taken hold fits)
+        (and_then-there (defer_under parent child) _ _ later (is_lent rules.scheme.digest at node on path value taken hold fits)
         (timed-there (sent clock (giving clock).at) _ _ (giving clock) (sent-given clock counters)
         (ap (λ (entries : List Entry). Ok (did_evict_bm parent later child (evicted_as rules.number child (giving clock).at), at_clock (standing (front ++ parent ∷ []) room clock child) entries (giving clock)))
         both.gone)))))

@@ -1,7 +1,7 @@
 -- What a request's commands do to the verifier of its worker.
 use Rattle.std.specs.Prelude.{◌≡◌, ◌⊎◌, ℕ, ◌<◌, ◌≤◌, Bool, List, [], ◌∷◌, Option, Some, None, Ok}
 use Rattle.std.specs.List.{AllByRecursion}
-use Rattle.tree_keys.specs.Path.{IsBelow}
+use Rattle.tree_keys.specs.Path.{IsBelow, key_bits}
 use Rattle.lamport_clocks.specs.declared.stamp.Stamp.{Stamp}
 use Rattle.lamport_clocks.specs.Stamp.{IsLater}
 use Rattle.lamport_clocks.specs.Reading.{Reading}
@@ -9,7 +9,6 @@ use Rattle.record_text.specs.declared.element.Element.{Element}
 use Rattle.record_text.specs.declared.request.Request.{Request}
 use Rattle.record_text.specs.declared.value.Value.{Value}
 use Rattle.record_text.specs.declared.value.Value.TheVariants as values
-use Rattle.record_text.specs.Format.{Format, path_bits}
 use Rattle.verifier_cache.specs.declared.entry.Entry.{Entry}
 use Rattle.verifier_commands.specs.declared.state.State.{State}
 use Rattle.verifier_commands.specs.Transition.{Rules}
@@ -27,8 +26,8 @@ IsBare entries = (entries ≡ []) ⊎ ((root : Entry) × (root.path ≡ []) × (
 -- one of the verifiers and of an open epoch.
 pub record IsResting (rules : Rules) (state : State) (content : Content) : Type 0 where
   pub bare : IsBare state.cache.entries
-  pub room : path_bits rules.scheme.format < state.cache.room
-  pub known : (element : Element) → pending rules.scheme.format content ≡ Some element → element.verifier < rules.verifiers
+  pub room : key_bits < state.cache.room
+  pub known : (element : Element) → pending content ≡ Some element → element.verifier < rules.verifiers
   pub open_epoch : IsOpenAt state.clock content
 
 -- and it can, where its clock has the two counters left that this takes
@@ -64,8 +63,8 @@ IsWithin (Some before) None at = ⊥
 IsWithin (Some before) (Some after) at = IsLater at before.stamp × IsFrom after.stamp at
 
 -- the get or put of a request that was answered so
-abbrev pub access_for : Format → Request → Option (List ℕ) → Access
-access_for format request answer = record { put = request.put; path = key_path format request.key; value = values.Blob answer }
+abbrev pub access_for : Request → Option (List ℕ) → Access
+access_for request answer = record { put = request.put; path = key_path request.key; value = values.Blob answer }
 
 -- The plan of a request runs: the verifier accepts its commands, the same entries are cached afterwards, and the clock is
 -- the plan's. They add the element with which the content waited and no other, and evict that with which the content
@@ -74,9 +73,9 @@ access_for format request answer = record { put = request.put; path = key_path f
 pub record PlanRuns (rules : Rules) (state : State) (content after : Content) (request : Request) (plan : Plan) (later : Reading) : Type 0 where
   pub told : Told
   pub runs : run rules state plan.commands ≡ Ok (told, record state { clock = later })
-  pub added : added_told told ≡ waiting (pending rules.scheme.format content)
-  pub evicted : evicted_told told ≡ waiting (pending rules.scheme.format after)
-  pub access : accesses_told told ≡ access_for rules.scheme.format request plan.answer ∷ []
+  pub added : added_told told ≡ waiting (pending content)
+  pub evicted : evicted_told told ≡ waiting (pending after)
+  pub access : accesses_told told ≡ access_for request plan.answer ∷ []
   pub once : (path : List Bool) → IsCarried path (kept_in content path) (kept_in after path) (carried path told)
   pub own : (path : List Bool) → (IsOwned content path → ⊥) → carried path told ≡ []
-  pub within : AllByRecursion (λ one. IsWithin (pending rules.scheme.format content) (pending rules.scheme.format after) one.0) told
+  pub within : AllByRecursion (λ one. IsWithin (pending content) (pending after) one.0) told

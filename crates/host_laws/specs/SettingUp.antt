@@ -1,12 +1,12 @@
 -- What the setup's commands do to verifier 0, and what they leave.
 use Rattle.std.specs.Prelude.{◌≡◌, ℕ, zero, suc, ◌^◌, ◌<◌, ◌≤◌, Bool, true, false, List, [], ◌∷◌, length, Some, Ok}
 use Rattle.std.specs.List.{AllByRecursion, flat_map}
+use Rattle.tree_keys.specs.Path.{key_bits}
 use Rattle.lamport_clocks.specs.declared.header.Header.{Header}
 use Rattle.lamport_clocks.specs.Reading.{Reading}
 use Rattle.record_text.specs.declared.value.Pointer.{Pointer}
 use Rattle.record_text.specs.declared.value.Node.{Node}
 use Rattle.record_text.specs.declared.value.Value.TheVariants as values
-use Rattle.record_text.specs.Format.{Format, path_bits}
 use Rattle.record_text.specs.Value.{empty_node, initial_value}
 use Rattle.merkle_records.specs.Merkle.{Digest, pointer_to, deferred_pointer}
 use Rattle.merkle_records.specs.Scheme.{Scheme}
@@ -27,20 +27,20 @@ use Rattle.host_laws.specs.Served.{waiting}
 
 -- The pointer to a path once it is set up with so many levels below it: a frontier is lent, and a path above keeps the
 -- pointers to its two children.
-abbrev pub set_up_pointer : Format → Digest → ℕ → List Bool → Pointer
-set_up_pointer format digest zero path = deferred_pointer (pointer_to format digest path (initial_value format path))
-set_up_pointer format digest (suc levels) path =
-    pointer_to format digest path (values.Node (record {
-      side0 = Some (set_up_pointer format digest levels (child path false));
-      side1 = Some (set_up_pointer format digest levels (child path true));
+abbrev pub set_up_pointer : Digest → ℕ → List Bool → Pointer
+set_up_pointer digest zero path = deferred_pointer (pointer_to digest path (initial_value path))
+set_up_pointer digest (suc levels) path =
+    pointer_to digest path (values.Node (record {
+      side0 = Some (set_up_pointer digest levels (child path false));
+      side1 = Some (set_up_pointer digest levels (child path true));
     }))
 
 -- the root once 2^bits shards are set up
-abbrev pub set_up_root : Format → Digest → ℕ → Node
-set_up_root format digest zero = empty_node
-set_up_root format digest (suc levels) = record {
-  side0 = Some (set_up_pointer format digest levels (child [] false));
-  side1 = Some (set_up_pointer format digest levels (child [] true));
+abbrev pub set_up_root : Digest → ℕ → Node
+set_up_root digest zero = empty_node
+set_up_root digest (suc levels) = record {
+  side0 = Some (set_up_pointer digest levels (child [] false));
+  side1 = Some (set_up_pointer digest levels (child [] true));
 }
 
 -- the clock of the first epoch at this counter
@@ -50,7 +50,7 @@ first_clock first end counter = record { first = first; end = end; at = record {
 -- the state of verifier 0 once 2^bits shards are set up
 abbrev pub set_up_state : Scheme → Header → ℕ → State
 set_up_state scheme header bits = record {
-  cache = record { entries = new_entry [] (values.Node (set_up_root scheme.format scheme.digest bits)) Root ∷ []; room = header.cache };
+  cache = record { entries = new_entry [] (values.Node (set_up_root scheme.digest bits)) Root ∷ []; room = header.cache };
   clock = first_clock header.first header.end (2 ^ bits);
 }
 
@@ -67,9 +67,9 @@ IsNew (did_next_epoch sealed) = Unit {0}
 
 -- 2^bits shards can be set up: some of them, with frontiers above the keys, with room for each path above them, and with
 -- a counter for each.
-pub record CanSetUp (format : Format) (header : Header) (bits : ℕ) : Type 0 where
+pub record CanSetUp (header : Header) (bits : ℕ) : Type 0 where
   pub some : 0 < bits
-  pub short : bits < path_bits format
+  pub short : bits < key_bits
   pub room : bits < header.cache
   pub counters : 2 ^ bits ≤ header.end
 
@@ -77,10 +77,10 @@ pub record CanSetUp (format : Format) (header : Header) (bits : ℕ) : Type 0 wh
 -- the shards then wait, in their order. Each path comes in as a new one, and none of them lies below a frontier.
 pub record SetupRuns (scheme : Scheme) (header : Header) (bits : ℕ) : Type 0 where
   pub told : Told
-  pub runs : run (rules_under scheme header 0) (opening 0 header) (setup_commands scheme.format header.first bits) ≡ Ok (told, set_up_state scheme header bits)
+  pub runs : run (rules_under scheme header 0) (opening 0 header) (setup_commands header.first bits) ≡ Ok (told, set_up_state scheme header bits)
   pub added : added_told told ≡ []
-  pub evicted : evicted_told told ≡ flat_map (λ content. waiting (pending scheme.format content)) (setup_contents scheme.format header.first bits)
+  pub evicted : evicted_told told ≡ flat_map (λ content. waiting (pending content)) (setup_contents header.first bits)
   pub accesses : accesses_told told ≡ []
   pub new : AllByRecursion (λ one. IsNew one.1) told
   pub apart : (path : List Bool) → bits < length path → carried path told ≡ []
-  pub typed : AllByRecursion (IsTyped scheme.format) (setup_commands scheme.format header.first bits)
+  pub typed : AllByRecursion (IsTyped scheme.longest) (setup_commands header.first bits)

@@ -27,8 +27,8 @@ pub fn a_run_is_the_history()
 /// request, hands out what then waits, and rests again. Nothing is asked of the digests.
 pub fn a_plan_runs()
     ensures runs { (rules : Rules) (state : State) (content after : Content) (request : Request) (plan : Plan) (later : Reading)
-        → CanTake rules state content → CanServe rules.scheme.format rules.scheme.digest content request.key
-        → IsPlan rules.scheme.format rules.scheme.digest rules.number content request state.clock plan after later
+        → CanTake rules state content → CanServe rules.scheme.longest rules.scheme.digest content request.key
+        → IsPlan rules.scheme.digest rules.number content request state.clock plan after later
         → PlanRuns rules state content after request plan later }
 {}
 
@@ -36,13 +36,13 @@ pub fn a_plan_runs()
 /// nothing else.
 pub fn a_request_past_the_end_is_refused()
     ensures refused { (rules : Rules) (state : State) (content : Content) (request : Request) (links : List Link)
-        → IsResting rules state content → CanServe rules.scheme.format rules.scheme.digest content request.key
-        → AreLinks rules.scheme.format content request.key links → IsPastEnd content state.clock
-        → run rules state (commands_of rules.scheme.format content links request state.clock) ≡ Err ClockEnd }
+        → IsResting rules state content → CanServe rules.scheme.longest rules.scheme.digest content request.key
+        → AreLinks content request.key links → IsPastEnd content state.clock
+        → run rules state (commands_of content links request state.clock) ≡ Err ClockEnd }
 {}
 
 /// Verifier 0 accepts the commands of the setup from its opening state: it takes nothing in, and hands out what the new
 /// shards wait with.
 pub fn the_setup_runs()
-    ensures runs { (scheme : Scheme) (header : Header) (bits : ℕ) → CanSetUp scheme.format header bits → SetupRuns scheme header bits }
+    ensures runs { (scheme : Scheme) (header : Header) (bits : ℕ) → CanSetUp header bits → SetupRuns scheme header bits }
 {}

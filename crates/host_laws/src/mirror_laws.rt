@@ -2,9 +2,9 @@
 //! contracts are the laws.
 ghost use Rattle.std.specs.Prelude.{◌≡◌, ℕ, Bool, ◌<◌, List, []};
 ghost use Rattle.std.specs.List.{AllByRecursion};
+ghost use Rattle.tree_keys.specs.Path.{key_bits};
 ghost use Rattle.lamport_clocks.specs.Reading.{Reading};
 ghost use Rattle.record_text.specs.declared.request.Request.{Request};
-ghost use Rattle.record_text.specs.Format.{Format, path_bits};
 ghost use Rattle.record_text.specs.Value.{IsBlob};
 ghost use Rattle.merkle_records.specs.Merkle.{Digest, GivesDigests};
 ghost use Rattle.soundness.specs.Typed.{IsTyped};
@@ -16,24 +16,24 @@ ghost use Rattle.host_laws.specs.Mirroring.{ContentMirrors, IsCold};
 
 /// A content mirrors again once it served a request, with the same keys hot. It is asked that digests have 32 bytes.
 pub fn a_plan_mirrors()
-    ensures mirrors { (format : Format) (digest : Digest) (worker : ℕ) (hot_keys : List (List Bool)) (content after : Content) (request : Request)
+    ensures mirrors { (longest : ℕ) (digest : Digest) (worker : ℕ) (hot_keys : List (List Bool)) (content after : Content) (request : Request)
         (clock later : Reading) (plan : Plan)
-        → GivesDigests digest → IsBlob format request.value → ContentMirrors format digest hot_keys content → Owns format content request.key → IsCold format hot_keys content request.key
-        → IsPlan format digest worker content request clock plan after later → ContentMirrors format digest hot_keys after }
-    ensures serves { (format : Format) (digest : Digest) (hot_keys : List (List Bool)) (content : Content) (key : ℕ)
-        → ContentMirrors format digest hot_keys content → Owns format content key → IsCold format hot_keys content key → CanServe format digest content key }
+        → GivesDigests digest → IsBlob longest request.value → ContentMirrors longest digest hot_keys content → Owns longest content request.key → IsCold hot_keys content request.key
+        → IsPlan digest worker content request clock plan after later → ContentMirrors longest digest hot_keys after }
+    ensures serves { (longest : ℕ) (digest : Digest) (hot_keys : List (List Bool)) (content : Content) (key : ℕ)
+        → ContentMirrors longest digest hot_keys content → Owns longest content key → IsCold hot_keys content key → CanServe longest digest content key }
 {}
 
 /// The values that a plan's commands bring in are of their paths' kinds.
 pub fn a_plan_is_typed()
-    ensures typed { (format : Format) (digest : Digest) (worker : ℕ) (hot_keys : List (List Bool)) (content after : Content) (request : Request)
+    ensures typed { (longest : ℕ) (digest : Digest) (worker : ℕ) (hot_keys : List (List Bool)) (content after : Content) (request : Request)
         (clock later : Reading) (plan : Plan)
-        → IsBlob format request.value → ContentMirrors format digest hot_keys content → Owns format content request.key → IsCold format hot_keys content request.key
-        → IsPlan format digest worker content request clock plan after later → AllByRecursion (IsTyped format) plan.commands }
+        → IsBlob longest request.value → ContentMirrors longest digest hot_keys content → Owns longest content request.key → IsCold hot_keys content request.key
+        → IsPlan digest worker content request clock plan after later → AllByRecursion (IsTyped longest) plan.commands }
 {}
 
 /// The shards of a setup mirror, with no hot keys.
 pub fn new_shards_mirror()
-    ensures mirror { (format : Format) (digest : Digest) (first bits : ℕ) → 0 < bits → bits < path_bits format
-        → AllByRecursion (ContentMirrors format digest []) (setup_contents format first bits) }
+    ensures mirror { (longest : ℕ) (digest : Digest) (first bits : ℕ) → 0 < bits → bits < key_bits
+        → AllByRecursion (ContentMirrors longest digest []) (setup_contents first bits) }
 {}

@@ -1,6 +1,5 @@
 //! The bytes of a log that grows command by command.
 ghost use Rattle.std.specs.Prelude.{◌≡◌, [], ◌++◌, take, OnOk, OnErr};
-ghost use Rattle.record_text.specs.Format.{short_keys};
 ghost use Rattle.log_codec.specs.Command.{command_text};
 
 use base_words::Memory;
@@ -35,7 +34,7 @@ impl LogBuffer {
 
     /// Adds a command.
     pub fn push(&mut self, command: &Command) -> Result<(), Memory>
-        ensures pushed { OnOk result (self.new ≡ self.old ++ command_text short_keys command.now) }
+        ensures pushed { OnOk result (self.new ≡ self.old ++ command_text command.now) }
         ensures err { OnErr result (self.new ≡ self.old) }
     {
         self.bytes.extend_from_slice(write(command).as_slice())?;

@@ -10,10 +10,10 @@ use Rattle.tree_keys.specs.Bits.{number_of}
 use Rattle.tree_keys.specs.Path.{word_of}
 use Rattle.tree_keys.proofs.BitsLaws.{number_of-lt}
 use Rattle.record_text.specs.declared.value.Value.{Value}
-use Rattle.record_text.specs.Format.{Format, short_keys}
 use Rattle.record_text.specs.Value.{initial_value}
 use Rattle.record_text.specs.Element.{IsStamp}
 use Rattle.record_text.proofs.ValueTextLaws.{initial_value-kind}
+use Rattle.record_text.specs.Longest.{longest_blob}
 use Rattle.log_codec.specs.declared.command.Command.{Command}
 use Rattle.log_codec.specs.declared.command.Command.TheVariants.{AddM, EvictM}
 use Rattle.log_codec.specs.Command.{IsCommand}
@@ -57,11 +57,11 @@ pub one_before : (n : ℕ) → n ≢ 0 → suc (n - 1) ≡ n
 one_before n some = omega arith
 
 -- the visit of a path above others
-pub set_up-levels : (format : Format) (first levels : ℕ) (path parent : List Bool) → levels ≢ 0
-    → set_up format first levels path parent
-    ≡ AddM path (initial_value format path) parent ∷ (set_up format first (levels - 1) (child path false) path ++ (set_up format first (levels - 1) (child path true) path ++ EvictM path parent ∷ []))
-set_up-levels format first levels path parent some =
-    ap (λ (n : ℕ). set_up format first n path parent) (sym (one_before levels some))
+pub set_up-levels : (first levels : ℕ) (path parent : List Bool) → levels ≢ 0
+    → set_up first levels path parent
+    ≡ AddM path (initial_value path) parent ∷ (set_up first (levels - 1) (child path false) path ++ (set_up first (levels - 1) (child path true) path ++ EvictM path parent ∷ []))
+set_up-levels first levels path parent some =
+    ap (λ (n : ℕ). set_up first n path parent) (sym (one_before levels some))
 
 pub paths_below-levels : (levels : ℕ) (path : List Bool) → levels ≢ 0 → paths_below levels path ≡ paths_below (levels - 1) (child path false) ++ paths_below (levels - 1) (child path true)
 paths_below-levels levels path some = ap (λ (n : ℕ). paths_below n path) (sym (one_before levels some))
@@ -75,27 +75,27 @@ joined {A} start one two three all below above first last is_one is_two is_three
     ∙ simp append_assoc
 
 -- the visit of a path above others, as it is logged
-pub visited : (format : Format) (first levels : ℕ) (path parent low high : List Bool) (value : Value) (start one two three all : List Command) → levels ≢ 0
-    → value ≡ initial_value format path → low ≡ child path false → high ≡ child path true
-    → one ≡ start ++ AddM path value parent ∷ [] → two ≡ one ++ set_up format first (levels - 1) low path → three ≡ two ++ set_up format first (levels - 1) high path
+pub visited : (first levels : ℕ) (path parent low high : List Bool) (value : Value) (start one two three all : List Command) → levels ≢ 0
+    → value ≡ initial_value path → low ≡ child path false → high ≡ child path true
+    → one ≡ start ++ AddM path value parent ∷ [] → two ≡ one ++ set_up first (levels - 1) low path → three ≡ two ++ set_up first (levels - 1) high path
     → all ≡ three ++ EvictM path parent ∷ []
-    → all ≡ start ++ set_up format first levels path parent
-visited format first levels path parent low high value start one two three all some initial is_low is_high is_one is_two is_three is_all =
-    joined start one two three all _ _ (AddM path (initial_value format path) parent) (EvictM path parent)
+    → all ≡ start ++ set_up first levels path parent
+visited first levels path parent low high value start one two three all some initial is_low is_high is_one is_two is_three is_all =
+    joined start one two three all _ _ (AddM path (initial_value path) parent) (EvictM path parent)
     (is_one ∙ ap (λ (v : Value). start ++ AddM path v parent ∷ []) initial)
-    (is_two ∙ ap (λ (p : List Bool). one ++ set_up format first (levels - 1) p path) is_low)
-    (is_three ∙ ap (λ (p : List Bool). two ++ set_up format first (levels - 1) p path) is_high)
+    (is_two ∙ ap (λ (p : List Bool). one ++ set_up first (levels - 1) p path) is_low)
+    (is_three ∙ ap (λ (p : List Bool). two ++ set_up first (levels - 1) p path) is_high)
     is_all
-    ∙ ap (λ (l : List Command). start ++ l) (sym (set_up-levels format first levels path parent some))
+    ∙ ap (λ (l : List Command). start ++ l) (sym (set_up-levels first levels path parent some))
 
 -- the contents below a path, as they come
-pub come : (format : Format) (first levels : ℕ) (path low high : List Bool) (start two three : List Content) → levels ≢ 0
+pub come : (first levels : ℕ) (path low high : List Bool) (start two three : List Content) → levels ≢ 0
     → low ≡ child path false → high ≡ child path true
-    → two ≡ start ++ map (first_content format first) (paths_below (levels - 1) low)
-    → three ≡ two ++ map (first_content format first) (paths_below (levels - 1) high)
-    → three ≡ start ++ map (first_content format first) (paths_below levels path)
-come format first levels path low high start two three some is_low is_high is_two is_three =
-    let make : List Bool → Content = first_content format first in
+    → two ≡ start ++ map (first_content first) (paths_below (levels - 1) low)
+    → three ≡ two ++ map (first_content first) (paths_below (levels - 1) high)
+    → three ≡ start ++ map (first_content first) (paths_below levels path)
+come first levels path low high start two three some is_low is_high is_two is_three =
+    let make : List Bool → Content = first_content first in
     let below : List Bool → List (List Bool) = paths_below (levels - 1) in
     is_three
     ∙ ap (λ (l : List Content). l ++ map make (below high)) is_two
@@ -115,26 +115,26 @@ first_typed first path small few = record {
 }
 
 set_up_typed : (first levels : ℕ) (path parent : List Bool) → first < 2 ^ 32 → length path + levels ≤ 10 → length parent ≤ 10
-    → AllByRecursion (IsCommand short_keys) (set_up short_keys first levels path parent)
+    → AllByRecursion (IsCommand longest_blob) (set_up first levels path parent)
 set_up_typed first zero path parent small few above =
     let own : length path ≤ 64 = omega arith in
     let over : length parent ≤ 64 = omega arith in
-    ((initial_value-kind short_keys path own, over), ((own, over, first_typed first path small (omega arith)), tt))
+    ((initial_value-kind longest_blob path own, over), ((own, over, first_typed first path small (omega arith)), tt))
 set_up_typed first (suc levels) path parent small few above =
     let own : length path ≤ 64 = omega arith in
     let over : length parent ≤ 64 = omega arith in
     let longer : (on : Bool) → length (child path on) + levels ≤ 10 = λ on. omega (arith, length-append path (on ∷ [])) in (
-      (initial_value-kind short_keys path own, over),
-      AllByRecursion-append (IsCommand short_keys) (set_up short_keys first levels (child path false) path) _
+      (initial_value-kind longest_blob path own, over),
+      AllByRecursion-append (IsCommand longest_blob) (set_up first levels (child path false) path) _
           (set_up_typed first levels (child path false) path small (longer false) (omega arith))
-          (AllByRecursion-append (IsCommand short_keys) (set_up short_keys first levels (child path true) path) _
+          (AllByRecursion-append (IsCommand longest_blob) (set_up first levels (child path true) path) _
           (set_up_typed first levels (child path true) path small (longer true) (omega arith))
           ((own, over), tt)),
     )
 
-pub setup_typed : (first bits : ℕ) → first < 2 ^ 32 → bits ≤ 10 → AllByRecursion (IsCommand short_keys) (setup_commands short_keys first bits)
+pub setup_typed : (first bits : ℕ) → first < 2 ^ 32 → bits ≤ 10 → AllByRecursion (IsCommand longest_blob) (setup_commands first bits)
 setup_typed first zero small few = tt
 setup_typed first (suc levels) small few =
-    AllByRecursion-append (IsCommand short_keys) (set_up short_keys first levels (child [] false) []) _
+    AllByRecursion-append (IsCommand longest_blob) (set_up first levels (child [] false) []) _
     (set_up_typed first levels (child [] false) [] small (omega arith) (omega arith))
     (set_up_typed first levels (child [] true) [] small (omega arith) (omega arith))

@@ -1,13 +1,12 @@
 -- The commands of a plan are commands: each value is of its path's kind, and each path, stamp and number is in its range.
-use Rattle.std.proofs.Common.{◌≡◌, ◌<◌, ◌≤◌, ◌^◌, ◌≢◌, Bool, false, List, [], ◌∷◌, ◌++◌, length, Option, Some, None, IsSome, refl, sym, subst, arith}
+use Rattle.std.proofs.Common.{ℕ, ◌≡◌, ◌<◌, ◌≤◌, ◌^◌, ◌≢◌, Bool, false, List, [], ◌∷◌, ◌++◌, length, Option, Some, None, IsSome, refl, sym, subst, arith}
 use Rattle.std.proofs.lemmas.Bool.{false≢true}
 use Rattle.std.specs.List.{AllByRecursion}
-use Rattle.tree_keys.specs.Path.{side, IsBelow}
+use Rattle.tree_keys.specs.Path.{side, IsBelow, IsData, IsPath}
 use Rattle.lamport_clocks.specs.declared.stamp.Stamp.{Stamp}
 use Rattle.record_text.specs.declared.element.Element.{Element}
 use Rattle.record_text.specs.declared.value.Value.{Value}
 use Rattle.record_text.specs.declared.value.Value.TheVariants as values
-use Rattle.record_text.specs.Format.{Format, path_bits}
 use Rattle.record_text.specs.Value.{IsOf}
 use Rattle.record_text.specs.Element.{IsStamp}
 use Rattle.log_codec.specs.declared.command.Command.{Command}
@@ -22,9 +21,9 @@ use Rattle.host_shard.proofs.ChainLaws.{AreOf, next_of, closed_end}
 use Rattle.host_plan.specs.Visit.{visit, between}
 
 -- the path of a value isn't longer than a key's
-length-IsOf : (format : Format) (path : List Bool) (value : Value) → IsOf format path value → length path ≤ path_bits format
-length-IsOf format path (values.Blob blob) kind = omega (arith, kind.0)
-length-IsOf format path (values.Node node) kind = omega (arith, kind.0)
+length-IsOf : (longest : ℕ) (path : List Bool) (value : Value) → IsOf longest path value → IsPath path
+length-IsOf longest path (values.Blob blob) kind = omega (arith, kind.0)
+length-IsOf longest path (values.Node node) kind = omega (arith, kind.0)
 
 -- all of two lists joined
 pub AllByRecursion-append : {X : Type 0} (P : X → Type 0) (xs ys : List X) → AllByRecursion P xs → AllByRecursion P ys → AllByRecursion P (xs ++ ys)
@@ -32,31 +31,31 @@ AllByRecursion-append P [] ys hs gs = gs
 AllByRecursion-append P (x ∷ xs) ys hs gs = (hs.0, AllByRecursion-append P xs ys hs.1 gs)
 
 -- a command alone
-pub one_typed : (format : Format) (command : Command) → IsCommand format command → AllByRecursion (IsCommand format) (command ∷ [])
-one_typed format command typed = (typed, tt)
+pub one_typed : (longest : ℕ) (command : Command) → IsCommand longest command → AllByRecursion (IsCommand longest) (command ∷ [])
+one_typed longest command typed = (typed, tt)
 
 -- the visit of a chain
-pub visit_typed : (format : Format) (tree : Tree) (key at : List Bool) (value : Value) (links : List Link) (inner : List Command)
-    → length key ≡ path_bits format → AreOf format tree → IsOf format at value → IsChain format tree key at value links
-    → AllByRecursion (IsCommand format) inner → AllByRecursion (IsCommand format) (visit at links inner)
-visit_typed format tree key at value [] inner whole kinds kind chain typed = typed
-visit_typed format tree key at value (link ∷ links) inner whole kinds kind chain typed =
-    let next = next_of format tree key at value link whole kinds kind chain.0 in
-    let above = length-IsOf format at value kind in
-    let path = length-IsOf format link.path link.value next.value in (
+pub visit_typed : (longest : ℕ) (tree : Tree) (key at : List Bool) (value : Value) (links : List Link) (inner : List Command)
+    → IsData key → AreOf longest tree → IsOf longest at value → IsChain tree key at value links
+    → AllByRecursion (IsCommand longest) inner → AllByRecursion (IsCommand longest) (visit at links inner)
+visit_typed longest tree key at value [] inner whole kinds kind chain typed = typed
+visit_typed longest tree key at value (link ∷ links) inner whole kinds kind chain typed =
+    let next = next_of longest tree key at value link whole kinds kind chain.0 in
+    let above = length-IsOf longest at value kind in
+    let path = length-IsOf longest link.path link.value next.value in (
       (next.value, above),
-      AllByRecursion-append (IsCommand format) (visit link.path links inner) _
-          (visit_typed format tree key link.path link.taken links inner whole kinds next.taken chain.1 typed)
+      AllByRecursion-append (IsCommand longest) (visit link.path links inner) _
+          (visit_typed longest tree key link.path link.taken links inner whole kinds next.taken chain.1 typed)
           ((path, above), tt),
     )
 
 -- what stands between an add and an evict with a stamp
-pub between_typed : (format : Format) (element : Element) (stamp : Stamp) (inner : List Command)
-    → IsOf format element.path element.value → IsStamp element.stamp → element.verifier < 2 ^ 16 → IsStamp stamp
-    → AllByRecursion (IsCommand format) inner → AllByRecursion (IsCommand format) (between element stamp inner)
-between_typed format element stamp inner kind added verifier evicted typed = (
+pub between_typed : (longest : ℕ) (element : Element) (stamp : Stamp) (inner : List Command)
+    → IsOf longest element.path element.value → IsStamp element.stamp → element.verifier < 2 ^ 16 → IsStamp stamp
+    → AllByRecursion (IsCommand longest) inner → AllByRecursion (IsCommand longest) (between element stamp inner)
+between_typed longest element stamp inner kind added verifier evicted typed = (
   (kind, added, verifier),
-  AllByRecursion-append (IsCommand format) inner _ typed ((length-IsOf format element.path element.value kind, evicted), tt),
+  AllByRecursion-append (IsCommand longest) inner _ typed ((length-IsOf longest element.path element.value kind, evicted), tt),
 )
 
 -- a frontier is no key below it
@@ -70,18 +69,18 @@ frontier_apart frontier key below = go (side frontier key) refl below
 -- ---- of what the code computes
 
 -- the whole of a plan's commands, where the inner one is a command at the chain's end
-pub chain_typed : (format : Format) (tree : Tree) (key : List Bool) (element : Element) (links : List Link) (command : Command) (stamp : Stamp)
-    → length key ≡ path_bits format → AreOf format tree → IsOf format element.path element.value → IsChain format tree key element.path element.value links
-    → IsStamp element.stamp → element.verifier < 2 ^ 16 → IsStamp stamp → IsCommand format command
-    → AllByRecursion (IsCommand format) (between element stamp (visit element.path links (command ∷ [])))
-chain_typed format tree key element links command stamp whole kinds kind chain added verifier evicted typed =
-    between_typed format element stamp (visit element.path links (command ∷ [])) kind added verifier evicted
-    (visit_typed format tree key element.path element.value links (command ∷ []) whole kinds kind chain (one_typed format command typed))
+pub chain_typed : (longest : ℕ) (tree : Tree) (key : List Bool) (element : Element) (links : List Link) (command : Command) (stamp : Stamp)
+    → IsData key → AreOf longest tree → IsOf longest element.path element.value → IsChain tree key element.path element.value links
+    → IsStamp element.stamp → element.verifier < 2 ^ 16 → IsStamp stamp → IsCommand longest command
+    → AllByRecursion (IsCommand longest) (between element stamp (visit element.path links (command ∷ [])))
+chain_typed longest tree key element links command stamp whole kinds kind chain added verifier evicted typed =
+    between_typed longest element stamp (visit element.path links (command ∷ [])) kind added verifier evicted
+    (visit_typed longest tree key element.path element.value links (command ∷ []) whole kinds kind chain (one_typed longest command typed))
 
 -- a key of a shard has a record behind the chain to it
-pub rehashed_there : (format : Format) (digest : Digest) (shard now : Shard) (key : List Bool) (links : List Link) (last : Value)
-    → IsBelow shard.frontier key → IsChain format (tree_of shard) key shard.frontier shard.value links → now ≡ rehashed format digest shard links last
+pub rehashed_there : (digest : Digest) (shard now : Shard) (key : List Bool) (links : List Link) (last : Value)
+    → IsBelow shard.frontier key → IsChain (tree_of shard) key shard.frontier shard.value links → now ≡ rehashed digest shard links last
     → IsSome (now.records key)
-rehashed_there format digest shard now key links last below chain is =
+rehashed_there digest shard now key links last below chain is =
     subst (λ (s : Shard). IsSome (s.records key)) (sym is)
-    (closed_end format digest false (tree_of shard) shard.records key shard.frontier shard.value links last (frontier_apart shard.frontier key below) chain)
+    (closed_end digest false (tree_of shard) shard.records key shard.frontier shard.value links last (frontier_apart shard.frontier key below) chain)

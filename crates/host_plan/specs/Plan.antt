@@ -6,7 +6,6 @@ use Rattle.lamport_clocks.specs.Reading.{Reading}
 use Rattle.record_text.specs.declared.request.Request.{Request}
 use Rattle.record_text.specs.declared.value.Value.{Value}
 use Rattle.record_text.specs.declared.value.Value.TheVariants as values
-use Rattle.record_text.specs.Format.{Format}
 use Rattle.log_codec.specs.declared.command.Command.{Command}
 use Rattle.merkle_records.specs.Merkle.{Digest}
 use Rattle.host_shard.specs.declared.link.Link.{Link}
@@ -19,24 +18,24 @@ use Rattle.host_plan.specs.Moments.{renewing}
 use Rattle.host_plan.specs.Request.{cold_commands, hot_commands, served, served_hot, value_after}
 
 -- The content owns the key: it is a shard below whose frontier the key lies, or the key's hot record.
-abbrev pub Owns : Format → Content → ℕ → Type 0
-Owns format (cold shard) key = IsShard format shard × IsKeyOf format shard (key_path format key)
-Owns format (hot record') key = record'.key ≡ key
-Owns format vacant key = ⊥
+abbrev pub Owns : ℕ → Content → ℕ → Type 0
+Owns longest (cold shard) key = IsShard longest shard × IsKeyOf shard (key_path key)
+Owns longest (hot record') key = record'.key ≡ key
+Owns longest vacant key = ⊥
 
 -- A shard that mirrors, for some hot keys of which the key is none.
-pub record IsServable (format : Format) (digest : Digest) (shard : Shard) (key : List Bool) : Type 0 where
+pub record IsServable (longest : ℕ) (digest : Digest) (shard : Shard) (key : List Bool) : Type 0 where
   pub hot : List (List Bool)
-  pub fits : IsShard format shard
-  pub mirrors : Mirrors format digest shard hot
-  pub own : IsKeyOf format shard key
+  pub fits : IsShard longest shard
+  pub mirrors : Mirrors digest shard hot
+  pub own : IsKeyOf shard key
   pub cold : IsAmong hot key → ⊥
 
 -- The content owns the key and mirrors.
-abbrev pub CanServe : Format → Digest → Content → ℕ → Type 0
-CanServe format digest (cold shard) key = IsServable format digest shard (key_path format key)
-CanServe format digest (hot record') key = record'.key ≡ key
-CanServe format digest vacant key = ⊥
+abbrev pub CanServe : ℕ → Digest → Content → ℕ → Type 0
+CanServe longest digest (cold shard) key = IsServable longest digest shard (key_path key)
+CanServe longest digest (hot record') key = record'.key ≡ key
+CanServe longest digest vacant key = ⊥
 
 -- the stamp with which a content waits is of an epoch that the clock takes
 abbrev pub IsOpenAt : Reading → Content → Type 0
@@ -55,10 +54,10 @@ abbrev pub IsPastEnd : Content → Reading → Type 0
 IsPastEnd content clock = clock.end < (clock_after content clock).at.counter
 
 -- the links from what is taken in to the key: the chain in a shard, and none at a hot record
-abbrev pub AreLinks : Format → Content → ℕ → List Link → Type 0
-AreLinks format (cold shard) key links = IsChain format (tree_of shard) (key_path format key) shard.frontier shard.value links
-AreLinks format (hot record') key links = links ≡ []
-AreLinks format vacant key links = ⊥
+abbrev pub AreLinks : Content → ℕ → List Link → Type 0
+AreLinks (cold shard) key links = IsChain (tree_of shard) (key_path key) shard.frontier shard.value links
+AreLinks (hot record') key links = links ≡ []
+AreLinks vacant key links = ⊥
 
 -- the key's value before the request
 abbrev pub value_found : Content → List Link → Value
@@ -67,24 +66,24 @@ value_found (hot record') links = values.Blob record'.value
 value_found vacant links = values.Blob None
 
 -- the commands of a request
-abbrev pub commands_of : Format → Content → List Link → Request → Reading → List Command
-commands_of format (cold shard) links request clock = cold_commands format shard links request clock
-commands_of format (hot record') links request clock = hot_commands format record' request clock
-commands_of format vacant links request clock = []
+abbrev pub commands_of : Content → List Link → Request → Reading → List Command
+commands_of (cold shard) links request clock = cold_commands shard links request clock
+commands_of (hot record') links request clock = hot_commands record' request clock
+commands_of vacant links request clock = []
 
 -- the content after it, where this worker serves it
-abbrev pub content_after : Format → Digest → ℕ → Content → List Link → Request → Reading → Content
-content_after format digest worker (cold shard) links request clock = cold (served format digest worker shard links request clock)
-content_after format digest worker (hot record') links request clock = hot (served_hot worker record' request clock)
-content_after format digest worker vacant links request clock = vacant
+abbrev pub content_after : Digest → ℕ → Content → List Link → Request → Reading → Content
+content_after digest worker (cold shard) links request clock = cold (served digest worker shard links request clock)
+content_after digest worker (hot record') links request clock = hot (served_hot worker record' request clock)
+content_after digest worker vacant links request clock = vacant
 
 -- The plan of a request: its commands along the links to the key and its answer, which is the key's value after it, and
 -- the content and the clock that it leaves.
-pub record IsPlan (format : Format) (digest : Digest) (worker : ℕ) (old : Content) (request : Request) (start : Reading)
+pub record IsPlan (digest : Digest) (worker : ℕ) (old : Content) (request : Request) (start : Reading)
     (plan : Plan) (new : Content) (end : Reading) : Type 0 where
   pub links : List Link
-  pub way : AreLinks format old request.key links
-  pub commands : plan.commands ≡ commands_of format old links request start
+  pub way : AreLinks old request.key links
+  pub commands : plan.commands ≡ commands_of old links request start
   pub answer : values.Blob plan.answer ≡ value_after request (value_found old links)
-  pub content : new ≡ content_after format digest worker old links request start
+  pub content : new ≡ content_after digest worker old links request start
   pub clock : end ≡ clock_after old start

@@ -2,7 +2,6 @@
 use Rattle.std.specs.Prelude.{◌≡◌, ℕ, zero, suc, ◌+◌, ◌^◌, ◌≤◌, ◌<◌, Bool, true, false, List, [], ◌∷◌, ◌++◌, map}
 use Rattle.tree_keys.specs.Bits.{number_of}
 use Rattle.lamport_clocks.specs.declared.stamp.Stamp.{Stamp}
-use Rattle.record_text.specs.Format.{Format}
 use Rattle.record_text.specs.Value.{initial_value}
 use Rattle.log_codec.specs.declared.command.Command.{Command}
 use Rattle.log_codec.specs.declared.command.Command.TheVariants.{AddM, EvictM, EvictBM}
@@ -26,18 +25,18 @@ first_stamp first frontier = record { epoch = first; counter = 1 + number_of fro
 
 -- The visit of a path under its parent. With no level below it, it is a shard's frontier, and is deferred. Else its two
 -- children are visited, side 0 before side 1, and it is evicted.
-abbrev pub set_up : Format → ℕ → ℕ → List Bool → List Bool → List Command
-set_up format first zero path parent =
-    AddM path (initial_value format path) parent ∷ EvictBM path parent (first_stamp first path) ∷ []
-set_up format first (suc levels) path parent =
-    AddM path (initial_value format path) parent
-    ∷ (set_up format first levels (child path false) path ++ (set_up format first levels (child path true) path ++ EvictM path parent ∷ []))
+abbrev pub set_up : ℕ → ℕ → List Bool → List Bool → List Command
+set_up first zero path parent =
+    AddM path (initial_value path) parent ∷ EvictBM path parent (first_stamp first path) ∷ []
+set_up first (suc levels) path parent =
+    AddM path (initial_value path) parent
+    ∷ (set_up first levels (child path false) path ++ (set_up first levels (child path true) path ++ EvictM path parent ∷ []))
 
 -- The commands of the setup of 2^bits shards: each path of 1 to so many bits is visited.
-abbrev pub setup_commands : Format → ℕ → ℕ → List Command
-setup_commands format first zero = []
-setup_commands format first (suc levels) =
-    set_up format first levels (child [] false) [] ++ set_up format first levels (child [] true) []
+abbrev pub setup_commands : ℕ → ℕ → List Command
+setup_commands first zero = []
+setup_commands first (suc levels) =
+    set_up first levels (child [] false) [] ++ set_up first levels (child [] true) []
 
 -- the paths so many levels below a path, in their order
 abbrev pub paths_below : ℕ → List Bool → List (List Bool)
@@ -45,13 +44,13 @@ paths_below zero path = path ∷ []
 paths_below (suc levels) path = paths_below levels (child path false) ++ paths_below levels (child path true)
 
 -- a shard as the setup leaves it
-abbrev pub first_content : Format → ℕ → List Bool → Content
-first_content format first frontier = cold (new_shard format frontier (first_stamp first frontier) 0)
+abbrev pub first_content : ℕ → List Bool → Content
+first_content first frontier = cold (new_shard frontier (first_stamp first frontier) 0)
 
 -- the same of each frontier of a list
-abbrev pub first_contents : Format → ℕ → List (List Bool) → List Content
-first_contents format first frontiers = map (first_content format first) frontiers
+abbrev pub first_contents : ℕ → List (List Bool) → List Content
+first_contents first frontiers = map (first_content first) frontiers
 
 -- The contents of the 2^bits shards behind the setup, in the order of the shards.
-abbrev pub setup_contents : Format → ℕ → ℕ → List Content
-setup_contents format first bits = first_contents format first (paths_below bits [])
+abbrev pub setup_contents : ℕ → ℕ → List Content
+setup_contents first bits = first_contents first (paths_below bits [])

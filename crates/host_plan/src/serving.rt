@@ -4,8 +4,8 @@ ghost use Rattle.std.specs.List.{AllByRecursion};
 ghost use Rattle.lamport_clocks.specs.Clock.{is_open};
 ghost use Rattle.record_text.specs.declared.value.Value.{Value};
 ghost use Rattle.record_text.specs.declared.value.Value.TheVariants as values;
-ghost use Rattle.record_text.specs.Format.{short_keys};
 ghost use Rattle.record_text.specs.Value.{IsOf};
+ghost use Rattle.record_text.specs.Longest.{longest_blob};
 ghost use Rattle.log_codec.specs.Command.{IsCommand};
 ghost use Rattle.merkle_records.specs.Merkle.{Digest};
 ghost use Rattle.host_shard.specs.Content.{cold, hot, key_path};
@@ -37,14 +37,14 @@ pub fn plan<D: Digests>(
     worker: u16,
     clock: &mut Clock,
 ) -> Result<Plan, PlanFault>
-    requires own { Owns short_keys (shown_content content.old) request.now.key }
+    requires own { Owns longest_blob (shown_content content.old) request.now.key }
     requires open { IsOpenAt clock.old (shown_content content.old) }
-    ensures planned { IfOk result (λ plan. IsPlan short_keys (D.functions d.now).digest worker
+    ensures planned { IfOk result (λ plan. IsPlan (D.functions d.now).digest worker
         (shown_content content.old) request.now clock.old plan (shown_content content.new) clock.new) }
-    ensures typed { IfOk result (λ plan. AllByRecursion (IsCommand short_keys) plan.commands) }
+    ensures typed { IfOk result (λ plan. AllByRecursion (IsCommand longest_blob) plan.commands) }
     ensures clock_end { (result ≡ Err ClockEnd) ↔ IsPastEnd (shown_content content.old) clock.old }
-    ensures owns { (key : ℕ) → Owns short_keys (shown_content content.old) key
-        → Owns short_keys (shown_content content.new) key }
+    ensures owns { (key : ℕ) → Owns longest_blob (shown_content content.old) key
+        → Owns longest_blob (shown_content content.new) key }
     ensures open { IsOpenAt clock.new (shown_content content.new) }
     ensures content_as_before { OnErr result (shown_content content.new ≡ shown_content content.old) }
     ensures clock_as_before { OnErr result (clock.new ≡ clock.old) }
@@ -65,14 +65,14 @@ fn serve_shard<D: Digests>(
     worker: u16,
     clock: &mut Clock,
 ) -> Result<Plan, PlanFault>
-    requires own { Owns short_keys (cold (shown shard.old)) request.now.key }
+    requires own { Owns longest_blob (cold (shown shard.old)) request.now.key }
     requires open { IsTrue (is_open clock.old shard.old.stamp.epoch) }
-    ensures planned { IfOk result (λ plan. IsPlan short_keys (D.functions d.now).digest worker
+    ensures planned { IfOk result (λ plan. IsPlan (D.functions d.now).digest worker
         (cold (shown shard.old)) request.now clock.old plan (cold (shown shard.new)) clock.new) }
-    ensures typed { IfOk result (λ plan. AllByRecursion (IsCommand short_keys) plan.commands) }
+    ensures typed { IfOk result (λ plan. AllByRecursion (IsCommand longest_blob) plan.commands) }
     ensures clock_end { (result ≡ Err ClockEnd) ↔ IsPastEnd (cold (shown shard.old)) clock.old }
-    ensures owns { (key : ℕ) → Owns short_keys (cold (shown shard.old)) key
-        → Owns short_keys (cold (shown shard.new)) key }
+    ensures owns { (key : ℕ) → Owns longest_blob (cold (shown shard.old)) key
+        → Owns longest_blob (cold (shown shard.new)) key }
     ensures open { IsOpenAt clock.new (cold (shown shard.new)) }
     ensures shard_as_before { OnErr result (shown shard.new ≡ shown shard.old) }
     ensures clock_as_before { OnErr result (clock.new ≡ clock.old) }
@@ -104,9 +104,9 @@ fn serve_hot(
 ) -> Result<Plan, PlanFault>
     requires own { kept.old.key ≡ request.now.key }
     requires open { IsTrue (is_open clock.old kept.old.stamp.epoch) }
-    ensures planned { (digest : Digest) → IfOk result (λ plan. IsPlan short_keys digest worker
+    ensures planned { (digest : Digest) → IfOk result (λ plan. IsPlan digest worker
         (hot kept.old) request.now clock.old plan (hot kept.new) clock.new) }
-    ensures typed { IfOk result (λ plan. AllByRecursion (IsCommand short_keys) plan.commands) }
+    ensures typed { IfOk result (λ plan. AllByRecursion (IsCommand longest_blob) plan.commands) }
     ensures clock_end { (result ≡ Err ClockEnd) ↔ IsPastEnd (hot kept.old) clock.old }
     ensures owns { kept.new.key ≡ kept.old.key }
     ensures open { IsOpenAt clock.new (hot kept.new) }
@@ -134,7 +134,7 @@ fn serve_hot(
 
 // What a request answers where the key has this value.
 fn answer_of(request: &Request, found: &Value) -> Blob
-    requires kind { IsOf short_keys (key_path short_keys request.now.key) found.now }
+    requires kind { IsOf longest_blob (key_path request.now.key) found.now }
     ensures value { values.Blob result ≡ value_after request.now found.now }
 {
     if request.put {
@@ -149,9 +149,9 @@ fn answer_of(request: &Request, found: &Value) -> Blob
 // The command of a request that answers this.
 fn command_of(request: &Request, answer: &Blob) -> Command
     ensures command { (found : Value) → values.Blob answer.now ≡ value_after request.now found
-        → result ≡ command_of short_keys request.now found }
-    ensures kind { IsOf short_keys (key_path short_keys request.now.key) (values.Blob answer.now) }
-    ensures typed { IsCommand short_keys result }
+        → result ≡ command_of request.now found }
+    ensures kind { IsOf longest_blob (key_path request.now.key) (values.Blob answer.now) }
+    ensures typed { IsCommand longest_blob result }
 {
     let path = Path::of_key(request.key);
     let value = Value::Blob(answer.copy());

@@ -2,7 +2,7 @@
 ghost use Rattle.std.specs.Prelude.{◌≡◌, ◌↔◌, ◌<◌, ◌≤◌, ◌+◌, ◌^◌, ◌++◌, ℕ, length, map, IfOk, OnOk, Err};
 ghost use Rattle.std.specs.List.{AllByRecursion};
 ghost use Rattle.lamport_clocks.specs.Header.{IsHeader};
-ghost use Rattle.record_text.specs.Format.{short_keys};
+ghost use Rattle.record_text.specs.Longest.{longest_blob};
 ghost use Rattle.log_codec.specs.Command.{IsCommand};
 ghost use Rattle.host_shard.specs.Shown.{shown_content};
 ghost use Rattle.host_plan.specs.declared.fault.SetupFault.TheVariants.{ClockEnd};
@@ -26,10 +26,10 @@ pub fn setup(
 ) -> Result<(Commands, Vec<Content>), SetupFault>
     requires shards { IsShardCount shards }
     ensures commands { (bits : ℕ) → shards ≡ 2 ^ bits → IfOk result (λ done.
-        done.0 ≡ setup_commands short_keys header.now.first bits) }
+        done.0 ≡ setup_commands header.now.first bits) }
     ensures contents { (bits : ℕ) → shards ≡ 2 ^ bits → IfOk result (λ done.
-        map shown_content done.1.items ≡ setup_contents short_keys header.now.first bits) }
-    ensures typed { IfOk result (λ done. AllByRecursion (IsCommand short_keys) done.0) }
+        map shown_content done.1.items ≡ setup_contents header.now.first bits) }
+    ensures typed { IfOk result (λ done. AllByRecursion (IsCommand longest_blob) done.0) }
     ensures clock_end { (result ≡ Err ClockEnd) ↔ (header.now.end < shards) }
 {
     if header.end < shards {
@@ -43,10 +43,10 @@ pub fn setup(
 fn all_set_up(alloc: Global, first: u32, bits: u8) -> Result<(Commands, Vec<Content>), Memory>
     requires some { 0 < bits }
     requires few { bits ≤ 10 }
-    ensures commands { IfOk result (λ done. done.0 ≡ setup_commands short_keys first bits) }
+    ensures commands { IfOk result (λ done. done.0 ≡ setup_commands first bits) }
     ensures contents { IfOk result (λ done. map shown_content done.1.items
-        ≡ setup_contents short_keys first bits) }
-    ensures typed { IfOk result (λ done. AllByRecursion (IsCommand short_keys) done.0) }
+        ≡ setup_contents first bits) }
+    ensures typed { IfOk result (λ done. AllByRecursion (IsCommand longest_blob) done.0) }
 {
     let root = Path::root();
     let mut commands = Vec::new(alloc);
@@ -85,10 +85,10 @@ fn set_up(
     requires below_root { 0 < length path.now }
     requires few { length path.now + levels ≤ 10 }
     ensures commands { OnOk result (commands.new.items
-        ≡ commands.old.items ++ set_up short_keys first levels path.now parent.now) }
+        ≡ commands.old.items ++ set_up first levels path.now parent.now) }
     ensures contents { OnOk result (map shown_content contents.new.items
         ≡ map shown_content contents.old.items
-        ++ first_contents short_keys first (paths_below levels path.now)) }
+        ++ first_contents first (paths_below levels path.now)) }
 {
     commands.push(Command::AddM {
         path: *path,

@@ -1,12 +1,11 @@
 -- The links of a chain: each lies below the one before, above the key or at it, and its values are of its kind.
-use Rattle.std.proofs.Common.{◌≡◌, ◌≢◌, ◌⊎◌, ◌≤◌, Bool, true, false, List, [], ◌∷◌, ◌++◌, length, Option, Some, None, IsSome, if◌then◌else◌, refl, sym, ◌∙◌, ap, subst, inl, inr, arith}
+use Rattle.std.proofs.Common.{ℕ, ◌≡◌, ◌≢◌, ◌⊎◌, ◌≤◌, Bool, true, false, List, [], ◌∷◌, ◌++◌, length, Option, Some, None, IsSome, if◌then◌else◌, refl, sym, ◌∙◌, ap, subst, inl, inr, arith}
 use Rattle.std.proofs.lemmas.Bool.{false≢true}
 use Rattle.std.specs.Option.{unwrap_or}
-use Rattle.tree_keys.specs.Path.{side, same_path, is_prefix, common}
+use Rattle.tree_keys.specs.Path.{side, same_path, is_prefix, common, IsData, IsPath}
 use Rattle.record_text.specs.declared.value.Pointer.{Pointer}
 use Rattle.record_text.specs.declared.value.Value.{Value}
 use Rattle.record_text.specs.declared.value.Value.TheVariants as values
-use Rattle.record_text.specs.Format.{Format, path_bits}
 use Rattle.record_text.specs.Value.{IsSide, IsOf, empty_node, initial_value}
 use Rattle.merkle_records.specs.Merkle.{Digest, taken_over}
 use Rattle.host_shard.specs.declared.link.Link.{Link}
@@ -60,98 +59,98 @@ fork_above p k apart = go (prefix_cases (common p k) p (common-left p k))
 -- ---- one link
 
 -- what a link is, on a side of the path before it, on the way to a key
-pub record IsLinkOf (format : Format) (key at : List Bool) (on : Bool) (link : Link) : Type 0 where
+pub record IsLinkOf (longest : ℕ) (key at : List Bool) (on : Bool) (link : Link) : Type 0 where
   pub below : side at link.path ≡ Some on
   pub toward : is_prefix link.path key ≡ true
-  pub value : IsOf format link.path link.value
-  pub taken : IsOf format link.path link.taken
+  pub value : IsOf longest link.path link.value
+  pub taken : IsOf longest link.path link.taken
 
 -- each value is of its path's kind
-abbrev pub AreOf : Format → Tree → Type 0
-AreOf format tree = (path : List Bool) (value : Value) → tree path ≡ Some value → IsOf format path value
+abbrev pub AreOf : ℕ → Tree → Type 0
+AreOf longest tree = (path : List Bool) (value : Value) → tree path ≡ Some value → IsOf longest path value
 
 -- a path, its record's value or else the initial one
-known_kind : (format : Format) (tree : Tree) (path : List Bool) → AreOf format tree → length path ≤ path_bits format → IsOf format path (unwrap_or (tree path) (initial_value format path))
-known_kind format tree path kinds fits = go (tree path) refl
+known_kind : (longest : ℕ) (tree : Tree) (path : List Bool) → AreOf longest tree → IsPath path → IsOf longest path (unwrap_or (tree path) (initial_value path))
+known_kind longest tree path kinds fits = go (tree path) refl
   where
-    go : (found : Option Value) → tree path ≡ found → IsOf format path (unwrap_or found (initial_value format path))
-    go None is = initial_value-kind format path fits
+    go : (found : Option Value) → tree path ≡ found → IsOf longest path (unwrap_or found (initial_value path))
+    go None is = initial_value-kind longest path fits
     go (Some value) is = kinds path value is
 
 -- a fork
-fork_kind : (format : Format) (fork : List Bool) (which : Bool) (pointer : Pointer) → length pointer.path ≤ path_bits format → length pointer.digest ≡ 32 → side fork pointer.path ≡ Some which
-    → IsOf format fork (values.Node (taken_over (side fork pointer.path) pointer))
-fork_kind format fork which pointer fits digest below =
-    subst (λ (s : Option Bool). IsOf format fork (values.Node (taken_over s pointer))) (sym below)
-    (IsOf-with_side format fork empty_node which (Some pointer) (omega (arith, length-side fork pointer.path which below), tt, tt)
+fork_kind : (longest : ℕ) (fork : List Bool) (which : Bool) (pointer : Pointer) → IsPath pointer.path → length pointer.digest ≡ 32 → side fork pointer.path ≡ Some which
+    → IsOf longest fork (values.Node (taken_over (side fork pointer.path) pointer))
+fork_kind longest fork which pointer fits digest below =
+    subst (λ (s : Option Bool). IsOf longest fork (values.Node (taken_over s pointer))) (sym below)
+    (IsOf-with_side longest fork empty_node which (Some pointer) (omega (arith, length-side fork pointer.path which below), tt, tt)
     (record { below = is_prefix-side fork pointer.path which below; fits = fits; digest = digest }))
 
 -- The link behind a pointer of a side, where that is of its kind and so is each record.
-pub next_link_of : (format : Format) (tree : Tree) (key at : List Bool) (on : Bool) (pointer : Option Pointer)
-    → length key ≡ path_bits format → side at key ≡ Some on → AreOf format tree → IsSide format at on pointer
-    → IsLinkOf format key at on (next_link format tree key pointer)
-next_link_of format tree key at on None whole below kinds fits = record {
+pub next_link_of : (longest : ℕ) (tree : Tree) (key at : List Bool) (on : Bool) (pointer : Option Pointer)
+    → IsData key → side at key ≡ Some on → AreOf longest tree → IsSide at on pointer
+    → IsLinkOf longest key at on (next_link tree key pointer)
+next_link_of longest tree key at on None whole below kinds fits = record {
   below = below;
   toward = is_prefix-self key;
-  value = initial_value-kind format key (omega arith);
-  taken = initial_value-kind format key (omega arith);
+  value = initial_value-kind longest key (omega arith);
+  taken = initial_value-kind longest key (omega arith);
 }
-next_link_of format tree key at on (Some pointer) whole below kinds fits = go (is_prefix pointer.path key) refl
+next_link_of longest tree key at on (Some pointer) whole below kinds fits = go (is_prefix pointer.path key) refl
   where
-    known : is_prefix pointer.path key ≡ true → IsLinkOf format key at on (known_link format tree pointer.path)
+    known : is_prefix pointer.path key ≡ true → IsLinkOf longest key at on (known_link tree pointer.path)
     known toward = record {
       below = side_of_prefix at pointer.path on fits.below;
       toward = toward;
-      value = known_kind format tree pointer.path kinds fits.fits;
-      taken = known_kind format tree pointer.path kinds fits.fits;
+      value = known_kind longest tree pointer.path kinds fits.fits;
+      taken = known_kind longest tree pointer.path kinds fits.fits;
     }
 
-    forks : (which : Bool) × (side (common pointer.path key) pointer.path ≡ Some which) → IsLinkOf format key at on (fork_link format key pointer)
+    forks : (which : Bool) × (side (common pointer.path key) pointer.path ≡ Some which) → IsLinkOf longest key at on (fork_link key pointer)
     forks above = record {
       below = side_of_prefix at (common pointer.path key) on (common-longest (at ++ on ∷ []) pointer.path key fits.below (is_prefix-side at key on below));
       toward = common-right pointer.path key;
-      value = initial_value-kind format (common pointer.path key) (omega (arith, length-side (common pointer.path key) pointer.path above.0 above.1, fits.fits));
-      taken = fork_kind format (common pointer.path key) above.0 pointer fits.fits fits.digest above.1;
+      value = initial_value-kind longest (common pointer.path key) (omega (arith, length-side (common pointer.path key) pointer.path above.0 above.1, fits.fits));
+      taken = fork_kind longest (common pointer.path key) above.0 pointer fits.fits fits.digest above.1;
     }
 
-    go : (b : Bool) → is_prefix pointer.path key ≡ b → IsLinkOf format key at on (if b then known_link format tree pointer.path else fork_link format key pointer)
+    go : (b : Bool) → is_prefix pointer.path key ≡ b → IsLinkOf longest key at on (if b then known_link tree pointer.path else fork_link key pointer)
     go true toward = known toward
     go false apart = forks (fork_above pointer.path key apart)
 
 -- a pointer of a value of its path's kind
-pub pointer_of-kind : (format : Format) (path : List Bool) (value : Value) (on : Bool) → IsOf format path value → IsSide format path on (pointer_of value on)
-pointer_of-kind format path (values.Blob blob) on kind = tt
-pointer_of-kind format path (values.Node node) on kind = IsSide-node_side format path node on kind
+pub pointer_of-kind : (longest : ℕ) (path : List Bool) (value : Value) (on : Bool) → IsOf longest path value → IsSide path on (pointer_of value on)
+pointer_of-kind longest path (values.Blob blob) on kind = tt
+pointer_of-kind longest path (values.Node node) on kind = IsSide-node_side longest path node on kind
 
 -- ---- a chain
 
 -- the link behind a path whose value is of its kind
-pub next_of : (format : Format) (tree : Tree) (key at : List Bool) (value : Value) (link : Link) → length key ≡ path_bits format → AreOf format tree → IsOf format at value
-    → (next : IsNextLink format tree key at value link) → IsLinkOf format key at next.on link
-next_of format tree key at value link whole kinds kind next =
-    subst (IsLinkOf format key at next.on) (sym next.next)
-    (next_link_of format tree key at next.on (pointer_of value next.on) whole next.on_side kinds (pointer_of-kind format at value next.on kind))
+pub next_of : (longest : ℕ) (tree : Tree) (key at : List Bool) (value : Value) (link : Link) → IsData key → AreOf longest tree → IsOf longest at value
+    → (next : IsNextLink tree key at value link) → IsLinkOf longest key at next.on link
+next_of longest tree key at value link whole kinds kind next =
+    subst (IsLinkOf longest key at next.on) (sym next.next)
+    (next_link_of longest tree key at next.on (pointer_of value next.on) whole next.on_side kinds (pointer_of-kind longest at value next.on kind))
 
 -- the frontier's own value
-pub frontier_kind : (format : Format) (shard : Shard) → AreOf format (tree_of shard) → IsOf format shard.frontier shard.value
-frontier_kind format shard kinds =
+pub frontier_kind : (longest : ℕ) (shard : Shard) → AreOf longest (tree_of shard) → IsOf longest shard.frontier shard.value
+frontier_kind longest shard kinds =
     kinds shard.frontier shard.value (ap (λ (b : Bool). if b then Some shard.value else shard.records shard.frontier) (same_path-self shard.frontier))
 
 -- The value at the chain's end is of the key's kind.
-pub last_kind : (format : Format) (tree : Tree) (key at : List Bool) (value : Value) (links : List Link) → length key ≡ path_bits format → AreOf format tree → IsOf format at value
-    → IsChain format tree key at value links → IsOf format key (last_value value links)
-last_kind format tree key at value [] whole kinds kind ends = subst (λ (k : List Bool). IsOf format k value) ends kind
-last_kind format tree key at value (link ∷ links) whole kinds kind chain =
-    last_kind format tree key link.path link.taken links whole kinds (next_of format tree key at value link whole kinds kind chain.0).taken chain.1
+pub last_kind : (longest : ℕ) (tree : Tree) (key at : List Bool) (value : Value) (links : List Link) → IsData key → AreOf longest tree → IsOf longest at value
+    → IsChain tree key at value links → IsOf longest key (last_value value links)
+last_kind longest tree key at value [] whole kinds kind ends = subst (λ (k : List Bool). IsOf longest k value) ends kind
+last_kind longest tree key at value (link ∷ links) whole kinds kind chain =
+    last_kind longest tree key link.path link.taken links whole kinds (next_of longest tree key at value link whole kinds kind chain.0).taken chain.1
 
 -- Behind a chain to a key below its start the key has a record.
-pub closed_end : (format : Format) (digest : Digest) (lent : Bool) (tree kept : Tree) (key at : List Bool) (value : Value) (links : List Link) (last : Value)
-    → at ≢ key → IsChain format tree key at value links → IsSome (closed_records format digest lent kept links last key)
-closed_end format digest lent tree kept key at value [] last apart ends = absurd (apart ends)
-closed_end format digest lent tree kept key at value (link ∷ links) last apart chain =
-    found (same_path key link.path) refl (λ other. closed_end format digest lent tree kept key link.path link.taken links last other chain.1)
+pub closed_end : (digest : Digest) (lent : Bool) (tree kept : Tree) (key at : List Bool) (value : Value) (links : List Link) (last : Value)
+    → at ≢ key → IsChain tree key at value links → IsSome (closed_records digest lent kept links last key)
+closed_end digest lent tree kept key at value [] last apart ends = absurd (apart ends)
+closed_end digest lent tree kept key at value (link ∷ links) last apart chain =
+    found (same_path key link.path) refl (λ other. closed_end digest lent tree kept key link.path link.taken links last other chain.1)
   where
-    found : (b : Bool) → same_path key link.path ≡ b → (link.path ≢ key → IsSome (closed_records format digest lent kept links last key))
-        → IsSome (if b then Some (closed_value format digest lent link.path link.taken links last) else closed_records format digest lent kept links last key)
+    found : (b : Bool) → same_path key link.path ≡ b → (link.path ≢ key → IsSome (closed_records digest lent kept links last key))
+        → IsSome (if b then Some (closed_value digest lent link.path link.taken links last) else closed_records digest lent kept links last key)
     found true same rest = refl
     found false other rest = rest (λ is. false≢true (sym other ∙ ap (same_path key) is ∙ same_path-self key))

@@ -1,10 +1,9 @@
 -- How `chain` goes from the frontier to a key: what the loop keeps.
 use Rattle.std.proofs.Common.{◌≡◌, ◌≢◌, ◌⊎◌, ℕ, suc, ◌+◌, ◌-◌, ◌<◌, ◌≤◌, Bool, true, List, [], ◌∷◌, ◌++◌, length, Option, Some, None, IsSome, refl, sym, ◌∙◌, ap, subst, inl, inr, append_assoc, append-nil, length-append, arith}
 use Rattle.std.proofs.lemmas.Bool.{false≢true}
-use Rattle.tree_keys.specs.Path.{side, is_prefix, IsBelow}
+use Rattle.tree_keys.specs.Path.{side, is_prefix, IsBelow, IsData}
 use Rattle.record_text.specs.declared.value.Pointer.{Pointer}
 use Rattle.record_text.specs.declared.value.Value.{Value}
-use Rattle.record_text.specs.Format.{Format, path_bits}
 use Rattle.record_text.specs.Value.{IsSide, IsOf}
 use Rattle.host_shard.specs.declared.link.Link.{Link}
 use Rattle.host_shard.specs.Tree.{Tree, pointer_of}
@@ -16,16 +15,16 @@ use Rattle.merkle_records.proofs.KindLaws.{length-side}
 use Rattle.host_shard.proofs.ChainLaws.{AreOf, IsLinkOf, next_link_of, pointer_of-kind}
 
 -- The links from a path whose pointer toward the key is this one.
-abbrev pub IsAhead : Format → Tree → List Bool → List Bool → Option Pointer → List Link → Type 0
-IsAhead format tree key at ahead [] = at ≡ key
-IsAhead format tree key at ahead (link ∷ links) =
-    ((on : Bool) × (side at key ≡ Some on)) × (link ≡ next_link format tree key ahead) × IsChain format tree key link.path link.taken links
+abbrev pub IsAhead : Tree → List Bool → List Bool → Option Pointer → List Link → Type 0
+IsAhead tree key at ahead [] = at ≡ key
+IsAhead tree key at ahead (link ∷ links) =
+    ((on : Bool) × (side at key ≡ Some on)) × (link ≡ next_link tree key ahead) × IsChain tree key link.path link.taken links
 
 -- Links so far, from a start to a path with its pointer toward the key: what goes on from there goes on from the start.
-pub record IsBegun (format : Format) (tree : Tree) (key start : List Bool) (value : Value) (links : List Link) (at : List Bool) (ahead : Option Pointer) : Type 0 where
-  pub goes_on : (rest : List Link) → IsAhead format tree key at ahead rest → IsChain format tree key start value (links ++ rest)
+pub record IsBegun (tree : Tree) (key start : List Bool) (value : Value) (links : List Link) (at : List Bool) (ahead : Option Pointer) : Type 0 where
+  pub goes_on : (rest : List Link) → IsAhead tree key at ahead rest → IsChain tree key start value (links ++ rest)
   pub toward : is_prefix at key ≡ true
-  pub kind : (on : Bool) → side at key ≡ Some on → IsSide format at on ahead
+  pub kind : (on : Bool) → side at key ≡ Some on → IsSide at on ahead
   pub few : length links + length start ≤ length at
 
 -- a pointer toward a key is that of the key's side
@@ -33,30 +32,30 @@ toward_side : (value : Value) (s : Option Bool) (on : Bool) → s ≡ Some on �
 toward_side value s on is = ap (pointer_toward value) is
 
 -- what goes on behind a link goes on with its pointer
-goes_behind : (format : Format) (tree : Tree) (key at : List Bool) (value : Value) (rest : List Link)
-    → IsAhead format tree key at (pointer_toward value (side at key)) rest → IsChain format tree key at value rest
-goes_behind format tree key at value [] ahead = ahead
-goes_behind format tree key at value (link ∷ links) ahead = (
+goes_behind : (tree : Tree) (key at : List Bool) (value : Value) (rest : List Link)
+    → IsAhead tree key at (pointer_toward value (side at key)) rest → IsChain tree key at value rest
+goes_behind tree key at value [] ahead = ahead
+goes_behind tree key at value (link ∷ links) ahead = (
   record {
     on = ahead.0.0;
     on_side = ahead.0.1;
-    next = ahead.1 ∙ ap (next_link format tree key) (toward_side value (side at key) ahead.0.0 ahead.0.1);
+    next = ahead.1 ∙ ap (next_link tree key) (toward_side value (side at key) ahead.0.0 ahead.0.1);
   },
   ahead.2,
 )
 
 -- the pointer of a value of its path's kind, toward a key
-kind_toward : (format : Format) (key at : List Bool) (value : Value) (on : Bool) → IsOf format at value → side at key ≡ Some on → IsSide format at on (pointer_toward value (side at key))
-kind_toward format key at value on kind is =
-    subst (IsSide format at on) (sym (toward_side value (side at key) on is)) (pointer_of-kind format at value on kind)
+kind_toward : (longest : ℕ) (key at : List Bool) (value : Value) (on : Bool) → IsOf longest at value → side at key ≡ Some on → IsSide at on (pointer_toward value (side at key))
+kind_toward longest key at value on kind is =
+    subst (IsSide at on) (sym (toward_side value (side at key) on is)) (pointer_of-kind longest at value on kind)
 
 -- at the frontier
-pub begun : (format : Format) (tree : Tree) (key start : List Bool) (value : Value) → IsOf format start value → IsBelow start key
-    → IsBegun format tree key start value [] start (pointer_toward value (side start key))
-begun format tree key start value kind below = record {
-  goes_on = λ rest ahead. goes_behind format tree key start value rest ahead;
+pub begun : (longest : ℕ) (tree : Tree) (key start : List Bool) (value : Value) → IsOf longest start value → IsBelow start key
+    → IsBegun tree key start value [] start (pointer_toward value (side start key))
+begun longest tree key start value kind below = record {
+  goes_on = λ rest ahead. goes_behind tree key start value rest ahead;
   toward = begins (side start key) refl below;
-  kind = λ on is. kind_toward format key start value on kind is;
+  kind = λ on is. kind_toward longest key start value on kind is;
   few = omega arith;
 }
   where
@@ -65,51 +64,51 @@ begun format tree key start value kind below = record {
     begins (Some on) is some = prefix_of_side start key on is
 
 -- behind one link more
-pub begun_next : (format : Format) (tree : Tree) (key start : List Bool) (value : Value) (links : List Link) (at : List Bool) (ahead : Option Pointer) (link : Link)
-    → length key ≡ path_bits format → AreOf format tree → IsBegun format tree key start value links at ahead → at ≢ key → link ≡ next_link format tree key ahead
-    → IsBegun format tree key start value (links ++ link ∷ []) link.path (pointer_toward link.taken (side link.path key)) × (length at < length link.path)
-begun_next format tree key start value links at ahead link whole kinds so apart is = go (prefix_cases at key so.toward)
+pub begun_next : (longest : ℕ) (tree : Tree) (key start : List Bool) (value : Value) (links : List Link) (at : List Bool) (ahead : Option Pointer) (link : Link)
+    → IsData key → AreOf longest tree → IsBegun tree key start value links at ahead → at ≢ key → link ≡ next_link tree key ahead
+    → IsBegun tree key start value (links ++ link ∷ []) link.path (pointer_toward link.taken (side link.path key)) × (length at < length link.path)
+begun_next longest tree key start value links at ahead link whole kinds so apart is = go (prefix_cases at key so.toward)
   where
     go : (at ≡ key) ⊎ ((on : Bool) × (side at key ≡ Some on))
-        → IsBegun format tree key start value (links ++ link ∷ []) link.path (pointer_toward link.taken (side link.path key)) × (length at < length link.path)
+        → IsBegun tree key start value (links ++ link ∷ []) link.path (pointer_toward link.taken (side link.path key)) × (length at < length link.path)
     go (inl same) = absurd (apart same)
     go (inr below) =
-        let fits : IsLinkOf format key at below.0 link =
-        subst (IsLinkOf format key at below.0) (sym is) (next_link_of format tree key at below.0 ahead whole below.1 kinds (so.kind below.0 below.1)) in
+        let fits : IsLinkOf longest key at below.0 link =
+        subst (IsLinkOf longest key at below.0) (sym is) (next_link_of longest tree key at below.0 ahead whole below.1 kinds (so.kind below.0 below.1)) in
         let longer : length at < length link.path = length-side at link.path below.0 fits.below in (
           record {
-            goes_on = λ rest more. subst (IsChain format tree key start value) (sym (append_assoc links (link ∷ []) rest))
-                (so.goes_on (link ∷ rest) ((below.0, below.1), is, goes_behind format tree key link.path link.taken rest more));
+            goes_on = λ rest more. subst (IsChain tree key start value) (sym (append_assoc links (link ∷ []) rest))
+                (so.goes_on (link ∷ rest) ((below.0, below.1), is, goes_behind tree key link.path link.taken rest more));
             toward = fits.toward;
-            kind = λ on side_is. kind_toward format key link.path link.taken on fits.taken side_is;
+            kind = λ on side_is. kind_toward longest key link.path link.taken on fits.taken side_is;
             few = simp length-append (omega (arith, so.few));
           },
           longer,
         )
 
 -- at the key
-pub begun_end : (format : Format) (tree : Tree) (key start : List Bool) (value : Value) (links : List Link) (at : List Bool) (ahead : Option Pointer)
-    → IsBegun format tree key start value links at ahead → at ≡ key → IsChain format tree key start value links
-begun_end format tree key start value links at ahead so same =
-    subst (IsChain format tree key start value) (append-nil links) (so.goes_on [] same)
+pub begun_end : (tree : Tree) (key start : List Bool) (value : Value) (links : List Link) (at : List Bool) (ahead : Option Pointer)
+    → IsBegun tree key start value links at ahead → at ≡ key → IsChain tree key start value links
+begun_end tree key start value links at ahead so same =
+    subst (IsChain tree key start value) (append-nil links) (so.goes_on [] same)
 
 -- ---- the same, of what the code computes
 
-pub begun_with : (format : Format) (tree : Tree) (key start : List Bool) (value : Value) (links : List Link) (ahead : Option Pointer)
-    → links ≡ [] → ahead ≡ pointer_toward value (side start key) → IsOf format start value → IsBelow start key
-    → IsBegun format tree key start value links start ahead
-begun_with format tree key start value links ahead none leads kind below =
-    subst (λ (ls : List Link). IsBegun format tree key start value ls start ahead) (sym none)
-    (subst (λ (a : Option Pointer). IsBegun format tree key start value [] start a) (sym leads) (begun format tree key start value kind below))
+pub begun_with : (longest : ℕ) (tree : Tree) (key start : List Bool) (value : Value) (links : List Link) (ahead : Option Pointer)
+    → links ≡ [] → ahead ≡ pointer_toward value (side start key) → IsOf longest start value → IsBelow start key
+    → IsBegun tree key start value links start ahead
+begun_with longest tree key start value links ahead none leads kind below =
+    subst (λ (ls : List Link). IsBegun tree key start value ls start ahead) (sym none)
+    (subst (λ (a : Option Pointer). IsBegun tree key start value [] start a) (sym leads) (begun longest tree key start value kind below))
 
-pub next_with : (format : Format) (tree : Tree) (key start : List Bool) (value : Value) (links more : List Link) (at : List Bool) (ahead leads : Option Pointer) (link : Link)
-    → length key ≡ path_bits format → AreOf format tree → IsBegun format tree key start value links at ahead → at ≢ key → link ≡ next_link format tree key ahead
+pub next_with : (longest : ℕ) (tree : Tree) (key start : List Bool) (value : Value) (links more : List Link) (at : List Bool) (ahead leads : Option Pointer) (link : Link)
+    → IsData key → AreOf longest tree → IsBegun tree key start value links at ahead → at ≢ key → link ≡ next_link tree key ahead
     → more ≡ links ++ link ∷ [] → leads ≡ pointer_toward link.taken (side link.path key)
-    → IsBegun format tree key start value more link.path leads
-next_with format tree key start value links more at ahead leads link whole kinds so apart is joined toward =
-    subst (λ (ls : List Link). IsBegun format tree key start value ls link.path leads) (sym joined)
-    (subst (λ (a : Option Pointer). IsBegun format tree key start value (links ++ link ∷ []) link.path a) (sym toward)
-    (begun_next format tree key start value links at ahead link whole kinds so apart is).0)
+    → IsBegun tree key start value more link.path leads
+next_with longest tree key start value links more at ahead leads link whole kinds so apart is joined toward =
+    subst (λ (ls : List Link). IsBegun tree key start value ls link.path leads) (sym joined)
+    (subst (λ (a : Option Pointer). IsBegun tree key start value (links ++ link ∷ []) link.path a) (sym toward)
+    (begun_next longest tree key start value links at ahead link whole kinds so apart is).0)
 
 -- ---- the last link
 

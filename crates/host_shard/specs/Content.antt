@@ -2,8 +2,8 @@
 use Rattle.std.specs.Prelude.{ℕ, Bool, List, Option, Some, None}
 use Rattle.tree_keys.specs.Bits.{bits_of}
 use Rattle.record_text.specs.declared.value.Value.TheVariants as values
+use Rattle.tree_keys.specs.Path.{key_bits}
 use Rattle.record_text.specs.declared.element.Element.{Element}
-use Rattle.record_text.specs.Format.{Format, path_bits}
 use Rattle.host_shard.specs.declared.content.HotRecord.{HotRecord}
 use Rattle.host_shard.specs.Shard.{Shard, pending_shard}
 
@@ -14,20 +14,20 @@ pub data Content : Type 0 where
   vacant : Content
 
 -- the path of a key
-abbrev pub key_path : Format → ℕ → List Bool
-key_path format key = bits_of (path_bits format) key
+abbrev pub key_path : ℕ → List Bool
+key_path key = bits_of key_bits key
 
 -- the element with which a hot record waits
-abbrev pub pending_hot : Format → HotRecord → Element
-pending_hot format record' = record {
-  path = key_path format record'.key;
+abbrev pub pending_hot : HotRecord → Element
+pending_hot record' = record {
+  path = key_path record'.key;
   value = values.Blob record'.value;
   stamp = record'.stamp;
   verifier = record'.evictor;
 }
 
 -- the element with which a content waits
-abbrev pub pending : Format → Content → Option Element
-pending format (cold shard) = Some (pending_shard shard)
-pending format (hot record') = Some (pending_hot format record')
-pending format vacant = None
+abbrev pub pending : Content → Option Element
+pending (cold shard) = Some (pending_shard shard)
+pending (hot record') = Some (pending_hot record')
+pending vacant = None

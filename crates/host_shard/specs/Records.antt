@@ -5,7 +5,6 @@ use Rattle.std.specs.Option.{option_map, option_map_or}
 use Rattle.std.specs.Prelude.{◌≡◌, ℕ, ◌<◌, ◌⊎◌, Bool, List, [], ◌∷◌, length, Option, if◌then◌else◌}
 use Rattle.tree_keys.specs.Bits.{number_of}
 use Rattle.tree_keys.specs.Path.{same_path}
-use Rattle.record_text.specs.Format.{Format}
 use Rattle.record_text.specs.Value.{initial_value}
 use Rattle.host_shard.specs.declared.record.Record.{Record}
 use Rattle.host_shard.specs.Tree.{Tree}
@@ -26,8 +25,8 @@ abbrev pub with_kept : Kept → List Bool → Option Record → Kept
 with_kept kept path now = λ k. if same_path k path then now else kept k
 
 -- a record that nothing was done to yet
-abbrev pub new_record : Format → List Bool → Record
-new_record format path = record { value = initial_value format path; touches = 0 }
+abbrev pub new_record : List Bool → Record
+new_record path = record { value = initial_value path; touches = 0 }
 
 -- the same records, none of them touched
 abbrev pub untouched : Kept → Kept

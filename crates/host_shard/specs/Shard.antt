@@ -4,7 +4,6 @@ use Rattle.tree_keys.specs.Path.{same_path}
 use Rattle.lamport_clocks.specs.declared.stamp.Stamp.{Stamp}
 use Rattle.record_text.specs.declared.value.Value.{Value}
 use Rattle.record_text.specs.declared.element.Element.{Element}
-use Rattle.record_text.specs.Format.{Format}
 use Rattle.record_text.specs.Value.{initial_value}
 use Rattle.merkle_records.specs.Merkle.{Digest}
 use Rattle.host_shard.specs.declared.link.Link.{Link}
@@ -38,10 +37,10 @@ abbrev pub touched : (List Bool → ℕ) → List Bool → List Bool → ℕ
 touched touches key k = if same_path k key then one_more (touches k) else touches k
 
 -- a shard without records: its frontier's value is the initial one
-abbrev pub new_shard : Format → List Bool → Stamp → ℕ → Shard
-new_shard format frontier stamp evictor = record {
+abbrev pub new_shard : List Bool → Stamp → ℕ → Shard
+new_shard frontier stamp evictor = record {
   frontier = frontier;
-  value = initial_value format frontier;
+  value = initial_value frontier;
   records = λ k. None;
   stamp = stamp;
   evictor = evictor;
@@ -49,8 +48,8 @@ new_shard format frontier stamp evictor = record {
 }
 
 -- The shard at the end of a chain, where the value there becomes `last`, and each path is evicted to the one before.
-abbrev pub rehashed : Format → Digest → Shard → List Link → Value → Shard
-rehashed format digest shard links last = record shard {
-  value = closed_value format digest false shard.frontier shard.value links last;
-  records = closed_records format digest false shard.records links last;
+abbrev pub rehashed : Digest → Shard → List Link → Value → Shard
+rehashed digest shard links last = record shard {
+  value = closed_value digest false shard.frontier shard.value links last;
+  records = closed_records digest false shard.records links last;
 }

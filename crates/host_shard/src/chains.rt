@@ -1,7 +1,7 @@
 //! The chain from a shard's frontier to a key.
 ghost use Rattle.std.specs.Prelude.{◌≡◌, ◌≤◌, vec_len, IfOk};
 ghost use Rattle.tree_keys.specs.Path.{side};
-ghost use Rattle.record_text.specs.Format.{short_keys};
+ghost use Rattle.record_text.specs.Longest.{longest_blob};
 ghost use Rattle.host_shard.specs.Chain.{next_link, pointer_toward, last_value, IsChain};
 ghost use Rattle.host_shard.specs.Content.{key_path};
 ghost use Rattle.host_shard.specs.Mirrors.{IsShard, IsKeyOf};
@@ -20,10 +20,10 @@ const ROOM: usize = 24;
 
 /// The chain from the shard's frontier to a key below it.
 pub fn chain(alloc: Global, shard: &Shard, key: u64) -> Result<Vec<Link>, Memory>
-    requires fits { IsShard short_keys (shown shard.now) }
-    requires own { IsKeyOf short_keys (shown shard.now) (key_path short_keys key) }
-    ensures chain { IfOk result (λ links. IsChain short_keys (tree_of (shown shard.now))
-        (key_path short_keys key) shard.now.frontier shard.now.value links.items) }
+    requires fits { IsShard longest_blob (shown shard.now) }
+    requires own { IsKeyOf (shown shard.now) (key_path key) }
+    ensures chain { IfOk result (λ links. IsChain (tree_of (shown shard.now))
+        (key_path key) shard.now.frontier shard.now.value links.items) }
     ensures few { IfOk result (λ links. vec_len links ≤ 64) }
 {
     let end = Path::of_key(key);
@@ -51,7 +51,7 @@ fn toward(value: &Value, at: &Path, key: &Path) -> Option<Pointer>
 
 // The link behind a pointer.
 fn next_link(shard: &Shard, key: &Path, ahead: Option<Pointer>) -> Link
-    ensures value { result ≡ next_link short_keys (tree_of (shown shard.now)) key.now ahead }
+    ensures value { result ≡ next_link (tree_of (shown shard.now)) key.now ahead }
 {
     let pointer = match ahead {
         Some(pointer) => pointer,

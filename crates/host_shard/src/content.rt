@@ -1,8 +1,8 @@
 //! What a place of the host's table holds.
 ghost use Rattle.std.specs.Prelude.{◌≡◌, ◌<◌, ◌^◌};
-ghost use Rattle.record_text.specs.Format.{short_keys};
 ghost use Rattle.record_text.specs.Element.{IsStamp};
 ghost use Rattle.record_text.specs.Value.{IsOf};
+ghost use Rattle.record_text.specs.Longest.{longest_blob};
 ghost use Rattle.host_shard.specs.Content.{pending, pending_hot};
 ghost use Rattle.host_shard.specs.Shown.{shown_content};
 
@@ -65,8 +65,8 @@ impl HotRecord {
 
     /// The element with which the record waits, until a verifier takes it in.
     pub fn pending(&self) -> Element
-        ensures value { result ≡ pending_hot short_keys self.now }
-        ensures kind { IsOf short_keys result.path result.value }
+        ensures value { result ≡ pending_hot self.now }
+        ensures kind { IsOf longest_blob result.path result.value }
         ensures stamp { IsStamp result.stamp }
         ensures verifier { result.verifier < 2 ^ 16 }
     {
@@ -78,7 +78,7 @@ impl HotRecord {
 impl Content {
     /// The element with which the content waits, if it isn't vacant.
     pub fn pending(&self) -> Option<Element>
-        ensures value { result ≡ pending short_keys (shown_content self.now) }
+        ensures value { result ≡ pending (shown_content self.now) }
     {
         match self {
             Content::Cold(shard) => Some(shard.pending()),

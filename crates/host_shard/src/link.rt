@@ -1,6 +1,5 @@
 //! The links of a chain.
 ghost use Rattle.std.specs.Prelude.{◌≡◌};
-ghost use Rattle.record_text.specs.Format.{short_keys};
 ghost use Rattle.host_shard.specs.Chain.{new_link, fork_link};
 
 use record_text::{Node, Pointer, Value, initial};
@@ -18,7 +17,7 @@ pub struct Link {
 impl Link {
     // A path that has no record yet.
     pub(crate) fn new(path: &Path) -> Self
-        ensures value { result ≡ new_link short_keys path.now }
+        ensures value { result ≡ new_link path.now }
     {
         Link {
             path: *path,
@@ -40,7 +39,7 @@ impl Link {
 
     // The node at which a key parts from a pointer that leads past it.
     pub(crate) fn fork(key: &Path, pointer: &Pointer) -> Self
-        ensures value { result ≡ fork_link short_keys key.now pointer.now }
+        ensures value { result ≡ fork_link key.now pointer.now }
     {
         let path = pointer.path.common(key);
         let node = match path.side(&pointer.path) {

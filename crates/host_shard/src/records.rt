@@ -1,7 +1,6 @@
 //! The records of a shard by their paths.
 ghost use Rattle.std.specs.Prelude.{◌≡◌, [], not, is_some, unwrap_or, Some, None, IsSome, IfOk, OnOk, OnErr};
 ghost use Rattle.std.specs.Option.{option_copied, option_map};
-ghost use Rattle.record_text.specs.Format.{short_keys};
 ghost use Rattle.host_shard.specs.declared.record.Record.{Record};
 ghost use Rattle.host_shard.specs.Records.{record_at, with_kept, new_record, untouched, AreInOrder};
 ghost use Rattle.host_shard.specs.Shard.{one_more};
@@ -58,7 +57,7 @@ impl Records {
     pub fn open(&mut self, path: &Path) -> Result<bool, Memory>
         ensures new { IfOk result (λ new. new ≡ not (is_some (record_at self.old path.now))) }
         ensures opened { OnOk result (record_at self.new ≡ with_kept (record_at self.old) path.now
-            (Some (unwrap_or (record_at self.old path.now) (new_record short_keys path.now)))) }
+            (Some (unwrap_or (record_at self.old path.now) (new_record path.now)))) }
         ensures as_before { OnErr result (self.new ≡ self.old) }
     {
         if self.map.contains_key(path) {

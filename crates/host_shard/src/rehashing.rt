@@ -1,6 +1,5 @@
 //! How a shard rehashes behind a chain: what the records along it are in the end.
 ghost use Rattle.std.specs.Prelude.{◌≡◌, ◌<◌, false, length, IfOk, OnOk, OnErr};
-ghost use Rattle.record_text.specs.Format.{short_keys};
 ghost use Rattle.merkle_records.specs.Merkle.{pointer_to};
 ghost use Rattle.host_shard.specs.Chain.{aimed, closed_value, closed_records};
 ghost use Rattle.host_shard.specs.Records.{record_at, values_of, touches_of};
@@ -19,7 +18,7 @@ use tree_keys::Path;
 // The value of a path whose pointer to a path below it has the digest of that path's value.
 fn aimed<D: Digests>(d: &D, at: &Path, value: &Value, path: &Path, below: &Value) -> Value
     ensures value { result ≡ aimed at.now value.now
-        (pointer_to short_keys (D.functions d.now).digest path.now below.now) }
+        (pointer_to (D.functions d.now).digest path.now below.now) }
 {
     let node = match value {
         Value::Node(node) => node,
@@ -46,9 +45,9 @@ pub(crate) fn rehash<D: Digests>(
     links: &[Link],
     last: Value,
 ) -> Result<Value, Memory>
-    ensures value { IfOk result (λ v. v ≡ closed_value short_keys (D.functions d.now).digest false
+    ensures value { IfOk result (λ v. v ≡ closed_value (D.functions d.now).digest false
         at.now value.now links.now last) }
-    ensures records { OnOk result (values_of records.new ≡ closed_records short_keys
+    ensures records { OnOk result (values_of records.new ≡ closed_records
         (D.functions d.now).digest false (values_of records.old) links.now last) }
     ensures touches { OnOk result (touches_of records.new ≡ touches_of records.old) }
     ensures as_before { OnErr result (record_at records.new ≡ record_at records.old) }
@@ -77,7 +76,7 @@ impl Shard {
     /// Rehashes the shard behind a chain from its frontier: the value at the end becomes `last`, and each record above it
     /// keeps the digest of what the next one became. For want of memory all is as before.
     pub fn rehash<D: Digests>(&mut self, d: &D, links: &[Link], last: Value) -> Result<(), Memory>
-        ensures rehashed { OnOk result (shown self.new ≡ rehashed short_keys
+        ensures rehashed { OnOk result (shown self.new ≡ rehashed
             (D.functions d.now).digest (shown self.old) links.now last) }
         ensures as_before { OnErr result (shown self.new ≡ shown self.old) }
     {

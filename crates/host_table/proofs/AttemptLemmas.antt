@@ -3,7 +3,6 @@ use Rattle.std.proofs.Common.{◌≡◌, ℕ, List, ◌++◌, append_assoc, sym,
 use Rattle.lamport_clocks.specs.declared.stamp.Stamp.{Stamp}
 use Rattle.lamport_clocks.specs.Reading.{Reading}
 use Rattle.record_text.specs.declared.request.Request.{Request}
-use Rattle.record_text.specs.Format.{short_keys}
 use Rattle.merkle_records.specs.Merkle.{Digest}
 use Rattle.host_shard.specs.Content.{Content}
 use Rattle.host_shard.specs.Shown.{shown_content}
@@ -32,8 +31,8 @@ clock_told terms clock stamp is at = λ i. record { first = sym is.first i; end 
 -- a service's plan, where the request has this one
 pub service_plan : (terms : Terms) (digest : Digest) (worker : ℕ) (x : Content) (request : Request) (clock : Reading) (plan : Plan) (after : Content) (later : Reading) (service : Service)
     → digest ≡ terms.digest → shown_content service.before ≡ x → service.request ≡ request → service.clock ≡ clock
-    → IsPlan short_keys terms.digest service.worker (shown_content service.before) service.request service.clock service.plan (shown_content service.after) service.later
-    → IsPlan short_keys digest worker x request clock plan after later → (service.plan ≡ plan) × (service.later ≡ later)
+    → IsPlan terms.digest service.worker (shown_content service.before) service.request service.clock service.plan (shown_content service.after) service.later
+    → IsPlan digest worker x request clock plan after later → (service.plan ≡ plan) × (service.later ≡ later)
 service_plan terms digest worker x request clock plan after later service same before asked at mine its =
-    plan_one short_keys terms.digest service.worker worker (shown_content service.before) service.request service.clock service.plan plan (shown_content service.after) after service.later later mine
-    (subst (λ (t : Digest × Content × Request × Reading). IsPlan short_keys t.0 worker t.1 t.2 t.3 plan after later) (λ i. (same i, sym before i, sym asked i, sym at i)) its)
+    plan_one terms.digest service.worker worker (shown_content service.before) service.request service.clock service.plan plan (shown_content service.after) after service.later later mine
+    (subst (λ (t : Digest × Content × Request × Reading). IsPlan t.0 worker t.1 t.2 t.3 plan after later) (λ i. (same i, sym before i, sym asked i, sym at i)) its)

@@ -2,7 +2,7 @@
 use Rattle.std.proofs.Common.{◌≡◌, ℕ, ◌≤◌, ◌<◌, Bool, true, false, List, [], ◌∷◌, length, Option, Some, None, IsTrue, refl, sym, ap, ⊎_elim, ◌∙◌, subst, if◌then◌else◌, eq-eqb, arith}
 use Rattle.std.proofs.lemmas.Option.{none-some, same_Some}
 use Rattle.std.proofs.lemmas.Bool.{cases_lt}
-use Rattle.tree_keys.specs.Path.{side}
+use Rattle.tree_keys.specs.Path.{side, IsData}
 use Rattle.tree_keys.proofs.PathLaws.{side-short}
 use Rattle.lamport_clocks.specs.declared.header.Header.{Header}
 use Rattle.lamport_clocks.specs.Clock.{is_open}
@@ -11,8 +11,8 @@ use Rattle.record_text.specs.declared.element.Element.{Element}
 use Rattle.record_text.specs.declared.request.Request.{Request}
 use Rattle.record_text.specs.declared.value.Value.{Value}
 use Rattle.record_text.specs.declared.value.Value.TheVariants as values
-use Rattle.record_text.specs.Format.{Format, path_bits, short_keys}
 use Rattle.record_text.specs.Value.{IsBlob, IsOf}
+use Rattle.record_text.specs.Longest.{longest_blob}
 use Rattle.merkle_records.specs.Merkle.{Digest, GivesDigests}
 use Rattle.host_shard.specs.declared.content.Content as code
 use Rattle.host_shard.specs.declared.link.Link.{Link}
@@ -34,53 +34,53 @@ use Rattle.host_table.specs.Told.{Leads}
 -- ---- the owners
 
 -- a request leaves its key a value of its kind
-after_kind : (format : Format) (request : Request) (found : Value) → IsBlob format request.value → length (key_path format request.key) ≡ path_bits format
-    → IsOf format (key_path format request.key) found → IsOf format (key_path format request.key) (value_after request found)
-after_kind format request found fits whole kind = go request.put
+after_kind : (longest : ℕ) (request : Request) (found : Value) → IsBlob longest request.value → IsData (key_path request.key)
+    → IsOf longest (key_path request.key) found → IsOf longest (key_path request.key) (value_after request found)
+after_kind longest request found fits whole kind = go request.put
   where
-    go : (b : Bool) → IsOf format (key_path format request.key) (if b then values.Blob request.value else found)
+    go : (b : Bool) → IsOf longest (key_path request.key) (if b then values.Blob request.value else found)
     go true = (whole, fits)
     go false = kind
 
-shard_owns : (format : Format) (digest : Digest) (worker : ℕ) (shard : Shard) (request : Request) (clock : Reading) (links : List Link)
-    → GivesDigests digest → IsBlob format request.value → IsShard format shard → IsKeyOf format shard (key_path format request.key)
-    → IsChain format (tree_of shard) (key_path format request.key) shard.frontier shard.value links → IsShard format (served format digest worker shard links request clock)
-shard_owns format digest worker shard request clock links digests fits is own chain =
+shard_owns : (longest : ℕ) (digest : Digest) (worker : ℕ) (shard : Shard) (request : Request) (clock : Reading) (links : List Link)
+    → GivesDigests digest → IsBlob longest request.value → IsShard longest shard → IsKeyOf shard (key_path request.key)
+    → IsChain (tree_of shard) (key_path request.key) shard.frontier shard.value links → IsShard longest (served digest worker shard links request clock)
+shard_owns longest digest worker shard request clock links digests fits is own chain =
     let last = value_after request (last_value shard.value links) in
-    let rehashed = rehashed_is format digest shard (key_path format request.key) links last digests is own
-    (after_kind format request (last_value shard.value links) fits own.whole
-    (last_kind format (tree_of shard) (key_path format request.key) shard.frontier shard.value links own.whole is.kinds (frontier_kind format shard is.kinds) chain)) chain in
+    let rehashed = rehashed_is longest digest shard (key_path request.key) links last digests is own
+    (after_kind longest request (last_value shard.value links) fits own.whole
+    (last_kind longest (tree_of shard) (key_path request.key) shard.frontier shard.value links own.whole is.kinds (frontier_kind longest shard is.kinds) chain)) chain in
     record { below_root = rehashed.below_root; no_data = rehashed.no_data; kinds = rehashed.kinds }
 
 -- what a content owned before a request it owns after it
-pub plan_owns : (format : Format) (digest : Digest) (worker : ℕ) (content after : Content) (request : Request) (clock later : Reading) (plan : Plan)
-    → GivesDigests digest → IsBlob format request.value → Owns format content request.key → IsPlan format digest worker content request clock plan after later
-    → (key : ℕ) → Owns format content key → Owns format after key
-plan_owns format digest worker (cold shard) after request clock later plan digests fits own is key owns =
-    subst (λ (c : Content). Owns format c key) (sym is.content)
-    (shard_owns format digest worker shard request clock is.links digests fits own.0 own.1 is.way, record { whole = owns.1.whole; below = owns.1.below })
-plan_owns format digest worker (hot kept) after request clock later plan digests fits own is key owns = subst (λ (c : Content). Owns format c key) (sym is.content) owns
-plan_owns format digest worker vacant after request clock later plan digests fits own is key owns = absurd owns
+pub plan_owns : (longest : ℕ) (digest : Digest) (worker : ℕ) (content after : Content) (request : Request) (clock later : Reading) (plan : Plan)
+    → GivesDigests digest → IsBlob longest request.value → Owns longest content request.key → IsPlan digest worker content request clock plan after later
+    → (key : ℕ) → Owns longest content key → Owns longest after key
+plan_owns longest digest worker (cold shard) after request clock later plan digests fits own is key owns =
+    subst (λ (c : Content). Owns longest c key) (sym is.content)
+    (shard_owns longest digest worker shard request clock is.links digests fits own.0 own.1 is.way, record { whole = owns.1.whole; below = owns.1.below })
+plan_owns longest digest worker (hot kept) after request clock later plan digests fits own is key owns = subst (λ (c : Content). Owns longest c key) (sym is.content) owns
+plan_owns longest digest worker vacant after request clock later plan digests fits own is key owns = absurd owns
 
 module _ (terms : Terms) (digests : GivesDigests terms.digest) where
   -- a content that a place has had owns the keys that the place owned at the making
   owns_from : (place : ℕ) (x : code.Content) (past : List Service) (y : code.Content)
-      → ((key : ℕ) → Owns short_keys (shown_content (first_at terms place)) key → Owns short_keys (shown_content x) key)
-      → Leads terms place x past y → (key : ℕ) → Owns short_keys (shown_content (first_at terms place)) key → Owns short_keys (shown_content y) key
-  owns_from place x [] y from leads key owns = subst (λ (c : Content). Owns short_keys c key) (sym leads) (from key owns)
+      → ((key : ℕ) → Owns longest_blob (shown_content (first_at terms place)) key → Owns longest_blob (shown_content x) key)
+      → Leads terms place x past y → (key : ℕ) → Owns longest_blob (shown_content (first_at terms place)) key → Owns longest_blob (shown_content y) key
+  owns_from place x [] y from leads key owns = subst (λ (c : Content). Owns longest_blob c key) (sym leads) (from key owns)
   owns_from place x (service ∷ past) y from leads key owns =
       let served = leads.2 in
-      let before : (k : ℕ) → Owns short_keys (shown_content (first_at terms place)) k → Owns short_keys (shown_content service.before) k =
-      λ k o. subst (λ (c : Content). Owns short_keys c k) (sym leads.1) (from k o) in
-      let own : Owns short_keys (shown_content (first_at terms place)) service.request.key =
-      subst (λ (p : ℕ). Owns short_keys (shown_content (first_at terms p)) service.request.key) leads.0 served.at.owns in
+      let before : (k : ℕ) → Owns longest_blob (shown_content (first_at terms place)) k → Owns longest_blob (shown_content service.before) k =
+      λ k o. subst (λ (c : Content). Owns longest_blob c k) (sym leads.1) (from k o) in
+      let own : Owns longest_blob (shown_content (first_at terms place)) service.request.key =
+      subst (λ (p : ℕ). Owns longest_blob (shown_content (first_at terms p)) service.request.key) leads.0 served.at.owns in
       owns_from place service.after past y
-      (λ k o. plan_owns short_keys terms.digest service.worker (shown_content service.before) (shown_content service.after) service.request service.clock service.later service.plan
+      (λ k o. plan_owns longest_blob terms.digest service.worker (shown_content service.before) (shown_content service.after) service.request service.clock service.later service.plan
       digests served.value (before service.request.key own) served.plan k (before k o))
       leads.3 key owns
 
   pub leads_owns : (place : ℕ) (past : List Service) (y : code.Content) → Leads terms place (first_at terms place) past y
-      → (key : ℕ) → Owns short_keys (shown_content (first_at terms place)) key → Owns short_keys (shown_content y) key
+      → (key : ℕ) → Owns longest_blob (shown_content (first_at terms place)) key → Owns longest_blob (shown_content y) key
   leads_owns place past y leads key owns = owns_from place (first_at terms place) past y (λ k o. o) leads key owns
 
 -- ---- the phase
@@ -89,18 +89,18 @@ at_most : (n limit limit' : ℕ) → limit ≡ limit' → (limit < n → ⊥) �
 at_most n limit limit' same within = ⊎_elim (λ past. absurd (within past)) (λ le. omega (arith, le, same)) (cases_lt limit n)
 
 -- the element that a served request leaves is of the clock after it
-plan_stamped : (header : Header) (epoch worker : ℕ) (format : Format) (digest : Digest) (content after : Content) (request : Request) (clock later : Reading) (plan : Plan)
+plan_stamped : (header : Header) (epoch worker : ℕ) (digest : Digest) (content after : Content) (request : Request) (clock later : Reading) (plan : Plan)
     → worker < header.verifiers → clock.at.epoch ≡ epoch → clock.end ≡ header.end → (IsPastEnd content clock → ⊥)
-    → IsPlan format digest worker content request clock plan after later → IsStamped header epoch after
-plan_stamped header epoch worker format digest (cold shard) after request clock later plan known in_epoch end within is =
+    → IsPlan digest worker content request clock plan after later → IsStamped header epoch after
+plan_stamped header epoch worker digest (cold shard) after request clock later plan known in_epoch end within is =
     subst (IsStamped header epoch) (sym is.content)
     (λ element found. subst (λ (e : Element). IsStampOf header epoch e.stamp e.verifier) (same_Some _ element found)
     record { verifier = known; epoch_is = in_epoch; counter = at_most (clock_after (cold shard) clock).at.counter clock.end header.end end within })
-plan_stamped header epoch worker format digest (hot kept) after request clock later plan known in_epoch end within is =
+plan_stamped header epoch worker digest (hot kept) after request clock later plan known in_epoch end within is =
     subst (IsStamped header epoch) (sym is.content)
     (λ element found. subst (λ (e : Element). IsStampOf header epoch e.stamp e.verifier) (same_Some _ element found)
     record { verifier = known; epoch_is = in_epoch; counter = at_most (clock_after (hot kept) clock).at.counter clock.end header.end end within })
-plan_stamped header epoch worker format digest vacant after request clock later plan known in_epoch end within is =
+plan_stamped header epoch worker digest vacant after request clock later plan known in_epoch end within is =
     subst (IsStamped header epoch) (sym is.content) (λ element found. absurd (none-some element found))
 
 module _ (terms : Terms) (few : terms.workers ≤ terms.header.verifiers) where
@@ -113,7 +113,7 @@ module _ (terms : Terms) (few : terms.workers ≤ terms.header.verifiers) where
   stamped_from place x (service ∷ past) y from leads =
       let served = leads.2 in
       stamped_from place service.after past y
-      (plan_stamped terms.header (phase_epoch terms) service.worker short_keys terms.digest (shown_content service.before) (shown_content service.after) service.request service.clock service.later service.plan
+      (plan_stamped terms.header (phase_epoch terms) service.worker terms.digest (shown_content service.before) (shown_content service.after) service.request service.clock service.later service.plan
       (omega (arith, served.by, few)) served.clock.epoch served.clock.end served.within served.plan)
       leads.3
 
@@ -135,34 +135,34 @@ open_at header epoch vacant clock stamped here = tt
 no_side : (path key : List Bool) (on : Bool) → path ≡ key → side path key ≡ Some on → ⊥
 no_side path key on same is = none-some on (sym (side-short path key (let e : length path ≡ length key = ap (λ k. length k) same in omega (arith, e))) ∙ is)
 
-next_one : (format : Format) (tree : Tree) (key at : List Bool) (value : Value) (link other : Link) → IsNextLink format tree key at value link → IsNextLink format tree key at value other → link ≡ other
-next_one format tree key at value link other one two =
-    one.next ∙ (ap (λ on. next_link format tree key (pointer_of value on)) (same_Some one.on two.on (sym one.on_side ∙ two.on_side)) ∙ sym two.next)
+next_one : (tree : Tree) (key at : List Bool) (value : Value) (link other : Link) → IsNextLink tree key at value link → IsNextLink tree key at value other → link ≡ other
+next_one tree key at value link other one two =
+    one.next ∙ (ap (λ on. next_link tree key (pointer_of value on)) (same_Some one.on two.on (sym one.on_side ∙ two.on_side)) ∙ sym two.next)
 
 -- two chains from a path to a key are one
-chain_one : (format : Format) (tree : Tree) (key at : List Bool) (value : Value) (links others : List Link) → IsChain format tree key at value links → IsChain format tree key at value others → links ≡ others
-chain_one format tree key at value [] [] one two = refl
-chain_one format tree key at value [] (other ∷ others) one two = absurd (no_side at key two.0.on one two.0.on_side)
-chain_one format tree key at value (link ∷ links) [] one two = absurd (no_side at key one.0.on two one.0.on_side)
-chain_one format tree key at value (link ∷ links) (other ∷ others) one two =
-    let same = next_one format tree key at value link other one.0 two.0 in
-    let more = chain_one format tree key other.path other.taken links others (subst (λ (l : Link). IsChain format tree key l.path l.taken links) same one.1) two.1 in
+chain_one : (tree : Tree) (key at : List Bool) (value : Value) (links others : List Link) → IsChain tree key at value links → IsChain tree key at value others → links ≡ others
+chain_one tree key at value [] [] one two = refl
+chain_one tree key at value [] (other ∷ others) one two = absurd (no_side at key two.0.on one two.0.on_side)
+chain_one tree key at value (link ∷ links) [] one two = absurd (no_side at key one.0.on two one.0.on_side)
+chain_one tree key at value (link ∷ links) (other ∷ others) one two =
+    let same = next_one tree key at value link other one.0 two.0 in
+    let more = chain_one tree key other.path other.taken links others (subst (λ (l : Link). IsChain tree key l.path l.taken links) same one.1) two.1 in
     λ i. same i ∷ more i
 
-links_one : (format : Format) (content : Content) (key : ℕ) (links others : List Link) → AreLinks format content key links → AreLinks format content key others → links ≡ others
-links_one format (cold shard) key links others one two = chain_one format (tree_of shard) (key_path format key) shard.frontier shard.value links others one two
-links_one format (hot kept) key links others one two = one ∙ sym two
-links_one format vacant key links others one two = absurd one
+links_one : (content : Content) (key : ℕ) (links others : List Link) → AreLinks content key links → AreLinks content key others → links ≡ others
+links_one (cold shard) key links others one two = chain_one (tree_of shard) (key_path key) shard.frontier shard.value links others one two
+links_one (hot kept) key links others one two = one ∙ sym two
+links_one vacant key links others one two = absurd one
 
 abbrev blob_in : Value → Option (List ℕ)
 blob_in (values.Blob blob) = blob
 blob_in (values.Node node) = None
 
 -- a request has one plan
-pub plan_one : (format : Format) (digest : Digest) (worker other_worker : ℕ) (content : Content) (request : Request) (clock : Reading) (plan other : Plan) (after other_after : Content) (later other_later : Reading)
-    → IsPlan format digest worker content request clock plan after later → IsPlan format digest other_worker content request clock other other_after other_later → (plan ≡ other) × (later ≡ other_later)
-plan_one format digest worker other_worker content request clock plan other after other_after later other_later one two =
-    let links = links_one format content request.key one.links two.links one.way two.way in
-    let commands : plan.commands ≡ other.commands = one.commands ∙ (ap (λ ls. commands_of format content ls request clock) links ∙ sym two.commands) in
+pub plan_one : (digest : Digest) (worker other_worker : ℕ) (content : Content) (request : Request) (clock : Reading) (plan other : Plan) (after other_after : Content) (later other_later : Reading)
+    → IsPlan digest worker content request clock plan after later → IsPlan digest other_worker content request clock other other_after other_later → (plan ≡ other) × (later ≡ other_later)
+plan_one digest worker other_worker content request clock plan other after other_after later other_later one two =
+    let links = links_one content request.key one.links two.links one.way two.way in
+    let commands : plan.commands ≡ other.commands = one.commands ∙ (ap (λ ls. commands_of content ls request clock) links ∙ sym two.commands) in
     let answer : plan.answer ≡ other.answer = ap blob_in (one.answer ∙ (ap (λ ls. value_after request (value_found content ls)) links ∙ sym two.answer)) in
     ((λ i. record { commands = commands i; answer = answer i }), one.clock ∙ sym two.clock)

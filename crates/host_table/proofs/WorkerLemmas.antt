@@ -6,8 +6,8 @@ use native.Mathlib.Decide.{ℕ_discrete}
 use lib.ListN.{get_elem?}
 use lib.Seq.{set-get_or}
 use prog.Atomic.{either}
-use Rattle.record_text.specs.Format.{short_keys}
 use Rattle.record_text.specs.Value.{IsBlob}
+use Rattle.record_text.specs.Longest.{longest_blob}
 use Rattle.atomic_table.specs.Table.{State, Act, keeps, takes, gives, Allows, step, stepped, carried_after, Valid}
 use Rattle.atomic_table.proofs.Lists.{set_else, set_here, exchanged}
 use Rattle.host_shard.specs.declared.content.Content.{Content}
@@ -262,7 +262,7 @@ module _ (terms : Terms) (id i p slots : ℕ) (list : List Service) (losses : Li
 
   -- a clock's end is noted
   pub ends : (x : Content) (past : List Service) (stop : Option Stop) (draft : Draft) (carried : List (ℕ × Content))
-      → IsPlaceOf terms p draft.request.key → IsBlob short_keys draft.request.value → IsClockOf terms draft.clock → TakesUp list draft.clock → IsPastEnd (shown_content x) draft.clock
+      → IsPlaceOf terms p draft.request.key → IsBlob longest_blob draft.request.value → IsClockOf terms draft.clock → TakesUp list draft.clock → IsPastEnd (shown_content x) draft.clock
       → Allows (IsKept terms) slots id (Working (desk_of i (Has p x past) list stop losses), carried) p (λ n. n)
       (stopped draft (step slots p 0 0 none) (Working (desk_of i (Has p x past) list stop losses), carried))
   ends x past stop draft carried place value clock chained past_end s r deep at below =

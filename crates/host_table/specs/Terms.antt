@@ -4,7 +4,7 @@ use Rattle.std.specs.Option.{ForSome}
 use Rattle.lamport_clocks.specs.declared.header.Header.{Header}
 use Rattle.lamport_clocks.specs.declared.stamp.Stamp.{Stamp}
 use Rattle.lamport_clocks.specs.Reading.{Reading}
-use Rattle.record_text.specs.Format.{short_keys}
+use Rattle.record_text.specs.Longest.{longest_blob}
 use Rattle.merkle_records.specs.Merkle.{Digest}
 use Rattle.host_shard.specs.declared.content.Content as code
 use Rattle.host_shard.specs.declared.content.Content.TheVariants.{Cold, Hot, Vacant}
@@ -46,7 +46,7 @@ phase_epoch terms = epoch_in terms.contents
 -- The key's place: its content owns the key, which is not hot at another place of the shard.
 pub record IsPlaceOf (terms : Terms) (place key : ℕ) : Type 0 where
   pub there : place < place_count terms
-  pub owns : Owns short_keys (shown_content (first_at terms place)) key
+  pub owns : Owns longest_blob (shown_content (first_at terms place)) key
   pub cold : (other : ℕ) (kept : HotRecord) → other / places_each ≡ place / places_each → first_at terms other ≡ Hot kept
       → kept.key ≡ key → other ≡ place
 
@@ -64,7 +64,7 @@ pub record IsStampOf (header : Header) (epoch : ℕ) (stamp : Stamp) (evictor : 
 
 -- the element with which the content waits, if it waits with one, is stamped so
 abbrev pub IsStamped : Header → ℕ → Content → Type 0
-IsStamped header epoch content = ForSome (pending short_keys content) (λ element. IsStampOf header epoch element.stamp element.verifier)
+IsStamped header epoch content = ForSome (pending content) (λ element. IsStampOf header epoch element.stamp element.verifier)
 
 -- What is asked of a making: some places and workers, no more workers than the bundle has verifiers, and contents that wait
 -- with elements of one epoch, whose counters do not pass their end.

@@ -2,8 +2,8 @@
 use Rattle.std.specs.Prelude.{◌≡◌, ◌⊎◌, ℕ, zero, suc, ◌<◌, List, [], ◌∷◌, ◌++◌}
 use Rattle.std.specs.List.{AllByRecursion}
 use Rattle.lamport_clocks.specs.Reading.{Reading}
-use Rattle.record_text.specs.Format.{short_keys}
 use Rattle.record_text.specs.Value.{IsBlob}
+use Rattle.record_text.specs.Longest.{longest_blob}
 use Rattle.host_shard.specs.declared.content.Content.{Content}
 use Rattle.host_shard.specs.Shown.{shown_content}
 use Rattle.host_plan.specs.Plan.{IsPlan, IsPastEnd}
@@ -19,9 +19,9 @@ IsSame x y = shown_content y ≡ shown_content x
 pub record IsServed (terms : Terms) (service : Service) : Type 0 where
   pub by : service.worker < terms.workers
   pub at : IsPlaceOf terms service.place service.request.key
-  pub value : IsBlob short_keys service.request.value
+  pub value : IsBlob longest_blob service.request.value
   pub clock : IsClockOf terms service.clock
-  pub plan : IsPlan short_keys terms.digest service.worker (shown_content service.before) service.request service.clock
+  pub plan : IsPlan terms.digest service.worker (shown_content service.before) service.request service.clock
       service.plan (shown_content service.after) service.later
   pub within : IsPastEnd (shown_content service.before) service.clock → ⊥
 
@@ -56,7 +56,7 @@ IsHad x (service ∷ services) had = IsSame x had ⊎ IsHad service.after servic
 -- A worker's clock ended behind its list, at a request and a content that the request's place has had.
 pub record IsStop (terms : Terms) (past services : List Service) (stop : Stop) : Type 0 where
   pub at : IsPlaceOf terms stop.place stop.request.key
-  pub value : IsBlob short_keys stop.request.value
+  pub value : IsBlob longest_blob stop.request.value
   pub clock : IsClockOf terms stop.clock
   pub behind : TakesUp services stop.clock
   pub had : IsHad (first_at terms stop.place) past stop.content

@@ -1,8 +1,8 @@
 //! How a worker serves a request at the key's place.
 ghost use Rattle.std.specs.Prelude.{◌≡◌, ◌<◌, [], None, Some};
 ghost use Rattle.std.specs.List.{AllByRecursion};
+ghost use Rattle.record_text.specs.Longest.{longest_blob};
 ghost use Rattle.log_codec.specs.Command.{IsCommand};
-ghost use Rattle.record_text.specs.Format.{short_keys};
 ghost use Rattle.record_text.specs.Value.{IsBlob};
 ghost use Rattle.host_shard.specs.Shown.{shown_content};
 ghost use Rattle.host_plan.specs.declared.plans.Plan.{Plan};
@@ -52,7 +52,7 @@ impl<D: Digests> Records<D> {
         ensures attempts { Attempts (terms D.functions self.now) hand.old place request.now clock.old result hand.new clock.new }
         ensures clock { IsClockOf (terms D.functions self.now) clock.new }
         ensures chained { TakesUp (services hand.new) clock.new }
-        ensures typed { (made : Plan) → result ≡ Served made → AllByRecursion (IsCommand short_keys) made.commands }
+        ensures typed { (made : Plan) → result ≡ Served made → AllByRecursion (IsCommand longest_blob) made.commands }
     {
         let mut content = match self.try_take(hand, place) {
             Taking::Taken(content) => content,
@@ -92,7 +92,7 @@ fn note_end<D: Digests, N: Told>(
     requires word { place < board.now.shared.table_id.words }
     requires holds { Holds board.now.shared.table_id hand.old place }
     requires place { IsPlaceOf (terms_of D.functions board.now.shared.key) place request.now.key }
-    requires value { IsBlob short_keys request.now.value }
+    requires value { IsBlob longest_blob request.now.value }
     requires clock { IsClockOf (terms_of D.functions board.now.shared.key) (clock_at (terms_of D.functions board.now.shared.key) clock) }
     requires chained { TakesUp (services hand.old) (clock_at (terms_of D.functions board.now.shared.key) clock) }
     requires past { IsPastEnd (shown_content (content hand.old)) (clock_at (terms_of D.functions board.now.shared.key) clock) }
@@ -104,7 +104,7 @@ fn note_end<D: Digests, N: Told>(
 
 // A data value is one that a key may have: its type says so.
 fn value_fits(value: &Blob)
-    ensures fits { IsBlob short_keys value.now }
+    ensures fits { IsBlob longest_blob value.now }
 {
     let _ = value.bytes();
 }

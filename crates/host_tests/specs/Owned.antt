@@ -1,17 +1,17 @@
 -- Shards that the tests serve requests on.
 use Rattle.std.specs.Prelude.{ℕ, Bool, List}
 use Rattle.tree_keys.specs.Path.{IsBelow}
-use Rattle.record_text.specs.Format.{short_keys}
+use Rattle.record_text.specs.Longest.{longest_blob}
 use Rattle.host_shard.specs.Content.{Content, cold, hot, vacant, key_path}
 use Rattle.host_shard.specs.Mirrors.{IsShard}
 use Rattle.host_plan.specs.Plan.{Owns}
 
 -- the content owns each key below this frontier
 abbrev pub OwnsBelow : List Bool → Content → Type 0
-OwnsBelow frontier content = (key : ℕ) → IsBelow frontier (key_path short_keys key) → Owns short_keys content key
+OwnsBelow frontier content = (key : ℕ) → IsBelow frontier (key_path key) → Owns longest_blob content key
 
 -- the content is a shard, or a hot record of some key, or nothing
 abbrev pub IsFit : Content → Type 0
-IsFit (cold shard) = IsShard short_keys shard
+IsFit (cold shard) = IsShard longest_blob shard
 IsFit (hot found) = Unit {0}
 IsFit vacant = Unit {0}

@@ -2,7 +2,7 @@
 ghost use Rattle.std.specs.Prelude.{◌≤◌, IsTrue, length, map};
 ghost use Rattle.std.specs.List.{AllByRecursion};
 ghost use Rattle.lamport_clocks.specs.Clock.{is_open};
-ghost use Rattle.record_text.specs.Format.{short_keys};
+ghost use Rattle.record_text.specs.Longest.{longest_blob};
 ghost use Rattle.host_shard.specs.Content.{key_path};
 ghost use Rattle.host_shard.specs.Mirrors.{IsShard, IsKeyOf};
 ghost use Rattle.host_shard.specs.Shown.{shown, shown_content};
@@ -51,7 +51,7 @@ fn fresh(alloc: Global, side: bool, counter: u32) -> Seats
 // Whether a content is the one in which a request for a key is served.
 fn owns(content: &Content, key: u64) -> bool
     ensures own { IsTrue result → IsFit (shown_content content.now)
-        → Owns short_keys (shown_content content.now) key }
+        → Owns longest_blob (shown_content content.now) key }
 {
     match content {
         Content::Cold(shard) => Path::of_key(key).is_below(&shard.frontier),
@@ -62,7 +62,7 @@ fn owns(content: &Content, key: u64) -> bool
 
 // Whether a content is the record of this hot key.
 fn is_hot_at(content: &Content, key: u64) -> bool
-    ensures own { IsTrue result → Owns short_keys (shown_content content.now) key }
+    ensures own { IsTrue result → Owns longest_blob (shown_content content.now) key }
 {
     match content {
         Content::Hot(found) => found.key == key,
@@ -96,7 +96,7 @@ fn takes_all(clock: &Clock, places: &[Content]) -> bool
 
 // Whether each record in these places is of a key of the shard.
 pub(crate) fn owns_all(shard: &Shard, places: &[Content]) -> bool
-    ensures own { IsTrue result → AllByRecursion (λ found. IsKeyOf short_keys (shown shard.now) (key_path short_keys found.key))
+    ensures own { IsTrue result → AllByRecursion (λ found. IsKeyOf (shown shard.now) (key_path found.key))
         (hot_records (map shown_content places.now)) }
 {
     let (first, rest) = match places.split_first() {
@@ -125,9 +125,9 @@ fn close<D: Digests>(
     log: &mut Vec<u8>,
     tries: u8,
 ) -> bool
-    requires fits { IsShard short_keys (shown shard.old) }
+    requires fits { IsShard longest_blob (shown shard.old) }
     requires places { length hot.old ≤ 4 }
-    ensures fits { IsShard short_keys (shown shard.new) }
+    ensures fits { IsShard longest_blob (shown shard.new) }
 {
     if threshold == 0 || !takes(clock, shard.stamp) {
         panic!(rt; "not to be moved");
@@ -275,8 +275,8 @@ fn a_verifier_accepts_closes_with_hot_records(rt: HostRuntime) {
 
 // Counts so many touches more of a key that has a record.
 fn touch(rt: &impl Abort, shard: &mut Shard, key: u64, touches: u32)
-    requires fits { IsShard short_keys (shown shard.old) }
-    ensures fits { IsShard short_keys (shown shard.new) }
+    requires fits { IsShard longest_blob (shown shard.old) }
+    ensures fits { IsShard longest_blob (shown shard.new) }
 {
     if shard.records.get(&Path::of_key(key)).is_none() {
         panic!(rt; "no record");

@@ -1,7 +1,7 @@
 //! The close of a host of two shards: what it logs, and where the counters end in it.
 ghost use Rattle.std.specs.Prelude.{◌≡◌, ◌<◌, ◌∷◌, [], ℕ, true, false, IsTrue, length};
-ghost use Rattle.record_text.specs.Format.{short_keys};
 ghost use Rattle.lamport_clocks.specs.Clock.{is_open};
+ghost use Rattle.record_text.specs.Longest.{longest_blob};
 ghost use Rattle.host_shard.specs.declared.content.Content.TheVariants.{Hot};
 ghost use Rattle.host_shard.specs.Mirrors.{IsShard};
 ghost use Rattle.host_shard.specs.Shown.{shown};
@@ -42,7 +42,7 @@ const TOUCHED: &str = "
 
 // A shard as a setup leaves it, evicted last with this counter of epoch 0.
 fn fresh(alloc: Global, side: bool, counter: u32) -> Shard
-    ensures fits { IsShard short_keys (shown result) }
+    ensures fits { IsShard longest_blob (shown result) }
     ensures stamp { result.stamp.epoch ≡ 0 }
 {
     Shard::new(
@@ -72,7 +72,7 @@ fn log_move(
     clock: &mut Clock,
     log: &mut Vec<u8>,
 ) -> bool
-    requires fits { IsShard short_keys (shown shard.old) }
+    requires fits { IsShard longest_blob (shown shard.old) }
     requires open { IsTrue (is_open clock.old shard.old.stamp.epoch) }
     ensures open { (epoch : ℕ) → is_open clock.new epoch ≡ is_open clock.old epoch }
 {

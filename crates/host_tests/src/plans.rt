@@ -1,7 +1,7 @@
 //! Plans, beside the rows that `tools/slow/plans.py` prints for the same requests.
 ghost use Rattle.std.specs.Prelude.{◌≡◌, ◌∷◌, [], true, false};
 ghost use Rattle.lamport_clocks.specs.Header.{IsHeader};
-ghost use Rattle.record_text.specs.Format.{short_keys};
+ghost use Rattle.record_text.specs.Longest.{longest_blob};
 ghost use Rattle.host_shard.specs.Shown.{shown_content};
 ghost use Rattle.host_plan.specs.Plan.{Owns};
 ghost use Rattle.host_tests.specs.Owned.{OwnsBelow};
@@ -314,7 +314,7 @@ pub(crate) fn header() -> Header
 
 // A hot record of key 5.
 fn hot_at_5(rt: &impl Abort) -> Content
-    ensures own { Owns short_keys (shown_content result) 5 }
+    ensures own { Owns longest_blob (shown_content result) 5 }
 {
     Content::Hot(HotRecord {
         key: 5,

@@ -1,6 +1,6 @@
 //! A host of two shards, which requests are served on, and what it logs.
 ghost use Rattle.std.specs.Prelude.{◌≡◌, ◌<◌, ◌∷◌, [], ℕ, true, false, length};
-ghost use Rattle.record_text.specs.Format.{short_keys};
+ghost use Rattle.record_text.specs.Longest.{longest_blob};
 ghost use Rattle.host_shard.specs.Shown.{shown_content};
 ghost use Rattle.host_plan.specs.Plan.{Owns};
 ghost use Rattle.host_tests.specs.Owned.{OwnsBelow};
@@ -129,9 +129,9 @@ pub fn serve<D: Digests>(
     clock: &mut Clock,
     log: &mut Vec<u8>,
 ) -> Blob
-    requires own { Owns short_keys (shown_content content.old) request.now.key }
-    ensures owns { (key : ℕ) → Owns short_keys (shown_content content.old) key
-        → Owns short_keys (shown_content content.new) key }
+    requires own { Owns longest_blob (shown_content content.old) request.now.key }
+    ensures owns { (key : ℕ) → Owns longest_blob (shown_content content.old) key
+        → Owns longest_blob (shown_content content.new) key }
 {
     let epoch = match content.pending() {
         Some(element) => element.stamp.epoch,

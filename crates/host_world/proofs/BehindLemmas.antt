@@ -8,7 +8,7 @@ use Rattle.lamport_clocks.specs.Reading.{Reading}
 use Rattle.record_hash.specs.Functions.{DigestFunctions}
 use Rattle.record_text.specs.declared.element.Element.{Element}
 use Rattle.record_text.specs.declared.request.Request.{Request}
-use Rattle.record_text.specs.Format.{short_keys}
+use Rattle.record_text.specs.Longest.{longest_blob}
 use Rattle.merkle_records.specs.Merkle.{GivesDigests}
 use Rattle.host_core.specs.World.{Place, World, worker_at, shard_at}
 use Rattle.log_codec.specs.declared.command.Command.{Command}
@@ -67,7 +67,7 @@ module _ (functions : DigestFunctions) (settings : Settings) (script : List (Lis
 
   -- The content of a request's place owns its key, and the worker's clock takes its stamp.
   pub serves_there : (i : ℕ) (place : Place) (request : Request) → MayServe (host functions settings script) world i place request
-      → Owns short_keys (get_or (shard_at world place.shard).contents place.seat vacant) request.key
+      → Owns longest_blob (get_or (shard_at world place.shard).contents place.seat vacant) request.key
       × IsOpenAt (worker_at (host functions settings script) world i).clock (get_or (shard_at world place.shard).contents place.seat vacant)
   serves_there i place request may =
       let still = behind_orderly.unmoved may.serving.phase place.shard may.there.0 in
@@ -75,9 +75,9 @@ module _ (functions : DigestFunctions) (settings : Settings) (script : List (Lis
       let whole = behind_orderly.shards place.shard may.there.0 in
       let seats = (shard_at world place.shard).contents in
       let clock = (worker_at (host functions settings script) world i).clock in (
-        (seat_serves short_keys functions.digest seats whole.mirrors place.seat request (next_in_range functions settings script behind.keys world i request may.next) may.owns).own,
+        (seat_serves longest_blob functions.digest seats whole.mirrors place.seat request (next_in_range functions settings script behind.keys world i request may.next) may.owns).own,
         open_at clock _ (get_or seats place.seat vacant) (omega (arith, epoch, ap moved_by still))
-            (waits_there short_keys (λ element. element.stamp.epoch ≡ _) seats place.seat whole.stamped),
+            (waits_there (λ element. element.stamp.epoch ≡ _) seats place.seat whole.stamped),
       )
     where
       now : (clock : Reading) (epoch stamp : ℕ) → epoch ≡ clock.at.epoch → stamp ≡ epoch → IsTrue (is_open clock stamp)
@@ -85,7 +85,7 @@ module _ (functions : DigestFunctions) (settings : Settings) (script : List (Lis
           ap (λ (b : Bool). b || (nat_lt clock.first clock.at.epoch && stamp + 1 == clock.at.epoch)) (eq-eqb stamp clock.at.epoch (is ∙ same))
 
       open_at : (clock : Reading) (epoch : ℕ) (content : Content) → epoch ≡ clock.at.epoch
-          → AllByRecursion (λ element. element.stamp.epoch ≡ epoch) (waiting (pending short_keys content)) → IsOpenAt clock content
+          → AllByRecursion (λ element. element.stamp.epoch ≡ epoch) (waiting (pending content)) → IsOpenAt clock content
       open_at clock epoch (cold shard) same stamped = now clock epoch shard.stamp.epoch same stamped.0
       open_at clock epoch (hot found) same stamped = now clock epoch found.stamp.epoch same stamped.0
       open_at clock epoch vacant same stamped = tt
@@ -116,11 +116,11 @@ module _ (functions : DigestFunctions) (settings : Settings) (script : List (Lis
 module _ (functions : DigestFunctions) (settings : Settings) (script : List (List Task)) (digests : GivesDigests functions.digest) (logs : List (List Command))
     (world : World Content) (behind : IsBehindSetup functions settings script (with_logs logs world)) where
   pub serves_with : (i : ℕ) (place : Place) (request : Request) → MayServe (host functions settings script) world i place request
-      → Owns short_keys (get_or (shard_at world place.shard).contents place.seat vacant) request.key
+      → Owns longest_blob (get_or (shard_at world place.shard).contents place.seat vacant) request.key
       × IsOpenAt (worker_at (host functions settings script) world i).clock (get_or (shard_at world place.shard).contents place.seat vacant)
   serves_with i place request may =
       let content = get_or (shard_at world place.shard).contents place.seat vacant in
-      subst (λ (clock : Reading). Owns short_keys content request.key × IsOpenAt clock content)
+      subst (λ (clock : Reading). Owns longest_blob content request.key × IsOpenAt clock content)
       (clock_with (host functions settings script) logs world i)
       (serves_there functions settings script digests (with_logs logs world) behind i place request
       (enabled_with (host functions settings script) logs world (serves i place request) may))

@@ -6,7 +6,7 @@ use Rattle.lamport_clocks.specs.Reading.{Reading}
 use Rattle.lamport_clocks.specs.Clock.{last_epoch}
 use Rattle.record_hash.specs.Functions.{DigestFunctions}
 use Rattle.record_text.specs.declared.request.Request.{Request}
-use Rattle.record_text.specs.Format.{short_keys}
+use Rattle.record_text.specs.Longest.{longest_blob}
 use Rattle.merkle_records.specs.Merkle.{Digest, GivesDigests}
 use Rattle.log_codec.specs.declared.command.Command.TheVariants.{NextEpoch}
 use Rattle.host_core.specs.Host.{Done}
@@ -45,14 +45,14 @@ frontiers world = map (λ (seats : Seats Content). frontier_in seats.contents) w
 -- ---- what is done at a shard
 
 -- another content at a seat, which is the same shard or hot record
-frontier-set : (digest : Digest) (seats : List Content) (mirrors : SeatsMirror short_keys digest seats) (seat : ℕ) (new : Content)
-    → IsSame short_keys digest seats mirrors (get_or seats seat vacant) new → frontier_in (set seats seat new) ≡ frontier_in seats
+frontier-set : (digest : Digest) (seats : List Content) (mirrors : SeatsMirror longest_blob digest seats) (seat : ℕ) (new : Content)
+    → IsSame longest_blob digest seats mirrors (get_or seats seat vacant) new → frontier_in (set seats seat new) ≡ frontier_in seats
 frontier-set digest seats mirrors seat new same =
     ap (λ (xs : List Content). frontier_in (set xs seat new)) mirrors.is
-    ∙ (go seat new (subst (λ (xs : List Content). IsSame short_keys digest seats mirrors (get_or xs seat vacant) new) mirrors.is same)
+    ∙ (go seat new (subst (λ (xs : List Content). IsSame longest_blob digest seats mirrors (get_or xs seat vacant) new) mirrors.is same)
     ∙ ap (λ (xs : List Content). frontier_in xs) (sym mirrors.is))
   where
-    go : (k : ℕ) (content : Content) → IsSame short_keys digest seats mirrors (get_or (cold mirrors.shard ∷ mirrors.places) k vacant) content
+    go : (k : ℕ) (content : Content) → IsSame longest_blob digest seats mirrors (get_or (cold mirrors.shard ∷ mirrors.places) k vacant) content
         → frontier_in (set (cold mirrors.shard ∷ mirrors.places) k content) ≡ mirrors.shard.frontier
     go zero (cold shard) is = is
     go zero (hot found) is = absurd is
@@ -61,29 +61,29 @@ frontier-set digest seats mirrors seat new same =
 
 -- a request leaves it
 serve_frontier : (digest : Digest) (i epoch : ℕ) (clock : Reading) (seats : List Content) (seat : ℕ) (request : Request) (done : Done Content)
-    → IsOrderlyShard digest epoch seats → serve_at short_keys digest i clock (get_or seats seat vacant) request ≡ Some done
+    → IsOrderlyShard digest epoch seats → serve_at digest i clock (get_or seats seat vacant) request ≡ Some done
     → frontier_in (set seats seat done.after) ≡ frontier_in seats
 serve_frontier digest i epoch clock seats seat request done orderly served =
     frontier-set digest seats orderly.mirrors seat done.after
-    (subst (λ (d : Done Content). IsSame short_keys digest seats orderly.mirrors (get_or seats seat vacant) d.after)
+    (subst (λ (d : Done Content). IsSame longest_blob digest seats orderly.mirrors (get_or seats seat vacant) d.after)
     (sym (done_is digest i clock (get_or seats seat vacant) request done served))
-    (content-same short_keys digest seats orderly.mirrors i (get_or seats seat vacant) _ request clock))
+    (content-same longest_blob digest seats orderly.mirrors i (get_or seats seat vacant) _ request clock))
 
 -- a move leaves it
 move_frontier : (digest : Digest) (i epoch : ℕ) (threshold : Option ℕ) (clock : Reading) (seats : List Content) (done : Done (List Content))
     → GivesDigests digest → IfSome threshold (λ least. 0 < least)
-    → IsOrderlyShard digest epoch seats → move_seats short_keys digest i threshold (stage_of clock seats) ≡ Some done
+    → IsOrderlyShard digest epoch seats → move_seats digest i threshold (stage_of clock seats) ≡ Some done
     → frontier_in done.after ≡ frontier_in seats
 move_frontier digest i epoch threshold clock seats done digests least orderly is =
-    moved_frontier (seats_moved short_keys digest i threshold clock seats done digests least orderly.mirrors is)
+    moved_frontier (seats_moved longest_blob digest i threshold clock seats done digests least orderly.mirrors is)
     ∙ ap (λ (xs : List Content). frontier_in xs) (sym orderly.mirrors.is)
   where
-    moved_frontier : IsMoved short_keys digest i threshold (stage_at orderly.mirrors.shard orderly.mirrors.places clock) done
+    moved_frontier : IsMoved digest i threshold (stage_at orderly.mirrors.shard orderly.mirrors.places clock) done
         → frontier_in done.after ≡ orderly.mirrors.shard.frontier
     moved_frontier moved =
         ap (λ (xs : List Content). frontier_in xs) moved.after
         ∙ (ap (λ (s : Stage). s.shard.frontier) moved.is.after
-        ∙ each-frontier short_keys digest i (begun i (stage_at orderly.mirrors.shard orderly.mirrors.places clock)) moved.is.descents)
+        ∙ each-frontier longest_blob digest i (begun i (stage_at orderly.mirrors.shard orderly.mirrors.places clock)) moved.is.descents)
 
 -- ---- what happens in a world
 
@@ -107,7 +107,7 @@ module _ (functions : DigestFunctions) (settings : Settings) (script : List (Lis
     (least : IfSome settings.hot (λ touches. 0 < touches)) (keys : AreInRange script) where
   serve_step : (world : World Content) (i : ℕ) (place : Place) (request : Request) → IsOrderly functions settings script world
       → MayServe (host functions settings script) world i place request → (done : Option (Done Content))
-      → serve_at short_keys functions.digest i (worker_at (host functions settings script) world i).clock (get_or (shard_at world place.shard).contents place.seat vacant) request ≡ done
+      → serve_at functions.digest i (worker_at (host functions settings script) world i).clock (get_or (shard_at world place.shard).contents place.seat vacant) request ≡ done
       → frontiers (after_serve world i (worker_at (host functions settings script) world i) place (shard_at world place.shard) done) ≡ frontiers world
   serve_step world i place request orderly may None is = refl
   serve_step world i place request orderly may (Some done) is =
@@ -117,7 +117,7 @@ module _ (functions : DigestFunctions) (settings : Settings) (script : List (Lis
 
   move_step : (world : World Content) (i s : ℕ) → IsOrderly functions settings script world
       → MayMove (host functions settings script) world i s → (done : Option (Done (List Content)))
-      → move_seats short_keys functions.digest i settings.hot (stage_of (worker_at (host functions settings script) world i).clock (shard_at world s).contents) ≡ done
+      → move_seats functions.digest i settings.hot (stage_of (worker_at (host functions settings script) world i).clock (shard_at world s).contents) ≡ done
       → frontiers (after_move world i (worker_at (host functions settings script) world i) s done) ≡ frontiers world
   move_step world i s orderly may None is = refl
   move_step world i s orderly may (Some done) is =
@@ -151,7 +151,7 @@ module _ (functions : DigestFunctions) (settings : Settings) (script : List (Lis
 
   -- the setup
   set_up_frontiers : (paths : List (List Bool))
-      → map (λ (seats : Seats Content). frontier_in seats.contents) (map unmoved (map new_seats (map (first_content short_keys settings.header.first) paths))) ≡ paths
+      → map (λ (seats : Seats Content). frontier_in seats.contents) (map unmoved (map new_seats (map (first_content settings.header.first) paths))) ≡ paths
   set_up_frontiers [] = refl
   set_up_frontiers (path ∷ paths) = ap (λ (more : List (List Bool)). path ∷ more) (set_up_frontiers paths)
 

@@ -4,11 +4,12 @@ use Rattle.std.proofs.lemmas.Bool.{false≢true, cases_eq, cases_lt}
 use Rattle.std.proofs.lemmas.List.{length-set, get_or-set_same, get_or-set_other, set_past, get_or-map, length-map}
 use Rattle.std.specs.Prelude.{IfSome}
 use Rattle.std.specs.List.{AllByRecursion}
+use Rattle.tree_keys.specs.Path.{key_bits}
 use Rattle.lamport_clocks.specs.Clock.{last_epoch}
 use Rattle.record_hash.specs.Functions.{DigestFunctions}
 use Rattle.record_text.specs.declared.element.Element.{Element}
 use Rattle.record_text.specs.declared.request.Request.{Request}
-use Rattle.record_text.specs.Format.{short_keys, path_bits}
+use Rattle.record_text.specs.Longest.{longest_blob}
 use Rattle.merkle_records.specs.Merkle.{GivesDigests}
 use Rattle.host_core.specs.Host.{Done, Host}
 use Rattle.host_core.specs.World.{Place, Worker, Seats, World, fresh, unmoved, worker_at, shard_at, epoch_of, set_up}
@@ -123,7 +124,7 @@ module _ (functions : DigestFunctions) (settings : Settings) (script : List (Lis
     -- a request
     serve_orderly : (world : World Content) (i : ℕ) (place : Place) (request : Request) → IsOrderly functions settings script world → MayServe host world i place request
         → (done : Option (Done Content))
-        → serve_at short_keys functions.digest i (worker_at host world i).clock (get_or (shard_at world place.shard).contents place.seat vacant) request ≡ done
+        → serve_at functions.digest i (worker_at host world i).clock (get_or (shard_at world place.shard).contents place.seat vacant) request ≡ done
         → IsOrderly functions settings script (after_serve world i (worker_at host world i) place (shard_at world place.shard) done)
     serve_orderly world i place request orderly may None is =
         same_clock_keeps world i (record (worker_at host world i) { stopped = true }) orderly refl
@@ -135,10 +136,10 @@ module _ (functions : DigestFunctions) (settings : Settings) (script : List (Lis
         let whole : IsOrderlyShard functions.digest clock.at.epoch seats.contents =
         subst (λ (e : ℕ). IsOrderlyShard functions.digest e seats.contents) (omega (arith, epoch, ap moved_by still)) (orderly.shards place.shard may.there.0) in
         let small = next_in_range functions settings script keys world i request may.next in
-        let kept = serve_keeps short_keys functions.digest i clock seats.contents place.seat request done digests whole.mirrors small may.owns is in
+        let kept = serve_keeps longest_blob functions.digest i clock seats.contents place.seat request done digests whole.mirrors small may.owns is in
         let after : IsOrderlyShard functions.digest clock.at.epoch (set seats.contents place.seat done.after) = record {
           mirrors = kept.mirrors;
-          stamped = waits-set short_keys (λ element. element.stamp.epoch ≡ clock.at.epoch) seats.contents place.seat done.after
+          stamped = waits-set (λ element. element.stamp.epoch ≡ clock.at.epoch) seats.contents place.seat done.after
               (all-epochs i clock.at.epoch _ kept.waits) whole.stamped;
         } in
         shard_keeps (with_worker world i _) place.shard _
@@ -149,13 +150,13 @@ module _ (functions : DigestFunctions) (settings : Settings) (script : List (Lis
     -- a move
     move_orderly : (world : World Content) (i s : ℕ) → IsOrderly functions settings script world → MayMove host world i s
         → (done : Option (Done (List Content)))
-        → move_seats short_keys functions.digest i settings.hot (stage_of (worker_at host world i).clock (shard_at world s).contents) ≡ done
+        → move_seats functions.digest i settings.hot (stage_of (worker_at host world i).clock (shard_at world s).contents) ≡ done
         → IsOrderly functions settings script (after_move world i (worker_at host world i) s done)
     move_orderly world i s orderly may None is =
         same_clock_keeps world i (record (worker_at host world i) { stuck = true }) orderly refl
     move_orderly world i s orderly may (Some done) is =
         let clock = (worker_at host world i).clock in
-        let kept = move_keeps short_keys functions.digest i settings.hot clock (shard_at world s).contents done digests least (orderly.shards s may.shard).mirrors is in
+        let kept = move_keeps longest_blob functions.digest i settings.hot clock (shard_at world s).contents done digests least (orderly.shards s may.shard).mirrors is in
         let after : IsOrderlyShard functions.digest clock.at.epoch done.after = record {
           mirrors = kept.mirrors;
           stamped = all-epochs i clock.at.epoch _ kept.waits;
@@ -223,7 +224,7 @@ module _ (functions : DigestFunctions) (settings : Settings) (script : List (Lis
         run_orderly (step host world event) events (step_orderly world event orderly enabled.0) enabled.1
 
   -- the setup
-  pub set_up_orderly : 0 < frontier_bits settings.shards → frontier_bits settings.shards < path_bits short_keys → GivesDigests functions.digest → IsOrderly functions settings script (set_up host)
+  pub set_up_orderly : 0 < frontier_bits settings.shards → frontier_bits settings.shards < key_bits → GivesDigests functions.digest → IsOrderly functions settings script (set_up host)
   set_up_orderly some short digests = record {
     bounded = first;
     clocked = λ phase i there. epoch i;
@@ -236,7 +237,7 @@ module _ (functions : DigestFunctions) (settings : Settings) (script : List (Lis
       bits = frontier_bits settings.shards
 
       contents : List Content
-      contents = setup_contents short_keys settings.header.first bits
+      contents = setup_contents settings.header.first bits
 
       paths : List (List Bool)
       paths = paths_below bits []
@@ -255,18 +256,18 @@ module _ (functions : DigestFunctions) (settings : Settings) (script : List (Lis
           let at_place = get_or-map unmoved (map new_seats contents) s [] (unmoved []) (omega (arith, there, length-map contents new_seats)) in
           let at_seats = get_or-map new_seats contents s vacant [] there in
           let frontier = get_or paths s [] in
-          let at_content = get_or-map (first_content short_keys settings.header.first) paths s [] vacant (omega (arith, there, length-map paths (first_content short_keys settings.header.first))) in
+          let at_content = get_or-map (first_content settings.header.first) paths s [] vacant (omega (arith, there, length-map paths (first_content settings.header.first))) in
           subst (λ (found : Seats Content). IsOrderlyShard functions.digest (settings.header.first + 0 + moved_by found.moved) found.contents)
           (sym (at_place ∙ ap unmoved (at_seats ∙ ap new_seats at_content)))
           (record {
             mirrors = record {
-              shard = new_shard short_keys frontier (first_stamp settings.header.first frontier) 0;
+              shard = new_shard frontier (first_stamp settings.header.first frontier) 0;
               places = replicate 4 vacant;
               is = refl;
               four = refl;
               hot_alone = (tt, (tt, (tt, (tt, tt))));
-              mirrored = subst (ContentMirrors short_keys functions.digest []) at_content
-                  (all-get (ContentMirrors short_keys functions.digest []) contents s vacant (contents_mirror short_keys functions.digest settings.header.first bits some short) there);
+              mirrored = subst (ContentMirrors longest_blob functions.digest []) at_content
+                  (all-get (ContentMirrors longest_blob functions.digest []) contents s vacant (contents_mirror longest_blob functions.digest settings.header.first bits some short) there);
               blobs = tt;
               in_range = tt;
             };

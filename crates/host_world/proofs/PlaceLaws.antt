@@ -4,7 +4,6 @@ use Rattle.std.specs.Prelude.{◌==◌}
 use Rattle.std.specs.List.{AllByRecursion, list_any}
 use Rattle.lamport_clocks.specs.Reading.{Reading}
 use Rattle.record_text.specs.declared.element.Element.{Element}
-use Rattle.record_text.specs.Format.{Format}
 use Rattle.merkle_records.specs.Merkle.{Digest}
 use Rattle.host_shard.specs.declared.link.Link.{Link}
 use Rattle.host_shard.specs.declared.content.HotRecord.{HotRecord}
@@ -99,11 +98,11 @@ key_found (hot first ∷ places) found (inr is) = go (first.key == found.key) (k
 
 -- ---- what waits at seats
 
-pub waits-hot : (format : Format) (places : List Content) → AllByRecursion IsHotPlace places → waiting_at format places ≡ map (pending_hot format) (hot_records places)
-waits-hot format [] all = refl
-waits-hot format (cold shard ∷ places) all = absurd all.0
-waits-hot format (hot found ∷ places) all = ap (λ (xs : List Element). pending_hot format found ∷ xs) (waits-hot format places all.1)
-waits-hot format (vacant ∷ places) all = waits-hot format places all.1
+pub waits-hot : (places : List Content) → AllByRecursion IsHotPlace places → waiting_at places ≡ map pending_hot (hot_records places)
+waits-hot [] all = refl
+waits-hot (cold shard ∷ places) all = absurd all.0
+waits-hot (hot found ∷ places) all = ap (λ (xs : List Element). pending_hot found ∷ xs) (waits-hot places all.1)
+waits-hot (vacant ∷ places) all = waits-hot places all.1
 
 all-left : {A : Type 0} (P : A → Type 0) (xs ys : List A) → AllByRecursion P (xs ++ ys) → AllByRecursion P xs × AllByRecursion P ys
 all-left P [] ys all = (tt, all)
@@ -114,21 +113,21 @@ all-join P [] ys first second = second
 all-join P (x ∷ xs) ys first second = (first.0, all-join P xs ys first.1 second)
 
 -- what holds of all that waits holds of what waits at one seat, and the other way round where that changes
-pub waits_there : (format : Format) (P : Element → Type 0) (seats : List Content) (seat : ℕ) → AllByRecursion P (waiting_at format seats)
-    → AllByRecursion P (waiting (pending format (get_or seats seat vacant)))
-waits_there format P [] seat all = tt
-waits_there format P (content ∷ seats) zero all = (all-left P (waiting (pending format content)) (waiting_at format seats) all).0
-waits_there format P (content ∷ seats) (suc seat) all =
-    waits_there format P seats seat (all-left P (waiting (pending format content)) (waiting_at format seats) all).1
+pub waits_there : (P : Element → Type 0) (seats : List Content) (seat : ℕ) → AllByRecursion P (waiting_at seats)
+    → AllByRecursion P (waiting (pending (get_or seats seat vacant)))
+waits_there P [] seat all = tt
+waits_there P (content ∷ seats) zero all = (all-left P (waiting (pending content)) (waiting_at seats) all).0
+waits_there P (content ∷ seats) (suc seat) all =
+    waits_there P seats seat (all-left P (waiting (pending content)) (waiting_at seats) all).1
 
-pub waits-set : (format : Format) (P : Element → Type 0) (seats : List Content) (seat : ℕ) (new : Content) → AllByRecursion P (waiting (pending format new))
-    → AllByRecursion P (waiting_at format seats) → AllByRecursion P (waiting_at format (set seats seat new))
-waits-set format P [] seat new one all = tt
-waits-set format P (content ∷ seats) zero new one all =
-    all-join P (waiting (pending format new)) (waiting_at format seats) one (all-left P (waiting (pending format content)) (waiting_at format seats) all).1
-waits-set format P (content ∷ seats) (suc seat) new one all =
-    let parts = all-left P (waiting (pending format content)) (waiting_at format seats) all in
-    all-join P (waiting (pending format content)) (waiting_at format (set seats seat new)) parts.0 (waits-set format P seats seat new one parts.1)
+pub waits-set : (P : Element → Type 0) (seats : List Content) (seat : ℕ) (new : Content) → AllByRecursion P (waiting (pending new))
+    → AllByRecursion P (waiting_at seats) → AllByRecursion P (waiting_at (set seats seat new))
+waits-set P [] seat new one all = tt
+waits-set P (content ∷ seats) zero new one all =
+    all-join P (waiting (pending new)) (waiting_at seats) one (all-left P (waiting (pending content)) (waiting_at seats) all).1
+waits-set P (content ∷ seats) (suc seat) new one all =
+    let parts = all-left P (waiting (pending content)) (waiting_at seats) all in
+    all-join P (waiting (pending content)) (waiting_at (set seats seat new)) parts.0 (waits-set P seats seat new one parts.1)
 
 -- ---- behind a move
 
@@ -167,30 +166,30 @@ hot-renewed worker clock places [] all = all
 hot-renewed worker clock places (found ∷ more) all =
     hot-renewed worker (renewing clock found.stamp) _ more (hot-replaced found.key (hot (renewed_record worker clock found)) places tt all)
 
-module _ (format : Format) (digest : Digest) (worker : ℕ) where
-  length-done : (stage : Stage) (transfer : Transfer) (links : List Link) → length (done_by format digest worker stage transfer links).places ≡ length stage.places
+module _ (digest : Digest) (worker : ℕ) where
+  length-done : (stage : Stage) (transfer : Transfer) (links : List Link) → length (done_by digest worker stage transfer links).places ≡ length stage.places
   length-done stage (demotes found) links = length-replaced found.key vacant stage.places
   length-done stage (promotes key) links = length-placed (promoted_record worker stage key links) stage.places
 
   hot-done : (stage : Stage) (transfer : Transfer) (links : List Link) → AllByRecursion IsHotPlace stage.places
-      → AllByRecursion IsHotPlace (done_by format digest worker stage transfer links).places
+      → AllByRecursion IsHotPlace (done_by digest worker stage transfer links).places
   hot-done stage (demotes found) links all = hot-replaced found.key vacant stage.places tt all
   hot-done stage (promotes key) links all = hot-placed (promoted_record worker stage key links) stage.places all
 
-  length-each : (stage : Stage) (descents : List Descent) → length (done_by_each format digest worker stage descents).places ≡ length stage.places
+  length-each : (stage : Stage) (descents : List Descent) → length (done_by_each digest worker stage descents).places ≡ length stage.places
   length-each stage [] = refl
-  length-each stage (descent ∷ descents) = length-each (done_by format digest worker stage descent.transfer descent.links) descents ∙ length-done stage descent.transfer descent.links
+  length-each stage (descent ∷ descents) = length-each (done_by digest worker stage descent.transfer descent.links) descents ∙ length-done stage descent.transfer descent.links
 
   hot-each : (stage : Stage) (descents : List Descent) → AllByRecursion IsHotPlace stage.places
-      → AllByRecursion IsHotPlace (done_by_each format digest worker stage descents).places
+      → AllByRecursion IsHotPlace (done_by_each digest worker stage descents).places
   hot-each stage [] all = all
-  hot-each stage (descent ∷ descents) all = hot-each (done_by format digest worker stage descent.transfer descent.links) descents (hot-done stage descent.transfer descent.links all)
+  hot-each stage (descent ∷ descents) all = hot-each (done_by digest worker stage descent.transfer descent.links) descents (hot-done stage descent.transfer descent.links all)
 
   -- the hot places of a stage are as many behind its move
-  pub length-moved : (stage : Stage) (descents : List Descent) → length (done_by_each format digest worker (begun worker stage) descents).places ≡ length stage.places
+  pub length-moved : (stage : Stage) (descents : List Descent) → length (done_by_each digest worker (begun worker stage) descents).places ≡ length stage.places
   length-moved stage descents = length-each (begun worker stage) descents ∙ length-renewed worker stage.clock stage.places (touched_in stage.places)
 
   -- and none has a shard
   pub hot-moved : (stage : Stage) (descents : List Descent) → AllByRecursion IsHotPlace stage.places
-      → AllByRecursion IsHotPlace (done_by_each format digest worker (begun worker stage) descents).places
+      → AllByRecursion IsHotPlace (done_by_each digest worker (begun worker stage) descents).places
   hot-moved stage descents all = hot-each (begun worker stage) descents (hot-renewed worker stage.clock stage.places (touched_in stage.places) all)

@@ -12,7 +12,7 @@ use Rattle.tree_keys.specs.Path.{is_prefix}
 use Rattle.tree_keys.proofs.BitsLaws.{bits_of-same, bits_of-number_of, take-bits_of, first_below}
 use Rattle.record_hash.specs.Functions.{DigestFunctions}
 use Rattle.record_text.specs.declared.request.Request.{Request}
-use Rattle.record_text.specs.Format.{short_keys}
+use Rattle.record_text.specs.Longest.{longest_blob}
 use Rattle.merkle_records.specs.Merkle.{Digest, GivesDigests}
 use Rattle.log_codec.specs.declared.command.Command.{Command}
 use Rattle.host_core.specs.World.{Place, Seats, World, unmoved, shard_at}
@@ -57,14 +57,14 @@ pub shift_below : (shards r : ℕ) → IsShardCount shards → 2 ^ r ≤ shards 
 shift_below shards r count low high = omega (arith, log_is shards r count low high, count.some)
 
 -- so many first bits of a key spell what is left of it above the others
-number_of-first : (key bits : ℕ) → key < 2 ^ 64 → bits ≤ 64 → number_of (take bits (key_path short_keys key)) ≡ key / 2 ^ (64 - bits)
+number_of-first : (key bits : ℕ) → key < 2 ^ 64 → bits ≤ 64 → number_of (take bits (key_path key)) ≡ key / 2 ^ (64 - bits)
 number_of-first key bits small within =
     ap number_of (take-bits_of 64 bits key within)
     ∙ number_back bits (key / 2 ^ (64 - bits)) (first_below key 64 bits within small)
 
 -- The shard of a key, from the logarithm of how many shards there are.
 pub shard_is : (key shards r : ℕ) → key < 2 ^ 64 → IsShardCount shards → 2 ^ r ≤ shards → shards < 2 * 2 ^ r
-    → key / 2 ^ (64 - r) ≡ number_of (take (frontier_bits shards) (key_path short_keys key))
+    → key / 2 ^ (64 - r) ≡ number_of (take (frontier_bits shards) (key_path key))
 shard_is key shards r small count low high =
     let bits : r ≡ frontier_bits shards = log_is shards r count low high ∙ sym (frontier_bits_are shards count) in
     ap (λ (n : ℕ). key / 2 ^ (64 - n)) bits
@@ -156,16 +156,16 @@ module _ (functions : DigestFunctions) (settings : Settings) (script : List (Lis
       ∙ path_at (frontier_bits settings.shards) [] s (omega (arith, there, shards_are settings.shards behind.settings_fit.shards))
 
   -- A key lies below the frontier of the shard whose number its first bits spell.
-  lies_below : (key s : ℕ) → s ≡ number_of (take (frontier_bits settings.shards) (key_path short_keys key)) → s < settings.shards
-      → is_prefix (frontier_in (shard_at world s).contents) (key_path short_keys key) ≡ true
+  lies_below : (key s : ℕ) → s ≡ number_of (take (frontier_bits settings.shards) (key_path key)) → s < settings.shards
+      → is_prefix (frontier_in (shard_at world s).contents) (key_path key) ≡ true
   lies_below key s is there =
       let bits : ℕ = frontier_bits settings.shards in
-      let first : List Bool = take bits (key_path short_keys key) in
+      let first : List Bool = take bits (key_path key) in
       let count = behind.settings_fit.shards in
-      let long : length first ≡ bits = length-first bits (key_path short_keys key) (omega (arith, length-bits_of 64 key, frontier_bits_are settings.shards count, count.most)) in
+      let long : length first ≡ bits = length-first bits (key_path key) (omega (arith, length-bits_of 64 key, frontier_bits_are settings.shards count, count.most)) in
       let frontier : frontier_in (shard_at world s).contents ≡ first =
       frontier_at s there ∙ ap (bits_of bits) is ∙ ap (λ (n : ℕ). bits_of n (number_of first)) (sym long) ∙ bits_of-number_of first in
-      ap (λ (path : List Bool). is_prefix path (key_path short_keys key)) frontier ∙ prefix-take bits (key_path short_keys key)
+      ap (λ (path : List Bool). is_prefix path (key_path key)) frontier ∙ prefix-take bits (key_path key)
 
 -- ---- the seat of a key
 
@@ -178,22 +178,22 @@ none_more shown test xs i x there is not_it before =
     ∙ ap test (read_shown shown xs i x (shown x) there is) ∙ not_it
 
 -- what is hot at a key serves it
-hot_serves : (seats : List Content) (key : ℕ) (content : Content) → is_hot_at key content ≡ true → serves_key short_keys seats key content ≡ true
+hot_serves : (seats : List Content) (key : ℕ) (content : Content) → is_hot_at key content ≡ true → serves_key seats key content ≡ true
 hot_serves seats key (cold shard) is = absurd (false≢true is)
 hot_serves seats key (hot found) is = is
 hot_serves seats key vacant is = absurd (false≢true is)
 
 -- A hot place that has a request's key is its place; and where none has, the shard's own is, if the key lies below its frontier.
-seat_owns : (digest : Digest) (first : Content) (places : List Content) → SeatsMirror short_keys digest (first ∷ places) → (seat : ℕ) (request : Request)
-    → is_prefix (frontier_in (first ∷ places)) (key_path short_keys request.key) ≡ true → is_blob short_keys request.value ≡ true
+seat_owns : (digest : Digest) (first : Content) (places : List Content) → SeatsMirror longest_blob digest (first ∷ places) → (seat : ℕ) (request : Request)
+    → is_prefix (frontier_in (first ∷ places)) (key_path request.key) ≡ true → is_blob longest_blob request.value ≡ true
     → (seat ≢ 0 → is_hot_at request.key (get_or (first ∷ places) seat vacant) ≡ true)
     → (seat ≡ 0 → list_any (is_hot_at request.key) places ≡ false)
-    → is_place_of short_keys (first ∷ places) seat request ≡ true
+    → is_place_of longest_blob (first ∷ places) seat request ≡ true
 seat_owns digest (cold shard) places mirrors zero request below blob hot_there none_there =
-    and_from (is_prefix shard.frontier (key_path short_keys request.key) && not (list_any (is_hot_at request.key) places)) (is_blob short_keys request.value)
-    (and_from (is_prefix shard.frontier (key_path short_keys request.key)) (not (list_any (is_hot_at request.key) places)) below (ap not (none_there refl))) blob
+    and_from (is_prefix shard.frontier (key_path request.key) && not (list_any (is_hot_at request.key) places)) (is_blob longest_blob request.value)
+    (and_from (is_prefix shard.frontier (key_path request.key)) (not (list_any (is_hot_at request.key) places)) below (ap not (none_there refl))) blob
 seat_owns digest first places mirrors (suc k) request below blob hot_there none_there =
-    and_from (serves_key short_keys (first ∷ places) request.key (get_or places k vacant)) (is_blob short_keys request.value)
+    and_from (serves_key (first ∷ places) request.key (get_or places k vacant)) (is_blob longest_blob request.value)
     (hot_serves (first ∷ places) request.key (get_or places k vacant) (hot_there (omega arith))) blob
 seat_owns digest (hot found) places mirrors zero request below blob hot_there none_there = absurd (no_shard mirrors.is)
   where
@@ -231,10 +231,10 @@ module _ {D : Type 0} (functions : DigestFunctions) (digests : GivesDigests func
     seats_read : shard_at (shown_world world) s ≡ shown_seats seats
     seats_read = read_shown shown_seats world.shards.items s seats (unmoved []) (omega (arith, there, shards_in)) read
 
-    seats_mirror : SeatsMirror short_keys functions.digest (contents_of seats)
+    seats_mirror : SeatsMirror longest_blob functions.digest (contents_of seats)
     seats_mirror =
         let whole = behind_orderly functions world.settings (requests_of world) digests (with_logs logs (shown_world world)) stands.behind in
-        subst (λ (found : Seats Content). SeatsMirror short_keys functions.digest found.contents) seats_read
+        subst (λ (found : Seats Content). SeatsMirror longest_blob functions.digest found.contents) seats_read
         (whole.shards s (omega (arith, there, shards_in, length-map world.shards.items shown_seats))).mirrors
 
     pub five_seats : length (contents_of seats) ≡ 5
@@ -253,14 +253,14 @@ module _ {D : Type 0} (functions : DigestFunctions) (digests : GivesDigests func
           )
 
       -- And it is the place of a request whose key's first bits spell the shard's number, if the seat is the key's.
-      pub place_owns : (request : Request) → s ≡ number_of (take (frontier_bits world.settings.shards) (key_path short_keys request.key)) → is_blob short_keys request.value ≡ true
+      pub place_owns : (request : Request) → s ≡ number_of (take (frontier_bits world.settings.shards) (key_path request.key)) → is_blob longest_blob request.value ≡ true
           → (seat ≢ 0 → is_hot_at request.key (get_or (contents_of seats) seat vacant) ≡ true)
           → (seat ≡ 0 → list_any (is_hot_at request.key) (map shown_content seats.hot.items) ≡ false)
-          → is_place_of short_keys (shard_at (shown_world world) (place_of number).shard).contents (place_of number).seat request ≡ true
+          → is_place_of longest_blob (shard_at (shown_world world) (place_of number).shard).contents (place_of number).seat request ≡ true
       place_owns request first blob hot_there none_there =
-          at_place (λ (place : Place). is_place_of short_keys (shard_at (shown_world world) place.shard).contents place.seat request ≡ true)
-          (subst (λ (found : Seats Content). is_place_of short_keys found.contents seat request ≡ true) (sym seats_read)
+          at_place (λ (place : Place). is_place_of longest_blob (shard_at (shown_world world) place.shard).contents place.seat request ≡ true)
+          (subst (λ (found : Seats Content). is_place_of longest_blob found.contents seat request ≡ true) (sym seats_read)
           (seat_owns functions.digest (shown_content seats.first) (map shown_content seats.hot.items) seats_mirror seat request
-          (subst (λ (found : Seats Content). is_prefix (frontier_in found.contents) (key_path short_keys request.key) ≡ true) seats_read
+          (subst (λ (found : Seats Content). is_prefix (frontier_in found.contents) (key_path request.key) ≡ true) seats_read
           (lies_below functions world.settings (requests_of world) digests (with_logs logs (shown_world world)) stands.behind request.key s first there))
           blob hot_there none_there))

@@ -2,11 +2,11 @@
 use Rattle.std.proofs.Common.{◌≡◌, ℕ, Bool, true, false, List, length, nat_lt, Option, Some, None, is_some, if◌then◌else◌, refl, sym, ◌∙◌, ap, subst, arith}
 use Rattle.std.proofs.lemmas.Bool.{false≢true, lt-ltb}
 use Rattle.std.proofs.lemmas.Option.{same_Some}
+use Rattle.tree_keys.specs.Path.{IsData}
 use Rattle.lamport_clocks.specs.Reading.{Reading}
 use Rattle.record_text.specs.declared.request.Request.{Request}
 use Rattle.record_text.specs.declared.value.Value.{Value}
 use Rattle.record_text.specs.declared.value.Value.TheVariants as values
-use Rattle.record_text.specs.Format.{Format, path_bits}
 use Rattle.record_text.specs.Value.{IsOf}
 use Rattle.merkle_records.specs.Merkle.{Digest}
 use Rattle.host_core.specs.Host.{Done}
@@ -23,53 +23,53 @@ use Rattle.host_world.proofs.LinkLaws.{shard_links_are}
 use Rattle.host_world.proofs.ServeLemmas.{done_along}
 
 -- the data behind a request
-answer_of : (format : Format) (request : Request) (found : Value) (path : List Bool) → length path ≡ path_bits format → IsOf format path found
+answer_of : (longest : ℕ) (request : Request) (found : Value) (path : List Bool) → IsData path → IsOf longest path found
     → (answer : Option (List ℕ)) × (values.Blob answer ≡ value_after request found)
-answer_of format request found path whole kind = go request.put found kind
+answer_of longest request found path whole kind = go request.put found kind
   where
-    go : (b : Bool) (v : Value) → IsOf format path v → (answer : Option (List ℕ)) × (values.Blob answer ≡ (if b then values.Blob request.value else v))
+    go : (b : Bool) (v : Value) → IsOf longest path v → (answer : Option (List ℕ)) × (values.Blob answer ≡ (if b then values.Blob request.value else v))
     go true v kind = (request.value, refl)
     go false (values.Blob blob) kind = (blob, refl)
     go false (values.Node node) kind = absurd (omega (arith, kind.0, whole))
 
 -- the links of a content that owns a key lead to it, and to data
-links_lead : (format : Format) (content : Content) (request : Request) → Owns format content request.key
-    → AreLinks format content request.key (links_of format content request.key)
-    × ((answer : Option (List ℕ)) × (values.Blob answer ≡ value_after request (value_found content (links_of format content request.key))))
-links_lead format (cold shard) request own =
-    let key = key_path format request.key in
-    let chain = shard_links_are format shard key own.0 own.1 in (
+links_lead : (longest : ℕ) (content : Content) (request : Request) → Owns longest content request.key
+    → AreLinks content request.key (links_of content request.key)
+    × ((answer : Option (List ℕ)) × (values.Blob answer ≡ value_after request (value_found content (links_of content request.key))))
+links_lead longest (cold shard) request own =
+    let key = key_path request.key in
+    let chain = shard_links_are longest shard key own.0 own.1 in (
       chain,
-      answer_of format request (last_value shard.value (links_of format (cold shard) request.key)) key own.1.whole
-          (last_kind format (tree_of shard) key shard.frontier shard.value (links_of format (cold shard) request.key) own.1.whole own.0.kinds (frontier_kind format shard own.0.kinds) chain),
+      answer_of longest request (last_value shard.value (links_of (cold shard) request.key)) key own.1.whole
+          (last_kind longest (tree_of shard) key shard.frontier shard.value (links_of (cold shard) request.key) own.1.whole own.0.kinds (frontier_kind longest shard own.0.kinds) chain),
     )
-links_lead format (hot found) request own = (refl, go request.put)
+links_lead longest (hot found) request own = (refl, go request.put)
   where
     go : (b : Bool) → (answer : Option (List ℕ)) × (values.Blob answer ≡ (if b then values.Blob request.value else values.Blob found.value))
     go true = (request.value, refl)
     go false = (found.value, refl)
-links_lead format vacant request own = absurd own
+links_lead longest vacant request own = absurd own
 
 -- What is served is planned.
-pub served_is_planned : (format : Format) (digest : Digest) (worker : ℕ) (clock : Reading) (content : Content) (request : Request) (done : Done Content)
-    → Owns format content request.key → serve_at format digest worker clock content request ≡ Some done → IsPlanned format digest worker clock content request done
-served_is_planned format digest worker clock content request done own served = go (nat_lt clock.end (clock_after content clock).at.counter) refl served
+pub served_is_planned : (longest : ℕ) (digest : Digest) (worker : ℕ) (clock : Reading) (content : Content) (request : Request) (done : Done Content)
+    → Owns longest content request.key → serve_at digest worker clock content request ≡ Some done → IsPlanned digest worker clock content request done
+served_is_planned longest digest worker clock content request done own served = go (nat_lt clock.end (clock_after content clock).at.counter) refl served
   where
     made : Done Content
-    made = done_along format digest worker clock content request (links_of format content request.key)
+    made = done_along longest digest worker clock content request (links_of content request.key)
 
-    lead : AreLinks format content request.key (links_of format content request.key)
-        × ((answer : Option (List ℕ)) × (values.Blob answer ≡ value_after request (value_found content (links_of format content request.key))))
-    lead = links_lead format content request own
+    lead : AreLinks content request.key (links_of content request.key)
+        × ((answer : Option (List ℕ)) × (values.Blob answer ≡ value_after request (value_found content (links_of content request.key))))
+    lead = links_lead longest content request own
 
     go : (b : Bool) → nat_lt clock.end (clock_after content clock).at.counter ≡ b → (if b then None else Some made) ≡ Some done
-        → IsPlanned format digest worker clock content request done
+        → IsPlanned digest worker clock content request done
     go true past is = absurd (false≢true (ap is_some is))
     go false open' is =
-        subst (IsPlanned format digest worker clock content request) (same_Some _ _ is)
+        subst (IsPlanned digest worker clock content request) (same_Some _ _ is)
         (record {
           plan = record { commands = made.commands; answer = lead.1.0 };
-          is = record { links = links_of format content request.key; way = lead.0; commands = refl; answer = lead.1.1; content = refl; clock = refl };
+          is = record { links = links_of content request.key; way = lead.0; commands = refl; answer = lead.1.1; content = refl; clock = refl };
           logged = refl;
           within = λ past. false≢true (sym open' ∙ lt-ltb clock.end (clock_after content clock).at.counter past);
         })

@@ -5,9 +5,8 @@ use Rattle.std.specs.List.{list_any, AllByRecursion, All, AllPairs}
 use Rattle.std.proofs.lemmas.Bool.{false≢true, and_parts, and_from, leb-true, le-leb, cases_eq}
 use Rattle.std.proofs.lemmas.List.Elements.{All-head, All-tail}
 use Rattle.tree_keys.specs.BitsLaws.{length-bits_of}
-use Rattle.tree_keys.specs.Path.{side, same_path}
+use Rattle.tree_keys.specs.Path.{side, same_path, key_bits}
 use Rattle.tree_keys.proofs.PathLaws.{same_path-self, same_path-true}
-use Rattle.record_text.specs.Format.{Format, path_bits}
 use Rattle.host_shard.specs.Content.{key_path}
 use Rattle.protection_moves.specs.Stage.{Stage, hot_paths}
 use Rattle.protection_moves.specs.Transfer.{IsTouchedOften, ArePromotable}
@@ -161,47 +160,47 @@ not_true : (b : Bool) → not b ≡ true → b ≡ false
 not_true true is = absurd (false≢true is)
 not_true false is = refl
 
-module _ (format : Format) (stage : Stage) (least : ℕ) where
-  test_says : (key : ℕ) → key < 2 ^ path_bits format → is_promotable format stage least key ≡ true → IsTouchedOften format stage least key
+module _ (stage : Stage) (least : ℕ) where
+  test_says : (key : ℕ) → key < 2 ^ key_bits → is_promotable stage least key ≡ true → IsTouchedOften stage least key
   test_says key small is =
-      let parts = and_parts (is_some (side stage.shard.frontier (key_path format key))) _ is in
-      let more = and_parts (not (list_any (λ path. same_path path (key_path format key)) (hot_paths format stage.places))) _ parts.1 in
+      let parts = and_parts (is_some (side stage.shard.frontier (key_path key))) _ is in
+      let more = and_parts (not (list_any (λ path. same_path path (key_path key)) (hot_paths stage.places))) _ parts.1 in
       record {
         in_range = small;
-        own = record { whole = length-bits_of (path_bits format) key; below = parts.0 };
-        cold = λ among. none_found (key_path format key) (hot_paths format stage.places) (not_true _ more.0) (among-member _ (key_path format key) among);
-        often = leb-true least (stage.shard.touches (key_path format key)) more.1;
+        own = record { whole = length-bits_of key_bits key; below = parts.0 };
+        cold = λ among. none_found (key_path key) (hot_paths stage.places) (not_true _ more.0) (among-member _ (key_path key) among);
+        often = leb-true least (stage.shard.touches (key_path key)) more.1;
       }
 
-  says_test : (key : ℕ) → IsTouchedOften format stage least key → is_promotable format stage least key ≡ true
+  says_test : (key : ℕ) → IsTouchedOften stage least key → is_promotable stage least key ≡ true
   says_test key is =
-      and_from (is_some (side stage.shard.frontier (key_path format key))) _ is.own.below
-      (and_from (not (list_any (λ path. same_path path (key_path format key)) (hot_paths format stage.places))) _
-      (ap (λ (b : Bool). not b) (no_member (key_path format key) (hot_paths format stage.places) (λ member. is.cold (member-among _ (key_path format key) member))))
-      (le-leb least (stage.shard.touches (key_path format key)) is.often))
+      and_from (is_some (side stage.shard.frontier (key_path key))) _ is.own.below
+      (and_from (not (list_any (λ path. same_path path (key_path key)) (hot_paths stage.places))) _
+      (ap (λ (b : Bool). not b) (no_member (key_path key) (hot_paths stage.places) (λ member. is.cold (member-among _ (key_path key) member))))
+      (le-leb least (stage.shard.touches (key_path key)) is.often))
 
   -- the keys that are promotable to become hot
-  keys_are_promotable : ArePromotable format stage (Some least) (promotable_keys format stage least)
+  keys_are_promotable : ArePromotable stage (Some least) (promotable_keys stage least)
   unfolding promotable_keys
   keys_are_promotable = record {
-    rising = pairs-rising _ (passing_rise (is_promotable format stage least) (numbers_from 0 (2 ^ path_bits format)) (numbers_rise 0 (2 ^ path_bits format)));
+    rising = pairs-rising _ (passing_rise (is_promotable stage least) (numbers_from 0 (2 ^ key_bits)) (numbers_rise 0 (2 ^ key_bits)));
     promotable = λ key. (
-      (λ among. let is = passing (is_promotable format stage least) (numbers_from 0 (2 ^ path_bits format)) key (among-member _ key among) in
-          test_says key (omega (arith, number_below 0 (2 ^ path_bits format) key is.0)) is.1),
-      (λ is. member-among _ key (pass_there (is_promotable format stage least) (numbers_from 0 (2 ^ path_bits format)) key
-          (number_there 0 (2 ^ path_bits format) key (omega arith) (omega (arith, is.in_range))) (says_test key is))),
+      (λ among. let is = passing (is_promotable stage least) (numbers_from 0 (2 ^ key_bits)) key (among-member _ key among) in
+          test_says key (omega (arith, number_below 0 (2 ^ key_bits) key is.0)) is.1),
+      (λ is. member-among _ key (pass_there (is_promotable stage least) (numbers_from 0 (2 ^ key_bits)) key
+          (number_there 0 (2 ^ key_bits) key (omega arith) (omega (arith, is.in_range))) (says_test key is))),
     );
   }
 
 -- The keys that are promotable, and no other, in their order.
-pub are_promotable : (format : Format) (stage : Stage) (threshold : Option ℕ) → ArePromotable format stage threshold (promotable_in format stage threshold)
-are_promotable format stage None = none_promotable format stage
-are_promotable format stage (Some least) = keys_are_promotable format stage least
+pub are_promotable : (stage : Stage) (threshold : Option ℕ) → ArePromotable stage threshold (promotable_in stage threshold)
+are_promotable stage None = none_promotable stage
+are_promotable stage (Some least) = keys_are_promotable stage least
 
 -- There is one such list.
-pub promotable_is : (format : Format) (stage : Stage) (threshold : Option ℕ) (promotable : List ℕ) → ArePromotable format stage threshold promotable → promotable ≡ promotable_in format stage threshold
-promotable_is format stage threshold promotable are =
-    let those = are_promotable format stage threshold in
-    same_rising promotable (promotable_in format stage threshold) (rising-pairs promotable are.rising) (rising-pairs (promotable_in format stage threshold) those.rising)
+pub promotable_is : (stage : Stage) (threshold : Option ℕ) (promotable : List ℕ) → ArePromotable stage threshold promotable → promotable ≡ promotable_in stage threshold
+promotable_is stage threshold promotable are =
+    let those = are_promotable stage threshold in
+    same_rising promotable (promotable_in stage threshold) (rising-pairs promotable are.rising) (rising-pairs (promotable_in stage threshold) those.rising)
     (λ key is. among-member _ key ((those.promotable key).1 ((are.promotable key).0 (member-among _ key is))))
     (λ key is. among-member _ key ((are.promotable key).1 ((those.promotable key).0 (member-among _ key is))))

@@ -6,11 +6,10 @@ use Rattle.std.proofs.lemmas.List.{length-set}
 use Rattle.std.specs.List.{AllByRecursion, list_any}
 use Rattle.tree_keys.specs.Bits.{number_of}
 use Rattle.tree_keys.specs.BitsLaws.{length-bits_of, number_back}
-use Rattle.tree_keys.specs.Path.{side, is_prefix, IsBelow}
+use Rattle.tree_keys.specs.Path.{side, is_prefix, IsBelow, key_bits, IsData}
 use Rattle.tree_keys.proofs.SideLaws.{prefix_cases}
 use Rattle.lamport_clocks.specs.Reading.{Reading}
 use Rattle.record_text.specs.declared.request.Request.{Request}
-use Rattle.record_text.specs.Format.{Format, path_bits}
 use Rattle.record_text.specs.Value.{IsBlob}
 use Rattle.merkle_records.specs.Merkle.{Digest, GivesDigests}
 use Rattle.host_core.specs.Host.{Done}
@@ -43,9 +42,9 @@ use Rattle.host_world.proofs.PlannedLaws.{served_is_planned}
 use Rattle.host_world.proofs.DescentLaws.{done_is_move}
 
 -- the value fits
-pub blob_fits : (format : Format) (blob : Option (List ℕ)) → is_blob format blob ≡ true → IsBlob format blob
-blob_fits format None is = tt
-blob_fits format (Some bytes) is = leb-true (length bytes) format.longest is
+pub blob_fits : (longest : ℕ) (blob : Option (List ℕ)) → is_blob longest blob ≡ true → IsBlob longest blob
+blob_fits longest None is = tt
+blob_fits longest (Some bytes) is = leb-true (length bytes) longest is
 
 not_so : (b : Bool) → not b ≡ true → b ≡ true → ⊥
 not_so true is also = false≢true is
@@ -54,41 +53,41 @@ not_so false is also = false≢true also
 -- ---- who serves a request
 
 -- What is at a seat can serve a request: it owns the key, which isn't hot elsewhere, and mirrors; and the value fits.
-pub record SeatServes (format : Format) (digest : Digest) (hot_keys : List (List Bool)) (content : Content) (request : Request) : Type 0 where
-  pub own : Owns format content request.key
-  pub mirrors : ContentMirrors format digest hot_keys content
-  pub cold_there : IsCold format hot_keys content request.key
-  pub fits : IsBlob format request.value
+pub record SeatServes (longest : ℕ) (digest : Digest) (hot_keys : List (List Bool)) (content : Content) (request : Request) : Type 0 where
+  pub own : Owns longest content request.key
+  pub mirrors : ContentMirrors longest digest hot_keys content
+  pub cold_there : IsCold hot_keys content request.key
+  pub fits : IsBlob longest request.value
 
-module _ (format : Format) (digest : Digest) (seats : List Content) (mirrors : SeatsMirror format digest seats) where
+module _ (longest : ℕ) (digest : Digest) (seats : List Content) (mirrors : SeatsMirror longest digest seats) where
   -- one of the same paths is one of the same keys
-  same_key : (a b : ℕ) → a < 2 ^ path_bits format → b < 2 ^ path_bits format → key_path format a ≡ key_path format b → a ≡ b
-  same_key a b small also same = sym (number_back (path_bits format) a small) ∙ (ap number_of same ∙ number_back (path_bits format) b also)
+  same_key : (a b : ℕ) → a < 2 ^ key_bits → b < 2 ^ key_bits → key_path a ≡ key_path b → a ≡ b
+  same_key a b small also same = sym (number_back key_bits a small) ∙ (ap number_of same ∙ number_back key_bits b also)
 
   -- the shard
-  shard_serves : (request : Request) → request.key < 2 ^ path_bits format → is_place_of format seats 0 request ≡ true
-      → SeatServes format digest (hot_paths format mirrors.places) (cold mirrors.shard) request
+  shard_serves : (request : Request) → request.key < 2 ^ key_bits → is_place_of longest seats 0 request ≡ true
+      → SeatServes longest digest (hot_paths mirrors.places) (cold mirrors.shard) request
   shard_serves request small owns = record {
     own = (mirrors.mirrored.fits, record { whole = whole; below = below (prefix_cases mirrors.shard.frontier key parts.0) });
     mirrors = mirrors.mirrored;
     cold_there = λ among.
-        let found = member-one (λ r. key_path format r.key) (hot_records mirrors.places) key (among-member _ key among) in
-        let same = same_key request.key found.0.key small (one_of-all (λ r. r.key < 2 ^ path_bits format) (hot_records mirrors.places) found.0 mirrors.in_range found.1) found.2 in
+        let found = member-one (λ r. key_path r.key) (hot_records mirrors.places) key (among-member _ key among) in
+        let same = same_key request.key found.0.key small (one_of-all (λ r. r.key < 2 ^ key_bits) (hot_records mirrors.places) found.0 mirrors.in_range found.1) found.2 in
         not_so (list_any (is_hot_at request.key) (cold mirrors.shard ∷ mirrors.places)) parts.1
         (ap (λ (k : ℕ). list_any (is_hot_at k) mirrors.places) same ∙ key_found mirrors.places found.0 found.1);
-    fits = blob_fits format request.value place.1;
+    fits = blob_fits longest request.value place.1;
   }
     where
       key : List Bool
-      key = key_path format request.key
+      key = key_path request.key
 
-      whole : length key ≡ path_bits format
-      whole = length-bits_of (path_bits format) request.key
+      whole : IsData key
+      whole = length-bits_of key_bits request.key
 
-      place : (serves_key format (cold mirrors.shard ∷ mirrors.places) request.key (cold mirrors.shard) ≡ true) × (is_blob format request.value ≡ true)
+      place : (serves_key (cold mirrors.shard ∷ mirrors.places) request.key (cold mirrors.shard) ≡ true) × (is_blob longest request.value ≡ true)
       place =
-          and_parts (serves_key format (cold mirrors.shard ∷ mirrors.places) request.key (cold mirrors.shard)) (is_blob format request.value)
-          (subst (λ (xs : List Content). is_place_of format xs 0 request ≡ true) mirrors.is owns)
+          and_parts (serves_key (cold mirrors.shard ∷ mirrors.places) request.key (cold mirrors.shard)) (is_blob longest request.value)
+          (subst (λ (xs : List Content). is_place_of longest xs 0 request ≡ true) mirrors.is owns)
 
       parts : (is_prefix mirrors.shard.frontier key ≡ true) × (not (list_any (is_hot_at request.key) (cold mirrors.shard ∷ mirrors.places)) ≡ true)
       parts = and_parts (is_prefix mirrors.shard.frontier key) (not (list_any (is_hot_at request.key) (cold mirrors.shard ∷ mirrors.places))) place.0
@@ -99,29 +98,29 @@ module _ (format : Format) (digest : Digest) (seats : List Content) (mirrors : S
 
   -- a hot place
   hot_serves : (k : ℕ) (content : Content) (request : Request) → get_or mirrors.places k vacant ≡ content
-      → (serves_key format (cold mirrors.shard ∷ mirrors.places) request.key content && is_blob format request.value) ≡ true
-      → SeatServes format digest (hot_paths format mirrors.places) content request
+      → (serves_key (cold mirrors.shard ∷ mirrors.places) request.key content && is_blob longest request.value) ≡ true
+      → SeatServes longest digest (hot_paths mirrors.places) content request
   hot_serves k (cold other) request is owns = absurd (subst IsHotPlace is (place_there mirrors.places k mirrors.hot_alone))
   hot_serves k vacant request is owns = absurd (false≢true owns)
   hot_serves k (hot found) request is owns =
-      let parts = and_parts (found.key == request.key) (is_blob format request.value) owns in
+      let parts = and_parts (found.key == request.key) (is_blob longest request.value) owns in
       record {
         own = eqb-true found.key request.key parts.0;
-        mirrors = one_of-all (λ r. IsBlob format r.value) (hot_records mirrors.places) found mirrors.blobs (hot_there mirrors.places k found is);
+        mirrors = one_of-all (λ r. IsBlob longest r.value) (hot_records mirrors.places) found mirrors.blobs (hot_there mirrors.places k found is);
         cold_there = tt;
-        fits = blob_fits format request.value parts.1;
+        fits = blob_fits longest request.value parts.1;
       }
 
   -- What a request's place has can serve it.
-  pub seat_serves : (seat : ℕ) (request : Request) → request.key < 2 ^ path_bits format → is_place_of format seats seat request ≡ true
-      → SeatServes format digest (hot_paths format mirrors.places) (get_or seats seat vacant) request
+  pub seat_serves : (seat : ℕ) (request : Request) → request.key < 2 ^ key_bits → is_place_of longest seats seat request ≡ true
+      → SeatServes longest digest (hot_paths mirrors.places) (get_or seats seat vacant) request
   seat_serves zero request small owns =
-      subst (λ (xs : List Content). SeatServes format digest (hot_paths format mirrors.places) (get_or xs 0 vacant) request) (sym mirrors.is)
+      subst (λ (xs : List Content). SeatServes longest digest (hot_paths mirrors.places) (get_or xs 0 vacant) request) (sym mirrors.is)
       (shard_serves request small owns)
   seat_serves (suc k) request small owns =
-      subst (λ (xs : List Content). SeatServes format digest (hot_paths format mirrors.places) (get_or xs (suc k) vacant) request) (sym mirrors.is)
+      subst (λ (xs : List Content). SeatServes longest digest (hot_paths mirrors.places) (get_or xs (suc k) vacant) request) (sym mirrors.is)
       (hot_serves k (get_or mirrors.places k vacant) request refl
-      (subst (λ (xs : List Content). is_place_of format xs (suc k) request ≡ true) mirrors.is owns))
+      (subst (λ (xs : List Content). is_place_of longest xs (suc k) request ≡ true) mirrors.is owns))
 
   -- ---- what it leaves
 
@@ -137,8 +136,8 @@ module _ (format : Format) (digest : Digest) (seats : List Content) (mirrors : S
   IsSame vacant (hot new) = ⊥
   IsSame vacant vacant = Unit {0}
 
-  shard_after : (new : Content) → IsSame (cold mirrors.shard) new → ContentMirrors format digest (hot_paths format mirrors.places) new
-      → SeatsMirror format digest (set seats 0 new)
+  shard_after : (new : Content) → IsSame (cold mirrors.shard) new → ContentMirrors longest digest (hot_paths mirrors.places) new
+      → SeatsMirror longest digest (set seats 0 new)
   shard_after (cold new) same mirrored = record {
     shard = new;
     places = mirrors.places;
@@ -152,15 +151,15 @@ module _ (format : Format) (digest : Digest) (seats : List Content) (mirrors : S
   shard_after (hot new) same mirrored = absurd same
   shard_after vacant same mirrored = absurd same
 
-  hot_after : (k : ℕ) (old new : Content) → get_or mirrors.places k vacant ≡ old → IsSame old new → ContentMirrors format digest (hot_paths format mirrors.places) new
-      → SeatsMirror format digest (set seats (suc k) new)
+  hot_after : (k : ℕ) (old new : Content) → get_or mirrors.places k vacant ≡ old → IsSame old new → ContentMirrors longest digest (hot_paths mirrors.places) new
+      → SeatsMirror longest digest (set seats (suc k) new)
   hot_after k (cold old) new is same mirrored = absurd (subst IsHotPlace is (place_there mirrors.places k mirrors.hot_alone))
   hot_after k (hot old) (cold new) is same mirrored = absurd same
   hot_after k (hot old) vacant is same mirrored = absurd same
   hot_after k vacant (cold new) is same mirrored = absurd same
   hot_after k vacant (hot new) is same mirrored = absurd same
   hot_after k vacant vacant is same mirrored =
-      subst (SeatsMirror format digest) (sym (ap (λ (xs : List Content). set xs (suc k) vacant) mirrors.is ∙ (ap (λ (xs : List Content). cold mirrors.shard ∷ xs) (unchanged mirrors.places k is) ∙ sym mirrors.is)))
+      subst (SeatsMirror longest digest) (sym (ap (λ (xs : List Content). set xs (suc k) vacant) mirrors.is ∙ (ap (λ (xs : List Content). cold mirrors.shard ∷ xs) (unchanged mirrors.places k is) ∙ sym mirrors.is)))
       mirrors
     where
       unchanged : (places : List Content) (i : ℕ) → get_or places i vacant ≡ vacant → set places i vacant ≡ places
@@ -173,16 +172,16 @@ module _ (format : Format) (digest : Digest) (seats : List Content) (mirrors : S
     is = ap (λ (xs : List Content). set xs (suc k) (hot new)) mirrors.is;
     four = length-set mirrors.places k (hot new) ∙ mirrors.four;
     hot_alone = all-set IsHotPlace mirrors.places k (hot new) tt mirrors.hot_alone;
-    mirrored = subst (IsMirrored format digest mirrors.shard) (sym (keys-set (key_path format) mirrors.places k old new is same)) mirrors.mirrored;
-    blobs = records-set (λ r. IsBlob format r.value) mirrors.places k new mirrored mirrors.blobs;
-    in_range = records-set (λ r. r.key < 2 ^ path_bits format) mirrors.places k new
-        (subst (λ (key : ℕ). key < 2 ^ path_bits format) (sym same)
-        (one_of-all (λ r. r.key < 2 ^ path_bits format) (hot_records mirrors.places) old mirrors.in_range (hot_there mirrors.places k old is))) mirrors.in_range;
+    mirrored = subst (IsMirrored longest digest mirrors.shard) (sym (keys-set key_path mirrors.places k old new is same)) mirrors.mirrored;
+    blobs = records-set (λ r. IsBlob longest r.value) mirrors.places k new mirrored mirrors.blobs;
+    in_range = records-set (λ r. r.key < 2 ^ key_bits) mirrors.places k new
+        (subst (λ (key : ℕ). key < 2 ^ key_bits) (sym same)
+        (one_of-all (λ r. r.key < 2 ^ key_bits) (hot_records mirrors.places) old mirrors.in_range (hot_there mirrors.places k old is))) mirrors.in_range;
   }
 
   -- The seats mirror with another content at a seat, which is the same shard or hot record and mirrors.
-  pub seats_after : (seat : ℕ) (new : Content) → IsSame (get_or seats seat vacant) new → ContentMirrors format digest (hot_paths format mirrors.places) new
-      → SeatsMirror format digest (set seats seat new)
+  pub seats_after : (seat : ℕ) (new : Content) → IsSame (get_or seats seat vacant) new → ContentMirrors longest digest (hot_paths mirrors.places) new
+      → SeatsMirror longest digest (set seats seat new)
   seats_after zero new same mirrored =
       shard_after new (subst (λ (xs : List Content). IsSame (get_or xs 0 vacant) new) mirrors.is same) mirrored
   seats_after (suc k) new same mirrored =
@@ -190,18 +189,18 @@ module _ (format : Format) (digest : Digest) (seats : List Content) (mirrors : S
 
   -- what a request makes of a content is the same shard or hot record
   pub content-same : (worker : ℕ) (content : Content) (links : List Link) (request : Request) (clock : Reading)
-      → IsSame content (content_after format digest worker content links request clock)
+      → IsSame content (content_after digest worker content links request clock)
   content-same worker (cold shard) links request clock = refl
   content-same worker (hot found) links request clock = refl
   content-same worker vacant links request clock = tt
 
 -- and waits with the stamp of the clock behind it
-pub content-waits : (format : Format) (digest : Digest) (worker : ℕ) (content : Content) (links : List Link) (request : Request) (clock : Reading)
+pub content-waits : (digest : Digest) (worker : ℕ) (content : Content) (links : List Link) (request : Request) (clock : Reading)
     → AllByRecursion (λ element. (element.verifier ≡ worker) × (element.stamp.epoch ≡ clock.at.epoch))
-    (waiting (pending format (content_after format digest worker content links request clock)))
-content-waits format digest worker (cold shard) links request clock = ((refl, refl), tt)
-content-waits format digest worker (hot found) links request clock = ((refl, refl), tt)
-content-waits format digest worker vacant links request clock = tt
+    (waiting (pending (content_after digest worker content links request clock)))
+content-waits digest worker (cold shard) links request clock = ((refl, refl), tt)
+content-waits digest worker (hot found) links request clock = ((refl, refl), tt)
+content-waits digest worker vacant links request clock = tt
 
 -- the same clock but for its counter
 pub record SameEpoch (old new : Reading) : Type 0 where
@@ -214,30 +213,30 @@ clock-same (hot found) clock = record { first = refl; epoch = refl }
 clock-same vacant clock = record { first = refl; epoch = refl }
 
 -- What is served leaves the seats so, and waits in the clock's epoch.
-pub record ServeKeeps (format : Format) (digest : Digest) (worker : ℕ) (clock : Reading) (seats : List Content) (seat : ℕ) (done : Done Content) : Type 0 where
-  pub mirrors : SeatsMirror format digest (set seats seat done.after)
-  pub waits : AllByRecursion (λ element. (element.verifier ≡ worker) × (element.stamp.epoch ≡ clock.at.epoch)) (waiting (pending format done.after))
+pub record ServeKeeps (longest : ℕ) (digest : Digest) (worker : ℕ) (clock : Reading) (seats : List Content) (seat : ℕ) (done : Done Content) : Type 0 where
+  pub mirrors : SeatsMirror longest digest (set seats seat done.after)
+  pub waits : AllByRecursion (λ element. (element.verifier ≡ worker) × (element.stamp.epoch ≡ clock.at.epoch)) (waiting (pending done.after))
   pub same_epoch : SameEpoch clock done.clock
 
-pub serve_keeps : (format : Format) (digest : Digest) (worker : ℕ) (clock : Reading) (seats : List Content) (seat : ℕ) (request : Request) (done : Done Content)
-    → GivesDigests digest → SeatsMirror format digest seats → request.key < 2 ^ path_bits format → is_place_of format seats seat request ≡ true
-    → serve_at format digest worker clock (get_or seats seat vacant) request ≡ Some done
-    → ServeKeeps format digest worker clock seats seat done
-serve_keeps format digest worker clock seats seat request done digests mirrors small owns served =
-    go (served_is_planned format digest worker clock (get_or seats seat vacant) request done serves.own served)
+pub serve_keeps : (longest : ℕ) (digest : Digest) (worker : ℕ) (clock : Reading) (seats : List Content) (seat : ℕ) (request : Request) (done : Done Content)
+    → GivesDigests digest → SeatsMirror longest digest seats → request.key < 2 ^ key_bits → is_place_of longest seats seat request ≡ true
+    → serve_at digest worker clock (get_or seats seat vacant) request ≡ Some done
+    → ServeKeeps longest digest worker clock seats seat done
+serve_keeps longest digest worker clock seats seat request done digests mirrors small owns served =
+    go (served_is_planned longest digest worker clock (get_or seats seat vacant) request done serves.own served)
   where
-    serves : SeatServes format digest (hot_paths format mirrors.places) (get_or seats seat vacant) request
-    serves = seat_serves format digest seats mirrors seat request small owns
+    serves : SeatServes longest digest (hot_paths mirrors.places) (get_or seats seat vacant) request
+    serves = seat_serves longest digest seats mirrors seat request small owns
 
-    go : IsPlanned format digest worker clock (get_or seats seat vacant) request done → ServeKeeps format digest worker clock seats seat done
+    go : IsPlanned digest worker clock (get_or seats seat vacant) request done → ServeKeeps longest digest worker clock seats seat done
     go planned = record {
-      mirrors = seats_after format digest seats mirrors seat done.after
-          (subst (λ (c : Content). IsSame format digest seats mirrors (get_or seats seat vacant) c) (sym planned.is.content)
-          (content-same format digest seats mirrors worker (get_or seats seat vacant) planned.is.links request clock))
-          (plan_mirrors format digest worker (hot_paths format mirrors.places) (get_or seats seat vacant) done.after request clock done.clock planned.plan
+      mirrors = seats_after longest digest seats mirrors seat done.after
+          (subst (λ (c : Content). IsSame longest digest seats mirrors (get_or seats seat vacant) c) (sym planned.is.content)
+          (content-same longest digest seats mirrors worker (get_or seats seat vacant) planned.is.links request clock))
+          (plan_mirrors longest digest worker (hot_paths mirrors.places) (get_or seats seat vacant) done.after request clock done.clock planned.plan
           digests serves.fits serves.mirrors serves.own serves.cold_there planned.is);
-      waits = subst (λ (c : Content). AllByRecursion (λ element. (element.verifier ≡ worker) × (element.stamp.epoch ≡ clock.at.epoch)) (waiting (pending format c))) (sym planned.is.content)
-          (content-waits format digest worker (get_or seats seat vacant) planned.is.links request clock);
+      waits = subst (λ (c : Content). AllByRecursion (λ element. (element.verifier ≡ worker) × (element.stamp.epoch ≡ clock.at.epoch)) (waiting (pending c))) (sym planned.is.content)
+          (content-waits digest worker (get_or seats seat vacant) planned.is.links request clock);
       same_epoch = subst (SameEpoch clock) (sym planned.is.clock) (clock-same (get_or seats seat vacant) clock);
     }
 
@@ -247,69 +246,69 @@ serve_keeps format digest worker clock seats seat request done digests mirrors s
 abbrev pub stage_at : Shard → List Content → Reading → Stage
 stage_at shard places clock = record { shard = shard; places = places; clock = clock }
 
-pub stage_mirrors : (format : Format) (digest : Digest) (seats : List Content) (clock : Reading) → (mirrors : SeatsMirror format digest seats)
-    → StageMirrors format digest (stage_at mirrors.shard mirrors.places clock)
-stage_mirrors format digest seats clock mirrors = record { shard = mirrors.mirrored; blobs = mirrors.blobs; in_range = mirrors.in_range }
+pub stage_mirrors : (longest : ℕ) (digest : Digest) (seats : List Content) (clock : Reading) → (mirrors : SeatsMirror longest digest seats)
+    → StageMirrors longest digest (stage_at mirrors.shard mirrors.places clock)
+stage_mirrors longest digest seats clock mirrors = record { shard = mirrors.mirrored; blobs = mirrors.blobs; in_range = mirrors.in_range }
 
 renewing_each-first : (clock : Reading) (records : List HotRecord) → (renewing_each clock records).first ≡ clock.first
 renewing_each-first clock [] = refl
 renewing_each-first clock (found ∷ more) = renewing_each-first (renewing clock found.stamp) more
 
 -- What is moved leaves the seats so, and waits in the clock's epoch.
-pub record MoveKeeps (format : Format) (digest : Digest) (worker : ℕ) (clock : Reading) (done : Done (List Content)) : Type 0 where
-  pub mirrors : SeatsMirror format digest done.after
-  pub waits : AllByRecursion (λ element. (element.verifier ≡ worker) × (element.stamp.epoch ≡ clock.at.epoch)) (waiting_at format done.after)
+pub record MoveKeeps (longest : ℕ) (digest : Digest) (worker : ℕ) (clock : Reading) (done : Done (List Content)) : Type 0 where
+  pub mirrors : SeatsMirror longest digest done.after
+  pub waits : AllByRecursion (λ element. (element.verifier ≡ worker) × (element.stamp.epoch ≡ clock.at.epoch)) (waiting_at done.after)
   pub same_epoch : SameEpoch clock done.clock
 
-moved_keeps : (format : Format) (digest : Digest) (worker : ℕ) (threshold : Option ℕ) (stage : Stage) (done : Done (List Content))
-    → GivesDigests digest → IfSome threshold (λ least. 0 < least) → StageMirrors format digest stage → length stage.places ≡ 4 → AllByRecursion IsHotPlace stage.places
-    → IsMoved format digest worker threshold stage done → MoveKeeps format digest worker stage.clock done
-moved_keeps format digest worker threshold stage done digests some mirrors four alone is = record {
-  mirrors = subst (SeatsMirror format digest) (sym is.after) (record {
+moved_keeps : (longest : ℕ) (digest : Digest) (worker : ℕ) (threshold : Option ℕ) (stage : Stage) (done : Done (List Content))
+    → GivesDigests digest → IfSome threshold (λ least. 0 < least) → StageMirrors longest digest stage → length stage.places ≡ 4 → AllByRecursion IsHotPlace stage.places
+    → IsMoved digest worker threshold stage done → MoveKeeps longest digest worker stage.clock done
+moved_keeps longest digest worker threshold stage done digests some mirrors four alone is = record {
+  mirrors = subst (SeatsMirror longest digest) (sym is.after) (record {
     shard = is.new.shard;
     places = is.new.places;
     is = refl;
-    four = subst (λ (s : Stage). length s.places ≡ 4) (sym is.is.after) (length-moved format digest worker stage is.is.descents ∙ four);
+    four = subst (λ (s : Stage). length s.places ≡ 4) (sym is.is.after) (length-moved digest worker stage is.is.descents ∙ four);
     hot_alone = still_alone;
     mirrored = again.shard;
     blobs = again.blobs;
     in_range = again.in_range;
   });
-  waits = subst (λ (xs : List Content). AllByRecursion (λ element. (element.verifier ≡ worker) × (element.stamp.epoch ≡ stage.clock.at.epoch)) (waiting_at format xs)) (sym is.after) (
+  waits = subst (λ (xs : List Content). AllByRecursion (λ element. (element.verifier ≡ worker) × (element.stamp.epoch ≡ stage.clock.at.epoch)) (waiting_at xs)) (sym is.after) (
     subst (λ (s : Stage). (s.shard.evictor ≡ worker) × (s.shard.stamp.epoch ≡ stage.clock.at.epoch)) (sym is.is.after) (refl, epoch),
-    subst (AllByRecursion (λ element. (element.verifier ≡ worker) × (element.stamp.epoch ≡ stage.clock.at.epoch))) (sym (waits-hot format is.new.places still_alone))
-        (images-all (pending_hot format) (λ element. (element.verifier ≡ worker) × (element.stamp.epoch ≡ stage.clock.at.epoch)) (hot_records is.new.places)
+    subst (AllByRecursion (λ element. (element.verifier ≡ worker) × (element.stamp.epoch ≡ stage.clock.at.epoch))) (sym (waits-hot is.new.places still_alone))
+        (images-all pending_hot (λ element. (element.verifier ≡ worker) × (element.stamp.epoch ≡ stage.clock.at.epoch)) (hot_records is.new.places)
         (subst (λ (s : Stage). AllByRecursion (IsFresh worker stage.clock.at.epoch) (hot_records s.places)) (sym is.is.after)
-        (move_fresh format digest worker threshold stage is.is.promotable is.is.descents some mirrors is.is.are_promotable is.is.transfers))),
+        (move_fresh longest digest worker threshold stage is.is.promotable is.is.descents some mirrors is.is.are_promotable is.is.transfers))),
   );
   same_epoch = subst (SameEpoch stage.clock) (sym (is.clock ∙ ap (λ (s : Stage). s.clock) is.is.after)) (record {
-    first = each-first format digest worker (begun worker stage) is.is.descents ∙ renewing_each-first stage.clock (touched_in stage.places);
+    first = each-first longest digest worker (begun worker stage) is.is.descents ∙ renewing_each-first stage.clock (touched_in stage.places);
     epoch = epoch;
   });
 }
   where
-    again : StageMirrors format digest is.new
-    again = move_mirrors format digest worker threshold stage is.new done.commands digests some mirrors is.is
+    again : StageMirrors longest digest is.new
+    again = move_mirrors longest digest worker threshold stage is.new done.commands digests some mirrors is.is
 
-    epoch : (moved format digest worker stage is.is.descents).clock.at.epoch ≡ stage.clock.at.epoch
-    epoch = each-epoch format digest worker (begun worker stage) is.is.descents ∙ renewing_each-epoch stage.clock (touched_in stage.places)
+    epoch : (moved digest worker stage is.is.descents).clock.at.epoch ≡ stage.clock.at.epoch
+    epoch = each-epoch longest digest worker (begun worker stage) is.is.descents ∙ renewing_each-epoch stage.clock (touched_in stage.places)
 
     still_alone : AllByRecursion IsHotPlace is.new.places
-    still_alone = subst (λ (s : Stage). AllByRecursion IsHotPlace s.places) (sym is.is.after) (hot-moved format digest worker stage is.is.descents alone)
+    still_alone = subst (λ (s : Stage). AllByRecursion IsHotPlace s.places) (sym is.is.after) (hot-moved digest worker stage is.is.descents alone)
 
 -- what is done is a move of the stage
-pub seats_moved : (format : Format) (digest : Digest) (worker : ℕ) (threshold : Option ℕ) (clock : Reading) (seats : List Content) (done : Done (List Content))
-    → GivesDigests digest → IfSome threshold (λ least. 0 < least) → (mirrors : SeatsMirror format digest seats)
-    → move_seats format digest worker threshold (stage_of clock seats) ≡ Some done
-    → IsMoved format digest worker threshold (stage_at mirrors.shard mirrors.places clock) done
-seats_moved format digest worker threshold clock seats done digests some mirrors is =
-    done_is_move format digest worker threshold (stage_at mirrors.shard mirrors.places clock) digests some (stage_mirrors format digest seats clock mirrors) done
-    (subst (λ (xs : List Content). move_seats format digest worker threshold (stage_of clock xs) ≡ Some done) mirrors.is is)
+pub seats_moved : (longest : ℕ) (digest : Digest) (worker : ℕ) (threshold : Option ℕ) (clock : Reading) (seats : List Content) (done : Done (List Content))
+    → GivesDigests digest → IfSome threshold (λ least. 0 < least) → (mirrors : SeatsMirror longest digest seats)
+    → move_seats digest worker threshold (stage_of clock seats) ≡ Some done
+    → IsMoved digest worker threshold (stage_at mirrors.shard mirrors.places clock) done
+seats_moved longest digest worker threshold clock seats done digests some mirrors is =
+    done_is_move longest digest worker threshold (stage_at mirrors.shard mirrors.places clock) digests some (stage_mirrors longest digest seats clock mirrors) done
+    (subst (λ (xs : List Content). move_seats digest worker threshold (stage_of clock xs) ≡ Some done) mirrors.is is)
 
-pub move_keeps : (format : Format) (digest : Digest) (worker : ℕ) (threshold : Option ℕ) (clock : Reading) (seats : List Content) (done : Done (List Content))
-    → GivesDigests digest → IfSome threshold (λ least. 0 < least) → SeatsMirror format digest seats
-    → move_seats format digest worker threshold (stage_of clock seats) ≡ Some done
-    → MoveKeeps format digest worker clock done
-move_keeps format digest worker threshold clock seats done digests some mirrors is =
-    moved_keeps format digest worker threshold (stage_at mirrors.shard mirrors.places clock) done digests some (stage_mirrors format digest seats clock mirrors) mirrors.four mirrors.hot_alone
-    (seats_moved format digest worker threshold clock seats done digests some mirrors is)
+pub move_keeps : (longest : ℕ) (digest : Digest) (worker : ℕ) (threshold : Option ℕ) (clock : Reading) (seats : List Content) (done : Done (List Content))
+    → GivesDigests digest → IfSome threshold (λ least. 0 < least) → SeatsMirror longest digest seats
+    → move_seats digest worker threshold (stage_of clock seats) ≡ Some done
+    → MoveKeeps longest digest worker clock done
+move_keeps longest digest worker threshold clock seats done digests some mirrors is =
+    moved_keeps longest digest worker threshold (stage_at mirrors.shard mirrors.places clock) done digests some (stage_mirrors longest digest seats clock mirrors) mirrors.four mirrors.hot_alone
+    (seats_moved longest digest worker threshold clock seats done digests some mirrors is)

@@ -7,7 +7,7 @@ use Rattle.std.proofs.lemmas.Grind.{flat_map-append}
 use Rattle.std.proofs.lemmas.List.{append-nil}
 use Rattle.lamport_clocks.specs.Reading.{Reading}
 use Rattle.record_text.specs.declared.request.Request.{Request}
-use Rattle.record_text.specs.Format.{Format, short_keys}
+use Rattle.record_text.specs.Longest.{longest_blob}
 use Rattle.log_codec.specs.declared.command.Command.{Command}
 use Rattle.merkle_records.specs.Merkle.{Digest}
 use Rattle.host_core.specs.Host.{Done}
@@ -23,55 +23,55 @@ use Rattle.host_world.specs.ShippedHost.{serve_at}
 use Rattle.host_world.proofs.LinkLaws.{shard_chain_is}
 
 -- the links of a content that owns a key are one list
-pub links_are_of : (format : Format) (content : Content) (key : ℕ) (links : List Link) → Owns format content key → AreLinks format content key links → links ≡ links_of format content key
-links_are_of format (cold shard) key links own way = shard_chain_is format shard (key_path format key) own.0 own.1 links way
-links_are_of format (hot record') key links own way = way
-links_are_of format vacant key links own way = absurd own
+pub links_are_of : (longest : ℕ) (content : Content) (key : ℕ) (links : List Link) → Owns longest content key → AreLinks content key links → links ≡ links_of content key
+links_are_of longest (cold shard) key links own way = shard_chain_is longest shard (key_path key) own.0 own.1 links way
+links_are_of longest (hot record') key links own way = way
+links_are_of longest vacant key links own way = absurd own
 
 -- what is done to serve a request, along these links
-abbrev pub done_along : Format → Digest → ℕ → Reading → Content → Request → List Link → Done Content
-done_along format digest worker clock content request links = record {
-  commands = commands_of format content links request clock;
-  after = content_after format digest worker content links request clock;
+abbrev pub done_along : ℕ → Digest → ℕ → Reading → Content → Request → List Link → Done Content
+done_along longest digest worker clock content request links = record {
+  commands = commands_of content links request clock;
+  after = content_after digest worker content links request clock;
   clock = clock_after content clock;
 }
 
-module _ (format : Format) (digest : Digest) (worker : ℕ) (clock : Reading) (content : Content) (request : Request) where
+module _ (longest : ℕ) (digest : Digest) (worker : ℕ) (clock : Reading) (content : Content) (request : Request) where
   -- where the counters pass their end
-  pub serve_past : IsPastEnd content clock → serve_at format digest worker clock content request ≡ None
+  pub serve_past : IsPastEnd content clock → serve_at digest worker clock content request ≡ None
   serve_past past =
-      ap (λ (b : Bool). if b then None else Some (done_along format digest worker clock content request (links_of format content request.key)))
+      ap (λ (b : Bool). if b then None else Some (done_along longest digest worker clock content request (links_of content request.key)))
       (lt-ltb clock.end (clock_after content clock).at.counter past)
 
   -- where they don't
-  pub serve_within : (IsPastEnd content clock → ⊥) → serve_at format digest worker clock content request ≡ Some (done_along format digest worker clock content request (links_of format content request.key))
+  pub serve_within : (IsPastEnd content clock → ⊥) → serve_at digest worker clock content request ≡ Some (done_along longest digest worker clock content request (links_of content request.key))
   serve_within within = go (nat_lt clock.end (clock_after content clock).at.counter) refl
     where
       go : (b : Bool) → nat_lt clock.end (clock_after content clock).at.counter ≡ b
-          → (if b then None else Some (done_along format digest worker clock content request (links_of format content request.key)))
-          ≡ Some (done_along format digest worker clock content request (links_of format content request.key))
+          → (if b then None else Some (done_along longest digest worker clock content request (links_of content request.key)))
+          ≡ Some (done_along longest digest worker clock content request (links_of content request.key))
       go true past = absurd (within (ltb-true clock.end (clock_after content clock).at.counter past))
       go false is = refl
 
   -- A plan is what is done.
-  pub plan_is_served : (plan : Plan) (after : Content) (later : Reading) → Owns format content request.key → (IsPastEnd content clock → ⊥)
-      → IsPlan format digest worker content request clock plan after later
-      → serve_at format digest worker clock content request ≡ Some (record { commands = plan.commands; after = after; clock = later })
+  pub plan_is_served : (plan : Plan) (after : Content) (later : Reading) → Owns longest content request.key → (IsPastEnd content clock → ⊥)
+      → IsPlan digest worker content request clock plan after later
+      → serve_at digest worker clock content request ≡ Some (record { commands = plan.commands; after = after; clock = later })
   plan_is_served plan after later own within is =
       serve_within within
-      ∙ ap (λ (links : List Link). Some (done_along format digest worker clock content request links)) (sym (links_are_of format content request.key is.links own is.way))
-      ∙ ap (λ (commands : List Command). Some (record { commands = commands; after = content_after format digest worker content is.links request clock; clock = clock_after content clock })) (sym is.commands)
+      ∙ ap (λ (links : List Link). Some (done_along longest digest worker clock content request links)) (sym (links_are_of longest content request.key is.links own is.way))
+      ∙ ap (λ (commands : List Command). Some (record { commands = commands; after = content_after digest worker content is.links request clock; clock = clock_after content clock })) (sym is.commands)
       ∙ ap (λ (c : Content). Some (record { commands = plan.commands; after = c; clock = clock_after content clock })) (sym is.content)
       ∙ ap (λ (r : Reading). Some (record { commands = plan.commands; after = after; clock = r })) (sym is.clock)
 
 -- what was done to serve a request, where it was
 pub done_is : (digest : Digest) (i : ℕ) (clock : Reading) (content : Content) (request : Request) (done : Done Content)
-    → serve_at short_keys digest i clock content request ≡ Some done
-    → done ≡ done_along short_keys digest i clock content request (links_of short_keys content request.key)
+    → serve_at digest i clock content request ≡ Some done
+    → done ≡ done_along longest_blob digest i clock content request (links_of content request.key)
 done_is digest i clock content request done is = go (nat_lt clock.end (clock_after content clock).at.counter) is
   where
-    go : (b : Bool) → (if b then None else Some (done_along short_keys digest i clock content request (links_of short_keys content request.key))) ≡ Some done
-        → done ≡ done_along short_keys digest i clock content request (links_of short_keys content request.key)
+    go : (b : Bool) → (if b then None else Some (done_along longest_blob digest i clock content request (links_of content request.key))) ≡ Some done
+        → done ≡ done_along longest_blob digest i clock content request (links_of content request.key)
     go true is = absurd (false≢true (ap is_some is))
     go false is = sym (same_Some _ _ is)
 

@@ -4,7 +4,7 @@ use Rattle.std.specs.List.{AllByRecursion}
 use Rattle.lamport_clocks.specs.Clock.{is_open}
 use Rattle.lamport_clocks.specs.Reading.{Reading}
 use Rattle.record_text.specs.declared.element.Element.{Element}
-use Rattle.record_text.specs.Format.{short_keys}
+use Rattle.record_text.specs.Longest.{longest_blob}
 use Rattle.merkle_records.specs.Merkle.{Digest}
 use Rattle.host_shard.specs.Content.{Content, cold, key_path, pending_hot}
 use Rattle.host_shard.specs.Mirrors.{IsKeyOf}
@@ -22,11 +22,11 @@ use Rattle.host_world.proofs.PlaceLaws.{waits-hot}
 use Rattle.host_world.proofs.SeatLaws.{stage_at}
 
 pub record CanMoveThere (digest : Digest) (clock : Reading) (shard : Shard) (places : List Content) : Type 0 where
-  pub mirrors : StageMirrors short_keys digest (stage_at shard places clock)
+  pub mirrors : StageMirrors longest_blob digest (stage_at shard places clock)
   pub four : length places ≡ 4
   pub open' : IsTrue (is_open clock shard.stamp.epoch)
   pub hot_open : AllByRecursion (λ found. IsTrue (is_open clock found.stamp.epoch)) (hot_records places)
-  pub hot_own : AllByRecursion (λ found. IsKeyOf short_keys shard (key_path short_keys found.key)) (hot_records places)
+  pub hot_own : AllByRecursion (λ found. IsKeyOf shard (key_path found.key)) (hot_records places)
 
 all-images : {A B : Type 0} (P : B → Type 0) (f : A → B) (xs : List A) → AllByRecursion P (map f xs) → AllByRecursion (λ x. P (f x)) xs
 all-images P f [] all = tt
@@ -41,23 +41,23 @@ can_move_there digest clock shard places can = record {
   mirrors = stage;
   four = ap (λ (xs : List Content). length xs) same.1 ∙ can.mirrors.four;
   open' = can.open_epochs.0;
-  hot_open = all-images (λ (element : Element). IsTrue (is_open clock element.stamp.epoch)) (pending_hot short_keys) (hot_records places)
+  hot_open = all-images (λ (element : Element). IsTrue (is_open clock element.stamp.epoch)) pending_hot (hot_records places)
       (subst (AllByRecursion (λ (element : Element). IsTrue (is_open clock element.stamp.epoch)))
-      (ap (waiting_at short_keys) same.1 ∙ (waits-hot short_keys can.mirrors.places can.mirrors.hot_alone ∙ sym (ap (λ (xs : List Content). map (pending_hot short_keys) (hot_records xs)) same.1)))
+      (ap waiting_at same.1 ∙ (waits-hot can.mirrors.places can.mirrors.hot_alone ∙ sym (ap (λ (xs : List Content). map pending_hot (hot_records xs)) same.1)))
       can.open_epochs.1);
-  hot_own = hot_own short_keys digest (stage_at shard places clock) stage;
+  hot_own = hot_own longest_blob digest (stage_at shard places clock) stage;
 }
   where
     same : (shard ≡ can.mirrors.shard) × (places ≡ can.mirrors.places)
     same = same_shard shard can.mirrors.shard places can.mirrors.places can.mirrors.is
 
-    there : StageMirrors short_keys digest (stage_at can.mirrors.shard can.mirrors.places clock)
+    there : StageMirrors longest_blob digest (stage_at can.mirrors.shard can.mirrors.places clock)
     there = record { shard = can.mirrors.mirrored; blobs = can.mirrors.blobs; in_range = can.mirrors.in_range }
 
-    stage : StageMirrors short_keys digest (stage_at shard places clock)
+    stage : StageMirrors longest_blob digest (stage_at shard places clock)
     stage =
-        subst (λ (s : Shard). StageMirrors short_keys digest (stage_at s places clock)) (sym same.0)
-        (subst (λ (xs : List Content). StageMirrors short_keys digest (stage_at can.mirrors.shard xs clock)) (sym same.1) there)
+        subst (λ (s : Shard). StageMirrors longest_blob digest (stage_at s places clock)) (sym same.0)
+        (subst (λ (xs : List Content). StageMirrors longest_blob digest (stage_at can.mirrors.shard xs clock)) (sym same.1) there)
 
 -- and as the code has them
 pub taken_in : (digest : Digest) (clock : Reading) (first : place.Content) (shard : shards.Shard) (more : List place.Content) → first ≡ places.Cold shard

@@ -5,7 +5,7 @@ use Rattle.lamport_clocks.specs.Clock.{is_open}
 use Rattle.lamport_clocks.specs.Reading.{Reading}
 use Rattle.record_hash.specs.Functions.{DigestFunctions}
 use Rattle.record_text.specs.declared.request.Request.{Request}
-use Rattle.record_text.specs.Format.{short_keys}
+use Rattle.record_text.specs.Longest.{longest_blob}
 use Rattle.log_codec.specs.declared.command.Command.{Command}
 use Rattle.merkle_records.specs.Merkle.{Digest}
 use Rattle.host_core.specs.Host.{Host}
@@ -67,8 +67,8 @@ pub record AreOfOneHost {D : Type 0} (old new : World D) : Type 0 where
 
 -- A worker whose clock stands so can take a shard's seats in: they mirror, and the clock takes each stamp there.
 pub record CanTakeSeats (digest : Digest) (clock : Reading) (seats : List Content) : Type 0 where
-  pub mirrors : SeatsMirror short_keys digest seats
-  pub open_epochs : AllByRecursion (λ element. IsTrue (is_open clock element.stamp.epoch)) (waiting_at short_keys seats)
+  pub mirrors : SeatsMirror longest_blob digest seats
+  pub open_epochs : AllByRecursion (λ element. IsTrue (is_open clock element.stamp.epoch)) (waiting_at seats)
 
 -- what a worker of the world has logged and not handed out
 abbrev pub log_at : {D : Type 0} → World D → ℕ → List Command

@@ -1,7 +1,6 @@
 -- What the shipped host does for a shard at a close, as a function of the shard's seats.
 use Rattle.std.specs.Prelude.{ℕ, List, [], ◌∷◌, Option, Some, None, nat_lt, if◌then◌else◌}
 use Rattle.lamport_clocks.specs.Reading.{Reading}
-use Rattle.record_text.specs.Format.{Format}
 use Rattle.merkle_records.specs.Merkle.{Digest}
 use Rattle.host_core.specs.Host.{Done}
 use Rattle.host_shard.specs.declared.link.Link.{Link}
@@ -26,36 +25,36 @@ abbrev pub seats_of : Stage → List Content
 seats_of stage = cold stage.shard ∷ stage.places
 
 -- the links to a transfer's key
-abbrev pub links_for : Format → Shard → Transfer → List Link
-links_for format shard (demotes found) = links_in format (with_back format shard found) (key_path format found.key)
-links_for format shard (promotes key) = links_in format shard (key_path format key)
+abbrev pub links_for : Shard → Transfer → List Link
+links_for shard (demotes found) = links_in (with_back shard found) (key_path found.key)
+links_for shard (promotes key) = links_in shard (key_path key)
 
 -- transfers as descents, one after another
-abbrev pub descents_for : Format → Digest → ℕ → Stage → List Transfer → List Descent
-descents_for format digest worker stage [] = []
-descents_for format digest worker stage (transfer ∷ transfers) =
-    record { transfer = transfer; links = links_for format stage.shard transfer }
-    ∷ descents_for format digest worker (done_by format digest worker stage transfer (links_for format stage.shard transfer)) transfers
+abbrev pub descents_for : Digest → ℕ → Stage → List Transfer → List Descent
+descents_for digest worker stage [] = []
+descents_for digest worker stage (transfer ∷ transfers) =
+    record { transfer = transfer; links = links_for stage.shard transfer }
+    ∷ descents_for digest worker (done_by digest worker stage transfer (links_for stage.shard transfer)) transfers
 
 -- the descents of a move after which these keys are to be hot
-abbrev pub descents_of : Format → Digest → ℕ → Stage → List ℕ → List Descent
-descents_of format digest worker stage promotable = descents_for format digest worker (begun worker stage) (transfers_of stage promotable)
+abbrev pub descents_of : Digest → ℕ → Stage → List ℕ → List Descent
+descents_of digest worker stage promotable = descents_for digest worker (begun worker stage) (transfers_of stage promotable)
 
 -- a move with these descents
-abbrev pub done_with : Format → Digest → ℕ → Stage → List Descent → Done (List Content)
-done_with format digest worker stage descents = record {
-  commands = move_commands format digest worker stage descents;
-  after = seats_of (moved format digest worker stage descents);
-  clock = (moved format digest worker stage descents).clock;
+abbrev pub done_with : Digest → ℕ → Stage → List Descent → Done (List Content)
+done_with digest worker stage descents = record {
+  commands = move_commands digest worker stage descents;
+  after = seats_of (moved digest worker stage descents);
+  clock = (moved digest worker stage descents).clock;
 }
 
 -- The move of a stage by this worker, where these keys are promotable to become hot: none where its counters would pass their end.
-abbrev pub move_promotable : Format → Digest → ℕ → Stage → List ℕ → Option (Done (List Content))
-move_promotable format digest worker stage promotable =
+abbrev pub move_promotable : Digest → ℕ → Stage → List ℕ → Option (Done (List Content))
+move_promotable digest worker stage promotable =
     if nat_lt stage.clock.end (clock_needed stage promotable).at.counter then None
-    else Some (done_with format digest worker stage (descents_of format digest worker stage promotable))
+    else Some (done_with digest worker stage (descents_of digest worker stage promotable))
 
 -- The move of a shard's seats, for some threshold.
-abbrev pub move_seats : Format → Digest → ℕ → Option ℕ → Option Stage → Option (Done (List Content))
-move_seats format digest worker threshold None = None
-move_seats format digest worker threshold (Some stage) = move_promotable format digest worker stage (promotable_in format stage threshold)
+abbrev pub move_seats : Digest → ℕ → Option ℕ → Option Stage → Option (Done (List Content))
+move_seats digest worker threshold None = None
+move_seats digest worker threshold (Some stage) = move_promotable digest worker stage (promotable_in stage threshold)

@@ -2,7 +2,7 @@
 use Rattle.std.specs.Prelude.{◌≡◌, ℕ, ◌+◌, ◌<◌, Bool, true, false, List, length}
 use Rattle.std.specs.List.{AllByRecursion}
 use Rattle.record_hash.specs.Functions.{DigestFunctions}
-use Rattle.record_text.specs.Format.{short_keys}
+use Rattle.record_text.specs.Longest.{longest_blob}
 use Rattle.merkle_records.specs.Merkle.{Digest}
 use Rattle.host_core.specs.World.{World, worker_at, shard_at, epoch_of}
 use Rattle.host_shard.specs.Content.{Content}
@@ -13,8 +13,8 @@ use Rattle.host_world.specs.ShippedHost.{shipped_host}
 
 -- These seats mirror, and what waits there waits in this epoch.
 pub record IsOrderlyShard (digest : Digest) (epoch : ℕ) (seats : List Content) : Type 0 where
-  pub mirrors : SeatsMirror short_keys digest seats
-  pub stamped : AllByRecursion (λ element. element.stamp.epoch ≡ epoch) (waiting_at short_keys seats)
+  pub mirrors : SeatsMirror longest_blob digest seats
+  pub stamped : AllByRecursion (λ element. element.stamp.epoch ≡ epoch) (waiting_at seats)
 
 -- one epoch more, where a shard was moved
 abbrev pub moved_by : Bool → ℕ

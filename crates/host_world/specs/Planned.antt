@@ -2,7 +2,6 @@
 use Rattle.std.specs.Prelude.{◌≡◌, ℕ, List, Option}
 use Rattle.lamport_clocks.specs.Reading.{Reading}
 use Rattle.record_text.specs.declared.request.Request.{Request}
-use Rattle.record_text.specs.Format.{Format}
 use Rattle.merkle_records.specs.Merkle.{Digest}
 use Rattle.host_core.specs.Host.{Done}
 use Rattle.host_shard.specs.Content.{Content}
@@ -13,16 +12,16 @@ use Rattle.protection_moves.specs.Move as moves
 use Rattle.host_world.specs.Moving.{seats_of}
 
 -- What was done to serve a request is its plan, whose counters don't pass their end.
-pub record IsPlanned (format : Format) (digest : Digest) (worker : ℕ) (clock : Reading) (content : Content) (request : Request) (done : Done Content) : Type 0 where
+pub record IsPlanned (digest : Digest) (worker : ℕ) (clock : Reading) (content : Content) (request : Request) (done : Done Content) : Type 0 where
   pub plan : Plan
-  pub is : plans.IsPlan format digest worker content request clock plan done.after done.clock
+  pub is : plans.IsPlan digest worker content request clock plan done.after done.clock
   pub logged : done.commands ≡ plan.commands
   pub within : plans.IsPastEnd content clock → ⊥
 
 -- What was done to move a stage is a move of it for this threshold, whose counters don't pass their end.
-pub record IsMoved (format : Format) (digest : Digest) (worker : ℕ) (threshold : Option ℕ) (stage : Stage) (done : Done (List Content)) : Type 0 where
+pub record IsMoved (digest : Digest) (worker : ℕ) (threshold : Option ℕ) (stage : Stage) (done : Done (List Content)) : Type 0 where
   pub new : Stage
-  pub is : moves.IsMove format digest worker threshold stage done.commands new
+  pub is : moves.IsMove digest worker threshold stage done.commands new
   pub after : done.after ≡ seats_of new
   pub clock : done.clock ≡ new.clock
-  pub within : moves.IsPastEnd format threshold stage → ⊥
+  pub within : moves.IsPastEnd threshold stage → ⊥

@@ -1,8 +1,8 @@
 -- Seats that mirror what the verifiers hold of them: a shard, and its hot places.
-use Rattle.std.specs.Prelude.{◌≡◌, ◌^◌, ◌<◌, List, ◌∷◌, length}
+use Rattle.std.specs.Prelude.{ℕ, ◌≡◌, ◌^◌, ◌<◌, List, ◌∷◌, length}
 use Rattle.std.specs.List.{AllByRecursion, flat_map}
+use Rattle.tree_keys.specs.Path.{key_bits}
 use Rattle.record_text.specs.declared.element.Element.{Element}
-use Rattle.record_text.specs.Format.{Format, path_bits}
 use Rattle.record_text.specs.Value.{IsBlob}
 use Rattle.merkle_records.specs.Merkle.{Digest}
 use Rattle.host_shard.specs.Content.{Content, cold, hot, vacant, pending}
@@ -13,8 +13,8 @@ use Rattle.protection_moves.specs.Stage.{hot_records, hot_paths}
 use Rattle.host_world.specs.ShippedHost.{hot_places}
 
 -- the elements with which what is in these seats waits
-abbrev pub waiting_at : Format → List Content → List Element
-waiting_at format seats = flat_map (λ content. waiting (pending format content)) seats
+abbrev pub waiting_at : List Content → List Element
+waiting_at seats = flat_map (λ content. waiting (pending content)) seats
 
 -- the content of a hot place
 abbrev pub IsHotPlace : Content → Type 0
@@ -24,12 +24,12 @@ IsHotPlace vacant = Unit {0}
 
 -- The seats are a shard and its four hot places. The shard mirrors where the records in these are hot, each of them has a value of
 -- its kind, and its key is in range.
-pub record SeatsMirror (format : Format) (digest : Digest) (seats : List Content) : Type 0 where
+pub record SeatsMirror (longest : ℕ) (digest : Digest) (seats : List Content) : Type 0 where
   pub shard : Shard
   pub places : List Content
   pub is : seats ≡ cold shard ∷ places
   pub four : length places ≡ hot_places
   pub hot_alone : AllByRecursion IsHotPlace places
-  pub mirrored : IsMirrored format digest shard (hot_paths format places)
-  pub blobs : AllByRecursion (λ found. IsBlob format found.value) (hot_records places)
-  pub in_range : AllByRecursion (λ found. found.key < 2 ^ path_bits format) (hot_records places)
+  pub mirrored : IsMirrored longest digest shard (hot_paths places)
+  pub blobs : AllByRecursion (λ found. IsBlob longest found.value) (hot_records places)
+  pub in_range : AllByRecursion (λ found. found.key < 2 ^ key_bits) (hot_records places)

@@ -6,7 +6,7 @@ use Rattle.lamport_clocks.specs.Reading.{Reading}
 use Rattle.lamport_clocks.specs.declared.header.Header.{Header}
 use Rattle.record_hash.specs.Functions.{DigestFunctions}
 use Rattle.record_text.specs.declared.request.Request.{Request}
-use Rattle.record_text.specs.Format.{Format, format_of}
+use Rattle.record_text.specs.Longest.{longest_of}
 use Rattle.merkle_records.specs.Merkle.{Digest}
 use Rattle.merkle_records.specs.Scheme.{scheme_of}
 use Rattle.verifier_cache.specs.Cache.{Held}
@@ -34,21 +34,21 @@ abbrev pub new_seats : Content → List Content
 new_seats content = content ∷ replicate hot_places vacant
 
 -- the value is one that a key may have
-abbrev pub is_blob : Format → Option (List ℕ) → Bool
-is_blob format None = nat_le 0 0
-is_blob format (Some bytes) = nat_le (length bytes) format.longest
+abbrev pub is_blob : ℕ → Option (List ℕ) → Bool
+is_blob longest None = nat_le 0 0
+is_blob longest (Some bytes) = nat_le (length bytes) longest
 
 -- A content serves a key among the seats of its shard: a shard those below its frontier that are not hot, and a hot record
 -- its own.
-abbrev pub serves_key : Format → List Content → ℕ → Content → Bool
-serves_key format seats key (cold shard) = is_prefix shard.frontier (key_path format key) && not (list_any (is_hot_at key) seats)
-serves_key format seats key (hot record') = record'.key == key
-serves_key format seats key vacant = false
+abbrev pub serves_key : List Content → ℕ → Content → Bool
+serves_key seats key (cold shard) = is_prefix shard.frontier (key_path key) && not (list_any (is_hot_at key) seats)
+serves_key seats key (hot record') = record'.key == key
+serves_key seats key vacant = false
 
 -- the seat is the place of the request
-abbrev pub is_place_of : Format → List Content → ℕ → Request → Bool
-is_place_of format seats seat request =
-    serves_key format seats request.key (get_or seats seat vacant) && is_blob format request.value
+abbrev pub is_place_of : ℕ → List Content → ℕ → Request → Bool
+is_place_of longest seats seat request =
+    serves_key seats request.key (get_or seats seat vacant) && is_blob longest request.value
 
 -- ---- what is done
 
@@ -57,20 +57,20 @@ abbrev pub told : Request → Request
 told request = record { put = request.put; key = request.key; value = if request.put then request.value else None }
 
 -- Serving a request: none where its two counters would pass their end.
-abbrev pub serve_at : Format → Digest → ℕ → Reading → Content → Request → Option (Done Content)
-serve_at format digest worker clock content request =
+abbrev pub serve_at : Digest → ℕ → Reading → Content → Request → Option (Done Content)
+serve_at digest worker clock content request =
     if nat_lt clock.end (clock_after content clock).at.counter then None
     else Some (record {
-      commands = commands_of format content (links_of format content request.key) request clock;
-      after = content_after format digest worker content (links_of format content request.key) request clock;
+      commands = commands_of content (links_of content request.key) request clock;
+      after = content_after digest worker content (links_of content request.key) request clock;
       clock = clock_after content clock;
     })
 
 -- the setup of 2^bits shards, by worker 0
-abbrev pub set_up_by : Format → Header → ℕ → Done (List (List Content))
-set_up_by format header bits = record {
-  commands = setup_commands format header.first bits;
-  after = map new_seats (setup_contents format header.first bits);
+abbrev pub set_up_by : Header → ℕ → Done (List (List Content))
+set_up_by header bits = record {
+  commands = setup_commands header.first bits;
+  after = map new_seats (setup_contents header.first bits);
   clock = first_clock header.first header.end (2 ^ bits);
 }
 
@@ -89,18 +89,18 @@ turn_of task = (task.worker, task.request)
 abbrev pub shipped_host : DigestFunctions → Settings → List (List Task) → Host Content Request
 shipped_host functions settings script =
     let header = settings.header in
-    let format = format_of header in
+    let longest = longest_of header in
     let bits = frontier_bits settings.shards in
     record {
       functions = functions;
       header = header;
       cache = resting_cache functions header bits;
       vacant = vacant;
-      pending = λ content. waiting (pending format content);
-      owns = λ s seats seat request. is_place_of format seats seat request;
+      pending = λ content. waiting (pending content);
+      owns = λ s seats seat request. is_place_of longest seats seat request;
       telling = told;
       script = map (map turn_of) script;
-      setup = set_up_by format header bits;
-      serve = λ i clock content request. serve_at format functions.digest i clock content request;
-      move = λ i clock s seats. move_seats format functions.digest i settings.hot (stage_of clock seats);
+      setup = set_up_by header bits;
+      serve = λ i clock content request. serve_at functions.digest i clock content request;
+      move = λ i clock s seats. move_seats functions.digest i settings.hot (stage_of clock seats);
     }

@@ -6,7 +6,6 @@ use Rattle.record_hash.specs.Functions.{DigestFunctions}
 use Rattle.record_text.specs.declared.request.Request.{Request}
 use Rattle.record_text.specs.declared.value.Value.{Value}
 use Rattle.record_text.specs.declared.value.Value.TheVariants as values
-use Rattle.record_text.specs.Format.{short_keys}
 use Rattle.record_text.specs.Value.{empty_node}
 use Rattle.log_codec.specs.declared.command.Command.{Command}
 use Rattle.log_codec.specs.declared.command.Command.TheVariants.{AddM, EvictM, AddB, EvictB, EvictBM, Get, Put, NextEpoch}
@@ -63,7 +62,7 @@ logs_behind functions settings script events =
 -- ---- a put and a get of one key
 
 abbrev pub five : List Bool
-five = key_path short_keys 5
+five = key_path 5
 
 abbrev pub put_five : Option (List ℕ) → Request
 put_five value = record { put = true; key = 5; value = value }
@@ -85,7 +84,7 @@ bytes of = values.Blob (Some of)
 
 -- the shard's frontier once the key has this value
 abbrev pub frontier_of : DigestFunctions → Value → Value
-frontier_of functions value = values.Node (record { side0 = Some (pointer_to short_keys functions.digest five value); side1 = None })
+frontier_of functions value = values.Node (record { side0 = Some (pointer_to functions.digest five value); side1 = None })
 
 -- What one request logs at a shard, where the frontier waits with this value, counter and verifier and the key has this value.
 abbrev pub request_at : List Bool → List Bool → Value → ℕ → ℕ → Value → Command → ℕ → List Command

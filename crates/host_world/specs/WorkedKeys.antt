@@ -5,7 +5,6 @@ use Rattle.record_hash.specs.Functions.{DigestFunctions}
 use Rattle.record_text.specs.declared.request.Request.{Request}
 use Rattle.record_text.specs.declared.value.Value.{Value}
 use Rattle.record_text.specs.declared.value.Value.TheVariants as values
-use Rattle.record_text.specs.Format.{short_keys}
 use Rattle.record_text.specs.Value.{empty_node}
 use Rattle.log_codec.specs.declared.command.Command.{Command}
 use Rattle.log_codec.specs.declared.command.Command.TheVariants.{AddM, EvictM, AddB, EvictB, EvictBM, Get, Put, NextEpoch}
@@ -23,16 +22,16 @@ nothing = values.Blob None
 -- a node with these two records below it
 abbrev pub node_of : DigestFunctions → List Bool → Value → List Bool → Value → Value
 node_of functions path0 value0 path1 value1 = values.Node (record {
-  side0 = Some (pointer_to short_keys functions.digest path0 value0);
-  side1 = Some (pointer_to short_keys functions.digest path1 value1);
+  side0 = Some (pointer_to functions.digest path0 value0);
+  side1 = Some (pointer_to functions.digest path1 value1);
 })
 
 -- a node with one record, below its side 0 or its side 1
 abbrev pub node_0 : DigestFunctions → List Bool → Value → Value
-node_0 functions path value = values.Node (record { side0 = Some (pointer_to short_keys functions.digest path value); side1 = None })
+node_0 functions path value = values.Node (record { side0 = Some (pointer_to functions.digest path value); side1 = None })
 
 abbrev pub node_1 : DigestFunctions → List Bool → Value → Value
-node_1 functions path value = values.Node (record { side0 = None; side1 = Some (pointer_to short_keys functions.digest path value) })
+node_1 functions path value = values.Node (record { side0 = None; side1 = Some (pointer_to functions.digest path value) })
 
 -- the place of a shard
 abbrev pub place_at : ℕ → Place
@@ -51,14 +50,14 @@ get key = record { put = false; key = key; value = None }
 -- ---- two workers, each at a shard of its own
 
 abbrev pub seven : List Bool
-seven = key_path short_keys 7
+seven = key_path 7
 
 -- the first key of the right shard
 abbrev pub middle : ℕ
 middle = 9223372036854775808
 
 abbrev pub middle_path : List Bool
-middle_path = key_path short_keys middle
+middle_path = key_path middle
 
 -- Worker 1 puts at the right shard, and worker 0 asks for a key of the left one that has no record.
 abbrev pub apart_events : List (WorldEvent Request)
@@ -92,17 +91,17 @@ deleted_log functions =
 -- ---- keys that part at their last bit
 
 abbrev pub key_0 : List Bool
-key_0 = key_path short_keys 0
+key_0 = key_path 0
 
 abbrev pub key_1 : List Bool
-key_1 = key_path short_keys 1
+key_1 = key_path 1
 
 -- the last key, and its path
 abbrev pub last : ℕ
 last = 18446744073709551615
 
 abbrev pub last_path : List Bool
-last_path = key_path short_keys last
+last_path = key_path last
 
 -- where the keys 0 and 1 part
 abbrev pub fork : List Bool

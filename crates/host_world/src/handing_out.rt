@@ -1,7 +1,7 @@
 //! What workers logged, handed out.
 ghost use Rattle.std.specs.Prelude.{◌≡◌, ◌<◌, List, [], ◌++◌, length, get_or, set, OnOk, OnErr};
 ghost use Rattle.std.specs.List.{AllByRecursion};
-ghost use Rattle.record_text.specs.Format.{short_keys};
+ghost use Rattle.record_text.specs.Longest.{longest_blob};
 ghost use Rattle.log_codec.specs.declared.command.Command.{Command};
 ghost use Rattle.log_codec.specs.Command.{IsCommand};
 ghost use Rattle.log_codec.specs.Log.{log_text};
@@ -20,8 +20,8 @@ impl<'a, D: Digests> World<'a, D> {
     /// world forgets them. For want of memory world and buffer are as before.
     pub fn hand_out(&mut self, worker: u16, buffer: &mut LogBuffer) -> Result<(), Memory>
         requires there { worker < length (shown_world self.old).workers }
-        ensures handed { OnOk result (buffer.new ≡ buffer.old ++ log_text short_keys (log_at self.old worker)) }
-        ensures typed { AllByRecursion (IsCommand short_keys) (log_at self.old worker) }
+        ensures handed { OnOk result (buffer.new ≡ buffer.old ++ log_text (log_at self.old worker)) }
+        ensures typed { AllByRecursion (IsCommand longest_blob) (log_at self.old worker) }
         ensures forgotten { OnOk result (shown_world self.new ≡ with_worker (shown_world self.old) worker
             (record (worker_at (host_of (D.functions (digests_of self.old)) self.old) (shown_world self.old) worker) { log = [] })) }
         ensures host { AreOfOneHost self.old self.new }

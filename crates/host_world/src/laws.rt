@@ -22,7 +22,6 @@ ghost use Rattle.host_world.specs.Promotable.{promotable_in};
 ghost use Rattle.host_world.specs.Moving.{move_promotable};
 ghost use Rattle.host_world.specs.Planned.{IsPlanned, IsMoved};
 ghost use Rattle.host_world.specs.ShippedHost.{serve_at};
-ghost use Rattle.record_text.specs.Format.{Format};
 ghost use Rattle.host_shard.specs.declared.link.Link.{Link};
 ghost use Rattle.host_shard.specs.Chain.{IsChain};
 ghost use Rattle.host_shard.specs.Mirrors.{IsShard, IsKeyOf};
@@ -31,33 +30,33 @@ ghost use Rattle.host_world.specs.Links.{links_in};
 
 /// The chain from a shard's frontier to a key of it is one list of links: there is one, and no other.
 pub fn a_chain_is_its_links()
-    ensures there { (format : Format) (shard : Shard) (key : List Bool) → IsShard format shard → IsKeyOf format shard key
-        → IsChain format (tree_of shard) key shard.frontier shard.value (links_in format shard key) }
-    ensures only { (format : Format) (shard : Shard) (key : List Bool) (links : List Link) → IsShard format shard → IsKeyOf format shard key
-        → IsChain format (tree_of shard) key shard.frontier shard.value links → links ≡ links_in format shard key }
+    ensures there { (longest : ℕ) (shard : Shard) (key : List Bool) → IsShard longest shard → IsKeyOf shard key
+        → IsChain (tree_of shard) key shard.frontier shard.value (links_in shard key) }
+    ensures only { (longest : ℕ) (shard : Shard) (key : List Bool) (links : List Link) → IsShard longest shard → IsKeyOf shard key
+        → IsChain (tree_of shard) key shard.frontier shard.value links → links ≡ links_in shard key }
 {}
 
 /// What the shipped host serves is the plan of the request.
 pub fn what_is_served_is_planned()
-    ensures planned { (format : Format) (digest : Digest) (worker : ℕ) (clock : Reading) (content : Content) (request : Request) (done : Done Content)
-        → Owns format content request.key → serve_at format digest worker clock content request ≡ Some done
-        → IsPlanned format digest worker clock content request done }
+    ensures planned { (longest : ℕ) (digest : Digest) (worker : ℕ) (clock : Reading) (content : Content) (request : Request) (done : Done Content)
+        → Owns longest content request.key → serve_at digest worker clock content request ≡ Some done
+        → IsPlanned digest worker clock content request done }
 {}
 
 /// The keys that are promotable to become hot are one list: there is one, and no other.
 pub fn promotable_keys_are_one_list()
-    ensures there { (format : Format) (stage : Stage) (threshold : Option ℕ) → ArePromotable format stage threshold (promotable_in format stage threshold) }
-    ensures only { (format : Format) (stage : Stage) (threshold : Option ℕ) (promotable : List ℕ) → ArePromotable format stage threshold promotable
-        → promotable ≡ promotable_in format stage threshold }
+    ensures there { (stage : Stage) (threshold : Option ℕ) → ArePromotable stage threshold (promotable_in stage threshold) }
+    ensures only { (stage : Stage) (threshold : Option ℕ) (promotable : List ℕ) → ArePromotable stage threshold promotable
+        → promotable ≡ promotable_in stage threshold }
 {}
 
 /// What the shipped host moves at a close is a move, for every threshold of at least one touch, where the stage mirrors. It
 /// is asked that digests have 32 bytes.
 pub fn what_is_moved_is_a_move()
-    ensures moved { (format : Format) (digest : Digest) (worker : ℕ) (threshold : Option ℕ) (stage : Stage) (done : Done (List Content))
-        → GivesDigests digest → IfSome threshold (λ least. 0 < least) → StageMirrors format digest stage
-        → move_promotable format digest worker stage (promotable_in format stage threshold) ≡ Some done
-        → IsMoved format digest worker threshold stage done }
+    ensures moved { (longest : ℕ) (digest : Digest) (worker : ℕ) (threshold : Option ℕ) (stage : Stage) (done : Done (List Content))
+        → GivesDigests digest → IfSome threshold (λ least. 0 < least) → StageMirrors longest digest stage
+        → move_promotable digest worker stage (promotable_in stage threshold) ≡ Some done
+        → IsMoved digest worker threshold stage done }
 {}
 
 /// A world behind the setup is orderly: in a phase the clocks stand in its epoch, and each shard mirrors what the verifiers

@@ -2,7 +2,7 @@
 ghost use Rattle.std.specs.Prelude.{◌≡◌, ◌≢◌, ◌<◌, true, false, length, take, get_or, map};
 ghost use Rattle.std.specs.List.{list_any};
 ghost use Rattle.tree_keys.specs.Bits.{number_of};
-ghost use Rattle.record_text.specs.Format.{short_keys};
+ghost use Rattle.record_text.specs.Longest.{longest_blob};
 ghost use Rattle.host_core.specs.World.{shard_at};
 ghost use Rattle.host_core.specs.WorldEvent.{IsPlace};
 ghost use Rattle.host_plan.specs.Setup.{IsShardCount};
@@ -24,7 +24,7 @@ use record_text::{Blob, LONGEST_BLOB, Request};
 
 // Whether the value is one that a key may have: each is.
 fn fits(value: &Blob) -> bool
-    ensures value { result ≡ is_blob short_keys value.now }
+    ensures value { result ≡ is_blob longest_blob value.now }
     ensures always { result ≡ true }
 {
     match value.bytes() {
@@ -36,7 +36,7 @@ fn fits(value: &Blob) -> bool
 // The number of the shard below whose frontier a key lies: that of the key's first bits, as many as a frontier has.
 fn shard_of(key: u64, shards: u32) -> u32
     requires shards { IsShardCount shards }
-    ensures first_bits { result ≡ number_of (take (frontier_bits shards) (key_path short_keys key)) }
+    ensures first_bits { result ≡ number_of (take (frontier_bits shards) (key_path key)) }
     ensures there { result < shards }
 {
     let bits = shards.ilog2();

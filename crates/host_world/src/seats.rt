@@ -1,6 +1,6 @@
 //! The places of one shard.
 ghost use Rattle.std.specs.Prelude.{◌≡◌, ◌≢◌, ◌<◌, List, [], ◌∷◌, length, get_or, set, map, true, Ok, IfOk, IfSome, OnOk, OnErr, is_some};
-ghost use Rattle.record_text.specs.Format.{short_keys};
+ghost use Rattle.record_text.specs.Longest.{longest_blob};
 ghost use Rattle.host_core.specs.World.{unmoved};
 ghost use Rattle.host_shard.specs.Content.{vacant};
 ghost use Rattle.host_shard.specs.Shown.{shown_content};
@@ -60,12 +60,12 @@ impl Seats {
         request: &Request,
     ) -> Result<bool, Memory>
         requires there { seat < length (contents_of self.old) }
-        requires own { Owns short_keys (get_or (contents_of self.old) seat vacant) request.now.key }
+        requires own { Owns longest_blob (get_or (contents_of self.old) seat vacant) request.now.key }
         requires open { IsOpenAt worker.old.clock (get_or (contents_of self.old) seat vacant) }
-        ensures within { IfOk result (λ served. served ≡ is_some (serve_at short_keys (D.functions d.now).digest
+        ensures within { IfOk result (λ served. served ≡ is_some (serve_at (D.functions d.now).digest
             number worker.old.clock (get_or (contents_of self.old) seat vacant) request.now)) }
         ensures served { result ≡ Ok true
-            → HasServed (place_of place) (serve_at short_keys (D.functions d.now).digest
+            → HasServed (place_of place) (serve_at (D.functions d.now).digest
             number worker.old.clock (get_or (contents_of self.old) seat vacant) request.now)
             worker.old (get_or (contents_of self.new) seat vacant) worker.new }
         ensures seat_alone { contents_of self.new
@@ -92,10 +92,10 @@ impl Seats {
     ) -> Result<bool, Memory>
         requires threshold { IfSome threshold (λ least. 0 < least) }
         requires seats { CanTakeSeats (D.functions d.now).digest worker.old.clock (contents_of self.old) }
-        ensures within { IfOk result (λ moved. moved ≡ is_some (move_seats short_keys (D.functions d.now).digest
+        ensures within { IfOk result (λ moved. moved ≡ is_some (move_seats (D.functions d.now).digest
             number threshold (stage_of worker.old.clock (contents_of self.old)))) }
         ensures moved { result ≡ Ok true
-            → HasDone (move_seats short_keys (D.functions d.now).digest
+            → HasDone (move_seats (D.functions d.now).digest
             number threshold (stage_of worker.old.clock (contents_of self.old)))
             worker.old (contents_of self.new) worker.new }
         ensures counted { result ≡ Ok true → self.new.moved ≡ true }

@@ -3,15 +3,16 @@ use Rattle.std.proofs.Common.{◌≡◌, ℕ, ◌+◌, ◌<◌, ◌≤◌, ◌==
 use Rattle.std.specs.Int.{w16, w32, from_be_bytes}
 use Rattle.std.specs.Prelude.{nat_le}
 use Rattle.std.proofs.lemmas.Bool.{ltb-true, leb-true}
+use Rattle.tree_keys.specs.Path.{is_data}
 use Rattle.lamport_clocks.specs.declared.stamp.Stamp.{Stamp}
 use Rattle.record_text.specs.declared.reader.TextFault.TheVariants as faults
 use Rattle.record_text.specs.declared.value.Pointer.{Pointer}
 use Rattle.record_text.specs.declared.value.Node.{Node}
 use Rattle.record_text.specs.declared.value.Value.TheVariants as values
-use Rattle.record_text.specs.Format.{short_keys, path_bits}
 use Rattle.record_text.specs.Fields.{Parsed, field, ranged}
 use Rattle.record_text.specs.Reading.{first_byte, byte_at, run_at, path_in, path_at, flag_in, count_in, blob_behind, blob_at, pointer_tag_in, path_below_in, path_below_at, pointer_behind, pointer_at, node_at, value_by, value_at, u16_at, u32_at, stamp_at}
-use Rattle.record_text.proofs.FieldLaws.{field_ok, Ok-is, wide64}
+use Rattle.record_text.proofs.FieldLaws.{field_ok, Ok-is}
+use Rattle.record_text.specs.Longest.{longest_blob}
 use Rattle.log_codec.specs.declared.command.Command.{Command}
 use Rattle.log_codec.specs.declared.command.Command.TheVariants.{AddM, EvictM, AddB, EvictB, EvictBM, Get, Put, NextEpoch}
 use Rattle.log_codec.specs.Command.{add_m_at, evict_m_at, add_b_at, evict_b_at, evict_bm_at, get_at, put_at, command_behind, command_at, command_text, IsCommand}
@@ -111,13 +112,13 @@ Spans-byte : Spans 1 (λ bytes. byte_at bytes)
 unfolding byte_at
 Spans-byte = Spans-field 1 (λ run. Some (first_byte run))
 
-Spans-path : Spans 9 (λ bytes. path_at short_keys bytes)
+Spans-path : Spans 9 (λ bytes. path_at bytes)
 unfolding path_at
-Spans-path = Spans-field 9 (path_in short_keys)
+Spans-path = Spans-field 9 path_in
 
-Spans-path_below : (prefix : List Bool) → Spans 9 (λ bytes. path_below_at short_keys prefix bytes)
+Spans-path_below : (prefix : List Bool) → Spans 9 (λ bytes. path_below_at prefix bytes)
 unfolding path_below_at
-Spans-path_below prefix = Spans-field 9 (path_below_in short_keys prefix)
+Spans-path_below prefix = Spans-field 9 (path_below_in prefix)
 
 Spans-u16 : Spans 2 (λ bytes. u16_at bytes)
 unfolding u16_at
@@ -138,78 +139,78 @@ counted true n count e = (refl, cc)
 counted false n count e = absurd (cc)
 
 -- a count that was read is at most the longest
-count_within : (bytes : List ℕ) (count : ℕ) → count_in short_keys bytes ≡ Some count → count ≤ 64
+count_within : (bytes : List ℕ) (count : ℕ) → count_in longest_blob bytes ≡ Some count → count ≤ 64
 count_within bytes count e =
     let is = counted (nat_le (first_byte bytes) 64) (first_byte bytes) count e in
     let least : first_byte bytes ≤ 64 = leb-true _ _ is.0 in
     omega (arith, is.1)
 
-Spans-blob_behind : (present : Bool) → Spans 65 (λ bytes. blob_behind short_keys present bytes)
+Spans-blob_behind : (present : Bool) → Spans 65 (λ bytes. blob_behind longest_blob present bytes)
 Spans-blob_behind false = Spans-done 65 None
 Spans-blob_behind true =
-    Spans-then_found 1 64 (λ bytes. field 1 (count_in short_keys) bytes) (λ count left. then_at (run_at count left) (λ text rest. Ok (Some text, rest))) (Spans-field 1 (count_in short_keys))
+    Spans-then_found 1 64 (λ bytes. field 1 (count_in longest_blob) bytes) (λ count left. then_at (run_at count left) (λ text rest. Ok (Some text, rest))) (Spans-field 1 (count_in longest_blob))
     (λ count bytes left is.
-    let f = field_ok 1 (count_in short_keys) bytes count left is in
+    let f = field_ok 1 (count_in longest_blob) bytes count left is in
     let most : count ≤ 64 = count_within (take 1 bytes) count f.1 in
     Spans-wider (count + 0) 64 _ (omega arith) (Spans-then count 0 (λ bytes. run_at count bytes) (λ text rest. Ok (Some text, rest)) (Spans-field count (λ run. Some run)) (λ text. Spans-done 0 (Some text))))
 
-Spans-blob : Spans 66 (λ bytes. blob_at short_keys bytes)
+Spans-blob : Spans 66 (λ bytes. blob_at longest_blob bytes)
 unfolding blob_at
-Spans-blob = Spans-then 1 65 (λ bytes. field 1 flag_in bytes) (λ present bytes. blob_behind short_keys present bytes) (Spans-field 1 flag_in) Spans-blob_behind
+Spans-blob = Spans-then 1 65 (λ bytes. field 1 flag_in bytes) (λ present bytes. blob_behind longest_blob present bytes) (Spans-field 1 flag_in) Spans-blob_behind
 
-Spans-pointer_behind : (prefix : List Bool) (tag : Option Bool) → Spans 41 (λ bytes. pointer_behind short_keys prefix tag bytes)
+Spans-pointer_behind : (prefix : List Bool) (tag : Option Bool) → Spans 41 (λ bytes. pointer_behind prefix tag bytes)
 Spans-pointer_behind prefix None = Spans-done 41 None
 Spans-pointer_behind prefix (Some deferred) =
     let pointer : List Bool → List ℕ → Option Pointer = λ path digest. Some (record { path = path; digest = digest; deferred = deferred }) in
-    Spans-two 9 32 pointer (λ bytes. path_below_at short_keys prefix bytes) (λ path bytes. run_at 32 bytes) (Spans-path_below prefix) (λ path. Spans-field 32 (λ run. Some run))
+    Spans-two 9 32 pointer (λ bytes. path_below_at prefix bytes) (λ path bytes. run_at 32 bytes) (Spans-path_below prefix) (λ path. Spans-field 32 (λ run. Some run))
 
-Spans-pointer : (prefix : List Bool) → Spans 42 (λ bytes. pointer_at short_keys prefix bytes)
+Spans-pointer : (prefix : List Bool) → Spans 42 (λ bytes. pointer_at prefix bytes)
 unfolding pointer_at
-Spans-pointer prefix = Spans-then 1 41 (λ bytes. field 1 pointer_tag_in bytes) (λ tag bytes. pointer_behind short_keys prefix tag bytes) (Spans-field 1 pointer_tag_in) (Spans-pointer_behind prefix)
+Spans-pointer prefix = Spans-then 1 41 (λ bytes. field 1 pointer_tag_in bytes) (λ tag bytes. pointer_behind prefix tag bytes) (Spans-field 1 pointer_tag_in) (Spans-pointer_behind prefix)
 
-Spans-node : (path : List Bool) → Spans 84 (λ bytes. node_at short_keys path bytes)
+Spans-node : (path : List Bool) → Spans 84 (λ bytes. node_at path bytes)
 unfolding node_at
 Spans-node path =
     let node : Option Pointer → Option Pointer → Node = λ side0 side1. record { side0 = side0; side1 = side1 } in
-    Spans-two 42 42 node (λ bytes. pointer_at short_keys (path ++ false ∷ []) bytes) (λ side0 bytes. pointer_at short_keys (path ++ true ∷ []) bytes)
+    Spans-two 42 42 node (λ bytes. pointer_at (path ++ false ∷ []) bytes) (λ side0 bytes. pointer_at (path ++ true ∷ []) bytes)
     (Spans-pointer (path ++ false ∷ [])) (λ side0. Spans-pointer (path ++ true ∷ []))
 
-Spans-value_by : (path : List Bool) (data_path : Bool) → Spans 84 (λ bytes. value_by short_keys path data_path bytes)
+Spans-value_by : (path : List Bool) (data_path : Bool) → Spans 84 (λ bytes. value_by longest_blob path data_path bytes)
 Spans-value_by path true =
-    Spans-then 66 18 (λ bytes. blob_at short_keys bytes) (λ blob rest. Ok (values.Blob blob, rest)) Spans-blob (λ blob. Spans-done 18 (values.Blob blob))
+    Spans-then 66 18 (λ bytes. blob_at longest_blob bytes) (λ blob rest. Ok (values.Blob blob, rest)) Spans-blob (λ blob. Spans-done 18 (values.Blob blob))
 Spans-value_by path false =
-    Spans-then 84 0 (λ bytes. node_at short_keys path bytes) (λ node rest. Ok (values.Node node, rest)) (Spans-node path) (λ node. Spans-done 0 (values.Node node))
+    Spans-then 84 0 (λ bytes. node_at path bytes) (λ node rest. Ok (values.Node node, rest)) (Spans-node path) (λ node. Spans-done 0 (values.Node node))
 
-Spans-value : (path : List Bool) → Spans 84 (λ bytes. value_at short_keys path bytes)
-Spans-value path = Spans-value_by path (length path == path_bits short_keys)
+Spans-value : (path : List Bool) → Spans 84 (λ bytes. value_at longest_blob path bytes)
+Spans-value path = Spans-value_by path (is_data path)
 
 -- ---- the commands
 
-Spans-behind : (tag : ℕ) → Spans 103 (λ bytes. command_behind short_keys tag bytes)
+Spans-behind : (tag : ℕ) → Spans 103 (λ bytes. command_behind longest_blob tag bytes)
 Spans-behind tag =
-    Spans-if 103 (tag == 1) (λ bytes. add_m_at short_keys bytes) _ (Spans-wider 102 103 _ (omega arith) (Spans-three 9 84 9 AddM (path_at short_keys) (value_at short_keys) (path_at short_keys) Spans-path Spans-value Spans-path))
-    (Spans-if 103 (tag == 2) (λ bytes. evict_m_at short_keys bytes) _ (Spans-wider 18 103 _ (omega arith) (Spans-two 9 9 EvictM (path_at short_keys) (λ p. path_at short_keys) Spans-path (λ p. Spans-path)))
-    (Spans-if 103 (tag == 3) (λ bytes. add_b_at short_keys bytes) _ (Spans-four 9 84 8 2 AddB (path_at short_keys) (value_at short_keys) stamp_at u16_at Spans-path Spans-value Spans-stamp Spans-u16)
-    (Spans-if 103 (tag == 4) (λ bytes. evict_b_at short_keys bytes) _ (Spans-wider 17 103 _ (omega arith) (Spans-two 9 8 EvictB (path_at short_keys) (λ p. stamp_at) Spans-path (λ p. Spans-stamp)))
-    (Spans-if 103 (tag == 5) (λ bytes. evict_bm_at short_keys bytes) _ (Spans-wider 26 103 _ (omega arith) (Spans-three 9 9 8 EvictBM (path_at short_keys) (λ p. path_at short_keys) stamp_at Spans-path (λ p. Spans-path) Spans-stamp))
-    (Spans-if 103 (tag == 6) (λ bytes. get_at short_keys bytes) _ (Spans-wider 93 103 _ (omega arith) (Spans-two 9 84 Get (path_at short_keys) (value_at short_keys) Spans-path Spans-value))
-    (Spans-if 103 (tag == 7) (λ bytes. put_at short_keys bytes) _ (Spans-wider 93 103 _ (omega arith) (Spans-two 9 84 Put (path_at short_keys) (value_at short_keys) Spans-path Spans-value))
+    Spans-if 103 (tag == 1) (λ bytes. add_m_at longest_blob bytes) _ (Spans-wider 102 103 _ (omega arith) (Spans-three 9 84 9 AddM path_at (value_at longest_blob) path_at Spans-path Spans-value Spans-path))
+    (Spans-if 103 (tag == 2) (λ bytes. evict_m_at bytes) _ (Spans-wider 18 103 _ (omega arith) (Spans-two 9 9 EvictM path_at (λ p. path_at) Spans-path (λ p. Spans-path)))
+    (Spans-if 103 (tag == 3) (λ bytes. add_b_at longest_blob bytes) _ (Spans-four 9 84 8 2 AddB path_at (value_at longest_blob) stamp_at u16_at Spans-path Spans-value Spans-stamp Spans-u16)
+    (Spans-if 103 (tag == 4) (λ bytes. evict_b_at bytes) _ (Spans-wider 17 103 _ (omega arith) (Spans-two 9 8 EvictB path_at (λ p. stamp_at) Spans-path (λ p. Spans-stamp)))
+    (Spans-if 103 (tag == 5) (λ bytes. evict_bm_at bytes) _ (Spans-wider 26 103 _ (omega arith) (Spans-three 9 9 8 EvictBM path_at (λ p. path_at) stamp_at Spans-path (λ p. Spans-path) Spans-stamp))
+    (Spans-if 103 (tag == 6) (λ bytes. get_at longest_blob bytes) _ (Spans-wider 93 103 _ (omega arith) (Spans-two 9 84 Get path_at (value_at longest_blob) Spans-path Spans-value))
+    (Spans-if 103 (tag == 7) (λ bytes. put_at longest_blob bytes) _ (Spans-wider 93 103 _ (omega arith) (Spans-two 9 84 Put path_at (value_at longest_blob) Spans-path Spans-value))
     (Spans-if 103 (tag == 8) (λ bytes. Ok (NextEpoch, bytes)) (λ bytes. Err faults.Malformed) (Spans-done 103 NextEpoch) (Spans-malformed 103))))))))
 
-Spans-command : Spans 104 (λ bytes. command_at short_keys bytes)
+Spans-command : Spans 104 (λ bytes. command_at longest_blob bytes)
 unfolding command_at
-Spans-command = Spans-then 1 103 (λ bytes. byte_at bytes) (λ tag left. command_behind short_keys tag left) Spans-byte Spans-behind
+Spans-command = Spans-then 1 103 (λ bytes. byte_at bytes) (λ tag left. command_behind longest_blob tag left) Spans-byte Spans-behind
 
 -- A command that was read takes at most 104 bytes.
-pub taken_within : (bytes : List ℕ) (command : Command) (rest : List ℕ) → command_at short_keys bytes ≡ Ok (command, rest) → length bytes ≤ 104 + length rest
+pub taken_within : (bytes : List ℕ) (command : Command) (rest : List ℕ) → command_at longest_blob bytes ≡ Ok (command, rest) → length bytes ≤ 104 + length rest
 taken_within bytes command rest e = Spans-command.takes bytes command rest e
 
 -- A command that is cut has fewer than 104 bytes.
-pub cut_is_short : (bytes : List ℕ) → command_at short_keys bytes ≡ Err faults.Truncated → length bytes < 104
+pub cut_is_short : (bytes : List ℕ) → command_at longest_blob bytes ≡ Err faults.Truncated → length bytes < 104
 cut_is_short bytes e = Spans-command.cut bytes e
 
 -- A command's text has at most 104 bytes.
-pub text_within : (command : Command) → IsCommand short_keys command → length (command_text short_keys command) ≤ 104
+pub text_within : (command : Command) → IsCommand longest_blob command → length (command_text command) ≤ 104
 text_within command is =
-    let within = taken_within (command_text short_keys command ++ []) command [] (command_again short_keys wide64 command [] is) in
-    omega (arith, within, ap (λ (text : List ℕ). length text) (append-nil (command_text short_keys command)))
+    let within = taken_within (command_text command ++ []) command [] (command_again longest_blob command [] is) in
+    omega (arith, within, ap (λ (text : List ℕ). length text) (append-nil (command_text command)))

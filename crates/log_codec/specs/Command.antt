@@ -1,7 +1,7 @@
 -- The commands of a log and their one text: a tag and the fields.
 use Rattle.std.specs.Prelude.{ℕ, ◌==◌, ◌<◌, ◌≤◌, ◌^◌, Bool, List, [], ◌∷◌, ◌++◌, length, Ok, Err, if◌then◌else◌}
 use Rattle.std.specs.Int.{w16, to_be_bytes}
-use Rattle.record_text.specs.Format.{Format, path_bits}
+use Rattle.tree_keys.specs.Path.{IsPath}
 use Rattle.record_text.specs.Value.{IsOf}
 use Rattle.record_text.specs.Element.{IsStamp}
 use Rattle.record_text.specs.Texts.{path_text, value_text, stamp_text}
@@ -12,101 +12,97 @@ use Rattle.log_codec.specs.declared.command.Command.{Command}
 use Rattle.log_codec.specs.declared.command.Command.TheVariants.{AddM, EvictM, AddB, EvictB, EvictBM, Get, Put, NextEpoch}
 
 -- the tag of a command, and its fields
-abbrev pub command_text : Format → Command → List ℕ
-command_text format (AddM path value parent) = 1 ∷ path_text format path ++ value_text format value ++ path_text format parent
-command_text format (EvictM path parent) = 2 ∷ path_text format path ++ path_text format parent
-command_text format (AddB path value stamp verifier) = 3 ∷ path_text format path ++ value_text format value ++ stamp_text stamp ++ to_be_bytes w16 verifier
-command_text format (EvictB path stamp) = 4 ∷ path_text format path ++ stamp_text stamp
-command_text format (EvictBM path parent stamp) = 5 ∷ path_text format path ++ path_text format parent ++ stamp_text stamp
-command_text format (Get path value) = 6 ∷ path_text format path ++ value_text format value
-command_text format (Put path value) = 7 ∷ path_text format path ++ value_text format value
-command_text format NextEpoch = 8 ∷ []
+abbrev pub command_text : Command → List ℕ
+command_text (AddM path value parent) = 1 ∷ path_text path ++ value_text value ++ path_text parent
+command_text (EvictM path parent) = 2 ∷ path_text path ++ path_text parent
+command_text (AddB path value stamp verifier) = 3 ∷ path_text path ++ value_text value ++ stamp_text stamp ++ to_be_bytes w16 verifier
+command_text (EvictB path stamp) = 4 ∷ path_text path ++ stamp_text stamp
+command_text (EvictBM path parent stamp) = 5 ∷ path_text path ++ path_text parent ++ stamp_text stamp
+command_text (Get path value) = 6 ∷ path_text path ++ value_text value
+command_text (Put path value) = 7 ∷ path_text path ++ value_text value
+command_text NextEpoch = 8 ∷ []
 
 -- ---- the fields of each command, behind its tag
 
 -- a path, its value and its parent
-abbrev pub add_m_at : Format → List ℕ → Parsed Command
-add_m_at format bytes = do
-  path ← path_at format bytes
-  value ← value_at format path.0 path.1
-  parent ← path_at format value.1
+abbrev pub add_m_at : ℕ → List ℕ → Parsed Command
+add_m_at longest bytes = do
+  path ← path_at bytes
+  value ← value_at longest path.0 path.1
+  parent ← path_at value.1
   Ok (AddM path.0 value.0 parent.0, parent.1)
 
 -- a path and its parent
-abbrev pub evict_m_at : Format → List ℕ → Parsed Command
-evict_m_at format bytes = do
-  path ← path_at format bytes
-  parent ← path_at format path.1
+abbrev pub evict_m_at : List ℕ → Parsed Command
+evict_m_at bytes = do
+  path ← path_at bytes
+  parent ← path_at path.1
   Ok (EvictM path.0 parent.0, parent.1)
 
 -- a path, its value, the stamp of its evict, and the verifier that evicted it
-abbrev pub add_b_at : Format → List ℕ → Parsed Command
-add_b_at format bytes = do
-  path ← path_at format bytes
-  value ← value_at format path.0 path.1
+abbrev pub add_b_at : ℕ → List ℕ → Parsed Command
+add_b_at longest bytes = do
+  path ← path_at bytes
+  value ← value_at longest path.0 path.1
   stamp ← stamp_at value.1
   verifier ← u16_at stamp.1
   Ok (AddB path.0 value.0 stamp.0 verifier.0, verifier.1)
 
 -- a path and its stamp
-abbrev pub evict_b_at : Format → List ℕ → Parsed Command
-evict_b_at format bytes = do
-  path ← path_at format bytes
+abbrev pub evict_b_at : List ℕ → Parsed Command
+evict_b_at bytes = do
+  path ← path_at bytes
   stamp ← stamp_at path.1
   Ok (EvictB path.0 stamp.0, stamp.1)
 
 -- a path, its parent and its stamp
-abbrev pub evict_bm_at : Format → List ℕ → Parsed Command
-evict_bm_at format bytes = do
-  path ← path_at format bytes
-  parent ← path_at format path.1
+abbrev pub evict_bm_at : List ℕ → Parsed Command
+evict_bm_at bytes = do
+  path ← path_at bytes
+  parent ← path_at path.1
   stamp ← stamp_at parent.1
   Ok (EvictBM path.0 parent.0 stamp.0, stamp.1)
 
 -- a path and its value
-abbrev pub get_at : Format → List ℕ → Parsed Command
-get_at format bytes = do
-  path ← path_at format bytes
-  value ← value_at format path.0 path.1
+abbrev pub get_at : ℕ → List ℕ → Parsed Command
+get_at longest bytes = do
+  path ← path_at bytes
+  value ← value_at longest path.0 path.1
   Ok (Get path.0 value.0, value.1)
 
 -- a path and its value
-abbrev pub put_at : Format → List ℕ → Parsed Command
-put_at format bytes = do
-  path ← path_at format bytes
-  value ← value_at format path.0 path.1
+abbrev pub put_at : ℕ → List ℕ → Parsed Command
+put_at longest bytes = do
+  path ← path_at bytes
+  value ← value_at longest path.0 path.1
   Ok (Put path.0 value.0, value.1)
 
 -- behind a tag: the fields of its command; any other tag is malformed
-abbrev pub command_behind : Format → ℕ → List ℕ → Parsed Command
-command_behind format tag bytes =
-    if tag == 1 then add_m_at format bytes
-    else if tag == 2 then evict_m_at format bytes
-    else if tag == 3 then add_b_at format bytes
-    else if tag == 4 then evict_b_at format bytes
-    else if tag == 5 then evict_bm_at format bytes
-    else if tag == 6 then get_at format bytes
-    else if tag == 7 then put_at format bytes
+abbrev pub command_behind : ℕ → ℕ → List ℕ → Parsed Command
+command_behind longest tag bytes =
+    if tag == 1 then add_m_at longest bytes
+    else if tag == 2 then evict_m_at bytes
+    else if tag == 3 then add_b_at longest bytes
+    else if tag == 4 then evict_b_at bytes
+    else if tag == 5 then evict_bm_at bytes
+    else if tag == 6 then get_at longest bytes
+    else if tag == 7 then put_at longest bytes
     else if tag == 8 then Ok (NextEpoch, bytes)
     else Err Malformed
 
 -- the command that the bytes begin with, and the bytes behind it; or the first fault
-unfoldable pub command_at : Format → List ℕ → Parsed Command
-command_at format bytes = do
+unfoldable pub command_at : ℕ → List ℕ → Parsed Command
+command_at longest bytes = do
   tag ← byte_at bytes
-  command_behind format tag.0 tag.1
-
--- a path of at most the bits of a data path
-abbrev pub IsPath : Format → List Bool → Type 0
-IsPath format path = length path ≤ path_bits format
+  command_behind longest tag.0 tag.1
 
 -- what has a text: each value is of its path's kind, and each path, stamp and number is in its range
-abbrev pub IsCommand : Format → Command → Type 0
-IsCommand format (AddM path value parent) = IsOf format path value × IsPath format parent
-IsCommand format (EvictM path parent) = IsPath format path × IsPath format parent
-IsCommand format (AddB path value stamp verifier) = IsOf format path value × IsStamp stamp × (verifier < 2 ^ 16)
-IsCommand format (EvictB path stamp) = IsPath format path × IsStamp stamp
-IsCommand format (EvictBM path parent stamp) = IsPath format path × IsPath format parent × IsStamp stamp
-IsCommand format (Get path value) = IsOf format path value
-IsCommand format (Put path value) = IsOf format path value
-IsCommand format NextEpoch = Unit {0}
+abbrev pub IsCommand : ℕ → Command → Type 0
+IsCommand longest (AddM path value parent) = IsOf longest path value × IsPath parent
+IsCommand longest (EvictM path parent) = IsPath path × IsPath parent
+IsCommand longest (AddB path value stamp verifier) = IsOf longest path value × IsStamp stamp × (verifier < 2 ^ 16)
+IsCommand longest (EvictB path stamp) = IsPath path × IsStamp stamp
+IsCommand longest (EvictBM path parent stamp) = IsPath path × IsPath parent × IsStamp stamp
+IsCommand longest (Get path value) = IsOf longest path value
+IsCommand longest (Put path value) = IsOf longest path value
+IsCommand longest NextEpoch = Unit {0}

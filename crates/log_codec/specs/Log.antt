@@ -1,7 +1,6 @@
 -- What bytes mean as a log: commands, up to the first that isn't whole.
 use Rattle.std.specs.Prelude.{◌≡◌, ℕ, zero, suc, ◌<◌, List, [], ◌∷◌, ◌++◌, length, Ok, Err}
 use Rattle.std.specs.List.{flat_map, AllByRecursion}
-use Rattle.record_text.specs.Format.{Format}
 use Rattle.record_text.specs.Fields.{Parsed}
 use Rattle.record_text.specs.declared.reader.TextFault.{TextFault}
 use Rattle.log_codec.specs.declared.command.Command.{Command}
@@ -18,8 +17,8 @@ pub record Log : Type 0 where
   pub end : LogEnd
 
 -- the texts of commands, joined
-abbrev pub log_text : Format → List Command → List ℕ
-log_text format commands = flat_map (command_text format) commands
+abbrev pub log_text : List Command → List ℕ
+log_text commands = flat_map command_text commands
 
 -- a log with a command before its own
 abbrev pub with_command : Command → Log → Log
@@ -36,24 +35,24 @@ log_behind (Err fault) more = record { commands = []; end = faulty fault }
 
 -- The log that bytes are. The count bounds how many commands are read: each takes a byte at least, so the
 -- number of bytes is enough.
-unfoldable pub log_up_to : ℕ → Format → List ℕ → Log
-log_up_to zero format bytes = record { commands = []; end = whole }
-log_up_to (suc count) format [] = record { commands = []; end = whole }
-log_up_to (suc count) format (byte ∷ bytes) =
-    log_behind (command_at format (byte ∷ bytes)) (λ rest. log_up_to count format rest)
+unfoldable pub log_up_to : ℕ → ℕ → List ℕ → Log
+log_up_to zero longest bytes = record { commands = []; end = whole }
+log_up_to (suc count) longest [] = record { commands = []; end = whole }
+log_up_to (suc count) longest (byte ∷ bytes) =
+    log_behind (command_at longest (byte ∷ bytes)) (λ rest. log_up_to count longest rest)
 
 -- the log that bytes are: all of their commands, or those up to the first fault
-abbrev pub read_log : Format → List ℕ → Log
-read_log format bytes = log_up_to (length bytes) format bytes
+abbrev pub read_log : ℕ → List ℕ → Log
+read_log longest bytes = log_up_to (length bytes) longest bytes
 
 -- what is left behind the last command of a log that ends so: nothing, or bytes that begin with a fault
-abbrev pub IsLeft : Format → LogEnd → List ℕ → Type 0
-IsLeft format whole rest = rest ≡ []
-IsLeft format (faulty fault) rest = (0 < length rest) × (command_at format rest ≡ Err fault)
+abbrev pub IsLeft : ℕ → LogEnd → List ℕ → Type 0
+IsLeft longest whole rest = rest ≡ []
+IsLeft longest (faulty fault) rest = (0 < length rest) × (command_at longest rest ≡ Err fault)
 
 -- The grammar of logs: bytes are the texts of a log's commands, joined, and what is left behind the last.
-pub record IsLog (format : Format) (bytes : List ℕ) (log : Log) : Type 0 where
+pub record IsLog (longest : ℕ) (bytes : List ℕ) (log : Log) : Type 0 where
   pub rest : List ℕ
-  pub parts : bytes ≡ log_text format log.commands ++ rest
-  pub in_range : AllByRecursion (IsCommand format) log.commands
-  pub left : IsLeft format log.end rest
+  pub parts : bytes ≡ log_text log.commands ++ rest
+  pub in_range : AllByRecursion (IsCommand longest) log.commands
+  pub left : IsLeft longest log.end rest

@@ -1,7 +1,7 @@
 //! Reads the command at the front of a log.
 ghost use Rattle.std.specs.Prelude.{◌≡◌, ℕ, ◌<◌, ◌≤◌, List, ◌++◌, length, take, Ok};
-ghost use Rattle.record_text.specs.Format.{short_keys};
 ghost use Rattle.record_text.specs.Fields.{Takes};
+ghost use Rattle.record_text.specs.Longest.{longest_blob};
 ghost use Rattle.log_codec.specs.declared.command.Command.{Command};
 ghost use Rattle.log_codec.specs.Command.{add_m_at, evict_m_at, add_b_at, evict_b_at, evict_bm_at, get_at, put_at, command_behind, command_at, command_text, IsCommand};
 ghost use Rattle.log_codec.specs.Decoded.{Decodes, IfRead};
@@ -23,7 +23,7 @@ pub enum Decoded {
 /// The command whose text these bytes begin with, and the length of its text. Others may follow it.
 pub fn read(bytes: &[u8]) -> Decoded
     // Which command or fault it is.
-    ensures exact { Decodes short_keys bytes.now result }
+    ensures exact { Decodes longest_blob bytes.now result }
 
     // A command takes some of the bytes.
     ensures some { IfRead result (λ command taken. 0 < taken) }
@@ -31,13 +31,13 @@ pub fn read(bytes: &[u8]) -> Decoded
 
     // What is read is spelled so, and in its ranges.
     ensures found { IfRead result (λ command taken.
-        take taken bytes.now ≡ command_text short_keys command) }
-    ensures kind { IfRead result (λ command taken. IsCommand short_keys command) }
+        take taken bytes.now ≡ command_text command) }
+    ensures kind { IfRead result (λ command taken. IsCommand longest_blob command) }
 
     // What is spelled so is read, whatever follows.
-    ensures only { (command : Command) (rest : List ℕ) → IsCommand short_keys command
-        → bytes.now ≡ command_text short_keys command ++ rest
-        → result ≡ Decoded.Read command (length (command_text short_keys command)) }
+    ensures only { (command : Command) (rest : List ℕ) → IsCommand longest_blob command
+        → bytes.now ≡ command_text command ++ rest
+        → result ≡ Decoded.Read command (length (command_text command)) }
 {
     let mut reader = Reader::new(bytes);
     match command(&mut reader) {
@@ -50,7 +50,7 @@ pub fn read(bytes: &[u8]) -> Decoded
 // The fields of each command, behind its tag.
 
 fn add_m(reader: &mut Reader<'_>) -> Result<Command, TextFault>
-    ensures takes { Takes result reader.new (add_m_at short_keys reader.old) }
+    ensures takes { Takes result reader.new (add_m_at longest_blob reader.old) }
 {
     let path = reader.path()?;
     let value = reader.value(&path)?;
@@ -63,7 +63,7 @@ fn add_m(reader: &mut Reader<'_>) -> Result<Command, TextFault>
 }
 
 fn evict_m(reader: &mut Reader<'_>) -> Result<Command, TextFault>
-    ensures takes { Takes result reader.new (evict_m_at short_keys reader.old) }
+    ensures takes { Takes result reader.new (evict_m_at reader.old) }
 {
     let path = reader.path()?;
     let parent = reader.path()?;
@@ -71,7 +71,7 @@ fn evict_m(reader: &mut Reader<'_>) -> Result<Command, TextFault>
 }
 
 fn add_b(reader: &mut Reader<'_>) -> Result<Command, TextFault>
-    ensures takes { Takes result reader.new (add_b_at short_keys reader.old) }
+    ensures takes { Takes result reader.new (add_b_at longest_blob reader.old) }
 {
     let path = reader.path()?;
     let value = reader.value(&path)?;
@@ -86,7 +86,7 @@ fn add_b(reader: &mut Reader<'_>) -> Result<Command, TextFault>
 }
 
 fn evict_b(reader: &mut Reader<'_>) -> Result<Command, TextFault>
-    ensures takes { Takes result reader.new (evict_b_at short_keys reader.old) }
+    ensures takes { Takes result reader.new (evict_b_at reader.old) }
 {
     let path = reader.path()?;
     let stamp = reader.stamp()?;
@@ -94,7 +94,7 @@ fn evict_b(reader: &mut Reader<'_>) -> Result<Command, TextFault>
 }
 
 fn evict_bm(reader: &mut Reader<'_>) -> Result<Command, TextFault>
-    ensures takes { Takes result reader.new (evict_bm_at short_keys reader.old) }
+    ensures takes { Takes result reader.new (evict_bm_at reader.old) }
 {
     let path = reader.path()?;
     let parent = reader.path()?;
@@ -107,7 +107,7 @@ fn evict_bm(reader: &mut Reader<'_>) -> Result<Command, TextFault>
 }
 
 fn get(reader: &mut Reader<'_>) -> Result<Command, TextFault>
-    ensures takes { Takes result reader.new (get_at short_keys reader.old) }
+    ensures takes { Takes result reader.new (get_at longest_blob reader.old) }
 {
     let path = reader.path()?;
     let value = reader.value(&path)?;
@@ -115,7 +115,7 @@ fn get(reader: &mut Reader<'_>) -> Result<Command, TextFault>
 }
 
 fn put(reader: &mut Reader<'_>) -> Result<Command, TextFault>
-    ensures takes { Takes result reader.new (put_at short_keys reader.old) }
+    ensures takes { Takes result reader.new (put_at longest_blob reader.old) }
 {
     let path = reader.path()?;
     let value = reader.value(&path)?;
@@ -124,7 +124,7 @@ fn put(reader: &mut Reader<'_>) -> Result<Command, TextFault>
 
 // The command of this tag.
 fn behind(reader: &mut Reader<'_>, tag: u8) -> Result<Command, TextFault>
-    ensures takes { Takes result reader.new (command_behind short_keys tag reader.old) }
+    ensures takes { Takes result reader.new (command_behind longest_blob tag reader.old) }
 {
     match tag {
         1 => add_m(reader),
@@ -141,7 +141,7 @@ fn behind(reader: &mut Reader<'_>, tag: u8) -> Result<Command, TextFault>
 
 #[tactic(auto, unfolding(crate::specs::Command::command_at))]
 fn command(reader: &mut Reader<'_>) -> Result<Command, TextFault>
-    ensures takes { Takes result reader.new (command_at short_keys reader.old) }
+    ensures takes { Takes result reader.new (command_at longest_blob reader.old) }
 {
     let tag = reader.byte()?;
     behind(reader, tag)

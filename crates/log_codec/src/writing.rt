@@ -1,7 +1,6 @@
 //! Writes commands as they stand in a log.
 ghost use Rattle.std.specs.Prelude.{◌≡◌, ◌∷◌, [], ◌++◌, ◌≤◌};
 ghost use Rattle.arrayvec.specs.ArrayVec.{array_vec_len};
-ghost use Rattle.record_text.specs.Format.{short_keys};
 ghost use Rattle.record_text.specs.Texts.{path_text, value_text};
 ghost use Rattle.log_codec.specs.Command.{command_text};
 
@@ -15,7 +14,7 @@ pub const LONGEST_COMMAND_TEXT: usize = 104;
 
 /// The text of a command: its tag, and its fields.
 pub fn write(command: &Command) -> ArrayVec<u8, LONGEST_COMMAND_TEXT>
-    ensures text { result.items ≡ command_text short_keys command.now }
+    ensures text { result.items ≡ command_text command.now }
 {
     match command {
         Command::AddM {
@@ -71,7 +70,7 @@ fn tag_alone(tag: u8) -> ArrayVec<u8, LONGEST_COMMAND_TEXT>
 
 // A tag and a path.
 fn tagged(tag: u8, path: &Path) -> ArrayVec<u8, LONGEST_COMMAND_TEXT>
-    ensures text { result.items ≡ tag ∷ path_text short_keys path.now }
+    ensures text { result.items ≡ tag ∷ path_text path.now }
     ensures len { array_vec_len result ≡ 10 }
 {
     let mut text = tag_alone(tag);
@@ -82,7 +81,7 @@ fn tagged(tag: u8, path: &Path) -> ArrayVec<u8, LONGEST_COMMAND_TEXT>
 // A tag, and the paths of a record and of its parent.
 fn with_parent(tag: u8, path: &Path, parent: &Path) -> ArrayVec<u8, LONGEST_COMMAND_TEXT>
     ensures text { result.items
-        ≡ tag ∷ path_text short_keys path.now ++ path_text short_keys parent.now }
+        ≡ tag ∷ path_text path.now ++ path_text parent.now }
     ensures len { array_vec_len result ≡ 19 }
 {
     let mut text = tagged(tag, path);
@@ -93,7 +92,7 @@ fn with_parent(tag: u8, path: &Path, parent: &Path) -> ArrayVec<u8, LONGEST_COMM
 // A tag, a path and its value.
 fn with_value(tag: u8, path: &Path, value: &Value) -> ArrayVec<u8, LONGEST_COMMAND_TEXT>
     ensures text { result.items
-        ≡ tag ∷ path_text short_keys path.now ++ value_text short_keys value.now }
+        ≡ tag ∷ path_text path.now ++ value_text value.now }
     ensures len { array_vec_len result ≤ 94 }
 {
     let mut text = tagged(tag, path);

@@ -1,13 +1,12 @@
 -- The values of a node and of what is below it stay of their paths' kinds.
-use Rattle.std.proofs.Common.{◌≡◌, ◌<◌, ◌≤◌, Bool, true, false, List, [], ◌∷◌, ◌++◌, length, Option, Some, None, is_some, not, if◌then◌else◌, refl, sym, subst, arith}
+use Rattle.std.proofs.Common.{ℕ, ◌≡◌, ◌<◌, ◌≤◌, Bool, true, false, List, [], ◌∷◌, ◌++◌, length, Option, Some, None, is_some, not, if◌then◌else◌, refl, sym, subst, arith}
 use Rattle.std.proofs.lemmas.Option.{none-some, same_Some}
 use Rattle.std.specs.Option.{option_map}
-use Rattle.tree_keys.specs.Path.{side, same_path, is_prefix}
+use Rattle.tree_keys.specs.Path.{side, same_path, is_prefix, IsPath}
 use Rattle.record_text.specs.declared.value.Pointer.{Pointer}
 use Rattle.record_text.specs.declared.value.Node.{Node}
 use Rattle.record_text.specs.declared.value.Value.{Value}
 use Rattle.record_text.specs.declared.value.Value.TheVariants as values
-use Rattle.record_text.specs.Format.{Format, path_bits}
 use Rattle.record_text.specs.Value.{IsPointer, IsSide, IsOf, node_side, with_side, empty_node, initial_value}
 use Rattle.merkle_records.specs.declared.cases.AddCase.TheVariants.{Same, Split, Foreign}
 use Rattle.merkle_records.specs.Merkle.{Digest, GivesDigests, case_of, pointer_to, taken_over, Added, added_by, after_add, after_evict, deferred_pointer, after_defer}
@@ -34,70 +33,70 @@ length-side (false ∷ p) (true ∷ k) on is = absurd (none-some on is)
 length-side (false ∷ p) (false ∷ k) on is = omega (arith, length-side p k on is)
 
 -- the path of a value isn't longer than a data path
-length-IsOf : (format : Format) (path : List Bool) (value : Value) → IsOf format path value → length path ≤ path_bits format
-length-IsOf format path (values.Blob blob) kind = omega (arith, kind.0)
-length-IsOf format path (values.Node node) kind = omega (arith, kind.0)
+length-IsOf : (longest : ℕ) (path : List Bool) (value : Value) → IsOf longest path value → IsPath path
+length-IsOf longest path (values.Blob blob) kind = omega (arith, kind.0)
+length-IsOf longest path (values.Node node) kind = omega (arith, kind.0)
 
 -- the pointer of a side is one of that side
-pub IsSide-node_side : (format : Format) (path : List Bool) (node : Node) (on : Bool) → IsOf format path (values.Node node) → IsSide format path on (node_side node on)
-IsSide-node_side format path node false kind = kind.1
-IsSide-node_side format path node true kind = kind.2
+pub IsSide-node_side : (longest : ℕ) (path : List Bool) (node : Node) (on : Bool) → IsOf longest path (values.Node node) → IsSide path on (node_side node on)
+IsSide-node_side longest path node false kind = kind.1
+IsSide-node_side longest path node true kind = kind.2
 
 -- a node with another pointer of that side
-pub IsOf-with_side : (format : Format) (path : List Bool) (node : Node) (on : Bool) (pointer : Option Pointer) → IsOf format path (values.Node node) → IsSide format path on pointer → IsOf format path (values.Node (with_side node on pointer))
-IsOf-with_side format path node false pointer kind fits = (kind.0, fits, kind.2)
-IsOf-with_side format path node true pointer kind fits = (kind.0, kind.1, fits)
+pub IsOf-with_side : (longest : ℕ) (path : List Bool) (node : Node) (on : Bool) (pointer : Option Pointer) → IsOf longest path (values.Node node) → IsSide path on pointer → IsOf longest path (values.Node (with_side node on pointer))
+IsOf-with_side longest path node false pointer kind fits = (kind.0, fits, kind.2)
+IsOf-with_side longest path node true pointer kind fits = (kind.0, kind.1, fits)
 
 -- a pointer to a path below
-IsPointer-pointer_to : (format : Format) (digest : Digest) (at k : List Bool) (on : Bool) (value : Value) → GivesDigests digest → side at k ≡ Some on → length k ≤ path_bits format → IsPointer format at on (pointer_to format digest k value)
-IsPointer-pointer_to format digest at k on value digests below fits = record {
+IsPointer-pointer_to : (digest : Digest) (at k : List Bool) (on : Bool) (value : Value) → GivesDigests digest → side at k ≡ Some on → IsPath k → IsPointer at on (pointer_to digest k value)
+IsPointer-pointer_to digest at k on value digests below fits = record {
   below = is_prefix-side at k on below;
   fits = fits;
   digest = digests _;
 }
 
-pub IsOf-after_evict : (format : Format) (digest : Digest) (at k : List Bool) (on : Bool) (node : Node) (value : Value) → GivesDigests digest → side at k ≡ Some on
-    → IsOf format at (values.Node node) → IsOf format k value → IsOf format at (values.Node (after_evict format digest node on k value))
-IsOf-after_evict format digest at k on node value digests below above kind =
-    IsOf-with_side format at node on _ above (IsPointer-pointer_to format digest at k on value digests below (length-IsOf format k value kind))
+pub IsOf-after_evict : (longest : ℕ) (digest : Digest) (at k : List Bool) (on : Bool) (node : Node) (value : Value) → GivesDigests digest → side at k ≡ Some on
+    → IsOf longest at (values.Node node) → IsOf longest k value → IsOf longest at (values.Node (after_evict digest node on k value))
+IsOf-after_evict longest digest at k on node value digests below above kind =
+    IsOf-with_side longest at node on _ above (IsPointer-pointer_to digest at k on value digests below (length-IsOf longest k value kind))
 
-pub IsOf-after_defer : (format : Format) (at : List Bool) (on : Bool) (node : Node) → IsOf format at (values.Node node) → IsOf format at (values.Node (after_defer node on))
-IsOf-after_defer format at on node above =
-    IsOf-with_side format at node on _ above (marked (node_side node on) (IsSide-node_side format at node on above))
+pub IsOf-after_defer : (longest : ℕ) (at : List Bool) (on : Bool) (node : Node) → IsOf longest at (values.Node node) → IsOf longest at (values.Node (after_defer node on))
+IsOf-after_defer longest at on node above =
+    IsOf-with_side longest at node on _ above (marked (node_side node on) (IsSide-node_side longest at node on above))
   where
-    marked : (pointer : Option Pointer) → IsSide format at on pointer → IsSide format at on (option_map deferred_pointer pointer)
+    marked : (pointer : Option Pointer) → IsSide at on pointer → IsSide at on (option_map deferred_pointer pointer)
     marked None fits = fits
     marked (Some pointer) fits = record { below = fits.below; fits = fits.fits; digest = fits.digest }
 
 -- a node that takes a pointer over, and nothing else
-IsOf-taken_over : (format : Format) (at k : List Bool) (on which : Bool) (pointer : Pointer) → IsPointer format at on pointer → side k pointer.path ≡ Some which → IsOf format k (values.Node (taken_over (side k pointer.path) pointer))
-IsOf-taken_over format at k on which pointer fits below =
-    subst (λ (s : Option Bool). IsOf format k (values.Node (taken_over s pointer))) (sym below)
-    (IsOf-with_side format k empty_node which (Some pointer) (omega (arith, length-side k pointer.path which below, fits.fits), tt, tt)
+IsOf-taken_over : (longest : ℕ) (at k : List Bool) (on which : Bool) (pointer : Pointer) → IsPointer at on pointer → side k pointer.path ≡ Some which → IsOf longest k (values.Node (taken_over (side k pointer.path) pointer))
+IsOf-taken_over longest at k on which pointer fits below =
+    subst (λ (s : Option Bool). IsOf longest k (values.Node (taken_over s pointer))) (sym below)
+    (IsOf-with_side longest k empty_node which (Some pointer) (omega (arith, length-side k pointer.path which below, fits.fits), tt, tt)
     (record { below = is_prefix-side k pointer.path which below; fits = fits.fits; digest = fits.digest }))
 
 -- both are of their paths' kinds: the node, and the value below it
-abbrev pub AddedIsOf : Format → List Bool → List Bool → Added → Type 0
-AddedIsOf format at k added = IsOf format at (values.Node added.node) × IsOf format k added.value
+abbrev pub AddedIsOf : ℕ → List Bool → List Bool → Added → Type 0
+AddedIsOf longest at k added = IsOf longest at (values.Node added.node) × IsOf longest k added.value
 
-pub IsOf-after_add : (format : Format) (digest : Digest) (at k : List Bool) (on : Bool) (node : Node) (value : Value) → GivesDigests digest → side at k ≡ Some on
-    → IsOf format at (values.Node node) → IsOf format k value → AddedIsOf format at k (after_add format digest node on k value)
-IsOf-after_add format digest at k on node value digests below above kind = go (node_side node on) (IsSide-node_side format at node on above)
+pub IsOf-after_add : (longest : ℕ) (digest : Digest) (at k : List Bool) (on : Bool) (node : Node) (value : Value) → GivesDigests digest → side at k ≡ Some on
+    → IsOf longest at (values.Node node) → IsOf longest k value → AddedIsOf longest at k (after_add digest node on k value)
+IsOf-after_add longest digest at k on node value digests below above kind = go (node_side node on) (IsSide-node_side longest at node on above)
   where
-    leads : (v : Value) → IsOf format at (values.Node (after_evict format digest node on k v))
-    leads v = IsOf-with_side format at node on _ above (IsPointer-pointer_to format digest at k on v digests below (length-IsOf format k value kind))
+    leads : (v : Value) → IsOf longest at (values.Node (after_evict digest node on k v))
+    leads v = IsOf-with_side longest at node on _ above (IsPointer-pointer_to digest at k on v digests below (length-IsOf longest k value kind))
 
-    split : (pointer : Pointer) → IsPointer format at on pointer → (s : Option Bool) → side k pointer.path ≡ s
-        → AddedIsOf format at k (added_by format digest node on k value (Some pointer) (if is_some s then Split else Foreign))
+    split : (pointer : Pointer) → IsPointer at on pointer → (s : Option Bool) → side k pointer.path ≡ s
+        → AddedIsOf longest at k (added_by digest node on k value (Some pointer) (if is_some s then Split else Foreign))
     split pointer fits None is = (above, kind)
-    split pointer fits (Some which) is = (leads (initial_value format k), IsOf-taken_over format at k on which pointer fits is)
+    split pointer fits (Some which) is = (leads (initial_value k), IsOf-taken_over longest at k on which pointer fits is)
 
-    tested : (pointer : Pointer) → IsPointer format at on pointer → (same : Bool)
-        → AddedIsOf format at k (added_by format digest node on k value (Some pointer) (if same then Same else if is_some (side k pointer.path) then Split else Foreign))
+    tested : (pointer : Pointer) → IsPointer at on pointer → (same : Bool)
+        → AddedIsOf longest at k (added_by digest node on k value (Some pointer) (if same then Same else if is_some (side k pointer.path) then Split else Foreign))
     tested pointer fits true = (above, kind)
     tested pointer fits false = split pointer fits (side k pointer.path) refl
 
-    go : (pointer : Option Pointer) → IsSide format at on pointer → AddedIsOf format at k (added_by format digest node on k value pointer (case_of pointer k))
+    go : (pointer : Option Pointer) → IsSide at on pointer → AddedIsOf longest at k (added_by digest node on k value pointer (case_of pointer k))
     go None fits = (leads value, kind)
     go (Some pointer) fits = tested pointer fits (same_path pointer.path k)
 

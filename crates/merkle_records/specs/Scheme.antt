@@ -1,22 +1,22 @@
--- Under which functions and which format the logs of a bundle are read.
+-- Under which functions, and with how long values, the logs of a bundle are read.
 use Rattle.std.specs.Prelude.{ℕ, List}
 use Rattle.lamport_clocks.specs.declared.header.Header.{Header}
 use Rattle.record_hash.specs.Functions.{DigestFunctions}
 use Rattle.record_text.specs.declared.element.Element.{Element}
-use Rattle.record_text.specs.Format.{Format, format_of}
 use Rattle.record_text.specs.Texts.{element_text}
+use Rattle.record_text.specs.Longest.{longest_of}
 use Rattle.merkle_records.specs.Merkle.{Digest}
 
--- the digest of a text, the lanes of an element's text, and the format in which texts are spelled
+-- the digest of a text, the lanes of an element's text, and the most bytes of a data value
 pub record Scheme : Type 0 where
   pub digest : Digest
   pub lanes : List ℕ → List ℕ
-  pub format : Format
+  pub longest : ℕ
 
 -- the scheme of a bundle with this header, whose verifiers compute these functions
 abbrev pub scheme_of : DigestFunctions → Header → Scheme
-scheme_of functions header = record { digest = functions.digest; lanes = functions.lanes; format = format_of header }
+scheme_of functions header = record { digest = functions.digest; lanes = functions.lanes; longest = longest_of header }
 
 -- the lanes of an element: those of its text
 abbrev pub lanes_of : Scheme → Element → List ℕ
-lanes_of scheme element = scheme.lanes (element_text scheme.format element)
+lanes_of scheme element = scheme.lanes (element_text element)

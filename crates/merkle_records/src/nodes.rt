@@ -1,7 +1,6 @@
 //! What an add, an evict and a deferral do to a node.
 ghost use Rattle.std.specs.Prelude.{◌≡◌, ◌≢◌, Bool, Some};
 ghost use Rattle.tree_keys.specs.Path.{side, IsBelow};
-ghost use Rattle.record_text.specs.Format.{short_keys};
 ghost use Rattle.record_text.specs.Value.{node_side};
 ghost use Rattle.record_text.specs.Texts.{value_text};
 ghost use Rattle.merkle_records.specs.Merkle.{case_of, IsAdded, taken_over, after_add, after_evict, after_defer, pointer_to};
@@ -34,14 +33,14 @@ pub fn add_case(node: &Node, at: &Path, k: &Path) -> AddCase
 
 /// The digest of a value: that of its text.
 pub fn digest_of<D: Digests>(d: &D, value: &Value) -> [u8; 32]
-    ensures value { result ≡ (D.functions d.now).digest (value_text short_keys value.now) }
+    ensures value { result ≡ (D.functions d.now).digest (value_text value.now) }
 {
     d.text_digest(value_text(value).as_slice())
 }
 
 // A pointer to a path with the digest of its value.
 fn pointer_to<D: Digests>(d: &D, path: &Path, value: &Value) -> Pointer
-    ensures value { result ≡ pointer_to short_keys (D.functions d.now).digest path.now value.now }
+    ensures value { result ≡ pointer_to (D.functions d.now).digest path.now value.now }
 {
     Pointer {
         path: *path,
@@ -54,7 +53,7 @@ fn pointer_to<D: Digests>(d: &D, path: &Path, value: &Value) -> Pointer
 pub fn after_evict<D: Digests>(d: &D, node: &Node, at: &Path, k: &Path, v: &Value) -> Node
     requires below { IsBelow at.now k.now }
     ensures node { (on : Bool) → side at.now k.now ≡ Some on
-        → result ≡ after_evict short_keys (D.functions d.now).digest node.now on k.now v.now }
+        → result ≡ after_evict (D.functions d.now).digest node.now on k.now v.now }
 {
     node.with_side(k.side_below(at), Some(pointer_to(d, k, v)))
 }
@@ -65,7 +64,7 @@ pub fn after_add<D: Digests>(d: &D, node: &Node, at: &Path, k: &Path, v: &Value)
     requires case { (on : Bool) → side at.now k.now ≡ Some on
         → case_of (node_side node.now on) k.now ≢ Foreign }
     ensures added { (on : Bool) → side at.now k.now ≡ Some on
-        → IsAdded result (after_add short_keys (D.functions d.now).digest node.now on k.now v.now) }
+        → IsAdded result (after_add (D.functions d.now).digest node.now on k.now v.now) }
 {
     let on = k.side_below(at);
     match node.side(on) {

@@ -1,10 +1,9 @@
 -- The pointers of a stage that mirrors, on the way to a whole key.
 use Rattle.std.proofs.Common.{◌≡◌, ◌≢◌, ◌⊎◌, ◌<◌, Bool, true, false, List, [], ◌∷◌, map, length, Option, Some, IsSome, if◌then◌else◌, refl, sym, ◌∙◌, ap, inl, inr, arith}
-use Rattle.tree_keys.specs.Path.{side, is_prefix, same_path}
+use Rattle.tree_keys.specs.Path.{side, is_prefix, same_path, IsData, IsNodePath}
 use Rattle.tree_keys.proofs.SideLaws.{prefix_cases, side-trans}
 use Rattle.record_text.specs.declared.value.Pointer.{Pointer}
 use Rattle.record_text.specs.declared.value.Value.{Value}
-use Rattle.record_text.specs.Format.{Format, path_bits}
 use Rattle.merkle_records.specs.Merkle.{Digest}
 use Rattle.host_shard.specs.declared.link.Link.{Link}
 use Rattle.host_shard.specs.declared.content.HotRecord.{HotRecord}
@@ -19,13 +18,13 @@ use Rattle.move_laws.proofs.PlaceLaws.{one_of-all}
 use Rattle.move_laws.proofs.VacantLaws.{all-images, AreDifferent}
 
 -- a path that had a record has one behind a chain
-pub closed_some : (format : Format) (digest : Digest) (lent : Bool) (base : Tree) (links : List Link) (last : Value) (path : List Bool) → IsSome (base path)
-    → IsSome (closed_records format digest lent base links last path)
-closed_some format digest lent base [] last path there = there
-closed_some format digest lent base (link ∷ links) last path there = go (same_path path link.path) (closed_some format digest lent base links last path there)
+pub closed_some : (digest : Digest) (lent : Bool) (base : Tree) (links : List Link) (last : Value) (path : List Bool) → IsSome (base path)
+    → IsSome (closed_records digest lent base links last path)
+closed_some digest lent base [] last path there = there
+closed_some digest lent base (link ∷ links) last path there = go (same_path path link.path) (closed_some digest lent base links last path there)
   where
-    go : (b : Bool) → IsSome (closed_records format digest lent base links last path)
-        → IsSome (if b then Some (closed_value format digest lent link.path link.taken links last) else closed_records format digest lent base links last path)
+    go : (b : Bool) → IsSome (closed_records digest lent base links last path)
+        → IsSome (if b then Some (closed_value digest lent link.path link.taken links last) else closed_records digest lent base links last path)
     go true rest = refl
     go false rest = rest
 
@@ -48,7 +47,7 @@ side-prefix-of front at path on begins below = go (prefix_cases front at begins)
     go (inl same) = (on, ap (λ (k : List Bool). side k path) same ∙ below)
     go (inr above) = (above.0, side-trans front at path above.0 on above.1 below)
 
-module _ (format : Format) (digest : Digest) (stage : Stage) (mirrors : StageMirrors format digest stage) where
+module _ (digest : Digest) (stage : Stage) (mirrors : StageMirrors longest digest stage) where
   abbrev shard : Shard
   shard = stage.shard
 
@@ -56,19 +55,19 @@ module _ (format : Format) (digest : Digest) (stage : Stage) (mirrors : StageMir
   old = tree_of stage.shard
 
   -- the pointers on the way to a whole key, but for one to the key itself: each is kept
-  pub above_is_kept : (key : List Bool) (at : List Bool) (on : Bool) (pointer : Pointer) → length key ≡ path_bits format → IsPointerIn old at on pointer
-      → is_prefix pointer.path key ≡ true → pointer.path ≢ key → (pointer.deferred ≡ false) × IsKept format digest old pointer
+  pub above_is_kept : (key : List Bool) (at : List Bool) (on : Bool) (pointer : Pointer) → IsData key → IsPointerIn old at on pointer
+      → is_prefix pointer.path key ≡ true → pointer.path ≢ key → (pointer.deferred ≡ false) × IsKept digest old pointer
   above_is_kept key at on pointer whole is begins apart =
       let fresh = go pointer.deferred refl in (fresh, mirrors.shard.mirrors.kept at on pointer is fresh)
     where
       go : (b : Bool) → pointer.deferred ≡ b → pointer.deferred ≡ false
       go false not_so = not_so
       go true deferred =
-          let hot_whole : length pointer.path ≡ path_bits format =
+          let hot_whole : IsData pointer.path =
           mirrors.shard.mirrors.hot_keys.whole pointer.path (mirrors.shard.mirrors.waits at on pointer is deferred) in
           absurd (apart (prefix_whole pointer.path key begins (omega (arith, whole, hot_whole))))
 
-  pub apart_from : (key : List Bool) → length key ≡ path_bits format → shard.frontier ≢ key
+  pub apart_from : (key : List Bool) → IsData key → shard.frontier ≢ key
   apart_from key whole same =
-      let short : length shard.frontier < path_bits format = mirrors.shard.fits.no_data in
+      let short : IsNodePath shard.frontier = mirrors.shard.fits.no_data in
       omega (arith, ap (λ (k : List Bool). length k) same, whole, short)

@@ -15,7 +15,6 @@ use Rattle.record_text.specs.declared.value.Pointer.{Pointer}
 use Rattle.record_text.specs.declared.value.Node.{Node}
 use Rattle.record_text.specs.declared.value.Value.{Value}
 use Rattle.record_text.specs.declared.value.Value.TheVariants as values
-use Rattle.record_text.specs.Format.{Format}
 use Rattle.record_text.specs.Texts.{value_text}
 use Rattle.record_text.specs.Value.{with_side}
 use Rattle.log_codec.specs.declared.command.Command.{Command}
@@ -62,10 +61,10 @@ abbrev pub IsOnward : Reading → Reading → Type 0
 IsOnward clock after = (after.at.epoch ≡ clock.at.epoch) × (clock.at.counter ≤ after.at.counter)
 
 -- the pointer to a link above the last is one with its digest
-closed_above : (format : Format) (digest : Digest) (lent : Bool) (link next : Link) (links : List Link) (became : Value)
-    → closed_pointer format digest lent link (next ∷ links) became ≡ pointer_to format digest link.path became
-closed_above format digest false link next links became = refl
-closed_above format digest true link next links became = refl
+closed_above : (digest : Digest) (lent : Bool) (link next : Link) (links : List Link) (became : Value)
+    → closed_pointer digest lent link (next ∷ links) became ≡ pointer_to digest link.path became
+closed_above digest false link next links became = refl
+closed_above digest true link next links became = refl
 
 -- a link, by its parts
 same_link : (link : Link) (path : List Bool) (value taken : Value) → link.path ≡ path → link.value ≡ value → link.taken ≡ taken
@@ -76,8 +75,8 @@ same_link link path value taken one two three =
     ∙ ap (λ (t : Value). record { path = path; value = value; taken = t }) three)
 
 module _ (rules : Rules) (tree before base : Tree) (key : List Bool) (lent : Bool) (last : Value) where
-  abbrev format : Format
-  format = rules.scheme.format
+  abbrev longest : ℕ
+  longest = rules.scheme.longest
 
   abbrev digest : Digest
   digest = rules.scheme.digest
@@ -86,14 +85,14 @@ module _ (rules : Rules) (tree before base : Tree) (key : List Bool) (lent : Boo
   pub record Along (at : List Bool) (hold : Hold) (value : Value) (links : List Link) (clock after : Reading) (commands : List Command)
       (adds evicts : List Element) : Type 0 where
     pub told : Told
-    pub works : Works rules (length links) at hold value clock commands told (closed_value format digest lent at value links last) after
+    pub works : Works rules (length links) at hold value clock commands told (closed_value digest lent at value links last) after
     pub added : added_told told ≡ adds
     pub evicted : evicted_told told ≡ evicts
     pub no_access : accesses_told told ≡ []
     pub unsealed : flat_map (λ (one : Stamp × Change). sealed_by one.1) told ≡ []
     pub within : AllByRecursion (λ (one : Stamp × Change). IsBetween clock after one.0) told
     pub outside : (path : List Bool) → side at path ≡ None → carried path told ≡ []
-    pub kept : (path : List Bool) → AreCarried path (before path) (left_by lent (closed_records format digest lent base links last) key path) (carried path told)
+    pub kept : (path : List Bool) → AreCarried path (before path) (left_by lent (closed_records digest lent base links last) key path) (carried path told)
 
   -- below this path the records are those before, but for the key's
   abbrev pub IsBased : List Bool → Type 0
@@ -104,20 +103,20 @@ module _ (rules : Rules) (tree before base : Tree) (key : List Bool) (lent : Boo
   AreKept = (k : List Bool) → same_path k key ≡ false → base k ≡ before k
 
   -- the pointer of a step is not deferred, and keeps the digest of its record
-  abbrev pub IsSound : (at : List Bool) (value : Value) (link : Link) → IsStep format tree key (not lent) at value link → Type 0
-  IsSound at value link step = (step.pointer.deferred ≡ false) × (step.pointer.digest ≡ digest (value_text format link.taken))
+  abbrev pub IsSound : (at : List Bool) (value : Value) (link : Link) → IsStep longest tree key (not lent) at value link → Type 0
+  IsSound at value link step = (step.pointer.deferred ≡ false) × (step.pointer.digest ≡ digest (value_text link.taken))
 
   -- ---- one link more
 
   module _ (at : List Bool) (hold : Hold) (value : Value) (link next : Link) (links : List Link) (clock after : Reading) (inner : List Command)
-      (adds evicts : List Element) (step : IsStep format tree key (not lent) at value link) (sound : IsSound at value link step) (on_side : same_path link.path key ≡ false)
+      (adds evicts : List Element) (step : IsStep longest tree key (not lent) at value link) (sound : IsSound at value link step) (on_side : same_path link.path key ≡ false)
       (onward : IsOnward clock after) (based : IsBased at)
       (rest : Along link.path M link.taken (next ∷ links) clock after inner adds evicts) where
     abbrev became : Value
-    became = closed_value format digest lent link.path link.taken (next ∷ links) last
+    became = closed_value digest lent link.path link.taken (next ∷ links) last
 
     abbrev left : Node
-    left = pointing format digest step.node step.on link.path became
+    left = pointing digest step.node step.on link.path became
 
     abbrev add : Change
     add = did_add_m (new_entry at (values.Node step.node) hold) (set_kid (new_entry at (values.Node step.node) hold) step.on true) (new_entry link.path link.taken M)
@@ -128,11 +127,11 @@ module _ (rules : Rules) (tree before base : Tree) (key : List Bool) (lent : Boo
     abbrev all : Told
     all = (clock.at, add) ∷ (rest.told ++ (after.at, evict) ∷ [])
 
-    closed_is : closed_value format digest lent at value (link ∷ next ∷ links) last ≡ values.Node left
+    closed_is : closed_value digest lent at value (link ∷ next ∷ links) last ≡ values.Node left
     closed_is =
-        ap (λ (v : Value). aimed at v (closed_pointer format digest lent link (next ∷ links) became)) step.is_node
-        ∙ (ap (λ (p : Pointer). aimed at (values.Node step.node) p) (closed_above format digest lent link next links became)
-        ∙ ap (λ (s : Option Bool). aimed_on step.node (pointer_to format digest link.path became) s) step.below)
+        ap (λ (v : Value). aimed at v (closed_pointer digest lent link (next ∷ links) became)) step.is_node
+        ∙ (ap (λ (p : Pointer). aimed at (values.Node step.node) p) (closed_above digest lent link next links became)
+        ∙ ap (λ (s : Option Bool). aimed_on step.node (pointer_to digest link.path became) s) step.below)
 
     carried_all : (k : List Bool) → carried k all
         ≡ (if same_path link.path k then add ∷ [] else []) ++ (carried k rest.told ++ (if same_path link.path k then evict ∷ [] else []))
@@ -153,7 +152,7 @@ module _ (rules : Rules) (tree before base : Tree) (key : List Bool) (lent : Boo
         ∙ ap (λ (changes : List Change). add ∷ (changes ++ evict ∷ [])) (rest.outside link.path (side-self link.path)))
 
     works : Works rules (suc (suc (length links))) at hold value clock (AddM link.path link.value at ∷ (inner ++ EvictM link.path at ∷ [])) all
-        (closed_value format digest lent at value (link ∷ next ∷ links) last) after
+        (closed_value digest lent at value (link ∷ next ∷ links) last) after
     works =
         subst (λ (v : Value). Works rules (suc (suc (length links))) at hold value clock (AddM link.path link.value at ∷ (inner ++ EvictM link.path at ∷ [])) all v after)
         (sym closed_is)
@@ -172,12 +171,12 @@ module _ (rules : Rules) (tree before base : Tree) (key : List Bool) (lent : Boo
         })
         rest.works))
       where
-        added : (held : Hold) → add_under format digest (new_entry at (values.Node step.node) held) link.path link.value
+        added : (held : Hold) → add_under digest (new_entry at (values.Node step.node) held) link.path link.value
             ≡ Ok (record { parent = set_kid (new_entry at (values.Node step.node) held) step.on true; child = new_entry link.path link.taken M })
         added held =
-            subst (λ (v : Value). add_under format digest (new_entry at (values.Node step.node) held) link.path v
+            subst (λ (v : Value). add_under digest (new_entry at (values.Node step.node) held) link.path v
             ≡ Ok (record { parent = set_kid (new_entry at (values.Node step.node) held) step.on true; child = new_entry link.path link.taken M })) (sym step.as_it_is)
-            (adds_known format digest at step.node step.on step.pointer link.path link.taken step.below step.points step.to sound.0 sound.1 held)
+            (adds_known digest at step.node step.on step.pointer link.path link.taken step.below step.points step.to sound.0 sound.1 held)
 
     outside : (path : List Bool) → side at path ≡ None → carried path all ≡ []
     outside path apart =
@@ -189,26 +188,26 @@ module _ (rules : Rules) (tree before base : Tree) (key : List Bool) (lent : Boo
         further (Some which) is = absurd (none-some step.on (sym apart ∙ side-trans at link.path path step.on which step.below is))
 
     kept : (path : List Bool)
-        → AreCarried path (before path) (left_by lent (closed_records format digest lent base (link ∷ next ∷ links) last) key path) (carried path all)
+        → AreCarried path (before path) (left_by lent (closed_records digest lent base (link ∷ next ∷ links) last) key path) (carried path all)
     kept path = go (same_path link.path path) refl
       where
-        here : left_by lent (closed_records format digest lent base (link ∷ next ∷ links) last) key link.path ≡ Some became
+        here : left_by lent (closed_records digest lent base (link ∷ next ∷ links) last) key link.path ≡ Some became
         here =
-            left_other lent (closed_records format digest lent base (link ∷ next ∷ links) last) key link.path on_side
-            ∙ ap (λ (b : Bool). if b then Some became else closed_records format digest lent base (next ∷ links) last link.path) (same_path-self link.path)
+            left_other lent (closed_records digest lent base (link ∷ next ∷ links) last) key link.path on_side
+            ∙ ap (λ (b : Bool). if b then Some became else closed_records digest lent base (next ∷ links) last link.path) (same_path-self link.path)
 
         go : (b : Bool) → same_path link.path path ≡ b
-            → AreCarried path (before path) (left_by lent (closed_records format digest lent base (link ∷ next ∷ links) last) key path) (carried path all)
+            → AreCarried path (before path) (left_by lent (closed_records digest lent base (link ∷ next ∷ links) last) key path) (carried path all)
         go true same =
-            subst (λ (k : List Bool). AreCarried k (before k) (left_by lent (closed_records format digest lent base (link ∷ next ∷ links) last) key k) (carried k all))
+            subst (λ (k : List Bool). AreCarried k (before k) (left_by lent (closed_records digest lent base (link ∷ next ∷ links) last) key k) (carried k all))
             (same_path-true link.path path same)
-            (subst (AreCarried link.path (before link.path) (left_by lent (closed_records format digest lent base (link ∷ next ∷ links) last) key link.path)) (sym carried_own)
+            (subst (AreCarried link.path (before link.path) (left_by lent (closed_records digest lent base (link ∷ next ∷ links) last) key link.path)) (sym carried_own)
             (refl, (λ known. sym (based link.path step.on step.below on_side) ∙ step.there, (refl, λ v is. sym here ∙ is))))
         go false apart =
-            subst (AreCarried path (before path) (left_by lent (closed_records format digest lent base (link ∷ next ∷ links) last) key path)) (sym (carried_other path apart))
+            subst (AreCarried path (before path) (left_by lent (closed_records digest lent base (link ∷ next ∷ links) last) key path)) (sym (carried_other path apart))
             (subst (λ (o : Option Value). AreCarried path (before path) o (carried path rest.told))
-            (sym (left_same lent (closed_records format digest lent base (link ∷ next ∷ links) last) (closed_records format digest lent base (next ∷ links) last) key path
-            (ap (λ (b : Bool). if b then Some became else closed_records format digest lent base (next ∷ links) last path) other)))
+            (sym (left_same lent (closed_records digest lent base (link ∷ next ∷ links) last) (closed_records digest lent base (next ∷ links) last) key path
+            (ap (λ (b : Bool). if b then Some became else closed_records digest lent base (next ∷ links) last path) other)))
             (rest.kept path))
           where
             other : same_path path link.path ≡ false
@@ -233,18 +232,18 @@ module _ (rules : Rules) (tree before base : Tree) (key : List Bool) (lent : Boo
   -- ---- the whole way
 
   -- where the way goes on behind a link, that isn't the key
-  above_key : (link next : Link) (links : List Link) → IsWay format tree key (not lent) link.path link.taken (next ∷ links) → same_path link.path key ≡ false
+  above_key : (link next : Link) (links : List Link) → IsWay longest tree key (not lent) link.path link.taken (next ∷ links) → same_path link.path key ≡ false
   above_key link next links way =
       same_path-apart link.path key
       (λ same. none-some way.0.on (sym (ap (λ (k : List Bool). side k key) same ∙ side-self key) ∙ way.0.on_side))
 
   module _ (clock after : Reading) (at_end : List Bool → Link → List Command) (adds evicts : List Element)
       (onward : IsOnward clock after)
-      (sound : (at : List Bool) (value : Value) (link : Link) → same_path link.path key ≡ false → (step : IsStep format tree key (not lent) at value link) → IsSound at value link step)
-      (ends : (at : List Bool) (hold : Hold) (value : Value) (link : Link) → IsBased at → IsStep format tree key (not lent) at value link → link.path ≡ key
+      (sound : (at : List Bool) (value : Value) (link : Link) → same_path link.path key ≡ false → (step : IsStep longest tree key (not lent) at value link) → IsSound at value link step)
+      (ends : (at : List Bool) (hold : Hold) (value : Value) (link : Link) → IsBased at → IsStep longest tree key (not lent) at value link → link.path ≡ key
       → Along at hold value (link ∷ []) clock after (at_end at link) adds evicts) where
     -- A transfer along the way to its key, where it is known at its end.
-    pub along : (at : List Bool) (hold : Hold) (value : Value) (link : Link) (links : List Link) → IsBased at → IsWay format tree key (not lent) at value (link ∷ links)
+    pub along : (at : List Bool) (hold : Hold) (value : Value) (link : Link) (links : List Link) → IsBased at → IsWay longest tree key (not lent) at value (link ∷ links)
         → Along at hold value (link ∷ links) clock after (visit_but_last at (link ∷ links) at_end) adds evicts
     along at hold value link [] based way = ends at hold value link based way.0 way.1
     along at hold value link (next ∷ links) based way =
@@ -258,7 +257,7 @@ module _ (rules : Rules) (tree before base : Tree) (key : List Bool) (lent : Boo
 -- a record that comes back
 pub back_ends : (rules : Rules) (tree before base : Tree) (key : List Bool) (element : Element) (clock : Reading) (at : List Bool) (hold : Hold) (value : Value) (link : Link)
     → ((k : List Bool) → same_path k key ≡ false → base k ≡ before k)
-    → (step : IsStep rules.scheme.format tree key true at value link) → link.path ≡ key → element.path ≡ key → tree key ≡ Some element.value
+    → (step : IsStep rules.scheme.longest tree key true at value link) → link.path ≡ key → element.path ≡ key → tree key ≡ Some element.value
     → element.verifier < rules.verifiers → is_open clock element.stamp.epoch ≡ true → (taking clock element.stamp).at.counter ≤ clock.end
     → IsOnward clock (taking clock element.stamp)
     → Along rules tree before base key false element.value at hold value (link ∷ []) clock (taking clock element.stamp) (come_back element at link) (element ∷ []) []
@@ -298,12 +297,12 @@ back_ends rules tree before base key element clock at hold value link kept step 
     below = ap (side at) (sym to_element) ∙ step.below
 
     left : Node
-    left = pointing rules.scheme.format rules.scheme.digest step.node step.on element.path element.value
+    left = pointing rules.scheme.digest step.node step.on element.path element.value
 
-    closed_is : aimed at value (pointer_to rules.scheme.format rules.scheme.digest element.path element.value) ≡ values.Node left
+    closed_is : aimed at value (pointer_to rules.scheme.digest element.path element.value) ≡ values.Node left
     closed_is =
-        ap (λ (v : Value). aimed at v (pointer_to rules.scheme.format rules.scheme.digest element.path element.value)) step.is_node
-        ∙ ap (λ (s : Option Bool). aimed_on step.node (pointer_to rules.scheme.format rules.scheme.digest element.path element.value) s) below
+        ap (λ (v : Value). aimed at v (pointer_to rules.scheme.digest element.path element.value)) step.is_node
+        ∙ ap (λ (s : Option Bool). aimed_on step.node (pointer_to rules.scheme.digest element.path element.value) s) below
 
     told : Told
     told = told_back at hold step.node left element later
@@ -318,7 +317,7 @@ back_ends rules tree before base key element clock at hold value link kept step 
     carried_own = ap (λ (b : Bool). (if b then evict ∷ [] else []) ++ []) (same_path-self element.path)
 
     closed : Tree
-    closed = closed_records rules.scheme.format rules.scheme.digest false base (record { path = element.path; value = element.value; taken = element.value } ∷ []) element.value
+    closed = closed_records rules.scheme.digest false base (record { path = element.path; value = element.value; taken = element.value } ∷ []) element.value
 
     here : closed element.path ≡ Some element.value
     here = ap (λ (b : Bool). if b then Some element.value else base element.path) (same_path-self element.path)
@@ -340,8 +339,8 @@ back_ends rules tree before base key element clock at hold value link kept step 
 -- a record that becomes hot
 pub hot_ends : (rules : Rules) (tree before base : Tree) (key : List Bool) (last : Value) (clock : Reading) (at : List Bool) (hold : Hold) (value : Value) (link : Link)
     → ((k : List Bool) → same_path k key ≡ false → base k ≡ before k) → before key ≡ tree key
-    → (step : IsStep rules.scheme.format tree key false at value link) → link.path ≡ key → link.taken ≡ last
-    → step.pointer.digest ≡ rules.scheme.digest (value_text rules.scheme.format link.taken)
+    → (step : IsStep rules.scheme.longest tree key false at value link) → link.path ≡ key → link.taken ≡ last
+    → step.pointer.digest ≡ rules.scheme.digest (value_text link.taken)
     → (giving clock).at.counter ≤ clock.end
     → Along rules tree before base key true last at hold value (link ∷ []) clock (giving clock) (become_hot (giving clock).at at link) []
     (record { path = key; value = last; stamp = (giving clock).at; verifier = rules.number } ∷ [])
@@ -357,7 +356,7 @@ hot_ends rules tree before base key last clock at hold value link kept known ste
             middle = step.node;
             pointer = step.pointer;
             below = below;
-            added = λ held. adds_known rules.scheme.format rules.scheme.digest at step.node step.on step.pointer key last below step.points to_key fresh keeps_last held;
+            added = λ held. adds_known rules.scheme.digest at step.node step.on step.pointer key last below step.points to_key fresh keeps_last held;
             points = step.points;
             to = to_key;
             fresh = fresh;
@@ -390,11 +389,11 @@ hot_ends rules tree before base key last clock at hold value link kept known ste
     to_key : step.pointer.path ≡ key
     to_key = step.to ∙ is_key
 
-    keeps_last : step.pointer.digest ≡ rules.scheme.digest (value_text rules.scheme.format last)
-    keeps_last = keeps ∙ ap (λ (v : Value). rules.scheme.digest (value_text rules.scheme.format v)) is_last
+    keeps_last : step.pointer.digest ≡ rules.scheme.digest (value_text last)
+    keeps_last = keeps ∙ ap (λ (v : Value). rules.scheme.digest (value_text v)) is_last
 
     closing : Pointer
-    closing = deferred_pointer (pointer_to rules.scheme.format rules.scheme.digest key last)
+    closing = deferred_pointer (pointer_to rules.scheme.digest key last)
 
     left : Node
     left = with_side step.node step.on (Some (deferred_pointer step.pointer))
@@ -423,10 +422,10 @@ hot_ends rules tree before base key last clock at hold value link kept known ste
     carried_own = ap (λ (b : Bool). (if b then add ∷ [] else []) ++ []) (same_path-self key)
 
     closed : Tree
-    closed = without_record (closed_records rules.scheme.format rules.scheme.digest true base (record { path = key; value = last; taken = last } ∷ []) last) key
+    closed = without_record (closed_records rules.scheme.digest true base (record { path = key; value = last; taken = last } ∷ []) last) key
 
     gone : closed key ≡ None
-    gone = ap (λ (b : Bool). if b then None else closed_records rules.scheme.format rules.scheme.digest true base (record { path = key; value = last; taken = last } ∷ []) last key) (same_path-self key)
+    gone = ap (λ (b : Bool). if b then None else closed_records rules.scheme.digest true base (record { path = key; value = last; taken = last } ∷ []) last key) (same_path-self key)
 
     at_path : (path : List Bool) (b : Bool) → same_path key path ≡ b → AreCarried path (before path) (closed path) (carried path told)
     at_path path true same =
@@ -442,5 +441,5 @@ hot_ends rules tree before base key last clock at hold value link kept known ste
 
         stays : closed path ≡ base path
         stays =
-            ap (λ (b : Bool). if b then None else closed_records rules.scheme.format rules.scheme.digest true base (record { path = key; value = last; taken = last } ∷ []) last path) other
+            ap (λ (b : Bool). if b then None else closed_records rules.scheme.digest true base (record { path = key; value = last; taken = last } ∷ []) last path) other
             ∙ ap (λ (b : Bool). if b then Some last else base path) other

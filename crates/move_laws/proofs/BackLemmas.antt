@@ -3,14 +3,13 @@ use Rattle.std.proofs.Common.{◌≡◌, ◌^◌, ◌<◌, ◌≢◌, ◌⊎◌,
 use Rattle.std.specs.List.{IsAmong, AllPairs}
 use Rattle.std.proofs.lemmas.Bool.{false≢true}
 use Rattle.std.proofs.lemmas.Option.{same_Some}
-use Rattle.tree_keys.specs.Path.{side, is_prefix, same_path}
+use Rattle.tree_keys.specs.Path.{side, is_prefix, same_path, key_bits, IsData}
 use Rattle.tree_keys.specs.BitsLaws.{length-bits_of}
 use Rattle.tree_keys.proofs.PathLaws.{same_path-self, same_path-true, same_path-apart}
 use Rattle.tree_keys.proofs.SideLaws.{is_prefix-self}
 use Rattle.record_text.specs.declared.value.Pointer.{Pointer}
 use Rattle.record_text.specs.declared.value.Value.{Value}
 use Rattle.record_text.specs.declared.value.Value.TheVariants as values
-use Rattle.record_text.specs.Format.{Format, path_bits}
 use Rattle.record_text.specs.Texts.{value_text}
 use Rattle.record_text.specs.Value.{IsBlob, IsOf}
 use Rattle.merkle_records.specs.Merkle.{Digest, GivesDigests}
@@ -32,7 +31,7 @@ use Rattle.move_laws.proofs.WayLemmas.{AreOf, IsStep, IsWay, IsLast, whole_none,
 use Rattle.move_laws.proofs.ClosedLemmas.{Ground, kinds_behind, reached_behind, kept_behind, waits_behind, hot_waits_behind}
 use Rattle.move_laws.proofs.AboveLaws.{side-prefix-of, closed_some, different_one, above_is_kept, apart_from}
 
-module _ (format : Format) (digest : Digest) (stage : Stage) (mirrors : StageMirrors format digest stage) where
+module _ (longest : ℕ) (digest : Digest) (stage : Stage) (mirrors : StageMirrors longest digest stage) where
   abbrev shard : Shard
   shard = stage.shard
 
@@ -43,27 +42,27 @@ module _ (format : Format) (digest : Digest) (stage : Stage) (mirrors : StageMir
 
   module _ (found : HotRecord) (is_hot : IsOne (hot_records stage.places) found) where
     abbrev back : Shard
-    back = with_back format stage.shard found
+    back = with_back stage.shard found
 
     abbrev tree : Tree
-    tree = tree_of (with_back format stage.shard found)
+    tree = tree_of (with_back stage.shard found)
 
     abbrev key : List Bool
-    key = key_path format found.key
+    key = key_path found.key
 
     abbrev value : Value
     value = values.Blob found.value
 
-    whole : length (key_path format found.key) ≡ path_bits format
-    whole = length-bits_of (path_bits format) found.key
+    whole : IsData (key_path found.key)
+    whole = length-bits_of key_bits found.key
 
-    among : IsAmong (hot_paths format stage.places) (key_path format found.key)
-    among = member-among _ _ (one-member (λ r. key_path format r.key) (hot_records stage.places) found is_hot)
+    among : IsAmong (hot_paths stage.places) (key_path found.key)
+    among = member-among _ _ (one-member (λ r. key_path r.key) (hot_records stage.places) found is_hot)
 
-    pub end : tree (key_path format found.key) ≡ Some (values.Blob found.value)
+    pub end : tree (key_path found.key) ≡ Some (values.Blob found.value)
     end =
         ap (λ (b : Bool). if b then Some shard.value else with_record shard.records key value key)
-        (same_path-apart key shard.frontier (λ same. apart_from format digest stage mirrors key whole (sym same)))
+        (same_path-apart key shard.frontier (λ same. apart_from digest stage mirrors key whole (sym same)))
         ∙ ap (λ (b : Bool). if b then Some value else shard.records key) (same_path-self key)
 
     -- all others are as before
@@ -71,23 +70,23 @@ module _ (format : Format) (digest : Digest) (stage : Stage) (mirrors : StageMir
     others k apart =
         ap (λ (o : Option Value). if same_path k shard.frontier then Some shard.value else o) (ap (λ (b : Bool). if b then Some value else shard.records k) apart)
 
-    pub blob : IsBlob format found.value
-    blob = one_of-all (λ r. IsBlob format r.value) (hot_records stage.places) found mirrors.blobs is_hot
+    pub blob : IsBlob longest found.value
+    blob = one_of-all (λ r. IsBlob longest r.value) (hot_records stage.places) found mirrors.blobs is_hot
 
-    kinds : AreOf format tree
+    kinds : AreOf longest tree
     kinds path v is = go (same_path path key) refl
       where
-        go : (b : Bool) → same_path path key ≡ b → IsOf format path v
+        go : (b : Bool) → same_path path key ≡ b → IsOf longest path v
         go true same =
-            subst (λ (k : List Bool). IsOf format k v) (sym (same_path-true path key same))
-            (subst (IsOf format key) (same_Some value v (sym end ∙ (ap tree (sym (same_path-true path key same)) ∙ is))) (whole, blob))
+            subst (λ (k : List Bool). IsOf longest k v) (sym (same_path-true path key same))
+            (subst (IsOf longest key) (same_Some value v (sym end ∙ (ap tree (sym (same_path-true path key same)) ∙ is))) (whole, blob))
         go false apart = mirrors.shard.fits.kinds path v (sym (others path apart) ∙ is)
 
     -- a pointer is one from before, and the other way round
     pointer_back : (at : List Bool) (on : Bool) (pointer : Pointer) → IsPointerIn tree at on pointer → IsPointerIn old at on pointer
     pointer_back at on pointer is = record {
       value = is.value;
-      there = sym (others at (same_path-apart at key (λ same. whole_none format at is.value on pointer (kinds at is.value is.there)
+      there = sym (others at (same_path-apart at key (λ same. whole_none longest at is.value on pointer (kinds at is.value is.there)
           (ap (λ (k : List Bool). length k) same ∙ whole) is.leads))) ∙ is.there;
       leads = is.leads;
     }
@@ -95,7 +94,7 @@ module _ (format : Format) (digest : Digest) (stage : Stage) (mirrors : StageMir
     pointer_on : (at : List Bool) (on : Bool) (pointer : Pointer) → IsPointerIn old at on pointer → IsPointerIn tree at on pointer
     pointer_on at on pointer is = record {
       value = is.value;
-      there = others at (same_path-apart at key (λ same. whole_none format at is.value on pointer (mirrors.shard.fits.kinds at is.value is.there)
+      there = others at (same_path-apart at key (λ same. whole_none longest at is.value on pointer (mirrors.shard.fits.kinds at is.value is.there)
           (ap (λ (k : List Bool). length k) same ∙ whole) is.leads)) ∙ is.there;
       leads = is.leads;
     }
@@ -105,33 +104,33 @@ module _ (format : Format) (digest : Digest) (stage : Stage) (mirrors : StageMir
     reached_on k (by_pointer path on pointer reached is) = by_pointer path on pointer (reached_on path reached) (pointer_on path on pointer is)
 
     -- the pointer that waits for it
-    waiting : IsWaiting old (key_path format found.key)
+    waiting : IsWaiting old (key_path found.key)
     waiting = mirrors.shard.mirrors.hot_waits key among
 
-    last : IsLast tree (key_path format found.key) true waiting.at waiting.on waiting.pointer
+    last : IsLast tree (key_path found.key) true waiting.at waiting.on waiting.pointer
     last = record { is = pointer_on waiting.at waiting.on waiting.pointer waiting.is; to = waiting.to; deferred = waiting.deferred }
 
     reached_last : IsReached tree shard.frontier waiting.at
     reached_last = reached_on waiting.at (mirrors.shard.mirrors.reached waiting.at (ap (λ (o : Option Value). is_some o) waiting.is.there))
 
     -- the shard in which it stands, and its key
-    pub back_shard : IsShard format (with_back format stage.shard found)
+    pub back_shard : IsShard longest (with_back stage.shard found)
     back_shard = record { below_root = mirrors.shard.fits.below_root; no_data = mirrors.shard.fits.no_data; kinds = kinds }
 
-    pub back_own : IsKeyOf format (with_back format stage.shard found) (key_path format found.key)
+    pub back_own : IsKeyOf (with_back stage.shard found) (key_path found.key)
     back_own = record {
       whole = whole;
       below = ap (λ (o : Option Bool). is_some o)
-          (side-prefix-of shard.frontier waiting.at key waiting.on (reached_below format old shard.frontier waiting.at mirrors.shard.fits.kinds
+          (side-prefix-of shard.frontier waiting.at key waiting.on (reached_below longest old shard.frontier waiting.at mirrors.shard.fits.kinds
           (mirrors.shard.mirrors.reached waiting.at (ap (λ (o : Option Value). is_some o) waiting.is.there)))
-          (ap (side waiting.at) (sym waiting.to) ∙ side_in format old waiting.at waiting.on waiting.pointer mirrors.shard.fits.kinds waiting.is)).1;
+          (ap (side waiting.at) (sym waiting.to) ∙ side_in longest old waiting.at waiting.on waiting.pointer mirrors.shard.fits.kinds waiting.is)).1;
     }
 
-    module _ (links : List Link) (chain : AreLinks format stage.shard (demotes found) links) where
-      pub back_way : IsWay format tree (key_path format found.key) true shard.frontier shard.value links
+    module _ (links : List Link) (chain : AreLinks stage.shard (demotes found) links) where
+      pub back_way : IsWay longest tree (key_path found.key) true shard.frontier shard.value links
       back_way =
-          way_of format tree key true kinds value end waiting.at waiting.on waiting.pointer last shard.frontier shard.value links
-          (frontier_there (with_back format stage.shard found)) reached_last chain
+          way_of longest tree key true kinds value end waiting.at waiting.on waiting.pointer last shard.frontier shard.value links
+          (frontier_there (with_back stage.shard found)) reached_last chain
 
       back_reached : (k : List Bool) → IsSome (tree k) → IsReached tree shard.frontier k
       back_reached k there = go (same_path k key) refl
@@ -141,11 +140,11 @@ module _ (format : Format) (digest : Digest) (stage : Stage) (mirrors : StageMir
               subst (IsReached tree shard.frontier) (waiting.to ∙ sym (same_path-true k key same)) (by_pointer waiting.at waiting.on waiting.pointer reached_last last.is)
           go false apart = reached_on k (mirrors.shard.mirrors.reached k (subst (λ (o : Option Value). IsSome o) (others k apart) there))
 
-      back_ground : Ground format digest tree back.records shard.frontier shard.value (key_path format found.key) false (values.Blob found.value) links
+      back_ground : Ground longest digest tree back.records shard.frontier shard.value (key_path found.key) false (values.Blob found.value) links
       back_ground = record {
         kinds = kinds;
         whole = whole;
-        apart = apart_from format digest stage mirrors key whole;
+        apart = apart_from digest stage mirrors key whole;
         is_top = λ k. refl;
         way = back_way;
         end = end;
@@ -153,70 +152,70 @@ module _ (format : Format) (digest : Digest) (stage : Stage) (mirrors : StageMir
       }
 
       -- each pointer above is kept
-      pub back_sound : (at : List Bool) (v : Value) (link : Link) → same_path link.path (key_path format found.key) ≡ false
-          → (step : IsStep format tree (key_path format found.key) true at v link)
-          → (step.pointer.deferred ≡ false) × (step.pointer.digest ≡ digest (value_text format link.taken))
+      pub back_sound : (at : List Bool) (v : Value) (link : Link) → same_path link.path (key_path found.key) ≡ false
+          → (step : IsStep longest tree (key_path found.key) true at v link)
+          → (step.pointer.deferred ≡ false) × (step.pointer.digest ≡ digest (value_text link.taken))
       back_sound at v link apart step =
-          let kept = above_is_kept format digest stage mirrors key at step.on step.pointer whole (pointer_back at step.on step.pointer step.is_in)
+          let kept = above_is_kept digest stage mirrors key at step.on step.pointer whole (pointer_back at step.on step.pointer step.is_in)
           (ap (λ (k : List Bool). is_prefix k key) step.to ∙ step.begins)
           (λ same. false≢true (sym apart ∙ (ap (λ (k : List Bool). same_path k key) (sym step.to ∙ same) ∙ same_path-self key))) in (
             kept.0,
             kept.1.digest_of
-                ∙ ap (λ (w : Value). digest (value_text format w))
+                ∙ ap (λ (w : Value). digest (value_text w))
                 (same_Some kept.1.value link.taken (sym kept.1.there ∙ (ap old step.to ∙ (sym (others link.path apart) ∙ step.there)))),
           )
 
       -- the stage mirrors again
-      pub back_mirrors : (worker : ℕ) → GivesDigests digest → StageMirrors format digest (done_by format digest worker stage (demotes found) links)
+      pub back_mirrors : (worker : ℕ) → GivesDigests digest → StageMirrors longest digest (done_by digest worker stage (demotes found) links)
       back_mirrors worker digests = record {
         shard = record {
           fits = record {
             below_root = mirrors.shard.fits.below_root;
             no_data = mirrors.shard.fits.no_data;
-            kinds = kinds_behind format digest tree back.records shard.frontier shard.value key false value links back_ground digests;
+            kinds = kinds_behind longest digest tree back.records shard.frontier shard.value key false value links back_ground digests;
           };
           mirrors = record {
-            kept = kept_behind format digest tree back.records shard.frontier shard.value key false value links back_ground kept_before;
-            waits = waits_behind format digest tree back.records shard.frontier shard.value key false value links back_ground new_hot
+            kept = kept_behind longest digest tree back.records shard.frontier shard.value key false value links back_ground kept_before;
+            waits = waits_behind longest digest tree back.records shard.frontier shard.value key false value links back_ground new_hot
                 (λ loan. absurd (false≢true loan)) waits_before;
-            reached = reached_behind format digest tree back.records shard.frontier shard.value key false value links back_ground;
+            reached = reached_behind longest digest tree back.records shard.frontier shard.value key false value links back_ground;
             hot_waits = hot_waits_after;
             hot_keys = record { whole = λ path is. mirrors.shard.mirrors.hot_keys.whole path (was_hot path is).0; once = once };
             touched = λ path some. touched path (mirrors.shard.mirrors.touched path some);
           };
         };
-        blobs = all-replaced (λ r. IsBlob format r.value) (λ r. IsBlob format r.value) found.key vacant stage.places (λ r is other. is) tt mirrors.blobs;
-        in_range = all-replaced (λ r. r.key < 2 ^ path_bits format) (λ r. r.key < 2 ^ path_bits format) found.key vacant stage.places (λ r is other. is) tt mirrors.in_range;
+        blobs = all-replaced (λ r. IsBlob longest r.value) (λ r. IsBlob longest r.value) found.key vacant stage.places (λ r is other. is) tt mirrors.blobs;
+        in_range = all-replaced (λ r. r.key < 2 ^ key_bits) (λ r. r.key < 2 ^ key_bits) found.key vacant stage.places (λ r is other. is) tt mirrors.in_range;
       }
         where
           new_hot : List (List Bool)
-          new_hot = hot_paths format (replaced found.key vacant stage.places)
+          new_hot = hot_paths (replaced found.key vacant stage.places)
 
-          different : (r : HotRecord) → IsOne (hot_records stage.places) r → (r.key ≡ found.key → ⊥) → key_path format r.key ≢ key
-          different r is other same = go (different_one (λ one. key_path format one.key) (hot_records stage.places) r found (pairs-different _ mirrors.shard.mirrors.hot_keys.once) is is_hot)
+          different : (r : HotRecord) → IsOne (hot_records stage.places) r → (r.key ≡ found.key → ⊥) → key_path r.key ≢ key
+          different r is other same = go (different_one (λ one. key_path one.key) (hot_records stage.places) r found (pairs-different _ mirrors.shard.mirrors.hot_keys.once) is is_hot)
             where
-              go : (r ≡ found) ⊎ (key_path format r.key ≢ key) → ⊥
+              go : (r ≡ found) ⊎ (key_path r.key ≢ key) → ⊥
               go (inl one) = other (ap (λ (h : HotRecord). h.key) one)
               go (inr apart) = apart same
 
-          was_hot : (path : List Bool) → IsAmong new_hot path → IsAmong (hot_paths format stage.places) path × (path ≢ key)
+          was_hot : (path : List Bool) → IsAmong new_hot path → IsAmong (hot_paths stage.places) path × (path ≢ key)
           was_hot path is =
-              let new = member-one (λ r. key_path format r.key) (hot_records (replaced found.key vacant stage.places)) path (among-member _ path is) in
+              let new = member-one (λ r. key_path r.key) (hot_records (replaced found.key vacant stage.places)) path (among-member _ path is) in
               let was = one-vacant found.key stage.places new.0 new.1 in (
-                subst (IsAmong (hot_paths format stage.places)) (sym new.2)
-                    (member-among _ _ (one-member (λ r. key_path format r.key) (hot_records stage.places) new.0 was.0)),
+                subst (IsAmong (hot_paths stage.places)) (sym new.2)
+                    (member-among _ _ (one-member (λ r. key_path r.key) (hot_records stage.places) new.0 was.0)),
                 (λ same. different new.0 was.0 was.1 (sym new.2 ∙ same)),
               )
 
-          is_still : (path : List Bool) → IsAmong (hot_paths format stage.places) path → path ≢ key → IsAmong new_hot path
+          is_still : (path : List Bool) → IsAmong (hot_paths stage.places) path → path ≢ key → IsAmong new_hot path
           is_still path is other =
-              let was = member-one (λ r. key_path format r.key) (hot_records stage.places) path (among-member _ path is) in
+              let was = member-one (λ r. key_path r.key) (hot_records stage.places) path (among-member _ path is) in
               subst (IsAmong new_hot) (sym was.2)
-              (member-among _ _ (one-member (λ r. key_path format r.key) (hot_records (replaced found.key vacant stage.places)) was.0
-              (one-replaced found.key vacant stage.places was.0 was.1 (λ same. other (was.2 ∙ ap (key_path format) same)))))
+              (member-among _ _ (one-member (λ r. key_path r.key) (hot_records (replaced found.key vacant stage.places)) was.0
+              (one-replaced found.key vacant stage.places was.0 was.1 (λ same. other (was.2 ∙ ap key_path same)))))
 
           kept_before : (at : List Bool) (on : Bool) (pointer : Pointer) → IsPointerIn tree at on pointer → pointer.deferred ≡ false → is_prefix pointer.path key ≡ false
-              → IsKept format digest tree pointer
+              → IsKept digest tree pointer
           kept_before at on pointer is fresh aside =
               let kept = mirrors.shard.mirrors.kept at on pointer (pointer_back at on pointer is) fresh in
               record { value = kept.value; there = others pointer.path (no_key pointer.path aside) ∙ kept.there; digest_of = kept.digest_of }
@@ -231,19 +230,19 @@ module _ (format : Format) (digest : Digest) (stage : Stage) (mirrors : StageMir
               (λ same. false≢true (sym aside ∙ subst (λ (i : List Bool). is_prefix i key ≡ true) (sym same) (is_prefix-self key)))
 
           hot_waits_after : (path : List Bool) → IsAmong new_hot path
-              → IsWaiting (tree_of (done_by format digest worker stage (demotes found) links).shard) path
+              → IsWaiting (tree_of (done_by digest worker stage (demotes found) links).shard) path
           hot_waits_after path is =
               let was = was_hot path is in
               let before = mirrors.shard.mirrors.hot_waits path was.0 in
-              hot_waits_behind format digest tree back.records shard.frontier shard.value key false value links back_ground path
+              hot_waits_behind longest digest tree back.records shard.frontier shard.value key false value links back_ground path
               (mirrors.shard.mirrors.hot_keys.whole path was.0) was.1
               (record { at = before.at; on = before.on; pointer = before.pointer; is = pointer_on before.at before.on before.pointer before.is; to = before.to; deferred = before.deferred })
 
           once : AllPairs (λ a b. a ≢ b) new_hot
-          once = different-pairs _ (different-vacant (key_path format) found.key stage.places (pairs-different _ mirrors.shard.mirrors.hot_keys.once))
+          once = different-pairs _ (different-vacant key_path found.key stage.places (pairs-different _ mirrors.shard.mirrors.hot_keys.once))
 
-          touched : (path : List Bool) → IsSome (shard.records path) → IsSome (closed_records format digest false back.records links value path)
-          touched path there = closed_some format digest false back.records links value path (go (same_path path key))
+          touched : (path : List Bool) → IsSome (shard.records path) → IsSome (closed_records digest false back.records links value path)
+          touched path there = closed_some digest false back.records links value path (go (same_path path key))
             where
               go : (b : Bool) → IsSome (if b then Some value else shard.records path)
               go true = refl

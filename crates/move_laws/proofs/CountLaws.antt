@@ -2,7 +2,6 @@
 use Rattle.std.proofs.Common.{◌≡◌, ℕ, zero, suc, ◌+◌, Bool, true, false, not, List, [], ◌∷◌, ◌++◌, map, cond, if◌then◌else◌, refl, arith}
 use Rattle.std.specs.Prelude.{filter}
 use Rattle.record_text.specs.declared.element.Element.{Element}
-use Rattle.record_text.specs.Format.{Format}
 use Rattle.stamp_order.specs.InOrder.{put_in_order, in_order}
 use Rattle.soundness.specs.Permutation.{same_element, count_of}
 use Rattle.host_shard.specs.declared.content.HotRecord.{HotRecord}
@@ -22,58 +21,58 @@ count-append x [] ys = omega arith
 count-append x (y ∷ xs) ys = omega (arith, count-front x y (xs ++ ys), count-front x y xs, count-append x xs ys)
 
 -- how often the element stands among those of hot records
-abbrev pub weight : Format → Element → List HotRecord → ℕ
-weight format x records = count_of x (map (pending_hot format) records)
+abbrev pub weight : Element → List HotRecord → ℕ
+weight x records = count_of x (map pending_hot records)
 
-pub weight-front : (format : Format) (x : Element) (found : HotRecord) (records : List HotRecord)
-    → weight format x (found ∷ records) ≡ weight format x (found ∷ []) + weight format x records
-weight-front format x found records = count-front x (pending_hot format found) (map (pending_hot format) records)
+pub weight-front : (x : Element) (found : HotRecord) (records : List HotRecord)
+    → weight x (found ∷ records) ≡ weight x (found ∷ []) + weight x records
+weight-front x found records = count-front x (pending_hot found) (map pending_hot records)
 
 -- whatever the order
-weight-put : (format : Format) (x : Element) (before : HotRecord → HotRecord → Bool) (found : HotRecord) (records : List HotRecord)
-    → weight format x (put_in_order before found records) ≡ weight format x (found ∷ []) + weight format x records
-weight-put format x before found [] = omega arith
-weight-put format x before found (first ∷ records) =
-    elim (before first found) as (λ b. weight format x (cond b (first ∷ put_in_order before found records) (found ∷ first ∷ records))
-    ≡ weight format x (found ∷ []) + weight format x (first ∷ records)) [
+weight-put : (x : Element) (before : HotRecord → HotRecord → Bool) (found : HotRecord) (records : List HotRecord)
+    → weight x (put_in_order before found records) ≡ weight x (found ∷ []) + weight x records
+weight-put x before found [] = omega arith
+weight-put x before found (first ∷ records) =
+    elim (before first found) as (λ b. weight x (cond b (first ∷ put_in_order before found records) (found ∷ first ∷ records))
+    ≡ weight x (found ∷ []) + weight x (first ∷ records)) [
       | true ↦ omega (
         arith,
-        weight-front format x first (put_in_order before found records),
-        weight-front format x first records,
-        weight-put format x before found records,
+        weight-front x first (put_in_order before found records),
+        weight-front x first records,
+        weight-put x before found records,
       )
-      | false ↦ weight-front format x found (first ∷ records)
+      | false ↦ weight-front x found (first ∷ records)
     ]
 
-pub weight-order : (format : Format) (x : Element) (before : HotRecord → HotRecord → Bool) (records : List HotRecord)
-    → weight format x (in_order before records) ≡ weight format x records
-weight-order format x before [] = refl
-weight-order format x before (found ∷ records) =
+pub weight-order : (x : Element) (before : HotRecord → HotRecord → Bool) (records : List HotRecord)
+    → weight x (in_order before records) ≡ weight x records
+weight-order x before [] = refl
+weight-order x before (found ∷ records) =
     omega (
       arith,
-      weight-put format x before found (in_order before records),
-      weight-order format x before records,
-      weight-front format x found records,
+      weight-put x before found (in_order before records),
+      weight-order x before records,
+      weight-front x found records,
     )
 
 -- those that pass a test, and those that don't
-pub weight-split : (format : Format) (x : Element) (test : HotRecord → Bool) (records : List HotRecord)
-    → weight format x records ≡ weight format x (filter test records) + weight format x (filter (λ found. not (test found)) records)
-weight-split format x test [] = refl
-weight-split format x test (found ∷ records) =
-    elim (test found) as (λ b. weight format x (found ∷ records)
-    ≡ weight format x (cond b (found ∷ filter test records) (filter test records))
-    + weight format x (cond (not b) (found ∷ filter (λ other. not (test other)) records) (filter (λ other. not (test other)) records))) [
+pub weight-split : (x : Element) (test : HotRecord → Bool) (records : List HotRecord)
+    → weight x records ≡ weight x (filter test records) + weight x (filter (λ found. not (test found)) records)
+weight-split x test [] = refl
+weight-split x test (found ∷ records) =
+    elim (test found) as (λ b. weight x (found ∷ records)
+    ≡ weight x (cond b (found ∷ filter test records) (filter test records))
+    + weight x (cond (not b) (found ∷ filter (λ other. not (test other)) records) (filter (λ other. not (test other)) records))) [
       | true ↦ omega (
         arith,
-        weight-front format x found records,
-        weight-front format x found (filter test records),
-        weight-split format x test records,
+        weight-front x found records,
+        weight-front x found (filter test records),
+        weight-split x test records,
       )
       | false ↦ omega (
         arith,
-        weight-front format x found records,
-        weight-front format x found (filter (λ other. not (test other)) records),
-        weight-split format x test records,
+        weight-front x found records,
+        weight-front x found (filter (λ other. not (test other)) records),
+        weight-split x test records,
       )
     ]

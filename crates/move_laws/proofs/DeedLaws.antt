@@ -60,9 +60,9 @@ module _ (rules : Rules) (cache : Held) (old new : Stage) (commands : List Comma
       ap (λ (all : List Event). changes_in (touching path all)) (are_told number index) ∙ touching-changes path number index is.told
 
   clean : (path : List Bool) (last : LastEvicted) → IsKept last path (old.shard.records path)
-      → IsClean rules.scheme.format last path (new.shard.records path) (carried path is.told)
+      → IsClean last path (new.shard.records path) (carried path is.told)
   clean path last kept =
-      carried_clean rules.scheme.format path (old.shard.records path) (new.shard.records path) (carried path is.told) last (is.kept path) kept
+      carried_clean path (old.shard.records path) (new.shard.records path) (carried path is.told) last (is.kept path) kept
 
   -- a fact of the stamps of what carries a path's record, of the events that touch it
   of_touching : (P : Stamp → Type 0) → ((at : Stamp) → IsWithin (Some (pending_shard old.shard)) (Some (pending_shard new.shard)) at → P at)
@@ -83,7 +83,7 @@ module _ (rules : Rules) (cache : Held) (old new : Stage) (commands : List Comma
     apart = λ number index path not_below.
         ap (λ (all : List Event). touching path all) (are_told number index) ∙ untouched path number index is.told (is.own path not_below);
     clear = λ number index path last kept.
-        ap (λ (changes : List Change). first_clash rules.scheme.format last changes) (touch number index path) ∙ (clean path last kept).clear;
+        ap (λ (changes : List Change). first_clash last changes) (touch number index path) ∙ (clean path last kept).clear;
     keeps = λ number index path last kept.
         subst (λ (changes : List Change). IsKept (last_evicted_behind last changes) path (new.shard.records path)) (sym (touch number index path)) (clean path last kept).keeps;
     behind = of_touching (λ at. IsLater at old.shard.stamp) (λ at within. within.0);

@@ -4,12 +4,11 @@ use Rattle.std.specs.Prelude.{◌==◌}
 use Rattle.std.specs.List.{AllByRecursion, flat_map}
 use Rattle.std.proofs.Math.Nat.{le-max_left}
 use Rattle.std.proofs.lemmas.List.Concat.{flat_map-append}
-use Rattle.tree_keys.specs.Path.{IsBelow}
+use Rattle.tree_keys.specs.Path.{IsBelow, key_bits}
 use Rattle.lamport_clocks.specs.declared.stamp.Stamp.{Stamp}
 use Rattle.lamport_clocks.specs.Reading.{Reading}
 use Rattle.record_text.specs.declared.element.Element.{Element}
 use Rattle.record_text.specs.declared.value.Value.{Value}
-use Rattle.record_text.specs.Format.{Format, path_bits}
 use Rattle.merkle_records.specs.Merkle.{Digest, GivesDigests}
 use Rattle.verifier_cache.specs.declared.entry.Entry.{Entry}
 use Rattle.verifier_commands.specs.Change.{Change, did_add_m, did_evict_m, did_add_b, did_evict_b, did_evict_bm, did_get, did_put, did_next_epoch}
@@ -89,132 +88,132 @@ takable-on : (rules : Rules) (clock : Reading) (transfer : Transfer) (element : 
 takable-on rules clock (demotes found) element is = is
 takable-on rules clock (promotes key) element is = is
 
-clock-done : (format : Format) (digest : Digest) (worker : ℕ) (stage : Stage) (transfer : Transfer) (links : List Link)
-    → (done_by format digest worker stage transfer links).clock ≡ clock_by stage.clock transfer
-clock-done format digest worker stage (demotes found) links = refl
-clock-done format digest worker stage (promotes key) links = refl
+clock-done : (digest : Digest) (worker : ℕ) (stage : Stage) (transfer : Transfer) (links : List Link)
+    → (done_by digest worker stage transfer links).clock ≡ clock_by stage.clock transfer
+clock-done digest worker stage (demotes found) links = refl
+clock-done digest worker stage (promotes key) links = refl
 
-frontier-done : (format : Format) (digest : Digest) (worker : ℕ) (stage : Stage) (transfer : Transfer) (links : List Link)
-    → (done_by format digest worker stage transfer links).shard.frontier ≡ stage.shard.frontier
-frontier-done format digest worker stage (demotes found) links = refl
-frontier-done format digest worker stage (promotes key) links = refl
+frontier-done : (longest : ℕ) (digest : Digest) (worker : ℕ) (stage : Stage) (transfer : Transfer) (links : List Link)
+    → (done_by digest worker stage transfer links).shard.frontier ≡ stage.shard.frontier
+frontier-done longest digest worker stage (demotes found) links = refl
+frontier-done longest digest worker stage (promotes key) links = refl
 
-module _ (format : Format) (digest : Digest) (worker : ℕ) where
+module _ (longest : ℕ) (digest : Digest) (worker : ℕ) where
   abbrev next : Stage → Descent → Stage
-  next stage descent = done_by format digest worker stage descent.transfer descent.links
+  next stage descent = done_by digest worker stage descent.transfer descent.links
 
-  pub each-up : (stage : Stage) (descents : List Descent) → stage.clock.at.counter ≤ (done_by_each format digest worker stage descents).clock.at.counter
+  pub each-up : (stage : Stage) (descents : List Descent) → stage.clock.at.counter ≤ (done_by_each digest worker stage descents).clock.at.counter
   each-up stage [] = omega arith
   each-up stage (descent ∷ descents) =
       omega (
         arith,
         by-up stage.clock descent.transfer,
-        ap (λ (clock : Reading). clock.at.counter) (clock-done format digest worker stage descent.transfer descent.links),
+        ap (λ (clock : Reading). clock.at.counter) (clock-done digest worker stage descent.transfer descent.links),
         each-up (next stage descent) descents,
       )
 
-  pub each-epoch : (stage : Stage) (descents : List Descent) → (done_by_each format digest worker stage descents).clock.at.epoch ≡ stage.clock.at.epoch
+  pub each-epoch : (stage : Stage) (descents : List Descent) → (done_by_each digest worker stage descents).clock.at.epoch ≡ stage.clock.at.epoch
   each-epoch stage [] = refl
   each-epoch stage (descent ∷ descents) =
       each-epoch (next stage descent) descents
-      ∙ (ap (λ (clock : Reading). clock.at.epoch) (clock-done format digest worker stage descent.transfer descent.links) ∙ by-epoch stage.clock descent.transfer)
+      ∙ (ap (λ (clock : Reading). clock.at.epoch) (clock-done digest worker stage descent.transfer descent.links) ∙ by-epoch stage.clock descent.transfer)
 
-  pub each-first : (stage : Stage) (descents : List Descent) → (done_by_each format digest worker stage descents).clock.first ≡ stage.clock.first
+  pub each-first : (stage : Stage) (descents : List Descent) → (done_by_each digest worker stage descents).clock.first ≡ stage.clock.first
   each-first stage [] = refl
   each-first stage (descent ∷ descents) =
       each-first (next stage descent) descents
-      ∙ (ap (λ (clock : Reading). clock.first) (clock-done format digest worker stage descent.transfer descent.links) ∙ by-first stage.clock descent.transfer)
+      ∙ (ap (λ (clock : Reading). clock.first) (clock-done digest worker stage descent.transfer descent.links) ∙ by-first stage.clock descent.transfer)
 
-  pub each-end : (stage : Stage) (descents : List Descent) → (done_by_each format digest worker stage descents).clock.end ≡ stage.clock.end
+  pub each-end : (stage : Stage) (descents : List Descent) → (done_by_each digest worker stage descents).clock.end ≡ stage.clock.end
   each-end stage [] = refl
   each-end stage (descent ∷ descents) =
       each-end (next stage descent) descents
-      ∙ (ap (λ (clock : Reading). clock.end) (clock-done format digest worker stage descent.transfer descent.links) ∙ by-end stage.clock descent.transfer)
+      ∙ (ap (λ (clock : Reading). clock.end) (clock-done digest worker stage descent.transfer descent.links) ∙ by-end stage.clock descent.transfer)
 
-  pub each-frontier : (stage : Stage) (descents : List Descent) → (done_by_each format digest worker stage descents).shard.frontier ≡ stage.shard.frontier
+  pub each-frontier : (stage : Stage) (descents : List Descent) → (done_by_each digest worker stage descents).shard.frontier ≡ stage.shard.frontier
   each-frontier stage [] = refl
-  each-frontier stage (descent ∷ descents) = each-frontier (next stage descent) descents ∙ frontier-done format digest worker stage descent.transfer descent.links
+  each-frontier stage (descent ∷ descents) = each-frontier (next stage descent) descents ∙ frontier-done longest digest worker stage descent.transfer descent.links
 
   -- ---- descents that can be done
 
   -- each transfer can be done when its turn comes
   abbrev pub AreFit : Stage → List Descent → Type 0
   AreFit stage [] = Unit {0}
-  AreFit stage (descent ∷ descents) = IsFit format stage descent.transfer × AreFit (next stage descent) descents
+  AreFit stage (descent ∷ descents) = IsFit stage descent.transfer × AreFit (next stage descent) descents
 
   -- the elements that all add, and those that all evict
   abbrev pub adds_by_each : List Descent → List Element
   adds_by_each [] = []
-  adds_by_each (descent ∷ descents) = adds_by format descent.transfer ++ adds_by_each descents
+  adds_by_each (descent ∷ descents) = adds_by descent.transfer ++ adds_by_each descents
 
   abbrev pub evicts_by_each : Stage → List Descent → List Element
   evicts_by_each stage [] = []
-  evicts_by_each stage (descent ∷ descents) = evicts_by format worker stage descent.transfer descent.links ++ evicts_by_each (next stage descent) descents
+  evicts_by_each stage (descent ∷ descents) = evicts_by worker stage descent.transfer descent.links ++ evicts_by_each (next stage descent) descents
 
   -- the stage mirrors behind them
-  pub descents_mirror : (stage : Stage) (descents : List Descent) → GivesDigests digest → StageMirrors format digest stage → AreFit stage descents
-      → AreDescents format digest worker stage descents → StageMirrors format digest (done_by_each format digest worker stage descents)
+  pub descents_mirror : (stage : Stage) (descents : List Descent) → GivesDigests digest → StageMirrors longest digest stage → AreFit stage descents
+      → AreDescents digest worker stage descents → StageMirrors longest digest (done_by_each digest worker stage descents)
   descents_mirror stage [] digests mirrors fit ways = mirrors
   descents_mirror stage (descent ∷ descents) digests mirrors fit ways =
-      descents_mirror (next stage descent) descents digests (transfer_mirrors format digest worker stage descent.transfer descent.links digests mirrors fit.0 ways.0) fit.1 ways.1
+      descents_mirror (next stage descent) descents digests (transfer_mirrors longest digest worker stage descent.transfer descent.links digests mirrors fit.0 ways.0) fit.1 ways.1
 
   -- what they log is typed
-  pub descents_typed : (stage : Stage) (descents : List Descent) → GivesDigests digest → StageMirrors format digest stage → AreFit stage descents
-      → AreDescents format digest worker stage descents → AllByRecursion (IsTyped format) (commands_by_each format digest worker stage descents)
+  pub descents_typed : (stage : Stage) (descents : List Descent) → GivesDigests digest → StageMirrors longest digest stage → AreFit stage descents
+      → AreDescents digest worker stage descents → AllByRecursion (IsTyped longest) (commands_by_each digest worker stage descents)
   descents_typed stage [] digests mirrors fit ways = tt
   descents_typed stage (descent ∷ descents) digests mirrors fit ways =
-      all-append (IsTyped format) (commands_by format stage descent.transfer descent.links) _
-      (transfer_typed format digest stage descent.transfer descent.links mirrors fit.0 ways.0)
-      (descents_typed (next stage descent) descents digests (transfer_mirrors format digest worker stage descent.transfer descent.links digests mirrors fit.0 ways.0) fit.1 ways.1)
+      all-append (IsTyped longest) (commands_by stage descent.transfer descent.links) _
+      (transfer_typed longest digest stage descent.transfer descent.links mirrors fit.0 ways.0)
+      (descents_typed (next stage descent) descents digests (transfer_mirrors longest digest worker stage descent.transfer descent.links digests mirrors fit.0 ways.0) fit.1 ways.1)
 
   -- no key is hot twice
-  pub apart_by_number : (stage : Stage) → StageMirrors format digest stage → AreApart (hot_records stage.places)
-  apart_by_number stage mirrors = go (hot_records stage.places) (pairs-different (hot_paths format stage.places) mirrors.shard.mirrors.hot_keys.once)
+  pub apart_by_number : (stage : Stage) → StageMirrors longest digest stage → AreApart (hot_records stage.places)
+  apart_by_number stage mirrors = go (hot_records stage.places) (pairs-different (hot_paths stage.places) mirrors.shard.mirrors.hot_keys.once)
     where
-      go : (records : List HotRecord) → AreDifferent (map (λ (r : HotRecord). key_path format r.key) records) → AreApart records
+      go : (records : List HotRecord) → AreDifferent (map (λ (r : HotRecord). key_path r.key) records) → AreApart records
       go [] different = tt
       go (found ∷ records) different = (
-        all-map (λ r. key_path format found.key ≢ key_path format r.key) (λ r. r.key ≡ found.key → ⊥) (λ r apart same. apart (ap (key_path format) (sym same))) records
-            (all-images (λ (r : HotRecord). key_path format r.key) (λ y. key_path format found.key ≢ y) records different.0),
+        all-map (λ r. key_path found.key ≢ key_path r.key) (λ r. r.key ≡ found.key → ⊥) (λ r apart same. apart (ap key_path (sym same))) records
+            (all-images (λ (r : HotRecord). key_path r.key) (λ y. key_path found.key ≢ y) records different.0),
         go records different.1,
       )
 
   -- what waits in hot places comes in or stays, and goes out or was there
-  step-weight : (x : Element) (stage : Stage) (transfer : Transfer) (links : List Link) → StageMirrors format digest stage → IsFit format stage transfer
-      → weight format x (hot_records (done_by format digest worker stage transfer links).places) + count_of x (adds_by format transfer)
-      ≡ weight format x (hot_records stage.places) + count_of x (evicts_by format worker stage transfer links)
+  step-weight : (x : Element) (stage : Stage) (transfer : Transfer) (links : List Link) → StageMirrors longest digest stage → IsFit stage transfer
+      → weight x (hot_records (done_by digest worker stage transfer links).places) + count_of x (adds_by transfer)
+      ≡ weight x (hot_records stage.places) + count_of x (evicts_by worker stage transfer links)
   step-weight x stage (demotes found) links mirrors fit =
-      replaced-weight format x vacant stage.places found fit (apart_by_number stage mirrors)
+      replaced-weight x vacant stage.places found fit (apart_by_number stage mirrors)
   step-weight x stage (promotes key) links mirrors fit =
-      omega (arith, placed-weight format x (promoted_record worker stage key links) stage.places fit.room)
+      omega (arith, placed-weight x (promoted_record worker stage key links) stage.places fit.room)
 
-  pub descents-weight : (x : Element) (stage : Stage) (descents : List Descent) → GivesDigests digest → StageMirrors format digest stage → AreFit stage descents
-      → AreDescents format digest worker stage descents
-      → weight format x (hot_records (done_by_each format digest worker stage descents).places) + count_of x (adds_by_each descents)
-      ≡ weight format x (hot_records stage.places) + count_of x (evicts_by_each stage descents)
+  pub descents-weight : (x : Element) (stage : Stage) (descents : List Descent) → GivesDigests digest → StageMirrors longest digest stage → AreFit stage descents
+      → AreDescents digest worker stage descents
+      → weight x (hot_records (done_by_each digest worker stage descents).places) + count_of x (adds_by_each descents)
+      ≡ weight x (hot_records stage.places) + count_of x (evicts_by_each stage descents)
   descents-weight x stage [] digests mirrors fit ways = refl
   descents-weight x stage (descent ∷ descents) digests mirrors fit ways =
       omega (
         arith,
         step-weight x stage descent.transfer descent.links mirrors fit.0,
-        count-append x (adds_by format descent.transfer) (adds_by_each descents),
-        count-append x (evicts_by format worker stage descent.transfer descent.links) (evicts_by_each (next stage descent) descents),
-        descents-weight x (next stage descent) descents digests (transfer_mirrors format digest worker stage descent.transfer descent.links digests mirrors fit.0 ways.0) fit.1 ways.1,
+        count-append x (adds_by descent.transfer) (adds_by_each descents),
+        count-append x (evicts_by worker stage descent.transfer descent.links) (evicts_by_each (next stage descent) descents),
+        descents-weight x (next stage descent) descents digests (transfer_mirrors longest digest worker stage descent.transfer descent.links digests mirrors fit.0 ways.0) fit.1 ways.1,
       )
 
 -- ---- they run
 
 pub record DescentsRun (rules : Rules) (entries : List Entry) (room : ℕ) (stage : Stage) (descents : List Descent) : Type 0 where
   pub told : Told
-  pub runs : run rules (holding entries room stage) (commands_by_each rules.scheme.format rules.scheme.digest rules.number stage descents)
-      ≡ Ok (told, holding entries room (done_by_each rules.scheme.format rules.scheme.digest rules.number stage descents))
-  pub added : added_told told ≡ adds_by_each rules.scheme.format rules.scheme.digest rules.number descents
-  pub evicted : evicted_told told ≡ evicts_by_each rules.scheme.format rules.scheme.digest rules.number stage descents
+  pub runs : run rules (holding entries room stage) (commands_by_each rules.scheme.digest rules.number stage descents)
+      ≡ Ok (told, holding entries room (done_by_each rules.scheme.digest rules.number stage descents))
+  pub added : added_told told ≡ adds_by_each rules.scheme.longest rules.scheme.digest rules.number descents
+  pub evicted : evicted_told told ≡ evicts_by_each rules.scheme.longest rules.scheme.digest rules.number stage descents
   pub no_access : accesses_told told ≡ []
   pub unsealed : flat_map (λ (one : Stamp × Change). sealed_by one.1) told ≡ []
-  pub within : AllByRecursion (λ (one : Stamp × Change). IsBetween stage.clock (done_by_each rules.scheme.format rules.scheme.digest rules.number stage descents).clock one.0) told
+  pub within : AllByRecursion (λ (one : Stamp × Change). IsBetween stage.clock (done_by_each rules.scheme.digest rules.number stage descents).clock one.0) told
   pub kept : (path : List Bool) → AreCarried path (stage.shard.records path)
-      ((done_by_each rules.scheme.format rules.scheme.digest rules.number stage descents).shard.records path) (carried path told)
+      ((done_by_each rules.scheme.digest rules.number stage descents).shard.records path) (carried path told)
   pub own : (path : List Bool) → (IsBelow stage.shard.frontier path → ⊥) → carried path told ≡ []
 
 all-widen : (P Q : Stamp → Type 0) → ((at : Stamp) → P at → Q at) → (told : Told) → AllByRecursion (λ (one : Stamp × Change). P one.0) told
@@ -223,25 +222,25 @@ all-widen P Q step [] all = tt
 all-widen P Q step (one ∷ told) all = (step one.0 all.0, all-widen P Q step told all.1)
 
 module _ (rules : Rules) (entries : List Entry) (room : ℕ) (digests : GivesDigests rules.scheme.digest) (bare : IsBare entries)
-    (roomy : path_bits rules.scheme.format < room) where
-  abbrev format : Format
-  format = rules.scheme.format
+    (roomy : key_bits < room) where
+  abbrev longest : ℕ
+  longest = rules.scheme.longest
 
   abbrev digest : Digest
   digest = rules.scheme.digest
 
   abbrev after : Stage → Descent → Stage
-  after stage descent = done_by rules.scheme.format rules.scheme.digest rules.number stage descent.transfer descent.links
+  after stage descent = done_by rules.scheme.digest rules.number stage descent.transfer descent.links
 
   both_run : (stage : Stage) (descent : Descent) (descents : List Descent) → TransferRuns rules entries room stage descent.transfer descent.links
       → DescentsRun rules entries room (after stage descent) descents → DescentsRun rules entries room stage (descent ∷ descents)
   both_run stage descent descents first rest = record {
     told = first.told ++ rest.told;
-    runs = run-append rules (holding entries room stage) (commands_by format stage descent.transfer descent.links) _ first.told rest.told _ _ first.runs rest.runs;
-    added = added_told-append first.told rest.told ∙ (ap (λ (xs : List Element). xs ++ added_told rest.told) first.added ∙ ap (λ (xs : List Element). adds_by format descent.transfer ++ xs) rest.added);
+    runs = run-append rules (holding entries room stage) (commands_by stage descent.transfer descent.links) _ first.told rest.told _ _ first.runs rest.runs;
+    added = added_told-append first.told rest.told ∙ (ap (λ (xs : List Element). xs ++ added_told rest.told) first.added ∙ ap (λ (xs : List Element). adds_by descent.transfer ++ xs) rest.added);
     evicted = evicted_told-append first.told rest.told
         ∙ (ap (λ (xs : List Element). xs ++ evicted_told rest.told) first.evicted
-        ∙ ap (λ (xs : List Element). evicts_by format rules.number stage descent.transfer descent.links ++ xs) rest.evicted);
+        ∙ ap (λ (xs : List Element). evicts_by rules.number stage descent.transfer descent.links ++ xs) rest.evicted);
     no_access = accesses_told-append first.told rest.told ∙ (ap (λ (xs : List Access). xs ++ accesses_told rest.told) first.no_access ∙ rest.no_access);
     unsealed = flat_map-append (λ (one : Stamp × Change). sealed_by one.1) first.told rest.told
         ∙ (ap (λ (xs : List ℕ). xs ++ flat_map (λ (one : Stamp × Change). sealed_by one.1) rest.told) first.unsealed ∙ rest.unsealed);
@@ -249,25 +248,25 @@ module _ (rules : Rules) (entries : List Entry) (room : ℕ) (digests : GivesDig
         (all-widen (IsBetween stage.clock (clock_by stage.clock descent.transfer)) (IsBetween stage.clock last) (λ at is. (is.0, is.1, omega (arith, is.2, counter, later))) first.told first.within)
         (all-widen (IsBetween (after stage descent).clock last) (IsBetween stage.clock last)
         (λ at is. (is.0 ∙ epoch, omega (arith, is.1, counter, by-up stage.clock descent.transfer), is.2)) rest.told rest.within);
-    kept = λ path. subst (AreCarried path (stage.shard.records path) ((done_by_each format digest rules.number (after stage descent) descents).shard.records path))
+    kept = λ path. subst (AreCarried path (stage.shard.records path) ((done_by_each digest rules.number (after stage descent) descents).shard.records path))
         (sym (carried-append path first.told rest.told))
         (are_carried-append path (stage.shard.records path) ((after stage descent).shard.records path) _ (carried path first.told) (carried path rest.told) (first.kept path) (rest.kept path));
     own = λ path is. carried-append path first.told rest.told
         ∙ (ap (λ (xs : List Change). xs ++ carried path rest.told) (first.own path is)
-        ∙ rest.own path (λ below. is (subst (λ (frontier : List Bool). IsBelow frontier path) (frontier-done format digest rules.number stage descent.transfer descent.links) below)));
+        ∙ rest.own path (λ below. is (subst (λ (frontier : List Bool). IsBelow frontier path) (frontier-done longest digest rules.number stage descent.transfer descent.links) below)));
   }
     where
       last : Reading
-      last = (done_by_each rules.scheme.format rules.scheme.digest rules.number (after stage descent) descents).clock
+      last = (done_by_each rules.scheme.digest rules.number (after stage descent) descents).clock
 
       counter : (after stage descent).clock.at.counter ≡ (clock_by stage.clock descent.transfer).at.counter
-      counter = ap (λ (clock : Reading). clock.at.counter) (clock-done format digest rules.number stage descent.transfer descent.links)
+      counter = ap (λ (clock : Reading). clock.at.counter) (clock-done digest rules.number stage descent.transfer descent.links)
 
       epoch : (after stage descent).clock.at.epoch ≡ stage.clock.at.epoch
-      epoch = ap (λ (clock : Reading). clock.at.epoch) (clock-done format digest rules.number stage descent.transfer descent.links) ∙ by-epoch stage.clock descent.transfer
+      epoch = ap (λ (clock : Reading). clock.at.epoch) (clock-done digest rules.number stage descent.transfer descent.links) ∙ by-epoch stage.clock descent.transfer
 
       later : (after stage descent).clock.at.counter ≤ last.at.counter
-      later = each-up format digest rules.number (after stage descent) descents
+      later = each-up longest digest rules.number (after stage descent) descents
 
   all-takable : (clock : Reading) (transfer : Transfer) (elements : List Element) → AllByRecursion (IsTakable rules clock) elements
       → AllByRecursion (IsTakable rules (clock_by clock transfer)) elements
@@ -279,10 +278,10 @@ module _ (rules : Rules) (entries : List Entry) (room : ℕ) (digests : GivesDig
   first-part P (x ∷ xs) ys all = let rest = first-part P xs ys all.1 in ((all.0, rest.0), rest.1)
 
   -- Descents run one after another, where each can be done and the counters that they take don't pass the end.
-  pub descents_run : (stage : Stage) (descents : List Descent) → StageMirrors rules.scheme.format rules.scheme.digest stage
-      → AreFit rules.scheme.format rules.scheme.digest rules.number stage descents → AreDescents rules.scheme.format rules.scheme.digest rules.number stage descents
-      → AllByRecursion (IsTakable rules stage.clock) (adds_by_each rules.scheme.format rules.scheme.digest rules.number descents)
-      → (done_by_each rules.scheme.format rules.scheme.digest rules.number stage descents).clock.at.counter ≤ stage.clock.end
+  pub descents_run : (stage : Stage) (descents : List Descent) → StageMirrors rules.scheme.longest rules.scheme.digest stage
+      → AreFit rules.scheme.longest rules.scheme.digest rules.number stage descents → AreDescents rules.scheme.digest rules.number stage descents
+      → AllByRecursion (IsTakable rules stage.clock) (adds_by_each rules.scheme.longest rules.scheme.digest rules.number descents)
+      → (done_by_each rules.scheme.digest rules.number stage descents).clock.at.counter ≤ stage.clock.end
       → DescentsRun rules entries room stage descents
   descents_run stage [] mirrors fit ways takable within = record {
     told = [];
@@ -298,15 +297,15 @@ module _ (rules : Rules) (entries : List Entry) (room : ℕ) (digests : GivesDig
   descents_run stage (descent ∷ descents) mirrors fit ways takable within =
       both_run stage descent descents
       (transfer_runs rules entries room stage descent.transfer descent.links bare roomy mirrors fit.0
-      (record { takable = parts.0; counters = omega (arith, within, each-up format digest rules.number (after stage descent) descents, ap (λ (clock : Reading). clock.at.counter) same) }) ways.0)
-      (descents_run (after stage descent) descents (transfer_mirrors format digest rules.number stage descent.transfer descent.links digests mirrors fit.0 ways.0) fit.1 ways.1
-      (subst (λ (clock : Reading). AllByRecursion (IsTakable rules clock) (adds_by_each format digest rules.number descents)) (sym same)
-      (all-takable stage.clock descent.transfer (adds_by_each format digest rules.number descents) parts.1))
+      (record { takable = parts.0; counters = omega (arith, within, each-up longest digest rules.number (after stage descent) descents, ap (λ (clock : Reading). clock.at.counter) same) }) ways.0)
+      (descents_run (after stage descent) descents (transfer_mirrors longest digest rules.number stage descent.transfer descent.links digests mirrors fit.0 ways.0) fit.1 ways.1
+      (subst (λ (clock : Reading). AllByRecursion (IsTakable rules clock) (adds_by_each longest digest rules.number descents)) (sym same)
+      (all-takable stage.clock descent.transfer (adds_by_each longest digest rules.number descents) parts.1))
       (omega (arith, within, ap (λ (clock : Reading). clock.end) same, by-end stage.clock descent.transfer)))
     where
       same : (after stage descent).clock ≡ clock_by stage.clock descent.transfer
-      same = clock-done rules.scheme.format rules.scheme.digest rules.number stage descent.transfer descent.links
+      same = clock-done rules.scheme.digest rules.number stage descent.transfer descent.links
 
-      parts : AllByRecursion (IsTakable rules stage.clock) (adds_by rules.scheme.format descent.transfer)
-          × AllByRecursion (IsTakable rules stage.clock) (adds_by_each rules.scheme.format rules.scheme.digest rules.number descents)
-      parts = first-part (IsTakable rules stage.clock) (adds_by rules.scheme.format descent.transfer) (adds_by_each rules.scheme.format rules.scheme.digest rules.number descents) takable
+      parts : AllByRecursion (IsTakable rules stage.clock) (adds_by descent.transfer)
+          × AllByRecursion (IsTakable rules stage.clock) (adds_by_each rules.scheme.longest rules.scheme.digest rules.number descents)
+      parts = first-part (IsTakable rules stage.clock) (adds_by descent.transfer) (adds_by_each rules.scheme.longest rules.scheme.digest rules.number descents) takable

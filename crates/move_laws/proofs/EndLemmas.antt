@@ -16,7 +16,6 @@ use Rattle.record_text.specs.declared.value.Node.{Node}
 use Rattle.record_text.specs.declared.value.Value.{Value}
 use Rattle.record_text.specs.declared.value.Value.TheVariants as values
 use Rattle.record_text.specs.declared.refusal.Refusal.{Refusal}
-use Rattle.record_text.specs.Format.{Format}
 use Rattle.record_text.specs.Value.{node_side}
 use Rattle.record_text.specs.Texts.{value_text}
 use Rattle.record_text.specs.Same.{same_bytes}
@@ -105,18 +104,18 @@ kid_cleared at node after hold true = refl
 kid_cleared at node after hold false = refl
 
 -- what came in by its element leaves by its digest, where the pointer to it is deferred
-stays_under : (format : Format) (digest : Digest) (at : List Bool) (node : Node) (on : Bool) (pointer : Pointer) (path : List Bool) (value : Value) (hold : Hold)
+stays_under : (digest : Digest) (at : List Bool) (node : Node) (on : Bool) (pointer : Pointer) (path : List Bool) (value : Value) (hold : Hold)
     → side at path ≡ Some on → node_side node on ≡ Some pointer → pointer.path ≡ path → pointer.deferred ≡ true
-    → evict_under format digest (new_entry at (values.Node node) hold) (new_entry path value B)
-    ≡ Ok (new_entry at (values.Node (pointing format digest node on path value)) hold)
-stays_under format digest at node on pointer path value hold below points to deferred =
+    → evict_under digest (new_entry at (values.Node node) hold) (new_entry path value B)
+    ≡ Ok (new_entry at (values.Node (pointing digest node on path value)) hold)
+stays_under digest at node on pointer path value hold below points to deferred =
     found (above_on (side at path) (Some node)) _ _ (record { on = on; node = node }) (ap (λ (s : Option Bool). above_on s (Some node)) below)
     ∙ (passed (not (leads_to (node_side node on) path)) _ _
     (ap (λ (o : Option Pointer). not (leads_to o path)) points ∙ (ap (λ (p : List Bool). not (same_path p path)) to ∙ ap (λ (b : Bool). not b) (same_path-self path)))
     ∙ (passed (kid_of (new_entry at (values.Node node) hold) on || not (is_deferred (node_side node on))) _ _
     (ap (λ (b : Bool). b || not (is_deferred (node_side node on))) (no_kid at (values.Node node) hold on)
     ∙ (ap (λ (o : Option Pointer). not (is_deferred o)) points ∙ ap (λ (b : Bool). not b) deferred))
-    ∙ ap (λ (e : Entry). Ok e) (kid_cleared at node (after_evict format digest node on path value) hold on)))
+    ∙ ap (λ (e : Entry). Ok e) (kid_cleared at node (after_evict digest node on path value) hold on)))
 
 -- what is told of it
 abbrev pub told_back : List Bool → Hold → Node → Node → Element → Reading → Told
@@ -129,7 +128,7 @@ told_back at hold node left element later =
 pub comes_back : (rules : Rules) (at : List Bool) (hold : Hold) (node : Node) (on : Bool) (pointer : Pointer) (element : Element) (clock : Reading)
     → side at element.path ≡ Some on → node_side node on ≡ Some pointer → pointer.path ≡ element.path → pointer.deferred ≡ true
     → element.verifier < rules.verifiers → is_open clock element.stamp.epoch ≡ true → (taking clock element.stamp).at.counter ≤ clock.end
-    → let left = pointing rules.scheme.format rules.scheme.digest node on element.path element.value in
+    → let left = pointing rules.scheme.digest node on element.path element.value in
     Works rules 1 at hold (values.Node node) clock (AddB element.path element.value element.stamp element.verifier ∷ EvictM element.path at ∷ [])
     (told_back at hold node left element (taking clock element.stamp)) (values.Node left) (taking clock element.stamp)
 comes_back rules at hold node on pointer element clock below points to deferred known is_taken within front room clear roomy =
@@ -137,8 +136,8 @@ comes_back rules at hold node on pointer element clock below points to deferred 
     (standing (front ++ before ∷ []) room later child) _ _ added
     (run-one rules _ (EvictM element.path at) _ (standing front room later after) evicted)
   where
-    format : Format
-    format = rules.scheme.format
+    longest : ℕ
+    longest = rules.scheme.longest
 
     digest : Digest
     digest = rules.scheme.digest
@@ -150,7 +149,7 @@ comes_back rules at hold node on pointer element clock below points to deferred 
     child = new_entry element.path element.value B
 
     after : Entry
-    after = new_entry at (values.Node (pointing format digest node on element.path element.value)) hold
+    after = new_entry at (values.Node (pointing digest node on element.path element.value)) hold
 
     later : Reading
     later = taking clock element.stamp
@@ -186,7 +185,7 @@ comes_back rules at hold node on pointer element clock below points to deferred 
         ∙ (found (entry_of element.path ((front ++ before ∷ []) ++ child ∷ [])) _ _ child (child_found element.path (front ++ before ∷ []) child refl nothing)
         ∙ (found (entry_of at ((front ++ before ∷ []) ++ child ∷ [])) _ _ before (node_found at front before child refl (clear at (is_prefix-self at)))
         ∙ (ap (λ (r : Result Entry Refusal). and_then r (λ e. Ok (did_evict_m before e child, with_entries (standing (front ++ before ∷ []) room later child) (without element.path (replaced e ((front ++ before ∷ []) ++ child ∷ []))))))
-        (stays_under format digest at node on pointer element.path element.value hold below points to deferred)
+        (stays_under digest at node on pointer element.path element.value hold below points to deferred)
         ∙ ap (λ (entries : List Entry). Ok (did_evict_m before after child, with_entries (standing (front ++ before ∷ []) room later child) entries)) gone)))
       where
         above : same_path element.path at ≡ false
@@ -205,18 +204,18 @@ comes_back rules at hold node on pointer element clock below points to deferred 
 -- ---- a record that comes in by its digest
 
 -- it is added, where its node's pointer leads to it with the digest of its value
-pub adds_known : (format : Format) (digest : Digest) (at : List Bool) (node : Node) (on : Bool) (pointer : Pointer) (path : List Bool) (value : Value)
+pub adds_known : (digest : Digest) (at : List Bool) (node : Node) (on : Bool) (pointer : Pointer) (path : List Bool) (value : Value)
     → side at path ≡ Some on → node_side node on ≡ Some pointer → pointer.path ≡ path → pointer.deferred ≡ false
-    → pointer.digest ≡ digest (value_text format value)
-    → (hold : Hold) → add_under format digest (new_entry at (values.Node node) hold) path value
+    → pointer.digest ≡ digest (value_text value)
+    → (hold : Hold) → add_under digest (new_entry at (values.Node node) hold) path value
     ≡ Ok (record { parent = set_kid (new_entry at (values.Node node) hold) on true; child = new_entry path value M })
-adds_known format digest at node on pointer path value below points to fresh keeps hold =
+adds_known digest at node on pointer path value below points to fresh keeps hold =
     found (above_on (side at path) (Some node)) _ _ (record { on = on; node = node }) (ap (λ (s : Option Bool). above_on s (Some node)) below)
-    ∙ (ap (λ (c : AddCase). add_by format digest parent (record { on = on; node = node }) path value c) same
+    ∙ (ap (λ (c : AddCase). add_by digest parent (record { on = on; node = node }) path value c) same
     ∙ (passed (is_deferred (node_side node on)) _ _ (ap (λ (o : Option Pointer). is_deferred o) points ∙ fresh)
-    ∙ (passed (not (has_digest (node_side node on) (digest (value_text format value)))) _ _ right
+    ∙ (passed (not (has_digest (node_side node on) (digest (value_text value)))) _ _ right
     ∙ (passed (kid_of parent on) _ _ (no_kid at (values.Node node) hold on)
-    ∙ ap (λ (c : AddCase). Ok (family_of parent (record { on = on; node = node }) (added_by format digest node on path value (node_side node on) c) path None)) same))))
+    ∙ ap (λ (c : AddCase). Ok (family_of parent (record { on = on; node = node }) (added_by digest node on path value (node_side node on) c) path None)) same))))
   where
     parent : Entry
     parent = new_entry at (values.Node node) hold
@@ -227,8 +226,8 @@ adds_known format digest at node on pointer path value below points to fresh kee
         ∙ ap (λ (b : Bool). if b then cases.Same else if is_some (side path pointer.path) then cases.Split else cases.Foreign)
         (ap (λ (p : List Bool). same_path p path) to ∙ same_path-self path)
 
-    right : not (has_digest (node_side node on) (digest (value_text format value))) ≡ false
+    right : not (has_digest (node_side node on) (digest (value_text value))) ≡ false
     right =
-        ap (λ (o : Option Pointer). not (has_digest o (digest (value_text format value)))) points
-        ∙ (ap (λ (d : List ℕ). not (same_bytes d (digest (value_text format value)))) keeps
-        ∙ ap (λ (b : Bool). not b) (same_bytes-self (digest (value_text format value))))
+        ap (λ (o : Option Pointer). not (has_digest o (digest (value_text value)))) points
+        ∙ (ap (λ (d : List ℕ). not (same_bytes d (digest (value_text value)))) keeps
+        ∙ ap (λ (b : Bool). not b) (same_bytes-self (digest (value_text value))))

@@ -7,7 +7,6 @@ use Rattle.tree_keys.proofs.PathLaws.{same_path-self}
 use Rattle.lamport_clocks.specs.declared.stamp.Stamp.{Stamp}
 use Rattle.record_text.specs.declared.element.Element.{Element}
 use Rattle.record_text.specs.declared.value.Value.{Value}
-use Rattle.record_text.specs.Format.{Format}
 use Rattle.record_text.specs.Texts.{value_text}
 use Rattle.record_text.proofs.SameTestLaws.{same_bytes-self}
 use Rattle.log_codec.specs.declared.command.Command.{Command}
@@ -126,49 +125,49 @@ untouched path number index told none' = no_changes (touching path (as_events nu
 
 -- ---- records that are carried as they are kept
 
-same_text : (format : Format) (value : Value) → differing format (Some value) value ≡ None
-same_text format value =
-    ap (λ (b : Bool). if b then None else Some (value_text format value, value_text format value)) (same_bytes-self (value_text format value))
+same_text : (value : Value) → differing (Some value) value ≡ None
+same_text value =
+    ap (λ (b : Bool). if b then None else Some (value_text value, value_text value)) (same_bytes-self (value_text value))
 
 -- a record that comes in with the value that it was last evicted with doesn't clash
-no_clash : (format : Format) (last : LastEvicted) (path : List Bool) (before : Option Value) (known : Bool) (child : Entry) → child.path ≡ path
-    → IsKept last path before → (known ≡ true → before ≡ Some child.value) → clash_at format last known child ≡ None
-no_clash format last path before false child is kept brought = refl
-no_clash format last path before true child is kept brought =
+no_clash : (last : LastEvicted) (path : List Bool) (before : Option Value) (known : Bool) (child : Entry) → child.path ≡ path
+    → IsKept last path before → (known ≡ true → before ≡ Some child.value) → clash_at last known child ≡ None
+no_clash last path before false child is kept brought = refl
+no_clash last path before true child is kept brought =
     let there : last path ≡ Some child.value = subst (IsKept last path) (brought refl) kept in
-    ap (λ (value : Option Value). differing format value child.value) (ap last is ∙ there) ∙ same_text format child.value
+    ap (λ (value : Option Value). differing value child.value) (ap last is ∙ there) ∙ same_text child.value
 
 -- Records that are carried as they are kept don't clash, and leave what is kept.
-pub record IsClean (format : Format) (last : LastEvicted) (path : List Bool) (after : Option Value) (changes : List Change) : Type 0 where
-  pub clear : first_clash format last changes ≡ None
+pub record IsClean (last : LastEvicted) (path : List Bool) (after : Option Value) (changes : List Change) : Type 0 where
+  pub clear : first_clash last changes ≡ None
   pub keeps : IsKept (last_evicted_behind last changes) path after
 
-pub carried_clean : (format : Format) (path : List Bool) (before after : Option Value) (changes : List Change) (last : LastEvicted)
-    → AreCarried path before after changes → IsKept last path before → IsClean format last path after changes
-carried_clean format path before after [] last are kept = record { clear = refl; keeps = go after are }
+pub carried_clean : (path : List Bool) (before after : Option Value) (changes : List Change) (last : LastEvicted)
+    → AreCarried path before after changes → IsKept last path before → IsClean last path after changes
+carried_clean path before after [] last are kept = record { clear = refl; keeps = go after are }
   where
     go : (now : Option Value) → ((value : Value) → now ≡ Some value → before ≡ Some value) → IsKept last path now
     go None is = tt
     go (Some value) is = subst (IsKept last path) (is value refl) kept
-carried_clean format path before after (did_add_m parent middle child ∷ changes) last are kept =
-    let rest = carried_clean format path before after changes last are.1.1 kept in
+carried_clean path before after (did_add_m parent middle child ∷ changes) last are kept =
+    let rest = carried_clean path before after changes last are.1.1 kept in
     record {
-      clear = ap (λ (one : Option (List ℕ × List ℕ)). option_or one (first_clash format last changes))
-          (no_clash format last path before (is_known (above parent child.path) child.path) child are.0 kept
+      clear = ap (λ (one : Option (List ℕ × List ℕ)). option_or one (first_clash last changes))
+          (no_clash last path before (is_known (above parent child.path) child.path) child are.0 kept
           (subst (λ (k : List Bool). is_known (above parent k) k ≡ true → before ≡ Some child.value) (sym are.0) are.1.0))
           ∙ rest.clear;
       keeps = rest.keeps;
     }
-carried_clean format path before after (did_evict_m middle later gone ∷ changes) last are kept =
+carried_clean path before after (did_evict_m middle later gone ∷ changes) last are kept =
     let now : LastEvicted = with_last_evicted last gone.path gone.value in
     let here : now path ≡ Some gone.value =
     ap (λ (k : List Bool). if same_path k path then Some gone.value else last path) are.0
     ∙ ap (λ (b : Bool). if b then Some gone.value else last path) (same_path-self path) in
-    let rest = carried_clean format path (Some gone.value) after changes now are.1 here in
+    let rest = carried_clean path (Some gone.value) after changes now are.1 here in
     record { clear = rest.clear; keeps = rest.keeps }
-carried_clean format path before after (did_add_b child element ∷ changes) last are kept = absurd are
-carried_clean format path before after (did_evict_b child element ∷ changes) last are kept = absurd are
-carried_clean format path before after (did_evict_bm parent later child element ∷ changes) last are kept = absurd are
-carried_clean format path before after (did_get entry ∷ changes) last are kept = absurd are
-carried_clean format path before after (did_put old new ∷ changes) last are kept = absurd are
-carried_clean format path before after (did_next_epoch sealed ∷ changes) last are kept = absurd are
+carried_clean path before after (did_add_b child element ∷ changes) last are kept = absurd are
+carried_clean path before after (did_evict_b child element ∷ changes) last are kept = absurd are
+carried_clean path before after (did_evict_bm parent later child element ∷ changes) last are kept = absurd are
+carried_clean path before after (did_get entry ∷ changes) last are kept = absurd are
+carried_clean path before after (did_put old new ∷ changes) last are kept = absurd are
+carried_clean path before after (did_next_epoch sealed ∷ changes) last are kept = absurd are

@@ -5,12 +5,11 @@ use Rattle.std.specs.List.{AllByRecursion, AllPairs, IsAmong}
 use Rattle.std.proofs.lemmas.Bool.{false≢true}
 use Rattle.tree_keys.specs.Bits.{number_of}
 use Rattle.tree_keys.specs.BitsLaws.{number_back}
-use Rattle.tree_keys.specs.Path.{same_path}
+use Rattle.tree_keys.specs.Path.{same_path, key_bits}
 use Rattle.tree_keys.proofs.PathLaws.{same_path-apart}
 use Rattle.lamport_clocks.specs.Reading.{Reading}
 use Rattle.record_text.specs.declared.value.Value.{Value}
 use Rattle.record_text.specs.declared.value.Value.TheVariants as values
-use Rattle.record_text.specs.Format.{Format, path_bits}
 use Rattle.record_text.specs.Value.{IsBlob}
 use Rattle.merkle_records.specs.Merkle.{Digest}
 use Rattle.host_shard.specs.declared.link.Link.{Link}
@@ -38,28 +37,28 @@ use Rattle.move_laws.proofs.DescentLaws.{AreFit, apart_by_number}
 -- ---- what is known when a transfer's turn comes
 
 -- a key of the shard that isn't hot and has a record, whose touches are forgotten
-pub record IsReady (format : Format) (stage : Stage) (key : ℕ) : Type 0 where
-  pub in_range : key < 2 ^ path_bits format
-  pub own : IsKeyOf format stage.shard (key_path format key)
-  pub cold : IsAmong (hot_paths format stage.places) (key_path format key) → ⊥
-  pub there : IsSome (stage.shard.records (key_path format key))
-  pub untouched : stage.shard.touches (key_path format key) ≡ 0
+pub record IsReady (stage : Stage) (key : ℕ) : Type 0 where
+  pub in_range : key < 2 ^ key_bits
+  pub own : IsKeyOf stage.shard (key_path key)
+  pub cold : IsAmong (hot_paths stage.places) (key_path key) → ⊥
+  pub there : IsSome (stage.shard.records (key_path key))
+  pub untouched : stage.shard.touches (key_path key) ≡ 0
 
 -- These records are to come back, and these keys are to become hot.
-pub record AreReady (format : Format) (worker epoch : ℕ) (stage : Stage) (back : List HotRecord) (keys : List ℕ) : Type 0 where
+pub record AreReady (longest : ℕ) (worker epoch : ℕ) (stage : Stage) (back : List HotRecord) (keys : List ℕ) : Type 0 where
   pub there : AllByRecursion (IsOne (hot_records stage.places)) back
   pub apart : AreApart back
-  pub ready : AllByRecursion (IsReady format stage) keys
-  pub different : AreDifferent (map (key_path format) keys)
+  pub ready : AllByRecursion (IsReady stage) keys
+  pub different : AreDifferent (map key_path keys)
   pub room : length keys ≤ vacancies stage.places + length back
   pub of_epoch : stage.clock.at.epoch ≡ epoch
   pub fresh : AllByRecursion (λ found. IsFresh worker epoch found ⊎ IsOne back found) (hot_records stage.places)
 
-module _ (format : Format) (digest : Digest) (worker epoch : ℕ) where
+module _ (longest : ℕ) (digest : Digest) (worker epoch : ℕ) where
   -- once a record came back
   ready-back : (stage : Stage) (found : HotRecord) (links : List Link) (back : List HotRecord) (keys : List ℕ)
-      → AreReady format worker epoch stage (found ∷ back) keys
-      → AreReady format worker epoch (done_by format digest worker stage (demotes found) links) back keys
+      → AreReady longest worker epoch stage (found ∷ back) keys
+      → AreReady longest worker epoch (done_by digest worker stage (demotes found) links) back keys
   ready-back stage found links back keys are = record {
     there = still_there found.key vacant stage.places back are.there.1 are.apart.0;
     apart = are.apart.1;
@@ -76,41 +75,41 @@ module _ (format : Format) (digest : Digest) (worker epoch : ℕ) where
       other r (inr (inl same)) apart = absurd (apart (ap (λ (h : HotRecord). h.key) same))
       other r (inr (inr is)) apart = inr is
 
-      was_hot : (path : List Bool) → IsAmong (hot_paths format (replaced found.key vacant stage.places)) path → IsAmong (hot_paths format stage.places) path
+      was_hot : (path : List Bool) → IsAmong (hot_paths (replaced found.key vacant stage.places)) path → IsAmong (hot_paths stage.places) path
       was_hot path is =
-          let new = member-one (λ r. key_path format r.key) (hot_records (replaced found.key vacant stage.places)) path (among-member _ path is) in
-          subst (IsAmong (hot_paths format stage.places)) (sym new.2)
-          (member-among _ _ (one-member (λ r. key_path format r.key) (hot_records stage.places) new.0 (one-vacant found.key stage.places new.0 new.1).0))
+          let new = member-one (λ r. key_path r.key) (hot_records (replaced found.key vacant stage.places)) path (among-member _ path is) in
+          subst (IsAmong (hot_paths stage.places)) (sym new.2)
+          (member-among _ _ (one-member (λ r. key_path r.key) (hot_records stage.places) new.0 (one-vacant found.key stage.places new.0 new.1).0))
 
-      base_some : (path : List Bool) → IsSome (stage.shard.records path) → IsSome ((with_back format stage.shard found).records path)
-      base_some path there = go (same_path path (key_path format found.key))
+      base_some : (path : List Bool) → IsSome (stage.shard.records path) → IsSome ((with_back stage.shard found).records path)
+      base_some path there = go (same_path path (key_path found.key))
         where
           go : (b : Bool) → IsSome (if b then Some (values.Blob found.value) else stage.shard.records path)
           go true = refl
           go false = there
 
-      one : (key : ℕ) → IsReady format stage key → IsReady format (done_by format digest worker stage (demotes found) links) key
+      one : (key : ℕ) → IsReady stage key → IsReady (done_by digest worker stage (demotes found) links) key
       one key is = record {
         in_range = is.in_range;
         own = record { whole = is.own.whole; below = is.own.below };
-        cold = λ among. is.cold (was_hot (key_path format key) among);
-        there = closed_some format digest false (with_back format stage.shard found).records links (values.Blob found.value) (key_path format key)
-            (base_some (key_path format key) is.there);
+        cold = λ among. is.cold (was_hot (key_path key) among);
+        there = closed_some digest false (with_back stage.shard found).records links (values.Blob found.value) (key_path key)
+            (base_some (key_path key) is.there);
         untouched = is.untouched;
       }
 
-      all-ready : (more : List ℕ) → AllByRecursion (IsReady format stage) more
-          → AllByRecursion (IsReady format (done_by format digest worker stage (demotes found) links)) more
+      all-ready : (more : List ℕ) → AllByRecursion (IsReady stage) more
+          → AllByRecursion (IsReady (done_by digest worker stage (demotes found) links)) more
       all-ready [] all = tt
       all-ready (key ∷ more) all = (one key all.0, all-ready more all.1)
 
   -- once a key became hot
-  ready-hot : (stage : Stage) (key : ℕ) (links : List Link) (keys : List ℕ) → AreReady format worker epoch stage [] (key ∷ keys)
-      → AreReady format worker epoch (done_by format digest worker stage (promotes key) links) [] keys
+  ready-hot : (stage : Stage) (key : ℕ) (links : List Link) (keys : List ℕ) → AreReady longest worker epoch stage [] (key ∷ keys)
+      → AreReady longest worker epoch (done_by digest worker stage (promotes key) links) [] keys
   ready-hot stage key links keys are = record {
     there = tt;
     apart = tt;
-    ready = all-ready keys are.ready.1 (all-images (key_path format) (λ path. key_path format key ≢ path) keys are.different.0);
+    ready = all-ready keys are.ready.1 (all-images key_path (λ path. key_path key ≢ path) keys are.different.0);
     different = are.different.1;
     room = omega (arith, are.room, vacancies-placed new stage.places (omega (arith, are.room)));
     of_epoch = are.of_epoch;
@@ -120,45 +119,45 @@ module _ (format : Format) (digest : Digest) (worker epoch : ℕ) where
       new : HotRecord
       new = promoted_record worker stage key links
 
-      was_hot : (path : List Bool) → path ≢ key_path format key → IsAmong (hot_paths format (placed new stage.places)) path → IsAmong (hot_paths format stage.places) path
+      was_hot : (path : List Bool) → path ≢ key_path key → IsAmong (hot_paths (placed new stage.places)) path → IsAmong (hot_paths stage.places) path
       was_hot path other is = go now.0 now.1 now.2
         where
-          now : (r : HotRecord) × (IsOne (hot_records (placed new stage.places)) r) × (path ≡ key_path format r.key)
-          now = member-one (λ r. key_path format r.key) (hot_records (placed new stage.places)) path (among-member _ path is)
+          now : (r : HotRecord) × (IsOne (hot_records (placed new stage.places)) r) × (path ≡ key_path r.key)
+          now = member-one (λ r. key_path r.key) (hot_records (placed new stage.places)) path (among-member _ path is)
 
-          go : (r : HotRecord) → IsOne (hot_records (placed new stage.places)) r → path ≡ key_path format r.key → IsAmong (hot_paths format stage.places) path
+          go : (r : HotRecord) → IsOne (hot_records (placed new stage.places)) r → path ≡ key_path r.key → IsAmong (hot_paths stage.places) path
           go r one same = further (placed-one new stage.places r one)
             where
-              further : (r ≡ new) ⊎ IsOne (hot_records stage.places) r → IsAmong (hot_paths format stage.places) path
-              further (inl it) = absurd (other (same ∙ ap (λ (h : HotRecord). key_path format h.key) it))
+              further : (r ≡ new) ⊎ IsOne (hot_records stage.places) r → IsAmong (hot_paths stage.places) path
+              further (inl it) = absurd (other (same ∙ ap (λ (h : HotRecord). key_path h.key) it))
               further (inr was) =
-                  subst (IsAmong (hot_paths format stage.places)) (sym same)
-                  (member-among _ _ (one-member (λ h. key_path format h.key) (hot_records stage.places) r was))
+                  subst (IsAmong (hot_paths stage.places)) (sym same)
+                  (member-among _ _ (one-member (λ h. key_path h.key) (hot_records stage.places) r was))
 
-      one : (more : ℕ) → IsReady format stage more → key_path format key ≢ key_path format more
-          → IsReady format (done_by format digest worker stage (promotes key) links) more
+      one : (more : ℕ) → IsReady stage more → key_path key ≢ key_path more
+          → IsReady (done_by digest worker stage (promotes key) links) more
       one more is apart = record {
         in_range = is.in_range;
         own = record { whole = is.own.whole; below = is.own.below };
-        cold = λ among. is.cold (was_hot (key_path format more) (λ same. apart (sym same)) among);
-        there = subst (λ (b : Bool). IsSome (if b then None else closed (key_path format more)))
-            (sym (same_path-apart (key_path format more) (key_path format key) (λ same. apart (sym same))))
-            (closed_some format digest true stage.shard.records links (last_value stage.shard.value links) (key_path format more) is.there);
+        cold = λ among. is.cold (was_hot (key_path more) (λ same. apart (sym same)) among);
+        there = subst (λ (b : Bool). IsSome (if b then None else closed (key_path more)))
+            (sym (same_path-apart (key_path more) (key_path key) (λ same. apart (sym same))))
+            (closed_some digest true stage.shard.records links (last_value stage.shard.value links) (key_path more) is.there);
         untouched = is.untouched;
       }
         where
           closed : List Bool → Option Value
-          closed = closed_records format digest true stage.shard.records links (last_value stage.shard.value links)
+          closed = closed_records digest true stage.shard.records links (last_value stage.shard.value links)
 
-      all-ready : (more : List ℕ) → AllByRecursion (IsReady format stage) more → AllByRecursion (λ other. key_path format key ≢ key_path format other) more
-          → AllByRecursion (IsReady format (done_by format digest worker stage (promotes key) links)) more
+      all-ready : (more : List ℕ) → AllByRecursion (IsReady stage) more → AllByRecursion (λ other. key_path key ≢ key_path other) more
+          → AllByRecursion (IsReady (done_by digest worker stage (promotes key) links)) more
       all-ready [] all apart = tt
       all-ready (other ∷ more) all apart = (one other all.0 apart.0, all-ready more all.1 apart.1)
 
   -- Descents with these transfers can be done, and leave hot records of this worker and this epoch alone.
   pub record GoWell (stage : Stage) (descents : List Descent) : Type 0 where
-    pub fit : AreFit format digest worker stage descents
-    pub fresh : AllByRecursion (IsFresh worker epoch) (hot_records (done_by_each format digest worker stage descents).places)
+    pub fit : AreFit longest digest worker stage descents
+    pub fresh : AllByRecursion (IsFresh worker epoch) (hot_records (done_by_each digest worker stage descents).places)
 
   only_fresh : (records : List HotRecord) → AllByRecursion (λ found. IsFresh worker epoch found ⊎ IsOne [] found) records → AllByRecursion (IsFresh worker epoch) records
   only_fresh records all = all-map (λ found. IsFresh worker epoch found ⊎ IsOne [] found) (IsFresh worker epoch) go records all
@@ -180,17 +179,17 @@ module _ (format : Format) (digest : Digest) (worker epoch : ℕ) where
   other_transfers a b xs ys is = cc
 
   hot_go : (keys : List ℕ) (descents : List Descent) (stage : Stage) → map (λ (descent : Descent). descent.transfer) descents ≡ map promotes keys
-      → AreReady format worker epoch stage [] keys → GoWell stage descents
+      → AreReady longest worker epoch stage [] keys → GoWell stage descents
   hot_go [] [] stage is are = record { fit = tt; fresh = only_fresh (hot_records stage.places) are.fresh }
   hot_go [] (descent ∷ descents) stage is are = absurd (no_descent (sym is))
   hot_go (key ∷ keys) [] stage is are = absurd (no_descent is)
   hot_go (key ∷ keys) (descent ∷ descents) stage is are =
       let one : descent.transfer ≡ promotes key = first_transfer _ _ _ _ is in
-      let rest = hot_go keys descents (done_by format digest worker stage descent.transfer descent.links) (other_transfers _ _ _ _ is)
-      (subst (λ (e : Transfer). AreReady format worker epoch (done_by format digest worker stage e descent.links) [] keys) (sym one) (ready-hot stage key descent.links keys are)) in
+      let rest = hot_go keys descents (done_by digest worker stage descent.transfer descent.links) (other_transfers _ _ _ _ is)
+      (subst (λ (e : Transfer). AreReady longest worker epoch (done_by digest worker stage e descent.links) [] keys) (sym one) (ready-hot stage key descent.links keys are)) in
       record {
         fit = (
-          subst (IsFit format stage) (sym one) (record {
+          subst (IsFit stage) (sym one) (record {
             in_range = are.ready.0.in_range;
             own = are.ready.0.own;
             cold = are.ready.0.cold;
@@ -204,14 +203,14 @@ module _ (format : Format) (digest : Digest) (worker epoch : ℕ) where
       }
 
   pub all_go : (back : List HotRecord) (keys : List ℕ) (descents : List Descent) (stage : Stage)
-      → map (λ (descent : Descent). descent.transfer) descents ≡ map demotes back ++ map promotes keys → AreReady format worker epoch stage back keys → GoWell stage descents
+      → map (λ (descent : Descent). descent.transfer) descents ≡ map demotes back ++ map promotes keys → AreReady longest worker epoch stage back keys → GoWell stage descents
   all_go [] keys descents stage is are = hot_go keys descents stage is are
   all_go (found ∷ back) keys [] stage is are = absurd (no_descent is)
   all_go (found ∷ back) keys (descent ∷ descents) stage is are =
       let one : descent.transfer ≡ demotes found = first_transfer _ _ _ _ is in
-      let rest = all_go back keys descents (done_by format digest worker stage descent.transfer descent.links) (other_transfers _ _ _ _ is)
-      (subst (λ (e : Transfer). AreReady format worker epoch (done_by format digest worker stage e descent.links) back keys) (sym one) (ready-back stage found descent.links back keys are)) in
-      record { fit = (subst (IsFit format stage) (sym one) are.there.0, rest.fit); fresh = rest.fresh }
+      let rest = all_go back keys descents (done_by digest worker stage descent.transfer descent.links) (other_transfers _ _ _ _ is)
+      (subst (λ (e : Transfer). AreReady longest worker epoch (done_by digest worker stage e descent.links) back keys) (sym one) (ready-back stage found descent.links back keys are)) in
+      record { fit = (subst (IsFit stage) (sym one) are.there.0, rest.fit); fresh = rest.fresh }
 
 -- ---- at the beginning
 
@@ -294,47 +293,47 @@ length-front (suc n) [] = omega arith
 length-front (suc n) (x ∷ xs) = omega (arith, length-front n xs)
 
 -- keys that rise have paths that are apart
-module _ (format : Format) where
-  path_back : (a b : ℕ) → a < 2 ^ path_bits format → b < 2 ^ path_bits format → key_path format a ≡ key_path format b → a ≡ b
-  path_back a b small also same = sym (number_back (path_bits format) a small) ∙ (ap number_of same ∙ number_back (path_bits format) b also)
+module _ where
+  path_back : (a b : ℕ) → a < 2 ^ key_bits → b < 2 ^ key_bits → key_path a ≡ key_path b → a ≡ b
+  path_back a b small also same = sym (number_back key_bits a small) ∙ (ap number_of same ∙ number_back key_bits b also)
 
-  different_keys : (keys : List ℕ) → AllPairs (λ a b. a < b) keys → AllByRecursion (λ key. key < 2 ^ path_bits format) keys
-      → AreDifferent (map (key_path format) keys)
+  different_keys : (keys : List ℕ) → AllPairs (λ a b. a < b) keys → AllByRecursion (λ key. key < 2 ^ key_bits) keys
+      → AreDifferent (map key_path keys)
   different_keys [] rising small = tt
   different_keys (key ∷ keys) rising small = (
-    images-all (key_path format) (λ path. key_path format key ≢ path) keys (go keys small.1 (λ i d within. rising zero (suc i) d (omega arith) (omega (arith, within)))),
+    images-all key_path (λ path. key_path key ≢ path) keys (go keys small.1 (λ i d within. rising zero (suc i) d (omega arith) (omega (arith, within)))),
     different_keys keys (λ i j d before within. rising (suc i) (suc j) d (omega (arith, before)) (omega (arith, within))) small.1,
   )
     where
-      go : (more : List ℕ) → AllByRecursion (λ other. other < 2 ^ path_bits format) more → ((i d : ℕ) → i < length more → key < get_or more i d)
-          → AllByRecursion (λ other. key_path format key ≢ key_path format other) more
+      go : (more : List ℕ) → AllByRecursion (λ other. other < 2 ^ key_bits) more → ((i d : ℕ) → i < length more → key < get_or more i d)
+          → AllByRecursion (λ other. key_path key ≢ key_path other) more
       go [] all above = tt
       go (other ∷ more) all above = (
         (λ same. let less : key < other = above zero 0 (omega arith) in omega (arith, less, path_back key other small.0 all.0 same)),
         go more all.1 (λ i d within. above (suc i) d (omega (arith, within))),
       )
 
-  different-front : (n : ℕ) (keys : List ℕ) → AreDifferent (map (key_path format) keys) → AreDifferent (map (key_path format) (take n keys))
+  different-front : (n : ℕ) (keys : List ℕ) → AreDifferent (map key_path keys) → AreDifferent (map key_path (take n keys))
   different-front zero keys different = tt
   different-front (suc n) [] different = tt
   different-front (suc n) (key ∷ keys) different = (
-    images-all (key_path format) (λ path. key_path format key ≢ path) (take n keys)
-        (all-take (λ other. key_path format key ≢ key_path format other) n keys (all-images (key_path format) (λ path. key_path format key ≢ path) keys different.0)),
+    images-all key_path (λ path. key_path key ≢ path) (take n keys)
+        (all-take (λ other. key_path key ≢ key_path other) n keys (all-images key_path (λ path. key_path key ≢ path) keys different.0)),
     different-front n keys different.1,
   )
 
 -- the transfers of a move are ready at its beginning
-pub begun-ready : (format : Format) (digest : Digest) (worker : ℕ) (threshold : Option ℕ) (stage : Stage) (promotable : List ℕ)
-    → IfSome threshold (λ least. 0 < least) → StageMirrors format digest stage → AreApart (hot_records stage.places) → ArePromotable format stage threshold promotable
-    → AreReady format worker stage.clock.at.epoch (begun worker stage) (untouched_in stage.places)
+pub begun-ready : (longest : ℕ) (digest : Digest) (worker : ℕ) (threshold : Option ℕ) (stage : Stage) (promotable : List ℕ)
+    → IfSome threshold (λ least. 0 < least) → StageMirrors longest digest stage → AreApart (hot_records stage.places) → ArePromotable stage threshold promotable
+    → AreReady longest worker stage.clock.at.epoch (begun worker stage) (untouched_in stage.places)
     (take (vacancies stage.places + length (untouched_in stage.places)) promotable)
-begun-ready format digest worker threshold stage promotable some mirrors apart are = record {
+begun-ready longest digest worker threshold stage promotable some mirrors apart are = record {
   there = renewed-there worker stage.clock stage.places touched back (all_untouched (IsOne (hot_records stage.places)) stage.places (all-are (hot_records stage.places)))
       (touched_apart stage.places apart);
   apart = apart_untouched stage.places apart;
-  ready = all-take (IsReady format (begun worker stage)) most promotable (all-among (IsReady format (begun worker stage)) promotable (λ key is. ready key ((are.promotable key).0 is)));
-  different = different-front format most promotable (different_keys format promotable are.rising
-      (all-among (λ key. key < 2 ^ path_bits format) promotable (λ key is. small threshold key ((are.promotable key).0 is))));
+  ready = all-take (IsReady (begun worker stage)) most promotable (all-among (IsReady (begun worker stage)) promotable (λ key is. ready key ((are.promotable key).0 is)));
+  different = different-front most promotable (different_keys promotable are.rising
+      (all-among (λ key. key < 2 ^ key_bits) promotable (λ key is. small threshold key ((are.promotable key).0 is))));
   room = omega (arith, length-front most promotable, renewed-vacancies worker stage.clock stage.places touched);
   of_epoch = renewing_each-epoch stage.clock touched;
   fresh = renewed-fresh worker stage.clock stage.places touched back
@@ -351,34 +350,34 @@ begun-ready format digest worker threshold stage promotable some mirrors apart a
     most : ℕ
     most = vacancies stage.places + length (untouched_in stage.places)
 
-    same_hot : hot_paths format (begun worker stage).places ≡ hot_paths format stage.places
-    same_hot = renewed-keys (key_path format) worker stage.clock stage.places (touched_in stage.places)
+    same_hot : hot_paths (begun worker stage).places ≡ hot_paths stage.places
+    same_hot = renewed-keys key_path worker stage.clock stage.places (touched_in stage.places)
 
-    small : (least : Option ℕ) (key : ℕ) → IsPromotable format stage least key → key < 2 ^ path_bits format
+    small : (least : Option ℕ) (key : ℕ) → IsPromotable stage least key → key < 2 ^ key_bits
     small None key is = absurd is
     small (Some least) key is = is.in_range
 
-    ready : (key : ℕ) → IsPromotable format stage threshold key → IsReady format (begun worker stage) key
+    ready : (key : ℕ) → IsPromotable stage threshold key → IsReady (begun worker stage) key
     ready key is = go threshold some is
       where
-        go : (least : Option ℕ) → IfSome least (λ n. 0 < n) → IsPromotable format stage least key → IsReady format (begun worker stage) key
+        go : (least : Option ℕ) → IfSome least (λ n. 0 < n) → IsPromotable stage least key → IsReady (begun worker stage) key
         go None positive promotable' = absurd promotable'
         go (Some least) positive promotable' = record {
           in_range = promotable'.in_range;
           own = record { whole = promotable'.own.whole; below = promotable'.own.below };
-          cold = λ among. promotable'.cold (subst (λ (paths : List (List Bool)). IsAmong paths (key_path format key)) same_hot among);
-          there = mirrors.shard.mirrors.touched (key_path format key) (omega (arith, positive, promotable'.often));
+          cold = λ among. promotable'.cold (subst (λ (paths : List (List Bool)). IsAmong paths (key_path key)) same_hot among);
+          there = mirrors.shard.mirrors.touched (key_path key) (omega (arith, positive, promotable'.often));
           untouched = refl;
         }
 
 -- ---- the stage once the frontier is taken in
 
 -- it mirrors
-pub begun_mirrors : (format : Format) (digest : Digest) (worker : ℕ) (stage : Stage) → StageMirrors format digest stage → StageMirrors format digest (begun worker stage)
-begun_mirrors format digest worker stage mirrors = record {
+pub begun_mirrors : (longest : ℕ) (digest : Digest) (worker : ℕ) (stage : Stage) → StageMirrors longest digest stage → StageMirrors longest digest (begun worker stage)
+begun_mirrors longest digest worker stage mirrors = record {
   shard = record {
     fits = record { below_root = mirrors.shard.fits.below_root; no_data = mirrors.shard.fits.no_data; kinds = mirrors.shard.fits.kinds };
-    mirrors = subst (Mirrors format digest (begun worker stage).shard) (sym (renewed-keys (key_path format) worker stage.clock stage.places (touched_in stage.places)))
+    mirrors = subst (Mirrors digest (begun worker stage).shard) (sym (renewed-keys key_path worker stage.clock stage.places (touched_in stage.places)))
         (record {
           kept = mirrors.shard.mirrors.kept;
           waits = mirrors.shard.mirrors.waits;
@@ -388,25 +387,25 @@ begun_mirrors format digest worker stage mirrors = record {
           touched = λ path some. absurd (omega (arith, some));
         });
   };
-  blobs = renewed-all (λ found. IsBlob format found.value) (λ number clock found is. is) worker stage.clock stage.places (touched_in stage.places)
-      (touched_all (λ found. IsBlob format found.value) stage.places mirrors.blobs) mirrors.blobs;
-  in_range = renewed-all (λ found. found.key < 2 ^ path_bits format) (λ number clock found is. is) worker stage.clock stage.places (touched_in stage.places)
-      (touched_all (λ found. found.key < 2 ^ path_bits format) stage.places mirrors.in_range) mirrors.in_range;
+  blobs = renewed-all (λ found. IsBlob longest found.value) (λ number clock found is. is) worker stage.clock stage.places (touched_in stage.places)
+      (touched_all (λ found. IsBlob longest found.value) stage.places mirrors.blobs) mirrors.blobs;
+  in_range = renewed-all (λ found. found.key < 2 ^ key_bits) (λ number clock found is. is) worker stage.clock stage.places (touched_in stage.places)
+      (touched_all (λ found. found.key < 2 ^ key_bits) stage.places mirrors.in_range) mirrors.in_range;
 }
 
 -- What is hot behind a move was handed out in it.
-pub move_fresh : (format : Format) (digest : Digest) (worker : ℕ) (threshold : Option ℕ) (stage : Stage) (promotable : List ℕ) (descents : List Descent)
-    → IfSome threshold (λ least. 0 < least) → StageMirrors format digest stage → ArePromotable format stage threshold promotable
+pub move_fresh : (longest : ℕ) (digest : Digest) (worker : ℕ) (threshold : Option ℕ) (stage : Stage) (promotable : List ℕ) (descents : List Descent)
+    → IfSome threshold (λ least. 0 < least) → StageMirrors longest digest stage → ArePromotable stage threshold promotable
     → map (λ (descent : Descent). descent.transfer) descents ≡ transfers_of stage promotable
-    → AllByRecursion (IsFresh worker stage.clock.at.epoch) (hot_records (done_by_each format digest worker (begun worker stage) descents).places)
-move_fresh format digest worker threshold stage promotable descents some mirrors are is =
-    (all_go format digest worker stage.clock.at.epoch (untouched_in stage.places) (take (vacancies stage.places + length (untouched_in stage.places)) promotable) descents (begun worker stage)
-    is (begun-ready format digest worker threshold stage promotable some mirrors (apart_by_number format digest worker stage mirrors) are)).fresh
+    → AllByRecursion (IsFresh worker stage.clock.at.epoch) (hot_records (done_by_each digest worker (begun worker stage) descents).places)
+move_fresh longest digest worker threshold stage promotable descents some mirrors are is =
+    (all_go longest digest worker stage.clock.at.epoch (untouched_in stage.places) (take (vacancies stage.places + length (untouched_in stage.places)) promotable) descents (begun worker stage)
+    is (begun-ready longest digest worker threshold stage promotable some mirrors (apart_by_number longest digest worker stage mirrors) are)).fresh
 
 -- Descents that are the transfers of a move can be done, each when its turn comes.
-pub move_fits : (format : Format) (digest : Digest) (worker : ℕ) (threshold : Option ℕ) (stage : Stage) (promotable : List ℕ) (descents : List Descent)
-    → IfSome threshold (λ least. 0 < least) → StageMirrors format digest stage → ArePromotable format stage threshold promotable
-    → map (λ (descent : Descent). descent.transfer) descents ≡ transfers_of stage promotable → AreFit format digest worker (begun worker stage) descents
-move_fits format digest worker threshold stage promotable descents some mirrors are is =
-    (all_go format digest worker stage.clock.at.epoch (untouched_in stage.places) (take (vacancies stage.places + length (untouched_in stage.places)) promotable) descents (begun worker stage)
-    is (begun-ready format digest worker threshold stage promotable some mirrors (apart_by_number format digest worker stage mirrors) are)).fit
+pub move_fits : (longest : ℕ) (digest : Digest) (worker : ℕ) (threshold : Option ℕ) (stage : Stage) (promotable : List ℕ) (descents : List Descent)
+    → IfSome threshold (λ least. 0 < least) → StageMirrors longest digest stage → ArePromotable stage threshold promotable
+    → map (λ (descent : Descent). descent.transfer) descents ≡ transfers_of stage promotable → AreFit longest digest worker (begun worker stage) descents
+move_fits longest digest worker threshold stage promotable descents some mirrors are is =
+    (all_go longest digest worker stage.clock.at.epoch (untouched_in stage.places) (take (vacancies stage.places + length (untouched_in stage.places)) promotable) descents (begun worker stage)
+    is (begun-ready longest digest worker threshold stage promotable some mirrors (apart_by_number longest digest worker stage mirrors) are)).fit

@@ -5,13 +5,13 @@ use Rattle.std.specs.List.{AllByRecursion, flat_map}
 use Rattle.std.proofs.lemmas.Bool.{false≢true, cases_lt}
 use Rattle.std.proofs.lemmas.List.Concat.{flat_map-append}
 use Rattle.tree_keys.specs.BitsLaws.{length-bits_of}
+use Rattle.tree_keys.specs.Path.{key_bits}
 use Rattle.lamport_clocks.specs.declared.stamp.Stamp.{Stamp}
 use Rattle.lamport_clocks.specs.Reading.{Reading}
 use Rattle.lamport_clocks.specs.Stamp.{IsLater}
 use Rattle.lamport_clocks.specs.Clock.{is_open}
 use Rattle.lamport_clocks.proofs.ClockLaws.{received-above, sent-later}
 use Rattle.record_text.specs.declared.element.Element.{Element}
-use Rattle.record_text.specs.Format.{Format, path_bits}
 use Rattle.record_text.specs.Value.{IsBlob}
 use Rattle.log_codec.specs.declared.command.Command.{Command}
 use Rattle.log_codec.specs.declared.command.Command.TheVariants.{EvictB}
@@ -75,9 +75,9 @@ not_past counter end past = go (cases_lt end counter)
 -- ---- the stage once the frontier is handed out
 
 -- it mirrors
-handed_mirrors : (format : Format) (digest : Digest) (worker : ℕ) (stage : Stage) → StageMirrors format digest stage
-    → StageMirrors format digest (handed_out worker stage)
-handed_mirrors format digest worker stage mirrors = record {
+handed_mirrors : (longest : ℕ) (digest : Digest) (worker : ℕ) (stage : Stage) → StageMirrors longest digest stage
+    → StageMirrors longest digest (handed_out worker stage)
+handed_mirrors longest digest worker stage mirrors = record {
   shard = record {
     fits = record { below_root = mirrors.shard.fits.below_root; no_data = mirrors.shard.fits.no_data; kinds = mirrors.shard.fits.kinds };
     mirrors = record {
@@ -96,70 +96,70 @@ handed_mirrors format digest worker stage mirrors = record {
 -- ---- what transfers add
 
 -- those of the records that come back
-adds_back : (format : Format) (digest : Digest) (worker : ℕ) (back : List HotRecord) (keys : List ℕ) (descents : List Descent)
+adds_back : (longest : ℕ) (digest : Digest) (worker : ℕ) (back : List HotRecord) (keys : List ℕ) (descents : List Descent)
     → map (λ (descent : Descent). descent.transfer) descents ≡ map demotes back ++ map promotes keys
-    → adds_by_each format digest worker descents ≡ map (pending_hot format) back
-adds_back format digest worker back keys descents is = by_transfers descents ∙ (ap (λ (transfers : List Transfer). flat_map (adds_by format) transfers) is ∙ of_transfers back)
+    → adds_by_each longest digest worker descents ≡ map pending_hot back
+adds_back longest digest worker back keys descents is = by_transfers descents ∙ (ap (λ (transfers : List Transfer). flat_map adds_by transfers) is ∙ of_transfers back)
   where
-    by_transfers : (some : List Descent) → adds_by_each format digest worker some ≡ flat_map (adds_by format) (map (λ (descent : Descent). descent.transfer) some)
+    by_transfers : (some : List Descent) → adds_by_each longest digest worker some ≡ flat_map adds_by (map (λ (descent : Descent). descent.transfer) some)
     by_transfers [] = refl
-    by_transfers (descent ∷ some) = ap (λ (xs : List Element). adds_by format descent.transfer ++ xs) (by_transfers some)
+    by_transfers (descent ∷ some) = ap (λ (xs : List Element). adds_by descent.transfer ++ xs) (by_transfers some)
 
-    none_added : (some : List ℕ) → flat_map (adds_by format) (map promotes some) ≡ []
+    none_added : (some : List ℕ) → flat_map adds_by (map promotes some) ≡ []
     none_added [] = refl
     none_added (key ∷ some) = none_added some
 
-    of_transfers : (some : List HotRecord) → flat_map (adds_by format) (map demotes some ++ map promotes keys) ≡ map (pending_hot format) some
+    of_transfers : (some : List HotRecord) → flat_map adds_by (map demotes some ++ map promotes keys) ≡ map pending_hot some
     of_transfers [] = none_added keys
-    of_transfers (found ∷ some) = ap (λ (xs : List Element). pending_hot format found ∷ xs) (of_transfers some)
+    of_transfers (found ∷ some) = ap (λ (xs : List Element). pending_hot found ∷ xs) (of_transfers some)
 
 -- ---- a move
 
-module _ (format : Format) (digest : Digest) (worker : ℕ) (threshold : Option ℕ) (old : Stage) (promotable : List ℕ) (descents : List Descent) where
+module _ (longest : ℕ) (digest : Digest) (worker : ℕ) (threshold : Option ℕ) (old : Stage) (promotable : List ℕ) (descents : List Descent) where
   -- What is known of a move: a threshold is at least one touch, and these descents are its transfers.
   pub record IsGiven : Type 0 where
     pub digests : GivesDigests digest
     pub some : IfSome threshold (λ least. 0 < least)
-    pub mirrors : StageMirrors format digest old
-    pub are_promotable : ArePromotable format old threshold promotable
+    pub mirrors : StageMirrors longest digest old
+    pub are_promotable : ArePromotable old threshold promotable
     pub transfers : map (λ (descent : Descent). descent.transfer) descents ≡ transfers_of old promotable
-    pub ways : AreDescents format digest worker (begun worker old) descents
+    pub ways : AreDescents digest worker (begun worker old) descents
 
   module _ (given : IsGiven) where
-    pub go_well : GoWell format digest worker old.clock.at.epoch (begun worker old) descents
+    pub go_well : GoWell longest digest worker old.clock.at.epoch (begun worker old) descents
     go_well =
-        all_go format digest worker old.clock.at.epoch (untouched_in old.places) (take (vacancies old.places + length (untouched_in old.places)) promotable) descents (begun worker old)
-        given.transfers (begun-ready format digest worker threshold old promotable given.some given.mirrors (apart_by_number format digest worker old given.mirrors) given.are_promotable)
+        all_go longest digest worker old.clock.at.epoch (untouched_in old.places) (take (vacancies old.places + length (untouched_in old.places)) promotable) descents (begun worker old)
+        given.transfers (begun-ready longest digest worker threshold old promotable given.some given.mirrors (apart_by_number longest digest worker old given.mirrors) given.are_promotable)
 
-    pub begins : StageMirrors format digest (begun worker old)
-    begins = begun_mirrors format digest worker old given.mirrors
+    pub begins : StageMirrors longest digest (begun worker old)
+    begins = begun_mirrors longest digest worker old given.mirrors
 
     -- the stage mirrors again behind it
-    pub mirrors_again : StageMirrors format digest (moved format digest worker old descents)
-    mirrors_again = handed_mirrors format digest worker _ (descents_mirror format digest worker (begun worker old) descents given.digests begins go_well.fit given.ways)
+    pub mirrors_again : StageMirrors longest digest (moved digest worker old descents)
+    mirrors_again = handed_mirrors longest digest worker _ (descents_mirror longest digest worker (begun worker old) descents given.digests begins go_well.fit given.ways)
 
     -- what it logs is typed
-    pub all_typed : AllByRecursion (IsTyped format) (move_commands format digest worker old descents)
+    pub all_typed : AllByRecursion (IsTyped longest) (move_commands digest worker old descents)
     all_typed =
-        all-append (IsTyped format) (renewing_commands format old.clock (touched_in old.places)) _
-        (renewing-typed old.clock (touched_in old.places) (touched_all (λ found. IsBlob format found.value) old.places given.mirrors.blobs)) (
+        all-append (IsTyped longest) (renewing_commands old.clock (touched_in old.places)) _
+        (renewing-typed old.clock (touched_in old.places) (touched_all (λ found. IsBlob longest found.value) old.places given.mirrors.blobs)) (
           given.mirrors.shard.fits.kinds old.shard.frontier old.shard.value (frontier_there old.shard),
-          all-append (IsTyped format) _ _ (descents_typed format digest worker (begun worker old) descents given.digests begins go_well.fit given.ways) (tt, tt),
+          all-append (IsTyped longest) _ _ (descents_typed longest digest worker (begun worker old) descents given.digests begins go_well.fit given.ways) (tt, tt),
         )
       where
-        renewing-typed : (clock : Reading) (records : List HotRecord) → AllByRecursion (λ found. IsBlob format found.value) records
-            → AllByRecursion (IsTyped format) (renewing_commands format clock records)
+        renewing-typed : (clock : Reading) (records : List HotRecord) → AllByRecursion (λ found. IsBlob longest found.value) records
+            → AllByRecursion (IsTyped longest) (renewing_commands clock records)
         renewing-typed clock [] blobs = tt
         renewing-typed clock (found ∷ more) blobs =
-            ((length-bits_of (path_bits format) found.key, blobs.0), (tt, renewing-typed (renewing clock found.stamp) more blobs.1))
+            ((length-bits_of key_bits found.key, blobs.0), (tt, renewing-typed (renewing clock found.stamp) more blobs.1))
 
 -- ---- it runs
 
 module _ (rules : Rules) (cache : Held) (threshold : Option ℕ) (old : Stage) (promotable : List ℕ) (descents : List Descent)
-    (given : IsGiven rules.scheme.format rules.scheme.digest rules.number threshold old promotable descents) (can : CanMove rules cache threshold old)
-    (within : (moved rules.scheme.format rules.scheme.digest rules.number old descents).clock.at.counter ≤ old.clock.end) where
-  abbrev format : Format
-  format = rules.scheme.format
+    (given : IsGiven rules.scheme.longest rules.scheme.digest rules.number threshold old promotable descents) (can : CanMove rules cache threshold old)
+    (within : (moved rules.scheme.digest rules.number old descents).clock.at.counter ≤ old.clock.end) where
+  abbrev longest : ℕ
+  longest = rules.scheme.longest
 
   abbrev digest : Digest
   digest = rules.scheme.digest
@@ -171,10 +171,10 @@ module _ (rules : Rules) (cache : Held) (threshold : Option ℕ) (old : Stage) (
   start = begun rules.number old
 
   abbrev last : Stage
-  last = done_by_each rules.scheme.format rules.scheme.digest rules.number (begun rules.number old) descents
+  last = done_by_each rules.scheme.digest rules.number (begun rules.number old) descents
 
   abbrev new : Stage
-  new = moved rules.scheme.format rules.scheme.digest rules.number old descents
+  new = moved rules.scheme.digest rules.number old descents
 
   -- the clock once the touched hot records are renewed
   abbrev renewed : Reading
@@ -196,27 +196,27 @@ module _ (rules : Rules) (cache : Held) (threshold : Option ℕ) (old : Stage) (
   ends = renewing_each-end old.clock (touched_in old.places)
 
   last_end : last.clock.end ≡ old.clock.end
-  last_end = each-end format digest rules.number start descents ∙ ends
+  last_end = each-end longest digest rules.number start descents ∙ ends
 
   counters : (taking (renewing_each old.clock (touched_in old.places)) old.shard.stamp).at.counter ≤ last.clock.at.counter
-  counters = each-up format digest rules.number start descents
+  counters = each-up longest digest rules.number start descents
 
-  takable : AllByRecursion (λ found. IsTakable rules old.clock (pending_hot rules.scheme.format found)) (hot_records old.places)
-  takable = all-images (pending_hot format) (IsTakable rules old.clock) (hot_records old.places) can.takable.1
+  takable : AllByRecursion (λ found. IsTakable rules old.clock (pending_hot found)) (hot_records old.places)
+  takable = all-images pending_hot (IsTakable rules old.clock) (hot_records old.places) can.takable.1
 
   -- what comes back can be taken in
-  back_takable : AllByRecursion (IsTakable rules start.clock) (adds_by_each rules.scheme.format rules.scheme.digest rules.number descents)
+  back_takable : AllByRecursion (IsTakable rules start.clock) (adds_by_each rules.scheme.longest rules.scheme.digest rules.number descents)
   back_takable =
-      subst (AllByRecursion (IsTakable rules start.clock)) (sym (adds_back format digest rules.number (untouched_in old.places) _ descents given.transfers))
-      (images-all (pending_hot format) (IsTakable rules start.clock) (untouched_in old.places)
-      (all-map (λ found. IsTakable rules old.clock (pending_hot format found)) (λ found. IsTakable rules start.clock (pending_hot format found))
+      subst (AllByRecursion (IsTakable rules start.clock)) (sym (adds_back longest digest rules.number (untouched_in old.places) _ descents given.transfers))
+      (images-all pending_hot (IsTakable rules start.clock) (untouched_in old.places)
+      (all-map (λ found. IsTakable rules old.clock (pending_hot found)) (λ found. IsTakable rules start.clock (pending_hot found))
       (λ found is. (is.0, renewing_each-open old.clock touched found.stamp.epoch ∙ is.1)) (untouched_in old.places)
-      (all_untouched (λ found. IsTakable rules old.clock (pending_hot format found)) old.places takable)))
+      (all_untouched (λ found. IsTakable rules old.clock (pending_hot found)) old.places takable)))
 
   done : DescentsRun rules cache.entries cache.room (begun rules.number old) descents
   done =
-      descents_run rules cache.entries cache.room given.digests can.bare can.room start descents (begins format digest rules.number threshold old promotable descents given)
-      (go_well format digest rules.number threshold old promotable descents given).fit given.ways back_takable (omega (arith, within, ends))
+      descents_run rules cache.entries cache.room given.digests can.bare can.room start descents (begins longest digest rules.number threshold old promotable descents given)
+      (go_well longest digest rules.number threshold old promotable descents given).fit given.ways back_takable (omega (arith, within, ends))
 
   -- what is told of the move
   abbrev told_all : Told
@@ -226,62 +226,62 @@ module _ (rules : Rules) (cache : Held) (threshold : Option ℕ) (old : Stage) (
       ++ (done.told ++ told_out rules.number last.clock old.shard.frontier last.shard.value))
 
   same_frontier : last.shard.frontier ≡ old.shard.frontier
-  same_frontier = each-frontier format digest rules.number start descents
+  same_frontier = each-frontier longest digest rules.number start descents
 
   -- how often an element waits in hot places: of those that were renewed, and of those that came back and went
-  old-weight : (x : Element) → weight rules.scheme.format x (hot_records old.places)
-      ≡ weight rules.scheme.format x (touched_in old.places) + count_of x (adds_by_each rules.scheme.format rules.scheme.digest rules.number descents)
+  old-weight : (x : Element) → weight x (hot_records old.places)
+      ≡ weight x (touched_in old.places) + count_of x (adds_by_each rules.scheme.longest rules.scheme.digest rules.number descents)
   old-weight x =
       omega (
         arith,
-        weight_split format x old.places,
-        ap (λ (xs : List Element). count_of x xs) (adds_back format digest rules.number (untouched_in old.places) _ descents given.transfers),
+        weight_split x old.places,
+        ap (λ (xs : List Element). count_of x xs) (adds_back longest digest rules.number (untouched_in old.places) _ descents given.transfers),
       )
 
-  new-weight : (x : Element) → weight rules.scheme.format x (hot_records last.places)
-      ≡ weight rules.scheme.format x (renewed_each rules.number old.clock (touched_in old.places))
-      + count_of x (evicts_by_each rules.scheme.format rules.scheme.digest rules.number (begun rules.number old) descents)
+  new-weight : (x : Element) → weight x (hot_records last.places)
+      ≡ weight x (renewed_each rules.number old.clock (touched_in old.places))
+      + count_of x (evicts_by_each rules.scheme.longest rules.scheme.digest rules.number (begun rules.number old) descents)
   new-weight x =
       omega (
         arith,
-        descents-weight format digest rules.number x start descents given.digests (begins format digest rules.number threshold old promotable descents given)
-            (go_well format digest rules.number threshold old promotable descents given).fit given.ways,
-        renewed-weight format rules.number x old.clock old.places touched apart_hot
+        descents-weight longest digest rules.number x start descents given.digests (begins longest digest rules.number threshold old promotable descents given)
+            (go_well longest digest rules.number threshold old promotable descents given).fit given.ways,
+        renewed-weight rules.number x old.clock old.places touched apart_hot
             (touched_all (IsOne (hot_records old.places)) old.places (all-are (hot_records old.places))) (apart_touched old.places apart_hot),
         old-weight x,
       )
     where
       apart_hot : AreApart (hot_records old.places)
-      apart_hot = apart_by_number rules.scheme.format rules.scheme.digest rules.number old given.mirrors
+      apart_hot = apart_by_number rules.scheme.longest rules.scheme.digest rules.number old given.mirrors
 
-  added_all : (x : Element) → count_of x (added_told told_all) ≡ count_of x (waiting_in rules.scheme.format old)
+  added_all : (x : Element) → count_of x (added_told told_all) ≡ count_of x (waiting_in old)
   added_all x =
       ap (λ (xs : List Element). count_of x xs)
       (added_told-append (told_renewing rules old.clock touched) _
       ∙ (ap (λ (xs : List Element). xs ++ element ∷ added_told (done.told ++ told_out rules.number last.clock old.shard.frontier last.shard.value)) (added-renewing rules old.clock touched)
-      ∙ ap (λ (xs : List Element). map (pending_hot format) touched ++ element ∷ xs) (added_told-append done.told _ ∙ (append-nil (added_told done.told) ∙ done.added))))
+      ∙ ap (λ (xs : List Element). map pending_hot touched ++ element ∷ xs) (added_told-append done.told _ ∙ (append-nil (added_told done.told) ∙ done.added))))
       ∙ omega (
         arith,
-        count-append x (map (pending_hot format) touched) (element ∷ adds_by_each format digest rules.number descents),
-        count-front x element (adds_by_each format digest rules.number descents),
-        count-front x element (map (pending_hot format) (hot_records old.places)),
+        count-append x (map pending_hot touched) (element ∷ adds_by_each longest digest rules.number descents),
+        count-front x element (adds_by_each longest digest rules.number descents),
+        count-front x element (map pending_hot (hot_records old.places)),
         old-weight x,
       )
 
-  evicted_all : (x : Element) → count_of x (evicted_told told_all) ≡ count_of x (waiting_in rules.scheme.format new)
+  evicted_all : (x : Element) → count_of x (evicted_told told_all) ≡ count_of x (waiting_in new)
   evicted_all x =
       ap (λ (xs : List Element). count_of x xs)
       (evicted_told-append (told_renewing rules old.clock touched) _
       ∙ (ap (λ (xs : List Element). xs ++ evicted_told (done.told ++ told_out rules.number last.clock old.shard.frontier last.shard.value)) (evicted-renewing rules old.clock touched)
-      ∙ ap (λ (xs : List Element). map (pending_hot format) (renewed_each rules.number old.clock touched) ++ xs)
+      ∙ ap (λ (xs : List Element). map pending_hot (renewed_each rules.number old.clock touched) ++ xs)
       (evicted_told-append done.told _
       ∙ (ap (λ (xs : List Element). xs ++ out ∷ []) done.evicted
-      ∙ ap (λ (k : List Bool). evicts_by_each format digest rules.number start descents ++ record { path = k; value = last.shard.value; stamp = (giving last.clock).at; verifier = rules.number } ∷ []) (sym same_frontier)))))
+      ∙ ap (λ (k : List Bool). evicts_by_each longest digest rules.number start descents ++ record { path = k; value = last.shard.value; stamp = (giving last.clock).at; verifier = rules.number } ∷ []) (sym same_frontier)))))
       ∙ omega (
         arith,
-        count-append x (map (pending_hot format) (renewed_each rules.number old.clock touched)) (evicts_by_each format digest rules.number start descents ++ pending_shard new.shard ∷ []),
-        count-append x (evicts_by_each format digest rules.number start descents) (pending_shard new.shard ∷ []),
-        count-front x (pending_shard new.shard) (map (pending_hot format) (hot_records new.places)),
+        count-append x (map pending_hot (renewed_each rules.number old.clock touched)) (evicts_by_each longest digest rules.number start descents ++ pending_shard new.shard ∷ []),
+        count-append x (evicts_by_each longest digest rules.number start descents) (pending_shard new.shard ∷ []),
+        count-front x (pending_shard new.shard) (map pending_hot (hot_records new.places)),
         new-weight x,
       )
     where
@@ -311,7 +311,7 @@ module _ (rules : Rules) (cache : Held) (threshold : Option ℕ) (old : Stage) (
       from_first (inr counter) = inr (counter.0 ∙ sym is.0, omega (arith, counter.1, is.1))
 
       to_last : IsLater (giving last.clock).at at
-      to_last = inr (is.0 ∙ sym (each-epoch format digest rules.number start descents), omega (arith, is.2))
+      to_last = inr (is.0 ∙ sym (each-epoch longest digest rules.number start descents), omega (arith, is.2))
 
   within_all : (path : List Bool) → AllByRecursion
       (λ (one : Stamp × Change). carries path one.1 ≡ true → IsWithin (Some (pending_shard old.shard)) (Some (pending_shard new.shard)) one.0) told_all
@@ -326,13 +326,13 @@ module _ (rules : Rules) (cache : Held) (threshold : Option ℕ) (old : Stage) (
       each (one ∷ told) all = ((λ is. between_later one.0 all.0), each told all.1)
 
   -- A move runs.
-  pub is_run : MoveRuns rules cache old (moved rules.scheme.format rules.scheme.digest rules.number old descents)
-      (move_commands rules.scheme.format rules.scheme.digest rules.number old descents)
+  pub is_run : MoveRuns rules cache old (moved rules.scheme.digest rules.number old descents)
+      (move_commands rules.scheme.digest rules.number old descents)
   is_run = record {
     told = told_all;
     runs = run-append rules (at_stage cache old) _ _ _ _ (record { cache = cache; clock = renewed }) (at_stage cache new)
         (renewing-runs rules (at_stage cache old) touched can.bare (omega (arith, can.room, given.mirrors.shard.fits.no_data, given.mirrors.shard.fits.below_root))
-        (touched_all (λ found. IsTakable rules old.clock (pending_hot format found)) old.places takable)
+        (touched_all (λ found. IsTakable rules old.clock (pending_hot found)) old.places takable)
         (omega (arith, within, counters, ends, renewing-up renewed old.shard.stamp)))
         (run-append rules (record { cache = cache; clock = renewed }) _ _ _ _ (holding cache.entries cache.room start) (at_stage cache new)
         (takes_in rules cache.entries cache.room renewed element apart clear (omega (arith, length-bare cache.entries can.bare, can.room, given.mirrors.shard.fits.no_data, given.mirrors.shard.fits.below_root))
@@ -344,8 +344,8 @@ module _ (rules : Rules) (cache : Held) (threshold : Option ℕ) (old : Stage) (
     added = added_all;
     evicted = evicted_all;
     renewed = (
-      (refl, each-epoch format digest rules.number start descents ∙ renewing_each-epoch old.clock touched),
-      images-all (pending_hot format) (IsOfClock rules old.clock) (hot_records new.places) (go_well format digest rules.number threshold old promotable descents given).fresh,
+      (refl, each-epoch longest digest rules.number start descents ∙ renewing_each-epoch old.clock touched),
+      images-all pending_hot (IsOfClock rules old.clock) (hot_records new.places) (go_well longest digest rules.number threshold old promotable descents given).fresh,
     );
     no_access = accesses_told-append (told_renewing rules old.clock touched) _
         ∙ (ap (λ (xs : List Access). xs ++ accesses_told (done.told ++ told_out rules.number last.clock old.shard.frontier last.shard.value)) (no_access-renewing rules old.clock touched)
@@ -357,7 +357,7 @@ module _ (rules : Rules) (cache : Held) (threshold : Option ℕ) (old : Stage) (
     own = λ path is. carried_all path ∙ done.own path is;
     within = within_all;
     rises = later-trans old.shard.stamp start.clock.at new.shard.stamp first_later
-        (later_or_same start.clock.at last.clock.at (giving last.clock).at (each-epoch format digest rules.number start descents) counters last_later);
+        (later_or_same start.clock.at last.clock.at (giving last.clock).at (each-epoch longest digest rules.number start descents) counters last_later);
   }
     where
       later_or_same : (s t u : Stamp) → t.epoch ≡ s.epoch → s.counter ≤ t.counter → IsLater u t → IsLater u s
@@ -366,39 +366,39 @@ module _ (rules : Rules) (cache : Held) (threshold : Option ℕ) (old : Stage) (
 
 -- ---- the laws
 
-module _ (format : Format) (digest : Digest) (worker : ℕ) (threshold : Option ℕ) (old new : Stage) (commands : List Command)
-    (is : IsMove format digest worker threshold old commands new) (digests : GivesDigests digest) (some : IfSome threshold (λ least. 0 < least))
-    (mirrors : StageMirrors format digest old) where
-  abbrev pub move_given : IsGiven format digest worker threshold old is.promotable is.descents
+module _ (longest : ℕ) (digest : Digest) (worker : ℕ) (threshold : Option ℕ) (old new : Stage) (commands : List Command)
+    (is : IsMove digest worker threshold old commands new) (digests : GivesDigests digest) (some : IfSome threshold (λ least. 0 < least))
+    (mirrors : StageMirrors longest digest old) where
+  abbrev pub move_given : IsGiven longest digest worker threshold old is.promotable is.descents
   move_given = record { digests = digests; some = some; mirrors = mirrors; are_promotable = is.are_promotable; transfers = is.transfers; ways = is.ways }
 
 -- A verifier at rest accepts the commands of a move.
 pub move_runs : (rules : Rules) (cache : Held) (threshold : Option ℕ) (old new : Stage) (commands : List Command)
     → GivesDigests rules.scheme.digest → IfSome threshold (λ least. 0 < least) → CanMove rules cache threshold old
-    → StageMirrors rules.scheme.format rules.scheme.digest old
-    → IsMove rules.scheme.format rules.scheme.digest rules.number threshold old commands new
+    → StageMirrors rules.scheme.longest rules.scheme.digest old
+    → IsMove rules.scheme.digest rules.number threshold old commands new
     → MoveRuns rules cache old new commands
 move_runs rules cache threshold old new commands digests some can mirrors is =
     subst (λ (log : List Command). MoveRuns rules cache old new log) (sym is.commands)
-    (subst (λ (stage : Stage). MoveRuns rules cache old stage (move_commands rules.scheme.format rules.scheme.digest rules.number old is.descents)) (sym is.after)
+    (subst (λ (stage : Stage). MoveRuns rules cache old stage (move_commands rules.scheme.digest rules.number old is.descents)) (sym is.after)
     (is_run rules cache threshold old is.promotable is.descents
-    (move_given rules.scheme.format rules.scheme.digest rules.number threshold old new commands is digests some mirrors) can
+    (move_given rules.scheme.longest rules.scheme.digest rules.number threshold old new commands is digests some mirrors) can
     (subst (λ (stage : Stage). stage.clock.at.counter ≤ old.clock.end) is.after
-    (subst (λ (clock : Reading). clock.at.counter ≤ old.clock.end) (sym (move_clock _ _ rules.number threshold old new commands is))
+    (subst (λ (clock : Reading). clock.at.counter ≤ old.clock.end) (sym (move_clock _ rules.number threshold old new commands is))
     (not_past (clock_needed old is.promotable).at.counter old.clock.end (λ over. can.counters (record { promotable = is.promotable; are_promotable = is.are_promotable; past = over })))))))
 
 -- The stage mirrors again behind it.
-pub move_mirrors : (format : Format) (digest : Digest) (worker : ℕ) (threshold : Option ℕ) (old new : Stage) (commands : List Command)
-    → GivesDigests digest → IfSome threshold (λ least. 0 < least) → StageMirrors format digest old
-    → IsMove format digest worker threshold old commands new → StageMirrors format digest new
-move_mirrors format digest worker threshold old new commands digests some mirrors is =
-    subst (StageMirrors format digest) (sym is.after)
-    (mirrors_again format digest worker threshold old is.promotable is.descents (move_given format digest worker threshold old new commands is digests some mirrors))
+pub move_mirrors : (longest : ℕ) (digest : Digest) (worker : ℕ) (threshold : Option ℕ) (old new : Stage) (commands : List Command)
+    → GivesDigests digest → IfSome threshold (λ least. 0 < least) → StageMirrors longest digest old
+    → IsMove digest worker threshold old commands new → StageMirrors longest digest new
+move_mirrors longest digest worker threshold old new commands digests some mirrors is =
+    subst (StageMirrors longest digest) (sym is.after)
+    (mirrors_again longest digest worker threshold old is.promotable is.descents (move_given longest digest worker threshold old new commands is digests some mirrors))
 
 -- The values that its commands bring in are of their paths' kinds.
-pub move_typed : (format : Format) (digest : Digest) (worker : ℕ) (threshold : Option ℕ) (old new : Stage) (commands : List Command)
-    → GivesDigests digest → IfSome threshold (λ least. 0 < least) → StageMirrors format digest old
-    → IsMove format digest worker threshold old commands new → AllByRecursion (IsTyped format) commands
-move_typed format digest worker threshold old new commands digests some mirrors is =
-    subst (AllByRecursion (IsTyped format)) (sym is.commands)
-    (all_typed format digest worker threshold old is.promotable is.descents (move_given format digest worker threshold old new commands is digests some mirrors))
+pub move_typed : (longest : ℕ) (digest : Digest) (worker : ℕ) (threshold : Option ℕ) (old new : Stage) (commands : List Command)
+    → GivesDigests digest → IfSome threshold (λ least. 0 < least) → StageMirrors longest digest old
+    → IsMove digest worker threshold old commands new → AllByRecursion (IsTyped longest) commands
+move_typed longest digest worker threshold old new commands digests some mirrors is =
+    subst (AllByRecursion (IsTyped longest)) (sym is.commands)
+    (all_typed longest digest worker threshold old is.promotable is.descents (move_given longest digest worker threshold old new commands is digests some mirrors))

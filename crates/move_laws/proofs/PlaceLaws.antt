@@ -4,7 +4,6 @@ use Rattle.std.specs.Prelude.{◌==◌, filter}
 use Rattle.std.specs.List.{AllByRecursion}
 use Rattle.std.proofs.lemmas.Bool.{ne_eqb, eqb-true, eqb-false}
 use Rattle.record_text.specs.declared.element.Element.{Element}
-use Rattle.record_text.specs.Format.{Format}
 use Rattle.stamp_order.specs.InOrder.{put_in_order, in_order}
 use Rattle.host_shard.specs.declared.content.HotRecord.{HotRecord}
 use Rattle.host_shard.specs.Content.{Content, cold, hot, vacant}
@@ -88,39 +87,39 @@ records-front (cold shard) places = refl
 records-front (hot found) places = refl
 records-front vacant places = refl
 
-weight-content : (format : Format) (x : Element) (now : Content) (places : List Content)
-    → weight format x (hot_records (now ∷ places)) ≡ weight format x (hot_records (now ∷ [])) + weight format x (hot_records places)
-weight-content format x (cold shard) places = omega arith
-weight-content format x (hot found) places = weight-front format x found (hot_records places)
-weight-content format x vacant places = omega arith
+weight-content : (x : Element) (now : Content) (places : List Content)
+    → weight x (hot_records (now ∷ places)) ≡ weight x (hot_records (now ∷ [])) + weight x (hot_records places)
+weight-content x (cold shard) places = omega arith
+weight-content x (hot found) places = weight-front x found (hot_records places)
+weight-content x vacant places = omega arith
 
 -- Where a hot record's place changes, its element goes, and those of the new content come.
-pub replaced-weight : (format : Format) (x : Element) (now : Content) (places : List Content) (found : HotRecord)
+pub replaced-weight : (x : Element) (now : Content) (places : List Content) (found : HotRecord)
     → IsOne (hot_records places) found → AreApart (hot_records places)
-    → weight format x (hot_records (replaced found.key now places)) + weight format x (found ∷ [])
-    ≡ weight format x (hot_records places) + weight format x (hot_records (now ∷ []))
-replaced-weight format x now [] found is apart = absurd is
-replaced-weight format x now (cold shard ∷ places) found is apart = replaced-weight format x now places found is apart
-replaced-weight format x now (vacant ∷ places) found is apart = replaced-weight format x now places found is apart
-replaced-weight format x now (hot first ∷ places) found (inl same) apart =
-    ap (λ (b : Bool). weight format x (hot_records ((if b then now else hot first) ∷ replaced found.key now places)) + weight format x (found ∷ []))
+    → weight x (hot_records (replaced found.key now places)) + weight x (found ∷ [])
+    ≡ weight x (hot_records places) + weight x (hot_records (now ∷ []))
+replaced-weight x now [] found is apart = absurd is
+replaced-weight x now (cold shard ∷ places) found is apart = replaced-weight x now places found is apart
+replaced-weight x now (vacant ∷ places) found is apart = replaced-weight x now places found is apart
+replaced-weight x now (hot first ∷ places) found (inl same) apart =
+    ap (λ (b : Bool). weight x (hot_records ((if b then now else hot first) ∷ replaced found.key now places)) + weight x (found ∷ []))
     (eq-eqb first.key found.key (ap (λ (r : HotRecord). r.key) (sym same)))
-    ∙ (ap (λ (rest : List Content). weight format x (hot_records (now ∷ rest)) + weight format x (found ∷ []))
+    ∙ (ap (λ (rest : List Content). weight x (hot_records (now ∷ rest)) + weight x (found ∷ []))
     (replaced-none found.key now places (subst (λ (r : HotRecord). HasNone r.key (hot_records places)) (sym same) apart.0))
     ∙ omega (
       arith,
-      weight-content format x now places,
-      weight-front format x first (hot_records places),
-      ap (λ (r : HotRecord). weight format x (r ∷ [])) same,
+      weight-content x now places,
+      weight-front x first (hot_records places),
+      ap (λ (r : HotRecord). weight x (r ∷ [])) same,
     ))
-replaced-weight format x now (hot first ∷ places) found (inr is) apart =
-    ap (λ (b : Bool). weight format x (hot_records ((if b then now else hot first) ∷ replaced found.key now places)) + weight format x (found ∷ []))
+replaced-weight x now (hot first ∷ places) found (inr is) apart =
+    ap (λ (b : Bool). weight x (hot_records ((if b then now else hot first) ∷ replaced found.key now places)) + weight x (found ∷ []))
     (ne_eqb first.key found.key (λ same. one_of-all (λ r. r.key ≡ first.key → ⊥) (hot_records places) found apart.0 is (sym same)))
     ∙ omega (
       arith,
-      weight-front format x first (hot_records (replaced found.key now places)),
-      weight-front format x first (hot_records places),
-      replaced-weight format x now places found is apart.1,
+      weight-front x first (hot_records (replaced found.key now places)),
+      weight-front x first (hot_records places),
+      replaced-weight x now places found is apart.1,
     )
 
 -- A record of the same key in its place: what the keys say stays.

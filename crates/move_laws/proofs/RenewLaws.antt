@@ -2,6 +2,7 @@
 use Rattle.std.proofs.Common.{◌≡◌, ◌⊎◌, ℕ, ◌+◌, ◌*◌, ◌<◌, ◌≤◌, Bool, true, false, List, [], ◌∷◌, ◌++◌, map, length, Ok, refl, ◌∙◌, ap, inl, inr, arith}
 use Rattle.std.specs.Int.{Width, w8, w16, w32, w64, w128, byte_len}
 use Rattle.std.specs.List.{AllByRecursion, flat_map}
+use Rattle.tree_keys.specs.Path.{key_bits}
 use Rattle.soundness.specs.Certified.{sealed_by}
 use Rattle.std.proofs.lemmas.Bool.{false≢true}
 use Rattle.tree_keys.specs.BitsLaws.{length-bits_of}
@@ -9,7 +10,6 @@ use Rattle.lamport_clocks.specs.declared.stamp.Stamp.{Stamp}
 use Rattle.lamport_clocks.specs.Reading.{Reading}
 use Rattle.record_text.specs.declared.element.Element.{Element}
 use Rattle.record_text.specs.declared.value.Value.TheVariants as values
-use Rattle.record_text.specs.Format.{Format, path_bits}
 use Rattle.verifier_cache.specs.declared.entry.Hold.TheVariants.{B}
 use Rattle.verifier_commands.specs.declared.state.State.{State}
 use Rattle.verifier_commands.specs.Change.{Change}
@@ -45,8 +45,8 @@ some_bits w64 = omega arith
 some_bits w128 = omega arith
 
 -- a key isn't the root
-pub key_apart : (format : Format) (key : ℕ) → is_root (key_path format key) ≡ false
-key_apart format key = not_root (key_path format key) (omega (arith, length-bits_of (path_bits format) key, some_bits format.word))
+pub key_apart : (key : ℕ) → is_root (key_path key) ≡ false
+key_apart key = not_root (key_path key) (omega (arith, length-bits_of key_bits key, some_bits w64))
 
 -- ---- at the verifier
 
@@ -54,19 +54,19 @@ key_apart format key = not_root (key_path format key) (omega (arith, length-bits
 abbrev pub told_renewing : Rules → Reading → List HotRecord → Told
 told_renewing rules clock [] = []
 told_renewing rules clock (found ∷ more) =
-    told_between rules (pending_hot rules.scheme.format found) (values.Blob found.value) clock [] ++ told_renewing rules (renewing clock found.stamp) more
+    told_between rules (pending_hot found) (values.Blob found.value) clock [] ++ told_renewing rules (renewing clock found.stamp) more
 
 -- A verifier at rest accepts it.
 pub renewing-runs : (rules : Rules) (state : State) (records : List HotRecord) → IsBare state.cache.entries → 1 < state.cache.room
-    → AllByRecursion (λ found. IsTakable rules state.clock (pending_hot rules.scheme.format found)) records
+    → AllByRecursion (λ found. IsTakable rules state.clock (pending_hot found)) records
     → (renewing_each state.clock records).at.counter ≤ state.clock.end
-    → run rules state (renewing_commands rules.scheme.format state.clock records)
+    → run rules state (renewing_commands state.clock records)
     ≡ Ok (told_renewing rules state.clock records, record state { clock = renewing_each state.clock records })
 renewing-runs rules state [] bare room takable within = run-none rules state
 renewing-runs rules state (found ∷ more) bare room takable within =
     run-append rules state _ _ _ _ (record state { clock = renewing state.clock found.stamp }) _
-    (between_runs rules state (pending_hot rules.scheme.format found) 0 [] [] (values.Blob found.value)
-    (key_apart rules.scheme.format found.key) (clear-bare state.cache.entries _ bare (key_apart rules.scheme.format found.key))
+    (between_runs rules state (pending_hot found) 0 [] [] (values.Blob found.value)
+    (key_apart found.key) (clear-bare state.cache.entries _ bare (key_apart found.key))
     (omega (arith, length-bare state.cache.entries bare)) takable.0.0 takable.0.1
     (omega (arith, renewing_each-up (renewing state.clock found.stamp) more))
     (works-none rules 0 _ B _ _))
@@ -78,16 +78,16 @@ renewed_each worker clock [] = []
 renewed_each worker clock (found ∷ more) = renewed_record worker clock found ∷ renewed_each worker (renewing clock found.stamp) more
 
 pub added-renewing : (rules : Rules) (clock : Reading) (records : List HotRecord)
-    → added_told (told_renewing rules clock records) ≡ map (pending_hot rules.scheme.format) records
+    → added_told (told_renewing rules clock records) ≡ map pending_hot records
 added-renewing rules clock [] = refl
 added-renewing rules clock (found ∷ more) =
-    ap (λ (xs : List Element). pending_hot rules.scheme.format found ∷ xs) (added-renewing rules (renewing clock found.stamp) more)
+    ap (λ (xs : List Element). pending_hot found ∷ xs) (added-renewing rules (renewing clock found.stamp) more)
 
 pub evicted-renewing : (rules : Rules) (clock : Reading) (records : List HotRecord)
-    → evicted_told (told_renewing rules clock records) ≡ map (pending_hot rules.scheme.format) (renewed_each rules.number clock records)
+    → evicted_told (told_renewing rules clock records) ≡ map pending_hot (renewed_each rules.number clock records)
 evicted-renewing rules clock [] = refl
 evicted-renewing rules clock (found ∷ more) =
-    ap (λ (xs : List Element). pending_hot rules.scheme.format (renewed_record rules.number clock found) ∷ xs)
+    ap (λ (xs : List Element). pending_hot (renewed_record rules.number clock found) ∷ xs)
     (evicted-renewing rules (renewing clock found.stamp) more)
 
 pub no_access-renewing : (rules : Rules) (clock : Reading) (records : List HotRecord) → accesses_told (told_renewing rules clock records) ≡ []
@@ -125,20 +125,20 @@ still_there key now places records there others =
     (λ found is other. one-replaced key now places found is other) records there others
 
 -- The elements of the renewed records come in the place of theirs.
-pub renewed-weight : (format : Format) (worker : ℕ) (x : Element) (clock : Reading) (places : List Content) (records : List HotRecord)
+pub renewed-weight : (worker : ℕ) (x : Element) (clock : Reading) (places : List Content) (records : List HotRecord)
     → AreApart (hot_records places) → AllByRecursion (IsOne (hot_records places)) records → AreApart records
-    → weight format x (hot_records (renewed_places worker clock places records)) + weight format x records
-    ≡ weight format x (hot_records places) + weight format x (renewed_each worker clock records)
-renewed-weight format worker x clock places [] apart there distinct = refl
-renewed-weight format worker x clock places (found ∷ more) apart there distinct =
+    → weight x (hot_records (renewed_places worker clock places records)) + weight x records
+    ≡ weight x (hot_records places) + weight x (renewed_each worker clock records)
+renewed-weight worker x clock places [] apart there distinct = refl
+renewed-weight worker x clock places (found ∷ more) apart there distinct =
     let new = renewed_record worker clock found in
     omega (
       arith,
-      replaced-weight format x (hot new) places found there.0 apart,
-      renewed-weight format worker x (renewing clock found.stamp) (replaced found.key (hot new) places) more (apart-replaced new places apart)
+      replaced-weight x (hot new) places found there.0 apart,
+      renewed-weight worker x (renewing clock found.stamp) (replaced found.key (hot new) places) more (apart-replaced new places apart)
           (still_there found.key (hot new) places more there.1 distinct.0) distinct.1,
-      weight-front format x found more,
-      weight-front format x new (renewed_each worker (renewing clock found.stamp) more),
+      weight-front x found more,
+      weight-front x new (renewed_each worker (renewing clock found.stamp) more),
     )
 
 pub renewed-apart : (worker : ℕ) (clock : Reading) (places : List Content) (records : List HotRecord) → AreApart (hot_records places)

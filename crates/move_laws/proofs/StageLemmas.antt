@@ -3,7 +3,6 @@ use Rattle.std.proofs.Common.{◌≡◌, ◌⊎◌, ◌+◌, Bool, true, false, 
 use Rattle.std.specs.Prelude.{filter}
 use Rattle.std.specs.List.{AllByRecursion}
 use Rattle.record_text.specs.declared.element.Element.{Element}
-use Rattle.record_text.specs.Format.{Format}
 use Rattle.stamp_order.specs.InOrder.{put_in_order, in_order}
 use Rattle.host_shard.specs.declared.content.HotRecord.{HotRecord}
 use Rattle.host_shard.specs.Content.{Content}
@@ -72,14 +71,14 @@ all_split places =
     go found (inr is) = one-right (touched_in places) (untouched_in places) found (one-order _ found _ is)
 
 -- together they are all
-pub weight_split : (format : Format) (x : Element) (places : List Content)
-    → weight format x (hot_records places) ≡ weight format x (touched_in places) + weight format x (untouched_in places)
-weight_split format x places =
+pub weight_split : (x : Element) (places : List Content)
+    → weight x (hot_records places) ≡ weight x (touched_in places) + weight x (untouched_in places)
+weight_split x places =
     omega (
       arith,
-      weight-split format x is_touched (hot_records places),
-      weight-order format x (λ a b. nat_lt a.key b.key) (filter is_touched (hot_records places)),
-      weight-order format x (λ a b. nat_lt a.key b.key) (filter (λ found. not (is_touched found)) (hot_records places)),
+      weight-split x is_touched (hot_records places),
+      weight-order x (λ a b. nat_lt a.key b.key) (filter is_touched (hot_records places)),
+      weight-order x (λ a b. nat_lt a.key b.key) (filter (λ found. not (is_touched found)) (hot_records places)),
     )
 
 -- what holds of all hot records holds of those that were touched, and of the others

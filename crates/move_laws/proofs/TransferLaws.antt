@@ -4,7 +4,7 @@ use Rattle.std.specs.List.{AllByRecursion}
 use Rattle.std.proofs.lemmas.Option.{same_Some}
 use Rattle.std.proofs.Math.Nat.{le-max_left}
 use Rattle.std.specs.Prelude.{◌==◌}
-use Rattle.tree_keys.specs.Path.{side, same_path, IsBelow}
+use Rattle.tree_keys.specs.Path.{side, same_path, IsBelow, key_bits}
 use Rattle.tree_keys.specs.BitsLaws.{length-bits_of}
 use Rattle.tree_keys.proofs.PathLaws.{same_path-apart}
 use Rattle.verifier_commands.proofs.BelowLaws.{below_apart}
@@ -12,7 +12,6 @@ use Rattle.lamport_clocks.specs.declared.stamp.Stamp.{Stamp}
 use Rattle.lamport_clocks.specs.Reading.{Reading}
 use Rattle.record_text.specs.declared.value.Value.{Value}
 use Rattle.record_text.specs.declared.value.Value.TheVariants as values
-use Rattle.record_text.specs.Format.{Format, path_bits}
 use Rattle.record_text.specs.Texts.{value_text}
 use Rattle.record_text.specs.Value.{IsOf}
 use Rattle.log_codec.specs.declared.command.Command.{Command}
@@ -63,79 +62,79 @@ onward-giving : (clock : Reading) → IsOnward clock (giving clock)
 onward-giving clock = (refl, omega arith)
 
 -- The stage mirrors again behind a transfer.
-pub transfer_mirrors : (format : Format) (digest : Digest) (worker : ℕ) (stage : Stage) (transfer : Transfer) (links : List Link) → GivesDigests digest
-    → StageMirrors format digest stage → IsFit format stage transfer → AreLinks format stage.shard transfer links
-    → StageMirrors format digest (done_by format digest worker stage transfer links)
-transfer_mirrors format digest worker stage (demotes found) links digests mirrors fit chain = back_mirrors format digest stage mirrors found fit links chain worker digests
-transfer_mirrors format digest worker stage (promotes key) links digests mirrors fit chain = hot_mirrors format digest stage mirrors key fit links chain worker digests
+pub transfer_mirrors : (longest : ℕ) (digest : Digest) (worker : ℕ) (stage : Stage) (transfer : Transfer) (links : List Link) → GivesDigests digest
+    → StageMirrors longest digest stage → IsFit stage transfer → AreLinks stage.shard transfer links
+    → StageMirrors longest digest (done_by digest worker stage transfer links)
+transfer_mirrors longest digest worker stage (demotes found) links digests mirrors fit chain = back_mirrors longest digest stage mirrors found fit links chain worker digests
+transfer_mirrors longest digest worker stage (promotes key) links digests mirrors fit chain = hot_mirrors longest digest stage mirrors key fit links chain worker digests
 
 -- the shard in which a transfer's links lead
-abbrev pub shard_for : Format → Stage → Transfer → Shard
-shard_for format stage (demotes found) = with_back format stage.shard found
-shard_for format stage (promotes key) = stage.shard
+abbrev pub shard_for : Stage → Transfer → Shard
+shard_for stage (demotes found) = with_back stage.shard found
+shard_for stage (promotes key) = stage.shard
 
 -- and the key to which they do
-abbrev pub key_for : Format → Transfer → List Bool
-key_for format (demotes found) = key_path format found.key
-key_for format (promotes key) = key_path format key
+abbrev pub key_for : Transfer → List Bool
+key_for (demotes found) = key_path found.key
+key_for (promotes key) = key_path key
 
 -- That is a shard, and the key is one of it.
-pub transfer_shard : (format : Format) (digest : Digest) (stage : Stage) (transfer : Transfer) → StageMirrors format digest stage → IsFit format stage transfer
-    → IsShard format (shard_for format stage transfer)
-transfer_shard format digest stage (demotes found) mirrors fit = back_shard format digest stage mirrors found fit
-transfer_shard format digest stage (promotes key) mirrors fit = mirrors.shard.fits
+pub transfer_shard : (longest : ℕ) (digest : Digest) (stage : Stage) (transfer : Transfer) → StageMirrors longest digest stage → IsFit stage transfer
+    → IsShard longest (shard_for stage transfer)
+transfer_shard longest digest stage (demotes found) mirrors fit = back_shard longest digest stage mirrors found fit
+transfer_shard longest digest stage (promotes key) mirrors fit = mirrors.shard.fits
 
-pub transfer_own : (format : Format) (digest : Digest) (stage : Stage) (transfer : Transfer) → StageMirrors format digest stage → IsFit format stage transfer
-    → IsKeyOf format (shard_for format stage transfer) (key_for format transfer)
-transfer_own format digest stage (demotes found) mirrors fit = back_own format digest stage mirrors found fit
-transfer_own format digest stage (promotes key) mirrors fit = fit.own
+pub transfer_own : (longest : ℕ) (digest : Digest) (stage : Stage) (transfer : Transfer) → StageMirrors longest digest stage → IsFit stage transfer
+    → IsKeyOf (shard_for stage transfer) (key_for transfer)
+transfer_own longest digest stage (demotes found) mirrors fit = back_own longest digest stage mirrors found fit
+transfer_own longest digest stage (promotes key) mirrors fit = fit.own
 
 -- each hot key is one of the shard
-pub hot_own : (format : Format) (digest : Digest) (stage : Stage) → StageMirrors format digest stage
-    → AllByRecursion (λ found. IsKeyOf format stage.shard (key_path format found.key)) (hot_records stage.places)
-hot_own format digest stage mirrors =
-    all-map (IsOne (hot_records stage.places)) (λ found. IsKeyOf format stage.shard (key_path format found.key))
-    (λ found is. let own = back_own format digest stage mirrors found is in record { whole = own.whole; below = own.below })
+pub hot_own : (longest : ℕ) (digest : Digest) (stage : Stage) → StageMirrors longest digest stage
+    → AllByRecursion (λ found. IsKeyOf stage.shard (key_path found.key)) (hot_records stage.places)
+hot_own longest digest stage mirrors =
+    all-map (IsOne (hot_records stage.places)) (λ found. IsKeyOf stage.shard (key_path found.key))
+    (λ found is. let own = back_own longest digest stage mirrors found is in record { whole = own.whole; below = own.below })
     (hot_records stage.places) (all-are (hot_records stage.places))
 
 -- ---- what is logged is typed
 
-along_typed : (format : Format) (tree : Tree) (key : List Bool) (late : Bool) (at_end : List Bool → Link → List Command)
-    → ((at : List Bool) (value : Value) (link : Link) → IsStep format tree key late at value link → link.path ≡ key → AllByRecursion (IsTyped format) (at_end at link))
-    → (at : List Bool) (value : Value) (links : List Link) → IsWay format tree key late at value links
-    → AllByRecursion (IsTyped format) (visit_but_last at links at_end)
-along_typed format tree key late at_end ends at value [] way = tt
-along_typed format tree key late at_end ends at value (link ∷ []) way = ends at value link way.0 way.1
-along_typed format tree key late at_end ends at value (link ∷ next ∷ links) way = (
-  subst (IsOf format link.path) (sym way.0.as_it_is) way.0.kind,
-  all-append (IsTyped format) (visit_but_last link.path (next ∷ links) at_end) _
-      (along_typed format tree key late at_end ends link.path link.taken (next ∷ links) way.1) (tt, tt),
+along_typed : (longest : ℕ) (tree : Tree) (key : List Bool) (late : Bool) (at_end : List Bool → Link → List Command)
+    → ((at : List Bool) (value : Value) (link : Link) → IsStep longest tree key late at value link → link.path ≡ key → AllByRecursion (IsTyped longest) (at_end at link))
+    → (at : List Bool) (value : Value) (links : List Link) → IsWay longest tree key late at value links
+    → AllByRecursion (IsTyped longest) (visit_but_last at links at_end)
+along_typed longest tree key late at_end ends at value [] way = tt
+along_typed longest tree key late at_end ends at value (link ∷ []) way = ends at value link way.0 way.1
+along_typed longest tree key late at_end ends at value (link ∷ next ∷ links) way = (
+  subst (IsOf longest link.path) (sym way.0.as_it_is) way.0.kind,
+  all-append (IsTyped longest) (visit_but_last link.path (next ∷ links) at_end) _
+      (along_typed longest tree key late at_end ends link.path link.taken (next ∷ links) way.1) (tt, tt),
 )
 
-pub transfer_typed : (format : Format) (digest : Digest) (stage : Stage) (transfer : Transfer) (links : List Link)
-    → StageMirrors format digest stage → IsFit format stage transfer → AreLinks format stage.shard transfer links
-    → AllByRecursion (IsTyped format) (commands_by format stage transfer links)
-transfer_typed format digest stage (demotes found) links mirrors fit chain =
-    along_typed format (tree_of (with_back format stage.shard found)) (key_path format found.key) true (come_back (pending_hot format found))
-    (λ at value link step is_key. ((length-bits_of (path_bits format) found.key, blob format digest stage mirrors found fit), (tt, tt)))
-    stage.shard.frontier stage.shard.value links (back_way format digest stage mirrors found fit links chain)
-transfer_typed format digest stage (promotes key) links mirrors fit chain =
-    along_typed format (tree_of stage.shard) (key_path format key) false (become_hot (giving stage.clock).at)
-    (λ at value link step is_key. (subst (IsOf format link.path) (sym step.as_it_is) step.kind, (tt, tt)))
-    stage.shard.frontier stage.shard.value links (hot_way format digest stage mirrors key fit links chain)
+pub transfer_typed : (longest : ℕ) (digest : Digest) (stage : Stage) (transfer : Transfer) (links : List Link)
+    → StageMirrors longest digest stage → IsFit stage transfer → AreLinks stage.shard transfer links
+    → AllByRecursion (IsTyped longest) (commands_by stage transfer links)
+transfer_typed longest digest stage (demotes found) links mirrors fit chain =
+    along_typed longest (tree_of (with_back stage.shard found)) (key_path found.key) true (come_back (pending_hot found))
+    (λ at value link step is_key. ((length-bits_of key_bits found.key, blob longest digest stage mirrors found fit), (tt, tt)))
+    stage.shard.frontier stage.shard.value links (back_way longest digest stage mirrors found fit links chain)
+transfer_typed longest digest stage (promotes key) links mirrors fit chain =
+    along_typed longest (tree_of stage.shard) (key_path key) false (become_hot (giving stage.clock).at)
+    (λ at value link step is_key. (subst (IsOf longest link.path) (sym step.as_it_is) step.kind, (tt, tt)))
+    stage.shard.frontier stage.shard.value links (hot_way longest digest stage mirrors key fit links chain)
 
 -- ---- it runs
 
 runs_back : (rules : Rules) (entries : List Entry) (room : ℕ) (stage : Stage) (found : HotRecord) (links : List Link)
-    → IsBare entries → path_bits rules.scheme.format < room → StageMirrors rules.scheme.format rules.scheme.digest stage
-    → IsOne (hot_records stage.places) found → CanDo rules stage (demotes found) → AreLinks rules.scheme.format stage.shard (demotes found) links
+    → IsBare entries → key_bits < room → StageMirrors rules.scheme.longest rules.scheme.digest stage
+    → IsOne (hot_records stage.places) found → CanDo rules stage (demotes found) → AreLinks stage.shard (demotes found) links
     → TransferRuns rules entries room stage (demotes found) links
 runs_back rules entries room stage found [] bare roomy mirrors is_hot can chain =
-    absurd (apart_from rules.scheme.format rules.scheme.digest stage mirrors (key_path rules.scheme.format found.key) (length-bits_of (path_bits rules.scheme.format) found.key) chain)
+    absurd (apart_from rules.scheme.digest stage mirrors (key_path found.key) (length-bits_of key_bits found.key) chain)
 runs_back rules entries room stage found (link ∷ more) bare roomy mirrors is_hot can chain = record {
   told = way.told;
   runs = way.works entries room (clear-bare entries shard.frontier bare no_root)
-      (omega (arith, length-bare entries bare, few, mirrors.shard.fits.below_root, length-bits_of (path_bits format) found.key, roomy));
+      (omega (arith, length-bare entries bare, few, mirrors.shard.fits.below_root, length-bits_of key_bits found.key, roomy));
   added = way.added;
   evicted = way.evicted;
   no_access = way.no_access;
@@ -145,29 +144,29 @@ runs_back rules entries room stage found (link ∷ more) bare roomy mirrors is_h
   own = λ path is. way.outside path (not_below shard.frontier path is);
 }
   where
-    format : Format
-    format = rules.scheme.format
+    longest : ℕ
+    longest = rules.scheme.longest
 
     shard : Shard
     shard = stage.shard
 
     key : List Bool
-    key = key_path rules.scheme.format found.key
+    key = key_path found.key
 
     tree : Tree
-    tree = tree_of (with_back rules.scheme.format stage.shard found)
+    tree = tree_of (with_back stage.shard found)
 
     base : Tree
-    base = (with_back rules.scheme.format stage.shard found).records
+    base = (with_back stage.shard found).records
 
     no_root : is_root stage.shard.frontier ≡ false
     no_root = not_root shard.frontier mirrors.shard.fits.below_root
 
-    is_way : IsWay rules.scheme.format tree key true stage.shard.frontier stage.shard.value (link ∷ more)
-    is_way = back_way format rules.scheme.digest stage mirrors found is_hot (link ∷ more) chain
+    is_way : IsWay rules.scheme.longest tree key true stage.shard.frontier stage.shard.value (link ∷ more)
+    is_way = back_way longest rules.scheme.digest stage mirrors found is_hot (link ∷ more) chain
 
     few : length (link ∷ more) + length stage.shard.frontier ≤ length key
-    few = way_length format tree key true shard.frontier shard.value (link ∷ more) is_way
+    few = way_length longest tree key true shard.frontier shard.value (link ∷ more) is_way
 
     kept_base : (k : List Bool) → same_path k key ≡ false → base k ≡ stage.shard.records k
     kept_base k apart = ap (λ (b : Bool). if b then Some (values.Blob found.value) else shard.records k) apart
@@ -177,23 +176,23 @@ runs_back rules entries room stage found (link ∷ more) bare roomy mirrors is_h
         ap (λ (b : Bool). if b then Some shard.value else base k) (same_path-apart k shard.frontier (below_apart shard.frontier k on below)) ∙ kept_base k apart
 
     way : Along rules tree stage.shard.records base key false (values.Blob found.value) stage.shard.frontier B stage.shard.value (link ∷ more) stage.clock
-        (taking stage.clock found.stamp) (visit_but_last stage.shard.frontier (link ∷ more) (come_back (pending_hot rules.scheme.format found)))
-        (pending_hot rules.scheme.format found ∷ []) []
+        (taking stage.clock found.stamp) (visit_but_last stage.shard.frontier (link ∷ more) (come_back (pending_hot found)))
+        (pending_hot found ∷ []) []
     way =
-        along rules tree shard.records base key false (values.Blob found.value) stage.clock (taking stage.clock found.stamp) (come_back (pending_hot format found))
-        (pending_hot format found ∷ []) [] (onward-taking stage.clock found.stamp)
-        (λ at value one apart step. back_sound format rules.scheme.digest stage mirrors found is_hot (link ∷ more) chain at value one apart step)
+        along rules tree shard.records base key false (values.Blob found.value) stage.clock (taking stage.clock found.stamp) (come_back (pending_hot found))
+        (pending_hot found ∷ []) [] (onward-taking stage.clock found.stamp)
+        (λ at value one apart step. back_sound longest rules.scheme.digest stage mirrors found is_hot (link ∷ more) chain at value one apart step)
         (λ at hold value one at_based step is_key.
-        back_ends rules tree shard.records base key (pending_hot format found) stage.clock at hold value one kept_base step is_key refl
-        (end format rules.scheme.digest stage mirrors found is_hot) can.takable.0.0 can.takable.0.1 can.counters (onward-taking stage.clock found.stamp))
+        back_ends rules tree shard.records base key (pending_hot found) stage.clock at hold value one kept_base step is_key refl
+        (end longest rules.scheme.digest stage mirrors found is_hot) can.takable.0.0 can.takable.0.1 can.counters (onward-taking stage.clock found.stamp))
         shard.frontier B shard.value link more based is_way
 
 runs_hot : (rules : Rules) (entries : List Entry) (room : ℕ) (stage : Stage) (key : ℕ) (links : List Link)
-    → IsBare entries → path_bits rules.scheme.format < room → StageMirrors rules.scheme.format rules.scheme.digest stage
-    → IsPromotable rules.scheme.format stage key → CanDo rules stage (promotes key) → AreLinks rules.scheme.format stage.shard (promotes key) links
+    → IsBare entries → key_bits < room → StageMirrors rules.scheme.longest rules.scheme.digest stage
+    → IsPromotable stage key → CanDo rules stage (promotes key) → AreLinks stage.shard (promotes key) links
     → TransferRuns rules entries room stage (promotes key) links
 runs_hot rules entries room stage key [] bare roomy mirrors fit can chain =
-    absurd (apart_from rules.scheme.format rules.scheme.digest stage mirrors (key_path rules.scheme.format key) fit.own.whole chain)
+    absurd (apart_from rules.scheme.digest stage mirrors (key_path key) fit.own.whole chain)
 runs_hot rules entries room stage key (link ∷ more) bare roomy mirrors fit can chain = record {
   told = way.told;
   runs = way.works entries room (clear-bare entries shard.frontier bare no_root)
@@ -201,7 +200,7 @@ runs_hot rules entries room stage key (link ∷ more) bare roomy mirrors fit can
   added = way.added;
   evicted = way.evicted
       ∙ ap (λ (v : Value). record { path = path; value = v; stamp = (giving stage.clock).at; verifier = rules.number } ∷ [])
-      (last_data format rules.scheme.digest stage mirrors key fit (link ∷ more) chain);
+      (last_data longest rules.scheme.digest stage mirrors key fit (link ∷ more) chain);
   no_access = way.no_access;
   unsealed = way.unsealed;
   within = way.within;
@@ -209,14 +208,14 @@ runs_hot rules entries room stage key (link ∷ more) bare roomy mirrors fit can
   own = λ k is. way.outside k (not_below shard.frontier k is);
 }
   where
-    format : Format
-    format = rules.scheme.format
+    longest : ℕ
+    longest = rules.scheme.longest
 
     shard : Shard
     shard = stage.shard
 
     path : List Bool
-    path = key_path rules.scheme.format key
+    path = key_path key
 
     tree : Tree
     tree = tree_of stage.shard
@@ -227,22 +226,22 @@ runs_hot rules entries room stage key (link ∷ more) bare roomy mirrors fit can
     no_root : is_root stage.shard.frontier ≡ false
     no_root = not_root shard.frontier mirrors.shard.fits.below_root
 
-    is_way : IsWay rules.scheme.format tree path false stage.shard.frontier stage.shard.value (link ∷ more)
-    is_way = hot_way format rules.scheme.digest stage mirrors key fit (link ∷ more) chain
+    is_way : IsWay rules.scheme.longest tree path false stage.shard.frontier stage.shard.value (link ∷ more)
+    is_way = hot_way longest rules.scheme.digest stage mirrors key fit (link ∷ more) chain
 
     few : length (link ∷ more) + length stage.shard.frontier ≤ length path
-    few = way_length format tree path false shard.frontier shard.value (link ∷ more) is_way
+    few = way_length longest tree path false shard.frontier shard.value (link ∷ more) is_way
 
     based : (k : List Bool) (on : Bool) → side stage.shard.frontier k ≡ Some on → same_path k path ≡ false → tree k ≡ stage.shard.records k
     based k on below apart =
         ap (λ (b : Bool). if b then Some shard.value else shard.records k) (same_path-apart k shard.frontier (below_apart shard.frontier k on below))
 
     at_end : tree path ≡ Some last
-    at_end = hot_end format rules.scheme.digest stage mirrors key fit (link ∷ more) chain
+    at_end = hot_end longest rules.scheme.digest stage mirrors key fit (link ∷ more) chain
 
-    sound : (at : List Bool) (value : Value) (one : Link) → (step : IsStep rules.scheme.format tree path false at value one)
-        → (step.pointer.deferred ≡ false) × (step.pointer.digest ≡ rules.scheme.digest (value_text rules.scheme.format one.taken))
-    sound = hot_sound format rules.scheme.digest stage mirrors key fit (link ∷ more) chain
+    sound : (at : List Bool) (value : Value) (one : Link) → (step : IsStep rules.scheme.longest tree path false at value one)
+        → (step.pointer.deferred ≡ false) × (step.pointer.digest ≡ rules.scheme.digest (value_text one.taken))
+    sound = hot_sound longest rules.scheme.digest stage mirrors key fit (link ∷ more) chain
 
     way : Along rules tree stage.shard.records stage.shard.records path true last stage.shard.frontier B stage.shard.value (link ∷ more) stage.clock
         (giving stage.clock) (visit_but_last stage.shard.frontier (link ∷ more) (become_hot (giving stage.clock).at)) []
@@ -253,14 +252,14 @@ runs_hot rules entries room stage key (link ∷ more) bare roomy mirrors fit can
         (λ at value one apart step. sound at value one step)
         (λ at hold value one at_based step is_key.
         hot_ends rules tree shard.records shard.records path last stage.clock at hold value one (λ k apart. refl)
-        (sym (recorded format rules.scheme.digest stage mirrors key fit (link ∷ more) chain)) step is_key
+        (sym (recorded longest rules.scheme.digest stage mirrors key fit (link ∷ more) chain)) step is_key
         (same_Some one.taken last (sym step.there ∙ (ap tree is_key ∙ at_end))) (sound at value one step).1 can.counters)
         shard.frontier B shard.value link more based is_way
 
 -- A transfer runs behind the frontier of its shard.
 pub transfer_runs : (rules : Rules) (entries : List Entry) (room : ℕ) (stage : Stage) (transfer : Transfer) (links : List Link)
-    → IsBare entries → path_bits rules.scheme.format < room → StageMirrors rules.scheme.format rules.scheme.digest stage
-    → IsFit rules.scheme.format stage transfer → CanDo rules stage transfer → AreLinks rules.scheme.format stage.shard transfer links
+    → IsBare entries → key_bits < room → StageMirrors rules.scheme.longest rules.scheme.digest stage
+    → IsFit stage transfer → CanDo rules stage transfer → AreLinks stage.shard transfer links
     → TransferRuns rules entries room stage transfer links
 transfer_runs rules entries room stage (demotes found) links bare roomy mirrors fit can chain = runs_back rules entries room stage found links bare roomy mirrors fit can chain
 transfer_runs rules entries room stage (promotes key) links bare roomy mirrors fit can chain = runs_hot rules entries room stage key links bare roomy mirrors fit can chain

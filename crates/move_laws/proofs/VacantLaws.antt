@@ -5,7 +5,6 @@ use Rattle.std.specs.List.{AllByRecursion, All, AllPairs, IsAmong}
 use Rattle.std.proofs.lemmas.Bool.{eqb-false}
 use Rattle.std.proofs.lemmas.List.Elements.{All-head, All-tail}
 use Rattle.record_text.specs.declared.element.Element.{Element}
-use Rattle.record_text.specs.Format.{Format}
 use Rattle.host_shard.specs.declared.content.HotRecord.{HotRecord}
 use Rattle.host_shard.specs.Content.{Content, cold, hot, vacant}
 use Rattle.protection_moves.specs.Stage.{hot_records, vacancies, replaced, placed}
@@ -212,15 +211,15 @@ vacancies-placed new (hot found ∷ places) room = vacancies-placed new places r
 vacancies-placed new (vacant ∷ places) room = refl
 
 -- its element comes
-pub placed-weight : (format : Format) (x : Element) (new : HotRecord) (places : List Content) → 0 < vacancies places
-    → weight format x (hot_records (placed new places)) ≡ weight format x (hot_records places) + weight format x (new ∷ [])
-placed-weight format x new [] room = absurd (omega (arith, room))
-placed-weight format x new (cold shard ∷ places) room = placed-weight format x new places room
-placed-weight format x new (hot found ∷ places) room =
+pub placed-weight : (x : Element) (new : HotRecord) (places : List Content) → 0 < vacancies places
+    → weight x (hot_records (placed new places)) ≡ weight x (hot_records places) + weight x (new ∷ [])
+placed-weight x new [] room = absurd (omega (arith, room))
+placed-weight x new (cold shard ∷ places) room = placed-weight x new places room
+placed-weight x new (hot found ∷ places) room =
     omega (
       arith,
-      weight-front format x found (hot_records (placed new places)),
-      weight-front format x found (hot_records places),
-      placed-weight format x new places room,
+      weight-front x found (hot_records (placed new places)),
+      weight-front x found (hot_records places),
+      placed-weight x new places room,
     )
-placed-weight format x new (vacant ∷ places) room = omega (arith, weight-front format x new (hot_records places))
+placed-weight x new (vacant ∷ places) room = omega (arith, weight-front x new (hot_records places))

@@ -28,8 +28,8 @@ module _ (rules : Rules) (cache : Held) (old new : Stage) (commands : List Comma
   pub record IsMoveDeed : Type 0 where
     pub accepted : IsAccepted (machinery_under rules) (at_stage cache old) commands
     pub rests : state_from (machinery_under rules) (at_stage cache old) commands ≡ at_stage cache new
-    pub added : (number index : ℕ) → AreSame (added_among (events number index)) (waiting_in rules.scheme.format old)
-    pub evicted : (number index : ℕ) → AreSame (evicted_among (events number index)) (waiting_in rules.scheme.format new)
+    pub added : (number index : ℕ) → AreSame (added_among (events number index)) (waiting_in old)
+    pub evicted : (number index : ℕ) → AreSame (evicted_among (events number index)) (waiting_in new)
     pub unanswered : (number index : ℕ) → operations_in (events number index) ≡ []
     pub unsealed : (number index : ℕ) → sealed_count (events number index) ≡ 0
 
@@ -38,7 +38,7 @@ module _ (rules : Rules) (cache : Held) (old new : Stage) (commands : List Comma
   pub record IsClearMove : Type 0 where
     pub apart : (number index : ℕ) (path : List Bool) → (IsBelow old.shard.frontier path → ⊥) → touching path (events number index) ≡ []
     pub clear : (number index : ℕ) (path : List Bool) (last : LastEvicted) → IsKept last path (old.shard.records path)
-        → first_clash rules.scheme.format last (changes_in (touching path (events number index))) ≡ None
+        → first_clash last (changes_in (touching path (events number index))) ≡ None
     pub keeps : (number index : ℕ) (path : List Bool) (last : LastEvicted) → IsKept last path (old.shard.records path)
         → IsKept (last_evicted_behind last (changes_in (touching path (events number index)))) path (new.shard.records path)
     pub behind : (number index : ℕ) (path : List Bool) → AllByRecursion (λ event. IsLater event.at old.shard.stamp) (touching path (events number index))

@@ -1,11 +1,10 @@
 -- What the commands of a move do to the verifier of its worker.
 use Rattle.std.specs.Prelude.{◌≡◌, ℕ, ◌<◌, Bool, true, List, [], ◌∷◌, map, Option, Some, Ok}
 use Rattle.std.specs.List.{AllByRecursion, flat_map}
-use Rattle.tree_keys.specs.Path.{IsBelow}
+use Rattle.tree_keys.specs.Path.{IsBelow, key_bits}
 use Rattle.lamport_clocks.specs.Stamp.{IsLater}
 use Rattle.lamport_clocks.specs.Reading.{Reading}
 use Rattle.record_text.specs.declared.element.Element.{Element}
-use Rattle.record_text.specs.Format.{Format, path_bits}
 use Rattle.log_codec.specs.declared.command.Command.{Command}
 use Rattle.verifier_cache.specs.Cache.{Held}
 use Rattle.verifier_commands.specs.declared.state.State.{State}
@@ -23,8 +22,8 @@ use Rattle.move_laws.specs.Kept.{AreCarried}
 use Rattle.move_laws.specs.Stages.{IsTakable}
 
 -- the elements with which a shard and its hot places wait
-abbrev pub waiting_in : Format → Stage → List Element
-waiting_in format stage = pending_shard stage.shard ∷ map (pending_hot format) (hot_records stage.places)
+abbrev pub waiting_in : Stage → List Element
+waiting_in stage = pending_shard stage.shard ∷ map pending_hot (hot_records stage.places)
 
 -- a verifier with this cache, where its clock is the stage's
 abbrev pub at_stage : Held → Stage → State
@@ -34,9 +33,9 @@ at_stage cache stage = record { cache = cache; clock = stage.clock }
 -- each element of the stage is of one of the verifiers and of an open epoch, and the counters don't pass the end.
 pub record CanMove (rules : Rules) (cache : Held) (threshold : Option ℕ) (stage : Stage) : Type 0 where
   pub bare : IsBare cache.entries
-  pub room : path_bits rules.scheme.format < cache.room
-  pub takable : AllByRecursion (IsTakable rules stage.clock) (waiting_in rules.scheme.format stage)
-  pub counters : IsPastEnd rules.scheme.format threshold stage → ⊥
+  pub room : key_bits < cache.room
+  pub takable : AllByRecursion (IsTakable rules stage.clock) (waiting_in stage)
+  pub counters : IsPastEnd threshold stage → ⊥
 
 -- the element was evicted by this verifier, in the epoch of this clock
 abbrev pub IsOfClock : Rules → Reading → Element → Type 0
@@ -49,9 +48,9 @@ IsOfClock rules clock element = (element.verifier ≡ rules.number) × (element.
 pub record MoveRuns (rules : Rules) (cache : Held) (old new : Stage) (commands : List Command) : Type 0 where
   pub told : Told
   pub runs : run rules (at_stage cache old) commands ≡ Ok (told, at_stage cache new)
-  pub added : AreSame (added_told told) (waiting_in rules.scheme.format old)
-  pub evicted : AreSame (evicted_told told) (waiting_in rules.scheme.format new)
-  pub renewed : AllByRecursion (IsOfClock rules old.clock) (waiting_in rules.scheme.format new)
+  pub added : AreSame (added_told told) (waiting_in old)
+  pub evicted : AreSame (evicted_told told) (waiting_in new)
+  pub renewed : AllByRecursion (IsOfClock rules old.clock) (waiting_in new)
   pub no_access : accesses_told told ≡ []
   pub unsealed : flat_map (λ one. sealed_by one.1) told ≡ []
   pub kept : (path : List Bool) → AreCarried path (old.shard.records path) (new.shard.records path) (carried path told)

@@ -1,11 +1,10 @@
 -- Which transfers can be done, and what one does to the verifier of its worker while the shard's frontier stands in its cache.
 use Rattle.std.specs.Prelude.{◌≡◌, ℕ, ◌^◌, ◌<◌, ◌≤◌, Bool, List, [], ◌∷◌, ◌++◌, IsSome, Ok}
 use Rattle.std.specs.List.{AllByRecursion, IsAmong, flat_map}
-use Rattle.tree_keys.specs.Path.{IsBelow}
+use Rattle.tree_keys.specs.Path.{IsBelow, key_bits}
 use Rattle.lamport_clocks.specs.declared.stamp.Stamp.{Stamp}
 use Rattle.lamport_clocks.specs.Reading.{Reading}
 use Rattle.record_text.specs.declared.element.Element.{Element}
-use Rattle.record_text.specs.Format.{Format, path_bits}
 use Rattle.verifier_cache.specs.declared.entry.Entry.{Entry}
 use Rattle.verifier_cache.specs.declared.entry.Hold.TheVariants.{B}
 use Rattle.verifier_cache.specs.Entry.{new_entry}
@@ -24,31 +23,31 @@ use Rattle.move_laws.specs.Kept.{AreCarried}
 use Rattle.move_laws.specs.Stages.{IsOne, IsTakable}
 
 -- A key of the shard can become hot: it has a record there and isn't hot, its touches are forgotten, and a place is vacant.
-pub record IsPromotable (format : Format) (stage : Stage) (key : ℕ) : Type 0 where
-  pub in_range : key < 2 ^ path_bits format
-  pub own : IsKeyOf format stage.shard (key_path format key)
-  pub cold : IsAmong (hot_paths format stage.places) (key_path format key) → ⊥
-  pub there : IsSome (stage.shard.records (key_path format key))
-  pub untouched : stage.shard.touches (key_path format key) ≡ 0
+pub record IsPromotable (stage : Stage) (key : ℕ) : Type 0 where
+  pub in_range : key < 2 ^ key_bits
+  pub own : IsKeyOf stage.shard (key_path key)
+  pub cold : IsAmong (hot_paths stage.places) (key_path key) → ⊥
+  pub there : IsSome (stage.shard.records (key_path key))
+  pub untouched : stage.shard.touches (key_path key) ≡ 0
   pub room : 0 < vacancies stage.places
 
 -- The transfer can be done: the record that comes back is hot, or the key can become hot.
-abbrev pub IsFit : Format → Stage → Transfer → Type 0
-IsFit format stage (demotes found) = IsOne (hot_records stage.places) found
-IsFit format stage (promotes key) = IsPromotable format stage key
+abbrev pub IsFit : Stage → Transfer → Type 0
+IsFit stage (demotes found) = IsOne (hot_records stage.places) found
+IsFit stage (promotes key) = IsPromotable stage key
 
 -- the elements that it adds, and those that it evicts
-abbrev pub adds_by : Format → Transfer → List Element
-adds_by format (demotes found) = pending_hot format found ∷ []
-adds_by format (promotes key) = []
+abbrev pub adds_by : Transfer → List Element
+adds_by (demotes found) = pending_hot found ∷ []
+adds_by (promotes key) = []
 
-abbrev pub evicts_by : Format → ℕ → Stage → Transfer → List Link → List Element
-evicts_by format worker stage (demotes found) links = []
-evicts_by format worker stage (promotes key) links = pending_hot format (promoted_record worker stage key links) ∷ []
+abbrev pub evicts_by : ℕ → Stage → Transfer → List Link → List Element
+evicts_by worker stage (demotes found) links = []
+evicts_by worker stage (promotes key) links = pending_hot (promoted_record worker stage key links) ∷ []
 
 -- A verifier can do it: what it adds can be taken in, and the counter that it takes doesn't pass the end.
 pub record CanDo (rules : Rules) (stage : Stage) (transfer : Transfer) : Type 0 where
-  pub takable : AllByRecursion (IsTakable rules stage.clock) (adds_by rules.scheme.format transfer)
+  pub takable : AllByRecursion (IsTakable rules stage.clock) (adds_by transfer)
   pub counters : (clock_by stage.clock transfer).at.counter ≤ stage.clock.end
 
 -- a verifier with these entries, behind which the shard's frontier stands
@@ -67,13 +66,13 @@ IsBetween clock after at = (at.epoch ≡ clock.at.epoch) × (clock.at.counter �
 -- epoch. Each record below the frontier is carried as it is kept before and after, and no other.
 pub record TransferRuns (rules : Rules) (entries : List Entry) (room : ℕ) (stage : Stage) (transfer : Transfer) (links : List Link) : Type 0 where
   pub told : Told
-  pub runs : run rules (holding entries room stage) (commands_by rules.scheme.format stage transfer links)
-      ≡ Ok (told, holding entries room (done_by rules.scheme.format rules.scheme.digest rules.number stage transfer links))
-  pub added : added_told told ≡ adds_by rules.scheme.format transfer
-  pub evicted : evicted_told told ≡ evicts_by rules.scheme.format rules.number stage transfer links
+  pub runs : run rules (holding entries room stage) (commands_by stage transfer links)
+      ≡ Ok (told, holding entries room (done_by rules.scheme.digest rules.number stage transfer links))
+  pub added : added_told told ≡ adds_by transfer
+  pub evicted : evicted_told told ≡ evicts_by rules.number stage transfer links
   pub no_access : accesses_told told ≡ []
   pub unsealed : flat_map (λ one. sealed_by one.1) told ≡ []
   pub within : AllByRecursion (λ one. IsBetween stage.clock (clock_by stage.clock transfer) one.0) told
   pub kept : (path : List Bool) → AreCarried path (stage.shard.records path)
-      ((done_by rules.scheme.format rules.scheme.digest rules.number stage transfer links).shard.records path) (carried path told)
+      ((done_by rules.scheme.digest rules.number stage transfer links).shard.records path) (carried path told)
   pub own : (path : List Bool) → (IsBelow stage.shard.frontier path → ⊥) → carried path told ≡ []

@@ -2,7 +2,6 @@
 //! laws.
 ghost use Rattle.std.specs.Prelude.{◌≡◌, ℕ, ◌<◌, List, Option, IfSome};
 ghost use Rattle.std.specs.List.{AllByRecursion};
-ghost use Rattle.record_text.specs.Format.{Format};
 ghost use Rattle.log_codec.specs.declared.command.Command.{Command};
 ghost use Rattle.merkle_records.specs.Merkle.{Digest, GivesDigests};
 ghost use Rattle.verifier_cache.specs.Cache.{Held};
@@ -19,29 +18,29 @@ ghost use Rattle.move_laws.specs.Moved.{CanMove, MoveRuns};
 /// It is asked that digests have 32 bytes, and that a threshold, if one is given, is at least one touch.
 pub fn a_move_runs()
     ensures runs { (rules : Rules) (cache : Held) (threshold : Option ℕ) (old new : Stage) (commands : List Command)
-        → GivesDigests rules.scheme.digest → IfSome threshold (λ least. 0 < least) → CanMove rules cache threshold old → StageMirrors rules.scheme.format rules.scheme.digest old
-        → IsMove rules.scheme.format rules.scheme.digest rules.number threshold old commands new
+        → GivesDigests rules.scheme.digest → IfSome threshold (λ least. 0 < least) → CanMove rules cache threshold old → StageMirrors rules.scheme.longest rules.scheme.digest old
+        → IsMove rules.scheme.digest rules.number threshold old commands new
         → MoveRuns rules cache old new commands }
 {}
 
 /// A stage mirrors again behind a move. The same is asked.
 pub fn a_move_mirrors()
-    ensures mirrors { (format : Format) (digest : Digest) (worker : ℕ) (threshold : Option ℕ) (old new : Stage) (commands : List Command)
-        → GivesDigests digest → IfSome threshold (λ least. 0 < least) → StageMirrors format digest old
-        → IsMove format digest worker threshold old commands new → StageMirrors format digest new }
+    ensures mirrors { (longest : ℕ) (digest : Digest) (worker : ℕ) (threshold : Option ℕ) (old new : Stage) (commands : List Command)
+        → GivesDigests digest → IfSome threshold (λ least. 0 < least) → StageMirrors longest digest old
+        → IsMove digest worker threshold old commands new → StageMirrors longest digest new }
 {}
 
 /// The values that a move's commands bring in are of their paths' kinds.
 pub fn a_move_is_typed()
-    ensures typed { (format : Format) (digest : Digest) (worker : ℕ) (threshold : Option ℕ) (old new : Stage) (commands : List Command)
-        → GivesDigests digest → IfSome threshold (λ least. 0 < least) → StageMirrors format digest old
-        → IsMove format digest worker threshold old commands new → AllByRecursion (IsTyped format) commands }
+    ensures typed { (longest : ℕ) (digest : Digest) (worker : ℕ) (threshold : Option ℕ) (old new : Stage) (commands : List Command)
+        → GivesDigests digest → IfSome threshold (λ least. 0 < least) → StageMirrors longest digest old
+        → IsMove digest worker threshold old commands new → AllByRecursion (IsTyped longest) commands }
 {}
 
 /// The clock behind a move is the one that is counted from stamps.
 pub fn a_move_takes_what_is_counted()
-    ensures clock { (format : Format) (digest : Digest) (worker : ℕ) (threshold : Option ℕ) (old new : Stage) (commands : List Command)
-        → (is : IsMove format digest worker threshold old commands new) → new.clock ≡ clock_needed old is.promotable }
+    ensures clock { (digest : Digest) (worker : ℕ) (threshold : Option ℕ) (old new : Stage) (commands : List Command)
+        → (is : IsMove digest worker threshold old commands new) → new.clock ≡ clock_needed old is.promotable }
 {}
 
 /// A move that runs is a deed of a machine that knows the events of its commands, and a clear one: there is nothing to

@@ -2,7 +2,7 @@
 //! the laws.
 ghost use Rattle.std.specs.Prelude.{ℕ, ◌<◌, List};
 ghost use Rattle.std.specs.List.{AllByRecursion};
-ghost use Rattle.record_text.specs.Format.{Format, path_bits};
+ghost use Rattle.tree_keys.specs.Path.{key_bits};
 ghost use Rattle.merkle_records.specs.Merkle.{Digest, GivesDigests};
 ghost use Rattle.verifier_cache.specs.declared.entry.Entry.{Entry};
 ghost use Rattle.verifier_commands.specs.Transition.{Rules};
@@ -19,21 +19,21 @@ ghost use Rattle.move_laws.specs.Transfers.{CanDo, TransferRuns, IsFit};
 /// the links to its key. Nothing is asked of the digests.
 pub fn a_transfer_runs()
     ensures runs { (rules : Rules) (entries : List Entry) (room : ℕ) (stage : Stage) (transfer : Transfer) (links : List Link)
-        → IsBare entries → path_bits rules.scheme.format < room → StageMirrors rules.scheme.format rules.scheme.digest stage
-        → IsFit rules.scheme.format stage transfer → CanDo rules stage transfer → AreLinks rules.scheme.format stage.shard transfer links
+        → IsBare entries → key_bits < room → StageMirrors rules.scheme.longest rules.scheme.digest stage
+        → IsFit stage transfer → CanDo rules stage transfer → AreLinks stage.shard transfer links
         → TransferRuns rules entries room stage transfer links }
 {}
 
 /// A stage mirrors again behind a transfer. It is asked that digests have 32 bytes.
 pub fn a_transfer_mirrors()
-    ensures mirrors { (format : Format) (digest : Digest) (worker : ℕ) (stage : Stage) (transfer : Transfer) (links : List Link)
-        → GivesDigests digest → StageMirrors format digest stage → IsFit format stage transfer → AreLinks format stage.shard transfer links
-        → StageMirrors format digest (done_by format digest worker stage transfer links) }
+    ensures mirrors { (longest : ℕ) (digest : Digest) (worker : ℕ) (stage : Stage) (transfer : Transfer) (links : List Link)
+        → GivesDigests digest → StageMirrors longest digest stage → IsFit stage transfer → AreLinks stage.shard transfer links
+        → StageMirrors longest digest (done_by digest worker stage transfer links) }
 {}
 
 /// The values that a transfer's commands bring in are of their paths' kinds.
 pub fn a_transfer_is_typed()
-    ensures typed { (format : Format) (digest : Digest) (stage : Stage) (transfer : Transfer) (links : List Link)
-        → StageMirrors format digest stage → IsFit format stage transfer → AreLinks format stage.shard transfer links
-        → AllByRecursion (IsTyped format) (commands_by format stage transfer links) }
+    ensures typed { (longest : ℕ) (digest : Digest) (stage : Stage) (transfer : Transfer) (links : List Link)
+        → StageMirrors longest digest stage → IsFit stage transfer → AreLinks stage.shard transfer links
+        → AllByRecursion (IsTyped longest) (commands_by stage transfer links) }
 {}

@@ -5,16 +5,16 @@ use Rattle.std.proofs.lemmas.Option.{none-some, same_Some}
 use Rattle.std.proofs.Math.Path.{fun_ext}
 use Rattle.std.specs.Prelude.{slice_get}
 use Rattle.std.specs.List.{AllByRecursion}
-use Rattle.tree_keys.specs.Path.{side, same_path}
+use Rattle.tree_keys.specs.Path.{side, same_path, IsData, IsPath}
 use Rattle.tree_keys.proofs.PathLaws.{same_path-true}
 use Rattle.lamport_clocks.specs.declared.stamp.Stamp.{Stamp}
 use Rattle.record_text.specs.declared.element.Element.{Element}
 use Rattle.record_text.specs.declared.value.Pointer.{Pointer}
 use Rattle.record_text.specs.declared.value.Value.{Value}
 use Rattle.record_text.specs.declared.value.Value.TheVariants as values
-use Rattle.record_text.specs.Format.{Format, path_bits, short_keys}
 use Rattle.record_text.specs.Value.{IsOf}
 use Rattle.record_text.specs.Element.{IsStamp}
+use Rattle.record_text.specs.Longest.{longest_blob}
 use Rattle.log_codec.specs.declared.command.Command.{Command}
 use Rattle.log_codec.specs.Command.{IsCommand}
 use Rattle.merkle_records.specs.Merkle.{Digest, GivesDigests, pointer_to, deferred_pointer}
@@ -39,9 +39,9 @@ use Rattle.protection_moves.proofs.SavingLemmas.{closed_there, closed_elsewhere,
 -- ---- commands
 
 -- the path of a value isn't longer than a key's
-length-IsOf : (format : Format) (path : List Bool) (value : Value) → IsOf format path value → length path ≤ path_bits format
-length-IsOf format path (values.Blob blob) kind = omega (arith, kind.0)
-length-IsOf format path (values.Node node) kind = omega (arith, kind.0)
+length-IsOf : (longest : ℕ) (path : List Bool) (value : Value) → IsOf longest path value → IsPath path
+length-IsOf longest path (values.Blob blob) kind = omega (arith, kind.0)
+length-IsOf longest path (values.Node node) kind = omega (arith, kind.0)
 
 -- all of two lists joined
 pub AllByRecursion-append : {X : Type 0} (P : X → Type 0) (xs ys : List X) → AllByRecursion P xs → AllByRecursion P ys → AllByRecursion P (xs ++ ys)
@@ -49,99 +49,99 @@ AllByRecursion-append P [] ys hs gs = gs
 AllByRecursion-append P (x ∷ xs) ys hs gs = (hs.0, AllByRecursion-append P xs ys hs.1 gs)
 
 -- a chain that is gone along, where what is done at its end is made of commands
-visit_typed : (format : Format) (tree : Tree) (key at : List Bool) (value : Value) (links : List Link) (turn : List Bool → Link → List Command)
-    → length key ≡ path_bits format → AreOf format tree → IsOf format at value → IsChain format tree key at value links
-    → ((from : List Bool) (link : Link) → length from ≤ path_bits format → IsOf format link.path link.value → AllByRecursion (IsCommand format) (turn from link))
-    → AllByRecursion (IsCommand format) (visit_but_last at links turn)
-visit_typed format tree key at value [] turn whole kinds kind chain typed = tt
-visit_typed format tree key at value (link ∷ []) turn whole kinds kind chain typed =
-    typed at link (length-IsOf format at value kind) (next_of format tree key at value link whole kinds kind chain.0).value
-visit_typed format tree key at value (link ∷ next ∷ links) turn whole kinds kind chain typed =
-    let this = next_of format tree key at value link whole kinds kind chain.0 in
-    let above = length-IsOf format at value kind in
-    let path = length-IsOf format link.path link.value this.value in (
+visit_typed : (longest : ℕ) (tree : Tree) (key at : List Bool) (value : Value) (links : List Link) (turn : List Bool → Link → List Command)
+    → IsData key → AreOf longest tree → IsOf longest at value → IsChain tree key at value links
+    → ((from : List Bool) (link : Link) → IsPath from → IsOf longest link.path link.value → AllByRecursion (IsCommand longest) (turn from link))
+    → AllByRecursion (IsCommand longest) (visit_but_last at links turn)
+visit_typed longest tree key at value [] turn whole kinds kind chain typed = tt
+visit_typed longest tree key at value (link ∷ []) turn whole kinds kind chain typed =
+    typed at link (length-IsOf longest at value kind) (next_of longest tree key at value link whole kinds kind chain.0).value
+visit_typed longest tree key at value (link ∷ next ∷ links) turn whole kinds kind chain typed =
+    let this = next_of longest tree key at value link whole kinds kind chain.0 in
+    let above = length-IsOf longest at value kind in
+    let path = length-IsOf longest link.path link.value this.value in (
       (this.value, above),
-      AllByRecursion-append (IsCommand format) (visit_but_last link.path (next ∷ links) turn) _
-          (visit_typed format tree key link.path link.taken (next ∷ links) turn whole kinds this.taken chain.1 typed)
+      AllByRecursion-append (IsCommand longest) (visit_but_last link.path (next ∷ links) turn) _
+          (visit_typed longest tree key link.path link.taken (next ∷ links) turn whole kinds this.taken chain.1 typed)
           ((path, above), tt),
     )
 
-come_back_typed : (format : Format) (element : Element) (from : List Bool) (link : Link) → IsOf format element.path element.value → IsStamp element.stamp → element.verifier < 2 ^ 16
-    → length from ≤ path_bits format → IsOf format link.path link.value → AllByRecursion (IsCommand format) (come_back element from link)
-come_back_typed format element from link kind stamp verifier above value = ((kind, stamp, verifier), ((length-IsOf format link.path link.value value, above), tt))
+come_back_typed : (longest : ℕ) (element : Element) (from : List Bool) (link : Link) → IsOf longest element.path element.value → IsStamp element.stamp → element.verifier < 2 ^ 16
+    → IsPath from → IsOf longest link.path link.value → AllByRecursion (IsCommand longest) (come_back element from link)
+come_back_typed longest element from link kind stamp verifier above value = ((kind, stamp, verifier), ((length-IsOf longest link.path link.value value, above), tt))
 
-become_hot_typed : (format : Format) (stamp : Stamp) (from : List Bool) (link : Link) → IsStamp stamp
-    → length from ≤ path_bits format → IsOf format link.path link.value → AllByRecursion (IsCommand format) (become_hot stamp from link)
-become_hot_typed format stamp from link stamped above value = ((value, above), ((length-IsOf format link.path link.value value, above, stamped), tt))
+become_hot_typed : (longest : ℕ) (stamp : Stamp) (from : List Bool) (link : Link) → IsStamp stamp
+    → IsPath from → IsOf longest link.path link.value → AllByRecursion (IsCommand longest) (become_hot stamp from link)
+become_hot_typed longest stamp from link stamped above value = ((value, above), ((length-IsOf longest link.path link.value value, above, stamped), tt))
 
 -- behind commands those of a descent are logged
-pub back_typed : (format : Format) (shard : Shard) (key : List Bool) (links : List Link) (element : Element) (before after : List Command)
-    → IsShard format shard → length key ≡ path_bits format → IsChain format (tree_of shard) key shard.frontier shard.value links
-    → IsOf format element.path element.value → IsStamp element.stamp → element.verifier < 2 ^ 16
+pub back_typed : (longest : ℕ) (shard : Shard) (key : List Bool) (links : List Link) (element : Element) (before after : List Command)
+    → IsShard longest shard → IsData key → IsChain (tree_of shard) key shard.frontier shard.value links
+    → IsOf longest element.path element.value → IsStamp element.stamp → element.verifier < 2 ^ 16
     → after ≡ before ++ visit_but_last shard.frontier links (come_back element)
-    → AllByRecursion (IsCommand format) before → AllByRecursion (IsCommand format) after
-back_typed format shard key links element before after fits whole chain kind stamp verifier is typed =
-    subst (AllByRecursion (IsCommand format)) (sym is)
-    (AllByRecursion-append (IsCommand format) before _ typed
-    (visit_typed format (tree_of shard) key shard.frontier shard.value links (come_back element) whole fits.kinds (frontier_kind format shard fits.kinds) chain
-    (λ from link. come_back_typed format element from link kind stamp verifier)))
+    → AllByRecursion (IsCommand longest) before → AllByRecursion (IsCommand longest) after
+back_typed longest shard key links element before after fits whole chain kind stamp verifier is typed =
+    subst (AllByRecursion (IsCommand longest)) (sym is)
+    (AllByRecursion-append (IsCommand longest) before _ typed
+    (visit_typed longest (tree_of shard) key shard.frontier shard.value links (come_back element) whole fits.kinds (frontier_kind longest shard fits.kinds) chain
+    (λ from link. come_back_typed longest element from link kind stamp verifier)))
 
-pub hot_typed : (format : Format) (shard : Shard) (key : List Bool) (links : List Link) (stamp : Stamp) (before after : List Command)
-    → IsShard format shard → length key ≡ path_bits format → IsChain format (tree_of shard) key shard.frontier shard.value links → IsStamp stamp
+pub hot_typed : (longest : ℕ) (shard : Shard) (key : List Bool) (links : List Link) (stamp : Stamp) (before after : List Command)
+    → IsShard longest shard → IsData key → IsChain (tree_of shard) key shard.frontier shard.value links → IsStamp stamp
     → after ≡ before ++ visit_but_last shard.frontier links (become_hot stamp)
-    → AllByRecursion (IsCommand format) before → AllByRecursion (IsCommand format) after
-hot_typed format shard key links stamp before after fits whole chain stamped is typed =
-    subst (AllByRecursion (IsCommand format)) (sym is)
-    (AllByRecursion-append (IsCommand format) before _ typed
-    (visit_typed format (tree_of shard) key shard.frontier shard.value links (become_hot stamp) whole fits.kinds (frontier_kind format shard fits.kinds) chain
-    (λ from link. become_hot_typed format stamp from link stamped)))
+    → AllByRecursion (IsCommand longest) before → AllByRecursion (IsCommand longest) after
+hot_typed longest shard key links stamp before after fits whole chain stamped is typed =
+    subst (AllByRecursion (IsCommand longest)) (sym is)
+    (AllByRecursion-append (IsCommand longest) before _ typed
+    (visit_typed longest (tree_of shard) key shard.frontier shard.value links (become_hot stamp) whole fits.kinds (frontier_kind longest shard fits.kinds) chain
+    (λ from link. become_hot_typed longest stamp from link stamped)))
 
 -- ---- a chain whose last record is lent
 
 -- the chain's last path is the key
-last_key : (format : Format) (tree : Tree) (key at : List Bool) (value : Value) (above : List Link) (link : Link)
-    → IsChain format tree key at value (above ++ link ∷ []) → link.path ≡ key
-last_key format tree key at value [] link chain = chain.1
-last_key format tree key at value (first ∷ above) link chain = last_key format tree key first.path first.taken above link chain.1
+last_key : (tree : Tree) (key at : List Bool) (value : Value) (above : List Link) (link : Link)
+    → IsChain tree key at value (above ++ link ∷ []) → link.path ≡ key
+last_key tree key at value [] link chain = chain.1
+last_key tree key at value (first ∷ above) link chain = last_key tree key first.path first.taken above link chain.1
 
 -- the value of the path at the start, whether the chain is rehashed whole or up to the link before
-pub lent_value : (format : Format) (digest : Digest) (at : List Bool) (value : Value) (above : List Link) (link : Link) (last : Value)
-    → closed_value format digest true at value (above ++ link ∷ []) last
-    ≡ closed_value format digest false at value above (deferring format digest (last_path at above) (last_value value above) link)
-lent_value format digest at value [] link last = refl
-lent_value format digest at value (first ∷ []) link last =
-    ap (λ (v : Value). aimed at value (pointer_to format digest first.path v)) (lent_value format digest first.path first.taken [] link last)
-lent_value format digest at value (first ∷ second ∷ above) link last =
-    ap (λ (v : Value). aimed at value (pointer_to format digest first.path v)) (lent_value format digest first.path first.taken (second ∷ above) link last)
+pub lent_value : (digest : Digest) (at : List Bool) (value : Value) (above : List Link) (link : Link) (last : Value)
+    → closed_value digest true at value (above ++ link ∷ []) last
+    ≡ closed_value digest false at value above (deferring digest (last_path at above) (last_value value above) link)
+lent_value digest at value [] link last = refl
+lent_value digest at value (first ∷ []) link last =
+    ap (λ (v : Value). aimed at value (pointer_to digest first.path v)) (lent_value digest first.path first.taken [] link last)
+lent_value digest at value (first ∷ second ∷ above) link last =
+    ap (λ (v : Value). aimed at value (pointer_to digest first.path v)) (lent_value digest first.path first.taken (second ∷ above) link last)
 
 -- and each record but the last
-lent_record : (format : Format) (digest : Digest) (tree : Tree) (at : List Bool) (value : Value) (above : List Link) (link : Link) (last : Value) (k : List Bool)
+lent_record : (digest : Digest) (tree : Tree) (at : List Bool) (value : Value) (above : List Link) (link : Link) (last : Value) (k : List Bool)
     → same_path k link.path ≡ false
-    → closed_records format digest true tree (above ++ link ∷ []) last k
-    ≡ closed_records format digest false tree above (deferring format digest (last_path at above) (last_value value above) link) k
-lent_record format digest tree at value [] link last k apart = ap (λ (b : Bool). if b then Some (closed_value format digest true link.path link.taken [] last) else tree k) apart
-lent_record format digest tree at value (first ∷ above) link last k apart =
-    ap (λ (v : Value). if same_path k first.path then Some v else closed_records format digest true tree (above ++ link ∷ []) last k)
-    (lent_value format digest first.path first.taken above link last)
+    → closed_records digest true tree (above ++ link ∷ []) last k
+    ≡ closed_records digest false tree above (deferring digest (last_path at above) (last_value value above) link) k
+lent_record digest tree at value [] link last k apart = ap (λ (b : Bool). if b then Some (closed_value digest true link.path link.taken [] last) else tree k) apart
+lent_record digest tree at value (first ∷ above) link last k apart =
+    ap (λ (v : Value). if same_path k first.path then Some v else closed_records digest true tree (above ++ link ∷ []) last k)
+    (lent_value digest first.path first.taken above link last)
     ∙ ap (λ (o : Option Value). if same_path k first.path
-    then Some (closed_value format digest false first.path first.taken above (deferring format digest (last_path first.path above) (last_value first.taken above) link)) else o)
-    (lent_record format digest tree first.path first.taken above link last k apart)
+    then Some (closed_value digest false first.path first.taken above (deferring digest (last_path first.path above) (last_value first.taken above) link)) else o)
+    (lent_record digest tree first.path first.taken above link last k apart)
 
 -- But for the record that is lent the shard is what it is without it.
-pub lent_shard : (format : Format) (digest : Digest) (old new : Shard) (key : ℕ) (links : List Link)
-    → IsChain format (tree_of old) (key_path format key) old.frontier old.value links → IsLent format digest old links new
-    → shard_but new (key_path format key) ≡ shard_without format digest old key links
-lent_shard format digest old new key links chain lent =
+pub lent_shard : (digest : Digest) (old new : Shard) (key : ℕ) (links : List Link)
+    → IsChain (tree_of old) (key_path key) old.frontier old.value links → IsLent digest old links new
+    → shard_but new (key_path key) ≡ shard_without digest old key links
+lent_shard digest old new key links chain lent =
     ap (λ (s : Shard). shard_but s path) lent.rehashed
-    ∙ ap (λ (v : Value). record old { value = v; records = without_record (closed_records format digest false old.records lent.above pv) path }) (sym (lent_value format digest old.frontier old.value lent.above lent.link last))
-    ∙ ap (λ (t : Tree). record old { value = closed_value format digest true old.frontier old.value whole last; records = t }) (fun_ext each)
+    ∙ ap (λ (v : Value). record old { value = v; records = without_record (closed_records digest false old.records lent.above pv) path }) (sym (lent_value digest old.frontier old.value lent.above lent.link last))
+    ∙ ap (λ (t : Tree). record old { value = closed_value digest true old.frontier old.value whole last; records = t }) (fun_ext each)
     ∙ ap (λ (ls : List Link). record old {
-      value = closed_value format digest true old.frontier old.value ls last;
-      records = without_record (closed_records format digest true old.records ls last) path;
+      value = closed_value digest true old.frontier old.value ls last;
+      records = without_record (closed_records digest true old.records ls last) path;
     }) (sym lent.parts)
   where
     path : List Bool
-    path = key_path format key
+    path = key_path key
 
     whole : List Link
     whole = lent.above ++ lent.link ∷ []
@@ -150,122 +150,122 @@ lent_shard format digest old new key links chain lent =
     last = last_value old.value links
 
     pv : Value
-    pv = deferring format digest (last_path old.frontier lent.above) (last_value old.value lent.above) lent.link
+    pv = deferring digest (last_path old.frontier lent.above) (last_value old.value lent.above) lent.link
 
     same : lent.link.path ≡ path
-    same = last_key format (tree_of old) path old.frontier old.value lent.above lent.link
-        (subst (λ (ls : List Link). IsChain format (tree_of old) path old.frontier old.value ls) lent.parts chain)
+    same = last_key (tree_of old) path old.frontier old.value lent.above lent.link
+        (subst (λ (ls : List Link). IsChain (tree_of old) path old.frontier old.value ls) lent.parts chain)
 
     at : (k : List Bool) (b : Bool) → same_path k path ≡ b
-        → (if b then None else closed_records format digest false old.records lent.above pv k) ≡ (if b then None else closed_records format digest true old.records whole last k)
+        → (if b then None else closed_records digest false old.records lent.above pv k) ≡ (if b then None else closed_records digest true old.records whole last k)
     at k true here = refl
     at k false there =
-        sym (lent_record format digest old.records old.frontier old.value lent.above lent.link last k (ap (same_path k) same ∙ there))
+        sym (lent_record digest old.records old.frontier old.value lent.above lent.link last k (ap (same_path k) same ∙ there))
 
-    each : (k : List Bool) → without_record (closed_records format digest false old.records lent.above pv) path k ≡ without_record (closed_records format digest true old.records whole last) path k
+    each : (k : List Bool) → without_record (closed_records digest false old.records lent.above pv) path k ≡ without_record (closed_records digest true old.records whole last) path k
     each k = at k (same_path k path) refl
 
 -- ---- the shard is a shard
 
 -- a value whose pointer leads to a path below it
-aimed_kind : (format : Format) (at : List Bool) (on : Bool) (value : Value) (pointer : Pointer) → side at pointer.path ≡ Some on → IsOf format at value
-    → length pointer.path ≤ path_bits format → length pointer.digest ≡ 32 → IsOf format at (aimed at value pointer)
-aimed_kind format at on (values.Blob blob) pointer below kind fits digest = kind
-aimed_kind format at on (values.Node node) pointer below kind fits digest =
-    subst (λ (s : Option Bool). IsOf format at (aimed_on node pointer s)) (sym below)
-    (IsOf-with_side format at node on (Some pointer) kind (record { below = is_prefix-side at pointer.path on below; fits = fits; digest = digest }))
+aimed_kind : (longest : ℕ) (at : List Bool) (on : Bool) (value : Value) (pointer : Pointer) → side at pointer.path ≡ Some on → IsOf longest at value
+    → IsPath pointer.path → length pointer.digest ≡ 32 → IsOf longest at (aimed at value pointer)
+aimed_kind longest at on (values.Blob blob) pointer below kind fits digest = kind
+aimed_kind longest at on (values.Node node) pointer below kind fits digest =
+    subst (λ (s : Option Bool). IsOf longest at (aimed_on node pointer s)) (sym below)
+    (IsOf-with_side longest at node on (Some pointer) kind (record { below = is_prefix-side at pointer.path on below; fits = fits; digest = digest }))
 
-module _ (format : Format) (digest : Digest) (tree : Tree) (key : List Bool) (digests : GivesDigests digest) (whole : length key ≡ path_bits format) (kinds : AreOf format tree) where
+module _ (longest : ℕ) (digest : Digest) (tree : Tree) (key : List Bool) (digests : GivesDigests digest) (whole : IsData key) (kinds : AreOf longest tree) where
   -- the value of a path on the way, whose chain is rehashed up to the link before its end
-  part_kind : (at : List Bool) (value : Value) (above : List Link) (link : Link) → IsOf format at value → IsChain format tree key at value (above ++ link ∷ [])
-      → IsOf format at (closed_value format digest false at value above (deferring format digest (last_path at above) (last_value value above) link))
+  part_kind : (at : List Bool) (value : Value) (above : List Link) (link : Link) → IsOf longest at value → IsChain tree key at value (above ++ link ∷ [])
+      → IsOf longest at (closed_value digest false at value above (deferring digest (last_path at above) (last_value value above) link))
   part_kind at value [] link kind chain =
-      let next = next_of format tree key at value link whole kinds kind chain.0 in
-      aimed_kind format at chain.0.on value (deferred_pointer (pointer_to format digest link.path link.value)) next.below kind (length-IsOf format link.path link.value next.value) (digests _)
+      let next = next_of longest tree key at value link whole kinds kind chain.0 in
+      aimed_kind longest at chain.0.on value (deferred_pointer (pointer_to digest link.path link.value)) next.below kind (length-IsOf longest link.path link.value next.value) (digests _)
   part_kind at value (first ∷ above) link kind chain =
-      let next = next_of format tree key at value first whole kinds kind chain.0 in
-      let became = closed_value format digest false first.path first.taken above (deferring format digest (last_path first.path above) (last_value first.taken above) link) in
-      aimed_kind format at chain.0.on value (pointer_to format digest first.path became) next.below kind
-      (length-IsOf format first.path first.value next.value) (digests _)
+      let next = next_of longest tree key at value first whole kinds kind chain.0 in
+      let became = closed_value digest false first.path first.taken above (deferring digest (last_path first.path above) (last_value first.taken above) link) in
+      aimed_kind longest at chain.0.on value (pointer_to digest first.path became) next.below kind
+      (length-IsOf longest first.path first.value next.value) (digests _)
 
   -- a record with its value, where another path's is written over
-  kind_with : (kept : Tree) (at path : List Bool) (value : Value) → IsOf format at value → ((found : Value) → kept path ≡ Some found → IsOf format path found)
-      → (found : Value) → (if same_path path at then Some value else kept path) ≡ Some found → IsOf format path found
+  kind_with : (kept : Tree) (at path : List Bool) (value : Value) → IsOf longest at value → ((found : Value) → kept path ≡ Some found → IsOf longest path found)
+      → (found : Value) → (if same_path path at then Some value else kept path) ≡ Some found → IsOf longest path found
   kind_with kept at path value kind rest found is = go (same_path path at) refl is
     where
-      go : (b : Bool) → same_path path at ≡ b → (if b then Some value else kept path) ≡ Some found → IsOf format path found
+      go : (b : Bool) → same_path path at ≡ b → (if b then Some value else kept path) ≡ Some found → IsOf longest path found
       go true same this =
-          subst (λ (v : Value). IsOf format path v) (same_Some value found this)
-          (subst (λ (p : List Bool). IsOf format p value) (sym (same_path-true path at same)) kind)
+          subst (λ (v : Value). IsOf longest path v) (same_Some value found this)
+          (subst (λ (p : List Bool). IsOf longest p value) (sym (same_path-true path at same)) kind)
       go false apart other = rest found other
 
-  part_kinds : (kept : Tree) (at : List Bool) (value : Value) (above : List Link) (link : Link) (path : List Bool) → IsOf format at value
-      → IsChain format tree key at value (above ++ link ∷ []) → ((found : Value) → kept path ≡ Some found → IsOf format path found)
-      → (found : Value) → closed_records format digest false kept above (deferring format digest (last_path at above) (last_value value above) link) path ≡ Some found → IsOf format path found
+  part_kinds : (kept : Tree) (at : List Bool) (value : Value) (above : List Link) (link : Link) (path : List Bool) → IsOf longest at value
+      → IsChain tree key at value (above ++ link ∷ []) → ((found : Value) → kept path ≡ Some found → IsOf longest path found)
+      → (found : Value) → closed_records digest false kept above (deferring digest (last_path at above) (last_value value above) link) path ≡ Some found → IsOf longest path found
   part_kinds kept at value [] link path kind chain rest = rest
   part_kinds kept at value (first ∷ above) link path kind chain rest =
-      let next = next_of format tree key at value first whole kinds kind chain.0 in
-      let pv = deferring format digest (last_path first.path above) (last_value first.taken above) link in
-      kind_with (closed_records format digest false kept above pv) first.path path (closed_value format digest false first.path first.taken above pv)
+      let next = next_of longest tree key at value first whole kinds kind chain.0 in
+      let pv = deferring digest (last_path first.path above) (last_value first.taken above) link in
+      kind_with (closed_records digest false kept above pv) first.path path (closed_value digest false first.path first.taken above pv)
       (part_kind first.path first.taken above link next.taken chain.1)
       (part_kinds kept first.path first.taken above link path next.taken chain.1 rest)
 
-pub lent_is : (format : Format) (digest : Digest) (old new : Shard) (key : List Bool) (links : List Link) → GivesDigests digest → IsShard format old → length key ≡ path_bits format
-    → IsChain format (tree_of old) key old.frontier old.value links → IsLent format digest old links new → IsShard format new
-lent_is format digest old new key links digests fits whole chain lent =
-    subst (IsShard format) (sym lent.rehashed) (record {
+pub lent_is : (longest : ℕ) (digest : Digest) (old new : Shard) (key : List Bool) (links : List Link) → GivesDigests digest → IsShard longest old → IsData key
+    → IsChain (tree_of old) key old.frontier old.value links → IsLent digest old links new → IsShard longest new
+lent_is longest digest old new key links digests fits whole chain lent =
+    subst (IsShard longest) (sym lent.rehashed) (record {
       below_root = fits.below_root;
       no_data = fits.no_data;
       kinds = λ path found is. go path found (same_path path old.frontier) refl is;
     })
   where
     pv : Value
-    pv = deferring format digest (last_path old.frontier lent.above) (last_value old.value lent.above) lent.link
+    pv = deferring digest (last_path old.frontier lent.above) (last_value old.value lent.above) lent.link
 
-    top : IsOf format old.frontier old.value
-    top = frontier_kind format old fits.kinds
+    top : IsOf longest old.frontier old.value
+    top = frontier_kind longest old fits.kinds
 
-    parts : IsChain format (tree_of old) key old.frontier old.value (lent.above ++ lent.link ∷ [])
-    parts = subst (λ (ls : List Link). IsChain format (tree_of old) key old.frontier old.value ls) lent.parts chain
+    parts : IsChain (tree_of old) key old.frontier old.value (lent.above ++ lent.link ∷ [])
+    parts = subst (λ (ls : List Link). IsChain (tree_of old) key old.frontier old.value ls) lent.parts chain
 
     go : (path : List Bool) (found : Value) (b : Bool) → same_path path old.frontier ≡ b
-        → (if b then Some (closed_value format digest false old.frontier old.value lent.above pv) else closed_records format digest false old.records lent.above pv path) ≡ Some found
-        → IsOf format path found
+        → (if b then Some (closed_value digest false old.frontier old.value lent.above pv) else closed_records digest false old.records lent.above pv path) ≡ Some found
+        → IsOf longest path found
     go path found true same this =
-        subst (λ (v : Value). IsOf format path v) (same_Some _ found this)
-        (subst (λ (p : List Bool). IsOf format p (closed_value format digest false old.frontier old.value lent.above pv)) (sym (same_path-true path old.frontier same))
-        (part_kind format digest (tree_of old) key digests whole fits.kinds old.frontier old.value lent.above lent.link top parts))
+        subst (λ (v : Value). IsOf longest path v) (same_Some _ found this)
+        (subst (λ (p : List Bool). IsOf longest p (closed_value digest false old.frontier old.value lent.above pv)) (sym (same_path-true path old.frontier same))
+        (part_kind longest digest (tree_of old) key digests whole fits.kinds old.frontier old.value lent.above lent.link top parts))
     go path found false apart other =
-        part_kinds format digest (tree_of old) key digests whole fits.kinds old.records old.frontier old.value lent.above lent.link path top parts
+        part_kinds longest digest (tree_of old) key digests whole fits.kinds old.records old.frontier old.value lent.above lent.link path top parts
         (λ value is. fits.kinds path value (ap (λ (b : Bool). if b then Some old.value else old.records path) apart ∙ is)) found other
 
 -- a hot record has a place in its shard
-pub back_is : (format : Format) (shard : Shard) (found : HotRecord) → IsShard format shard → IsKeyOf format shard (key_path format found.key)
-    → IsOf format (key_path format found.key) (values.Blob found.value) → IsShard format (with_back format shard found)
-back_is format shard found fits own kind = record {
+pub back_is : (longest : ℕ) (shard : Shard) (found : HotRecord) → IsShard longest shard → IsKeyOf shard (key_path found.key)
+    → IsOf longest (key_path found.key) (values.Blob found.value) → IsShard longest (with_back shard found)
+back_is longest shard found fits own kind = record {
   below_root = fits.below_root;
   no_data = fits.no_data;
-  kinds = λ path value is. go path value (same_path path shard.frontier) refl (same_path path (key_path format found.key)) refl is;
+  kinds = λ path value is. go path value (same_path path shard.frontier) refl (same_path path (key_path found.key)) refl is;
 }
   where
-    go : (path : List Bool) (value : Value) (a : Bool) → same_path path shard.frontier ≡ a → (b : Bool) → same_path path (key_path format found.key) ≡ b
-        → (if a then Some shard.value else if b then Some (values.Blob found.value) else shard.records path) ≡ Some value → IsOf format path value
+    go : (path : List Bool) (value : Value) (a : Bool) → same_path path shard.frontier ≡ a → (b : Bool) → same_path path (key_path found.key) ≡ b
+        → (if a then Some shard.value else if b then Some (values.Blob found.value) else shard.records path) ≡ Some value → IsOf longest path value
     go path value true at b here is = fits.kinds path value (ap (λ (b' : Bool). if b' then Some shard.value else shard.records path) at ∙ is)
     go path value false at true here is =
-        subst (λ (v : Value). IsOf format path v) (same_Some (values.Blob found.value) value is)
-        (subst (λ (p : List Bool). IsOf format p (values.Blob found.value)) (sym (same_path-true path (key_path format found.key) here)) kind)
+        subst (λ (v : Value). IsOf longest path v) (same_Some (values.Blob found.value) value is)
+        (subst (λ (p : List Bool). IsOf longest p (values.Blob found.value)) (sym (same_path-true path (key_path found.key) here)) kind)
     go path value false at false here is = fits.kinds path value (ap (λ (b' : Bool). if b' then Some shard.value else shard.records path) at ∙ is)
 
 -- the shard without a record
-pub but_is : (format : Format) (shard : Shard) (path : List Bool) → IsShard format shard → IsShard format (shard_but shard path)
-but_is format shard path fits = record {
+pub but_is : (longest : ℕ) (shard : Shard) (path : List Bool) → IsShard longest shard → IsShard longest (shard_but shard path)
+but_is longest shard path fits = record {
   below_root = fits.below_root;
   no_data = fits.no_data;
   kinds = λ k value is. go k value (same_path k shard.frontier) refl (same_path k path) is;
 }
   where
     go : (k : List Bool) (value : Value) (a : Bool) → same_path k shard.frontier ≡ a → (b : Bool)
-        → (if a then Some shard.value else if b then None else shard.records k) ≡ Some value → IsOf format k value
+        → (if a then Some shard.value else if b then None else shard.records k) ≡ Some value → IsOf longest k value
     go k value true at b is = fits.kinds k value (ap (λ (b' : Bool). if b' then Some shard.value else shard.records k) at ∙ is)
     go k value false at true is = absurd (false≢true (ap there is))
       where
@@ -278,48 +278,48 @@ but_is format shard path fits = record {
 
 -- what the code works out of it
 pub returning_of : (digest : Digest) (found : HotRecord) (old now new : Shard) (along : List Link) (before after : List Command) (element : Element) (blob : Option (List ℕ))
-    → now ≡ with_back short_keys old found → IsChain short_keys (tree_of now) (key_path short_keys found.key) now.frontier now.value along
-    → after ≡ before ++ visit_but_last now.frontier along (come_back element) → element ≡ pending_hot short_keys found
-    → new ≡ rehashed short_keys digest now along (values.Blob blob) → blob ≡ found.value
-    → IsReturning short_keys digest found old before after new
+    → now ≡ with_back old found → IsChain (tree_of now) (key_path found.key) now.frontier now.value along
+    → after ≡ before ++ visit_but_last now.frontier along (come_back element) → element ≡ pending_hot found
+    → new ≡ rehashed digest now along (values.Blob blob) → blob ≡ found.value
+    → IsReturning digest found old before after new
 returning_of digest found old now new along before after element blob back way logged pending rehashes same = record {
   links = along;
-  way = subst (λ (s : Shard). IsChain short_keys (tree_of s) (key_path short_keys found.key) s.frontier s.value along) back way;
+  way = subst (λ (s : Shard). IsChain (tree_of s) (key_path found.key) s.frontier s.value along) back way;
   commands = logged
       ∙ ap (λ (e : Element). before ++ visit_but_last now.frontier along (come_back e)) pending
-      ∙ ap (λ (s : Shard). before ++ visit_but_last s.frontier along (come_back (pending_hot short_keys found))) back;
+      ∙ ap (λ (s : Shard). before ++ visit_but_last s.frontier along (come_back (pending_hot found))) back;
   shard = rehashes
-      ∙ ap (λ (b : Option (List ℕ)). rehashed short_keys digest now along (values.Blob b)) same
-      ∙ ap (λ (s : Shard). rehashed short_keys digest s along (values.Blob found.value)) back;
+      ∙ ap (λ (b : Option (List ℕ)). rehashed digest now along (values.Blob b)) same
+      ∙ ap (λ (s : Shard). rehashed digest s along (values.Blob found.value)) back;
 }
 
 pub returned_is : (digest : Digest) (found : HotRecord) (now new : Shard) (along : List Link) (element : Element) (blob : Option (List ℕ))
-    → GivesDigests digest → IsShard short_keys now → IsKeyOf short_keys now (key_path short_keys found.key)
-    → IsChain short_keys (tree_of now) (key_path short_keys found.key) now.frontier now.value along
-    → element ≡ pending_hot short_keys found → IsOf short_keys element.path element.value
-    → new ≡ rehashed short_keys digest now along (values.Blob blob) → blob ≡ found.value → IsShard short_keys new
+    → GivesDigests digest → IsShard longest_blob now → IsKeyOf now (key_path found.key)
+    → IsChain (tree_of now) (key_path found.key) now.frontier now.value along
+    → element ≡ pending_hot found → IsOf longest_blob element.path element.value
+    → new ≡ rehashed digest now along (values.Blob blob) → blob ≡ found.value → IsShard longest_blob new
 returned_is digest found now new along element blob digests fits own way pending kind rehashes same =
-    subst (IsShard short_keys) (sym rehashes)
-    (rehashed_is short_keys digest now (key_path short_keys found.key) along (values.Blob blob) digests fits own
-    (subst (λ (b : Option (List ℕ)). IsOf short_keys (key_path short_keys found.key) (values.Blob b)) (sym same)
-    (subst (λ (e : Element). IsOf short_keys e.path e.value) pending kind))
+    subst (IsShard longest_blob) (sym rehashes)
+    (rehashed_is longest_blob digest now (key_path found.key) along (values.Blob blob) digests fits own
+    (subst (λ (b : Option (List ℕ)). IsOf longest_blob (key_path found.key) (values.Blob b)) (sym same)
+    (subst (λ (e : Element). IsOf longest_blob e.path e.value) pending kind))
     way)
 
 -- ---- what was saved before a descent
 
 -- A shard whose chain was rehashed up to some link, where what it kept of all links was saved.
-pub saved_of : (format : Format) (digest : Digest) (old new : Shard) (links above : List Link) (last : Value) (saved : Saved)
+pub saved_of : (digest : Digest) (old new : Shard) (links above : List Link) (last : Value) (saved : Saved)
     → saved.value ≡ old.value → saved.records.items ≡ saved_along old.records links
     → ((path : List Bool) → old.records path ≡ None → old.touches path ≡ 0)
     → ((k : List Bool) → AllByRecursion (λ (link : Link). same_path k link.path ≡ false) links → AllByRecursion (λ (link : Link). same_path k link.path ≡ false) above)
-    → new ≡ rehashed format digest old above last → IsSavedOf old saved new
-saved_of format digest old new links above last saved value records quiet part is = record {
+    → new ≡ rehashed digest old above last → IsSavedOf old saved new
+saved_of digest old new links above last saved value records quiet part is = record {
   value = value;
   records = subst (λ (s : Shard). CanRestore old.records s.touches saved.records.items s.records) (sym is)
-      (subst (λ (kept : List SavedRecord). CanRestore old.records old.touches kept (closed_records format digest false old.records above last)) (sym records) (record {
+      (subst (λ (kept : List SavedRecord). CanRestore old.records old.touches kept (closed_records digest false old.records above last)) (sym records) (record {
         values = saved_was old.records links;
-        others = λ k apart. closed_elsewhere format digest false old.records above last k (part k (elsewhere_links old.records links k apart));
-        kept = λ k some. closed_there format digest false old.records above last k some;
+        others = λ k apart. closed_elsewhere digest false old.records above last k (part k (elsewhere_links old.records links k apart));
+        kept = λ k some. closed_there digest false old.records above last k some;
         quiet = quiet;
       }));
   others = ap (λ (s : Shard). record s { value = old.value; records = old.records }) is;

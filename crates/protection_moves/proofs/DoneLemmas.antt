@@ -14,7 +14,6 @@ use Rattle.lamport_clocks.specs.Reading.{Reading}
 use Rattle.record_text.specs.declared.value.Pointer.{Pointer}
 use Rattle.record_text.specs.declared.value.Value.{Value}
 use Rattle.record_text.specs.declared.value.Value.TheVariants as values
-use Rattle.record_text.specs.Format.{Format, short_keys}
 use Rattle.log_codec.specs.declared.command.Command.{Command}
 use Rattle.log_codec.specs.declared.command.Command.TheVariants.{EvictB}
 use Rattle.merkle_records.specs.Merkle.{Digest}
@@ -38,35 +37,35 @@ use Rattle.protection_moves.specs.Places.{placed_each, vacated}
 use Rattle.protection_moves.specs.Turn.{shard_but}
 use Rattle.protection_moves.proofs.SavingLemmas.{closed_elsewhere}
 
-module _ (format : Format) (digest : Digest) (worker : ℕ) where
+module _ (digest : Digest) (worker : ℕ) where
   -- one more in front
   pub transfers_cons : (old : Stage) (transfer : Transfer) (links : List Link) (transfers : List Transfer) (before mid after : List Command) (last : Command) (new : Stage)
-      → AreLinks format old.shard transfer links → mid ≡ before ++ commands_by format old transfer links
-      → AreDone format digest worker (done_by format digest worker old transfer links) transfers mid last after new
-      → AreDone format digest worker old (transfer ∷ transfers) before last after new
+      → AreLinks old.shard transfer links → mid ≡ before ++ commands_by old transfer links
+      → AreDone digest worker (done_by digest worker old transfer links) transfers mid last after new
+      → AreDone digest worker old (transfer ∷ transfers) before last after new
   transfers_cons old transfer links transfers before mid after last new way logged rest = record {
     descents = record { transfer = transfer; links = links } ∷ rest.descents;
     transfers = ap (λ (es : List Transfer). transfer ∷ es) rest.transfers;
     ways = (way, rest.ways);
     logged = rest.logged
-        ∙ ap (λ (cs : List Command). cs ++ (commands_by_each format digest worker (done_by format digest worker old transfer links) rest.descents ++ last ∷ [])) logged
-        ∙ append_assoc before (commands_by format old transfer links) (commands_by_each format digest worker (done_by format digest worker old transfer links) rest.descents ++ last ∷ [])
+        ∙ ap (λ (cs : List Command). cs ++ (commands_by_each digest worker (done_by digest worker old transfer links) rest.descents ++ last ∷ [])) logged
+        ∙ append_assoc before (commands_by old transfer links) (commands_by_each digest worker (done_by digest worker old transfer links) rest.descents ++ last ∷ [])
         ∙ ap (λ (cs : List Command). before ++ cs)
-        (sym (append_assoc (commands_by format old transfer links) (commands_by_each format digest worker (done_by format digest worker old transfer links) rest.descents) (last ∷ [])));
+        (sym (append_assoc (commands_by old transfer links) (commands_by_each digest worker (done_by digest worker old transfer links) rest.descents) (last ∷ [])));
     leaves = rest.leaves;
   }
 
   -- A hot record comes back, and then there are others.
   pub transfers_back : (shard mid_shard : Shard) (found : HotRecord) (clock next : Reading) (transfers : List Transfer) (before mid after : List Command) (last : Command) (new : Stage)
       (touches : List Bool → ℕ) (places : List Content)
-      → IsReturning format digest found shard before mid mid_shard → next ≡ taking clock found.stamp
-      → AreDone format digest worker (stage_with mid_shard touches (replaced found.key vacant places) next) transfers mid last after new
-      → AreDone format digest worker (stage_with shard touches places clock) (demotes found ∷ transfers) before last after new
+      → IsReturning digest found shard before mid mid_shard → next ≡ taking clock found.stamp
+      → AreDone digest worker (stage_with mid_shard touches (replaced found.key vacant places) next) transfers mid last after new
+      → AreDone digest worker (stage_with shard touches places clock) (demotes found ∷ transfers) before last after new
   transfers_back shard mid_shard found clock next transfers before mid after last new touches places back later rest =
       transfers_cons (stage_with shard touches places clock) (demotes found) back.links transfers before mid after last new back.way back.commands
-      (subst (λ (stage : Stage). AreDone format digest worker stage transfers mid last after new)
+      (subst (λ (stage : Stage). AreDone digest worker stage transfers mid last after new)
       (ap (λ (s : Shard). stage_with s touches (replaced found.key vacant places) next) back.shard
-      ∙ ap (λ (c : Reading). stage_with (rehashed format digest (with_back format shard found) back.links (values.Blob found.value)) touches (replaced found.key vacant places) c) later)
+      ∙ ap (λ (c : Reading). stage_with (rehashed digest (with_back shard found) back.links (values.Blob found.value)) touches (replaced found.key vacant places) c) later)
       rest)
 
   -- ---- a shard without a record
@@ -85,17 +84,17 @@ module _ (format : Format) (digest : Digest) (worker : ℕ) where
 
   -- the next link depends on records of paths above the key alone
   next_link_same : (tree other : Tree) (key : List Bool) (pointer : Option Pointer) → ((p : List Bool) → is_prefix p key ≡ true → tree p ≡ other p)
-      → next_link format tree key pointer ≡ next_link format other key pointer
+      → next_link tree key pointer ≡ next_link other key pointer
   next_link_same tree other key None same = refl
   next_link_same tree other key (Some pointer) same = go (is_prefix pointer.path key) refl
     where
       go : (b : Bool) → is_prefix pointer.path key ≡ b
-          → (if b then known_link format tree pointer.path else fork_link format key pointer) ≡ (if b then known_link format other pointer.path else fork_link format key pointer)
-      go true front = ap (λ (found : Option Value). known_link format (λ k. found) pointer.path) (same pointer.path front)
+          → (if b then known_link tree pointer.path else fork_link key pointer) ≡ (if b then known_link other pointer.path else fork_link key pointer)
+      go true front = ap (λ (found : Option Value). known_link (λ k. found) pointer.path) (same pointer.path front)
       go false apart = refl
 
   chain_same : (tree other : Tree) (key at : List Bool) (value : Value) (links : List Link) → ((p : List Bool) → is_prefix p key ≡ true → tree p ≡ other p)
-      → IsChain format tree key at value links → IsChain format other key at value links
+      → IsChain tree key at value links → IsChain other key at value links
   chain_same tree other key at value [] same ends = ends
   chain_same tree other key at value (link ∷ links) same chain = (
     record {
@@ -107,17 +106,17 @@ module _ (format : Format) (digest : Digest) (worker : ℕ) where
   )
 
   -- each link lies above the key
-  link_above : (tree : Tree) (key : List Bool) (pointer : Option Pointer) → is_prefix (next_link format tree key pointer).path key ≡ true
+  link_above : (tree : Tree) (key : List Bool) (pointer : Option Pointer) → is_prefix (next_link tree key pointer).path key ≡ true
   link_above tree key None = is_prefix-self key
   link_above tree key (Some pointer) = go (is_prefix pointer.path key) refl
     where
       go : (b : Bool) → is_prefix pointer.path key ≡ b
-          → is_prefix (if b then known_link format tree pointer.path else fork_link format key pointer).path key ≡ true
+          → is_prefix (if b then known_link tree pointer.path else fork_link key pointer).path key ≡ true
       go true front = front
       go false apart = common-right pointer.path key
 
   links_apart : (tree : Tree) (path key at : List Bool) (value : Value) (links : List Link) → ((p : List Bool) → is_prefix p key ≡ true → same_path p path ≡ false)
-      → IsChain format tree key at value links → AllByRecursion (λ (link : Link). same_path path link.path ≡ false) links
+      → IsChain tree key at value links → AllByRecursion (λ (link : Link). same_path path link.path ≡ false) links
   links_apart tree path key at value [] apart chain = tt
   links_apart tree path key at value (link ∷ links) apart chain = (
     other link.path (apart link.path (subst (λ (l : Link). is_prefix l.path key ≡ true) (sym chain.0.next) (link_above tree key (pointer_of value chain.0.on)))),
@@ -133,10 +132,10 @@ module _ (format : Format) (digest : Digest) (worker : ℕ) where
 
   -- what is changed at one path is changed at no other
   closed_else : (tree other : Tree) (links : List Link) (last : Value) (k : List Bool) → tree k ≡ other k
-      → closed_records format digest true tree links last k ≡ closed_records format digest true other links last k
+      → closed_records digest true tree links last k ≡ closed_records digest true other links last k
   closed_else tree other [] last k same = same
   closed_else tree other (link ∷ links) last k same =
-      ap (λ (o : Option Value). if same_path k link.path then Some (closed_value format digest true link.path link.taken links last) else o)
+      ap (λ (o : Option Value). if same_path k link.path then Some (closed_value digest true link.path link.taken links last) else o)
       (closed_else tree other links last k same)
 
   -- the stage without a record
@@ -145,10 +144,10 @@ module _ (format : Format) (digest : Digest) (worker : ℕ) where
 
   -- a key that becomes hot, and another record that isn't there
   without_but : (shard : Shard) (key : ℕ) (path : List Bool) (links : List Link)
-      → same_path (key_path format key) path ≡ false → AllByRecursion (λ (link : Link). same_path path link.path ≡ false) links
-      → shard_without format digest (shard_but shard path) key links ≡ shard_but (shard_without format digest shard key links) path
+      → same_path (key_path key) path ≡ false → AllByRecursion (λ (link : Link). same_path path link.path ≡ false) links
+      → shard_without digest (shard_but shard path) key links ≡ shard_but (shard_without digest shard key links) path
   without_but shard key path links apart elsewhere =
-      ap (λ (t : Tree). record shard { value = closed_value format digest true shard.frontier shard.value links last; records = t }) (fun_ext each)
+      ap (λ (t : Tree). record shard { value = closed_value digest true shard.frontier shard.value links last; records = t }) (fun_ext each)
     where
       last : Value
       last = last_value shard.value links
@@ -158,72 +157,72 @@ module _ (format : Format) (digest : Digest) (worker : ℕ) where
       gone false is = absurd (false≢true is)
 
       at : (k : List Bool) (a b : Bool) → same_path k path ≡ b
-          → (if a then None else closed_records format digest true (without_record shard.records path) links last k)
-          ≡ (if b then None else if a then None else closed_records format digest true shard.records links last k)
+          → (if a then None else closed_records digest true (without_record shard.records path) links last k)
+          ≡ (if b then None else if a then None else closed_records digest true shard.records links last k)
       at k true true here = refl
       at k true false there = refl
       at k false true here =
-          ap (closed_records format digest true (without_record shard.records path) links last) (same_path-true k path here)
-          ∙ closed_elsewhere format digest true (without_record shard.records path) links last path elsewhere
+          ap (closed_records digest true (without_record shard.records path) links last) (same_path-true k path here)
+          ∙ closed_elsewhere digest true (without_record shard.records path) links last path elsewhere
           ∙ gone (same_path path path) (same_path-self path)
       at k false false there =
           closed_else (without_record shard.records path) shard.records links last k (ap (λ (b : Bool). if b then None else shard.records k) there)
 
-      each : (k : List Bool) → without_record (closed_records format digest true (without_record shard.records path) links last) (key_path format key) k
-          ≡ without_record (without_record (closed_records format digest true shard.records links last) (key_path format key)) path k
-      each k = at k (same_path k (key_path format key)) (same_path k path) refl
+      each : (k : List Bool) → without_record (closed_records digest true (without_record shard.records path) links last) (key_path key) k
+          ≡ without_record (without_record (closed_records digest true shard.records links last) (key_path key)) path k
+      each k = at k (same_path k (key_path key)) (same_path k path) refl
 
   -- a transfer that makes another key hot than that of this path
   abbrev pub IsElse : List Bool → Transfer → Type 0
   IsElse path (demotes found) = ⊥
-  IsElse path (promotes key) = (same_path (key_path format key) path ≡ false) × (length path ≡ length (key_path format key))
+  IsElse path (promotes key) = (same_path (key_path key) path ≡ false) × (length path ≡ length (key_path key))
 
   above_same : (shard : Shard) (path key : List Bool) → ((p : List Bool) → is_prefix p key ≡ true → same_path p path ≡ false)
       → (p : List Bool) → is_prefix p key ≡ true → tree_of shard p ≡ tree_of (shard_but shard path) p
   above_same shard path key apart p front =
       ap (λ (o : Option Value). if same_path p shard.frontier then Some shard.value else o) (sym (ap (λ (b : Bool). if b then None else shard.records p) (apart p front)))
 
-  links_but : (shard : Shard) (path : List Bool) (transfer : Transfer) (links : List Link) → IsElse path transfer → AreLinks format shard transfer links → AreLinks format (shard_but shard path) transfer links
+  links_but : (shard : Shard) (path : List Bool) (transfer : Transfer) (links : List Link) → IsElse path transfer → AreLinks shard transfer links → AreLinks (shard_but shard path) transfer links
   links_but shard path (demotes found) links is way = absurd is
   links_but shard path (promotes key) links is way =
-      chain_same (tree_of shard) (tree_of (shard_but shard path)) (key_path format key) shard.frontier shard.value links
-      (above_same shard path (key_path format key) (apart_fronts path (key_path format key) is.1 is.0)) way
+      chain_same (tree_of shard) (tree_of (shard_but shard path)) (key_path key) shard.frontier shard.value links
+      (above_same shard path (key_path key) (apart_fronts path (key_path key) is.1 is.0)) way
 
-  done_but : (stage : Stage) (path : List Bool) (transfer : Transfer) (links : List Link) → IsElse path transfer → AreLinks format stage.shard transfer links
-      → done_by format digest worker (stage_but stage path) transfer links ≡ stage_but (done_by format digest worker stage transfer links) path
+  done_but : (stage : Stage) (path : List Bool) (transfer : Transfer) (links : List Link) → IsElse path transfer → AreLinks stage.shard transfer links
+      → done_by digest worker (stage_but stage path) transfer links ≡ stage_but (done_by digest worker stage transfer links) path
   done_but stage path (demotes found) links is way = absurd is
   done_but stage path (promotes key) links is way =
       ap (λ (s : Shard). let now : Stage = record { shard = s; places = placed (promoted_record worker stage key links) stage.places; clock = giving stage.clock } in now)
       (without_but stage.shard key path links is.0
-      (links_apart (tree_of stage.shard) path (key_path format key) stage.shard.frontier stage.shard.value links (apart_fronts path (key_path format key) is.1 is.0) way))
+      (links_apart (tree_of stage.shard) path (key_path key) stage.shard.frontier stage.shard.value links (apart_fronts path (key_path key) is.1 is.0) way))
 
   commands_but : (stage : Stage) (path : List Bool) (transfer : Transfer) (links : List Link) → IsElse path transfer
-      → commands_by format (stage_but stage path) transfer links ≡ commands_by format stage transfer links
+      → commands_by (stage_but stage path) transfer links ≡ commands_by stage transfer links
   commands_but stage path (demotes found) links is = absurd is
   commands_but stage path (promotes key) links is = refl
 
   -- what descents do where a record isn't there
   pub record AreDescentsBut (stage : Stage) (path : List Bool) (descents : List Descent) : Type 0 where
-    pub ways : AreDescents format digest worker (stage_but stage path) descents
-    pub commands : commands_by_each format digest worker (stage_but stage path) descents ≡ commands_by_each format digest worker stage descents
-    pub leaves : done_by_each format digest worker (stage_but stage path) descents ≡ stage_but (done_by_each format digest worker stage descents) path
+    pub ways : AreDescents digest worker (stage_but stage path) descents
+    pub commands : commands_by_each digest worker (stage_but stage path) descents ≡ commands_by_each digest worker stage descents
+    pub leaves : done_by_each digest worker (stage_but stage path) descents ≡ stage_but (done_by_each digest worker stage descents) path
 
   descents_but : (stage : Stage) (path : List Bool) (descents : List Descent) → AllByRecursion (λ (descent : Descent). IsElse path descent.transfer) descents
-      → AreDescents format digest worker stage descents → AreDescentsBut stage path descents
+      → AreDescents digest worker stage descents → AreDescentsBut stage path descents
   descents_but stage path [] is ways = record { ways = tt; commands = refl; leaves = refl }
   descents_but stage path (descent ∷ descents) is ways =
-      let next : Stage = done_by format digest worker stage descent.transfer descent.links in
+      let next : Stage = done_by digest worker stage descent.transfer descent.links in
       let same = sym (done_but stage path descent.transfer descent.links is.0 ways.0) in
       let rest = descents_but next path descents is.1 ways.1 in
       record {
         ways = (
           links_but stage.shard path descent.transfer descent.links is.0 ways.0,
-          subst (λ (s : Stage). AreDescents format digest worker s descents) same rest.ways,
+          subst (λ (s : Stage). AreDescents digest worker s descents) same rest.ways,
         );
-        commands = ap (λ (s : Stage). commands_by format (stage_but stage path) descent.transfer descent.links ++ commands_by_each format digest worker s descents) (sym same)
-            ∙ ap (λ (cs : List Command). commands_by format (stage_but stage path) descent.transfer descent.links ++ cs) rest.commands
-            ∙ ap (λ (cs : List Command). cs ++ commands_by_each format digest worker next descents) (commands_but stage path descent.transfer descent.links is.0);
-        leaves = ap (λ (s : Stage). done_by_each format digest worker s descents) (sym same) ∙ rest.leaves;
+        commands = ap (λ (s : Stage). commands_by (stage_but stage path) descent.transfer descent.links ++ commands_by_each digest worker s descents) (sym same)
+            ∙ ap (λ (cs : List Command). commands_by (stage_but stage path) descent.transfer descent.links ++ cs) rest.commands
+            ∙ ap (λ (cs : List Command). cs ++ commands_by_each digest worker next descents) (commands_but stage path descent.transfer descent.links is.0);
+        leaves = ap (λ (s : Stage). done_by_each digest worker s descents) (sym same) ∙ rest.leaves;
       }
 
   transfers_else : (path : List Bool) (descents : List Descent) → AllByRecursion (IsElse path) (map (λ (descent : Descent). descent.transfer) descents) → AllByRecursion (λ (descent : Descent). IsElse path descent.transfer) descents
@@ -232,8 +231,8 @@ module _ (format : Format) (digest : Digest) (worker : ℕ) where
 
   -- Transfers that make other keys hot do the same where a record isn't there.
   pub transfers_but : (old new : Stage) (path : List Bool) (transfers : List Transfer) (before after : List Command) (last : Command) → AllByRecursion (IsElse path) transfers
-      → AreDone format digest worker old transfers before last after new
-      → AreDone format digest worker (stage_but old path) transfers before last after (stage_but new path)
+      → AreDone digest worker old transfers before last after new
+      → AreDone digest worker (stage_but old path) transfers before last after (stage_but new path)
   transfers_but old new path transfers before after last all run =
       let but = descents_but old path run.descents (transfers_else path run.descents (subst (AllByRecursion (IsElse path)) (sym run.transfers) all)) run.ways in
       record {
@@ -247,18 +246,18 @@ module _ (format : Format) (digest : Digest) (worker : ℕ) where
   -- A key becomes hot, and then there are others. Its own record is taken away in the end.
   pub transfers_hot : (shard mid_shard : Shard) (key : ℕ) (hot : HotRecord) (clock next : Reading) (stamp : Stamp) (transfers : List Transfer) (before mid after : List Command) (last : Command) (new : Stage)
       (touches : List Bool → ℕ) (places : List Content)
-      → IsLending format digest worker stamp key shard before hot mid mid_shard → next ≡ giving clock → stamp ≡ next.at
-      → AllByRecursion (IsElse (key_path format key)) transfers
-      → AreDone format digest worker (stage_with mid_shard touches (placed hot places) next) transfers mid last after new
-      → AreDone format digest worker (stage_with shard touches places clock) (promotes key ∷ transfers) before last after (stage_but new (key_path format key))
+      → IsLending digest worker stamp key shard before hot mid mid_shard → next ≡ giving clock → stamp ≡ next.at
+      → AllByRecursion (IsElse (key_path key)) transfers
+      → AreDone digest worker (stage_with mid_shard touches (placed hot places) next) transfers mid last after new
+      → AreDone digest worker (stage_with shard touches places clock) (promotes key ∷ transfers) before last after (stage_but new (key_path key))
   transfers_hot shard mid_shard key hot clock next stamp transfers before mid after last new touches places lending later at all rest =
       transfers_cons (stage_with shard touches places clock) (promotes key) links transfers before mid after last (stage_but new path) lending.way
       (lending.commands ∙ ap (λ (t : Stamp). before ++ visit_but_last shard.frontier links (become_hot t)) moment)
-      (subst (λ (stage : Stage). AreDone format digest worker stage transfers mid last after (stage_but new path)) same
+      (subst (λ (stage : Stage). AreDone digest worker stage transfers mid last after (stage_but new path)) same
       (transfers_but (stage_with mid_shard touches (placed hot places) next) new path transfers mid after last all rest))
     where
       path : List Bool
-      path = key_path format key
+      path = key_path key
 
       links : List Link
       links = lending.links
@@ -269,18 +268,18 @@ module _ (format : Format) (digest : Digest) (worker : ℕ) where
       became : hot ≡ promoted_record worker (stage_with shard touches places clock) key links
       became = lending.record' ∙ ap (λ (t : Stamp). let now : HotRecord = record { key = key; value = data_of (last_value shard.value links); stamp = t; evictor = worker; touches = 0 } in now) moment
 
-      same : stage_but (stage_with mid_shard touches (placed hot places) next) path ≡ done_by format digest worker (stage_with shard touches places clock) (promotes key) links
+      same : stage_but (stage_with mid_shard touches (placed hot places) next) path ≡ done_by digest worker (stage_with shard touches places clock) (promotes key) links
       same = ap (λ (s : Shard). stage_with s touches (placed hot places) next) lending.shard
-          ∙ ap (λ (h : HotRecord). stage_with (shard_without format digest shard key links) touches (placed h places) next) became
-          ∙ ap (λ (c : Reading). stage_with (shard_without format digest shard key links) touches (placed (promoted_record worker (stage_with shard touches places clock) key links) places) c) later
+          ∙ ap (λ (h : HotRecord). stage_with (shard_without digest shard key links) touches (placed h places) next) became
+          ∙ ap (λ (c : Reading). stage_with (shard_without digest shard key links) touches (placed (promoted_record worker (stage_with shard touches places clock) key links) places) c) later
 
 -- keys above another are others
 pub else_all : (digest : Digest) (worker key : ℕ) (keys : List ℕ) → key < 2 ^ 64 → AllByRecursion (λ other. other < 2 ^ 64) keys → AllByRecursion (λ other. key < other) keys
-    → AllByRecursion (IsElse short_keys digest worker (key_path short_keys key)) (map (λ (k : ℕ). promotes k) keys)
+    → AllByRecursion (IsElse digest worker (key_path key)) (map (λ (k : ℕ). promotes k) keys)
 else_all digest worker key [] fits all above = tt
 else_all digest worker key (other ∷ keys) fits all above = (
   (
-    same_path-apart (key_path short_keys other) (key_path short_keys key) (λ same. absurd (omega (arith, above.0, bits_of-injective 64 other key all.0 fits same))),
+    same_path-apart (key_path other) (key_path key) (λ same. absurd (omega (arith, above.0, bits_of-injective 64 other key all.0 fits same))),
     length-bits_of 64 key ∙ sym (length-bits_of 64 other),
   ),
   else_all digest worker key keys fits all.1 above.1,
@@ -292,19 +291,19 @@ all_fit [] fits = tt
 all_fit (key ∷ keys) fits = (omega (arith, fits 0), all_fit keys (λ i. fits (suc i)))
 
 -- what is asked of the keys behind the first
-pub rest_own : (old new : Shard) (keys : List ℕ) → new.frontier ≡ old.frontier → AllByRecursion (λ key. IsKeyOf short_keys old (key_path short_keys key)) keys
-    → AllByRecursion (λ key. IsKeyOf short_keys new (key_path short_keys key)) keys
+pub rest_own : (old new : Shard) (keys : List ℕ) → new.frontier ≡ old.frontier → AllByRecursion (λ key. IsKeyOf old (key_path key)) keys
+    → AllByRecursion (λ key. IsKeyOf new (key_path key)) keys
 rest_own old new [] same own = tt
 rest_own old new (key ∷ keys) same own = (
-  record { whole = own.0.whole; below = subst (λ (f : List Bool). IsBelow f (key_path short_keys key)) (sym same) own.0.below },
+  record { whole = own.0.whole; below = subst (λ (f : List Bool). IsBelow f (key_path key)) (sym same) own.0.below },
   rest_own old new keys same own.1,
 )
 
-pub rest_own_back : (old new : Shard) (records : List HotRecord) → new.frontier ≡ old.frontier → AllByRecursion (λ found. IsKeyOf short_keys old (key_path short_keys found.key)) records
-    → AllByRecursion (λ found. IsKeyOf short_keys new (key_path short_keys found.key)) records
+pub rest_own_back : (old new : Shard) (records : List HotRecord) → new.frontier ≡ old.frontier → AllByRecursion (λ found. IsKeyOf old (key_path found.key)) records
+    → AllByRecursion (λ found. IsKeyOf new (key_path found.key)) records
 rest_own_back old new [] same own = tt
 rest_own_back old new (found ∷ records) same own = (
-  record { whole = own.0.whole; below = subst (λ (f : List Bool). IsBelow f (key_path short_keys found.key)) (sym same) own.0.below },
+  record { whole = own.0.whole; below = subst (λ (f : List Bool). IsBelow f (key_path found.key)) (sym same) own.0.below },
   rest_own_back old new records same own.1,
 )
 
@@ -318,23 +317,23 @@ rest_within clock next keys rest key is later within =
 -- The run of keys, of which the first becomes hot before the others.
 pub transfers_promoted : (digest : Digest) (worker : ℕ) (shard mid_shard rest_shard final : Shard) (key : ℕ) (rest keys : List ℕ) (hot : HotRecord) (others all : List HotRecord)
     (clock next : Reading) (stamp : Stamp) (before mid after : List Command)
-    → keys ≡ key ∷ rest → IsLending short_keys digest worker stamp key shard before hot mid mid_shard → next ≡ giving clock → stamp ≡ next.at
+    → keys ≡ key ∷ rest → IsLending digest worker stamp key shard before hot mid mid_shard → next ≡ giving clock → stamp ≡ next.at
     → AllByRecursion (λ k. k < 2 ^ 64) keys → AreRising keys → mid_shard.frontier ≡ shard.frontier
-    → ((touches : List Bool → ℕ) (places : List Content) → AreDone short_keys digest worker (stage_with mid_shard touches places next) (map (λ (k : ℕ). promotes k) rest) mid
+    → ((touches : List Bool → ℕ) (places : List Content) → AreDone digest worker (stage_with mid_shard touches places next) (map (λ (k : ℕ). promotes k) rest) mid
     (EvictB mid_shard.frontier (giving (clock_by_each next (map (λ (k : ℕ). promotes k) rest))).at) after
     (stage_with rest_shard touches (placed_each others places) (clock_by_each next (map (λ (k : ℕ). promotes k) rest))))
-    → all ≡ hot ∷ others → ((touches : List Bool → ℕ) → record final { touches = touches } ≡ record (shard_but rest_shard (key_path short_keys key)) { touches = touches })
-    → (touches : List Bool → ℕ) (places : List Content) → AreDone short_keys digest worker (stage_with shard touches places clock) (map (λ (k : ℕ). promotes k) keys) before
+    → all ≡ hot ∷ others → ((touches : List Bool → ℕ) → record final { touches = touches } ≡ record (shard_but rest_shard (key_path key)) { touches = touches })
+    → (touches : List Bool → ℕ) (places : List Content) → AreDone digest worker (stage_with shard touches places clock) (map (λ (k : ℕ). promotes k) keys) before
     (EvictB shard.frontier (giving (clock_by_each clock (map (λ (k : ℕ). promotes k) keys))).at) after
     (stage_with final touches (placed_each all places) (clock_by_each clock (map (λ (k : ℕ). promotes k) keys)))
 transfers_promoted digest worker shard mid_shard rest_shard final key rest keys hot others all clock next stamp before mid after is lending later at fit rising same run hots left touches places =
-    subst (λ (ks : List ℕ). AreDone short_keys digest worker (stage_with shard touches places clock) (map (λ (k : ℕ). promotes k) ks) before
+    subst (λ (ks : List ℕ). AreDone digest worker (stage_with shard touches places clock) (map (λ (k : ℕ). promotes k) ks) before
     (EvictB shard.frontier (giving (clock_by_each clock (map (λ (k : ℕ). promotes k) ks))).at) after
     (stage_with final touches (placed_each all places) (clock_by_each clock (map (λ (k : ℕ). promotes k) ks)))) (sym is)
-    (subst (λ (new : Stage). AreDone short_keys digest worker (stage_with shard touches places clock) (promotes key ∷ transfers) before (EvictB shard.frontier (giving (clock_by_each (giving clock) transfers)).at) after new) new
-    (subst (λ (last : Command). AreDone short_keys digest worker (stage_with shard touches places clock) (promotes key ∷ transfers) before last after
-    (stage_but short_keys digest worker (stage_with rest_shard touches (placed_each others (placed hot places)) (clock_by_each next transfers)) (key_path short_keys key))) last
-    (transfers_hot short_keys digest worker shard mid_shard key hot clock next stamp transfers before mid after _ _ touches places lending later at
+    (subst (λ (new : Stage). AreDone digest worker (stage_with shard touches places clock) (promotes key ∷ transfers) before (EvictB shard.frontier (giving (clock_by_each (giving clock) transfers)).at) after new) new
+    (subst (λ (last : Command). AreDone digest worker (stage_with shard touches places clock) (promotes key ∷ transfers) before last after
+    (stage_but digest worker (stage_with rest_shard touches (placed_each others (placed hot places)) (clock_by_each next transfers)) (key_path key))) last
+    (transfers_hot digest worker shard mid_shard key hot clock next stamp transfers before mid after _ _ touches places lending later at
     (else_all digest worker key rest fits.0 fits.1 above.0) (run touches (placed hot places)))))
   where
     transfers : List Transfer
@@ -349,7 +348,7 @@ transfers_promoted digest worker shard mid_shard rest_shard final key rest keys 
     last : EvictB mid_shard.frontier (giving (clock_by_each next transfers)).at ≡ EvictB shard.frontier (giving (clock_by_each (giving clock) transfers)).at
     last = ap (λ (f : List Bool). EvictB f (giving (clock_by_each next transfers)).at) same ∙ ap (λ (c : Reading). EvictB shard.frontier (giving (clock_by_each c transfers)).at) later
 
-    new : stage_but short_keys digest worker (stage_with rest_shard touches (placed_each others (placed hot places)) (clock_by_each next transfers)) (key_path short_keys key)
+    new : stage_but digest worker (stage_with rest_shard touches (placed_each others (placed hot places)) (clock_by_each next transfers)) (key_path key)
         ≡ stage_with final touches (placed_each all places) (clock_by_each (giving clock) transfers)
     new = ap (λ (s : Shard). let now : Stage = record { shard = s; places = placed_each (hot ∷ others) places; clock = clock_by_each next transfers } in now) (sym (left touches))
         ∙ ap (λ (hs : List HotRecord). stage_with final touches (placed_each hs places) (clock_by_each next transfers)) (sym hots)
@@ -358,22 +357,22 @@ transfers_promoted digest worker shard mid_shard rest_shard final key rest keys 
 -- The run of records that come back before other transfers.
 pub transfers_returned : (digest : Digest) (worker : ℕ) (shard mid_shard rest_shard : Shard) (found : HotRecord) (rest back : List HotRecord) (more : List Transfer) (hots : List HotRecord)
     (clock next : Reading) (before mid after : List Command)
-    → back ≡ found ∷ rest → IsReturning short_keys digest found shard before mid mid_shard → next ≡ taking clock found.stamp → mid_shard.frontier ≡ shard.frontier
-    → ((touches : List Bool → ℕ) (places : List Content) → AreDone short_keys digest worker (stage_with mid_shard touches places next) (map (λ (f : HotRecord). demotes f) rest ++ more) mid
+    → back ≡ found ∷ rest → IsReturning digest found shard before mid mid_shard → next ≡ taking clock found.stamp → mid_shard.frontier ≡ shard.frontier
+    → ((touches : List Bool → ℕ) (places : List Content) → AreDone digest worker (stage_with mid_shard touches places next) (map (λ (f : HotRecord). demotes f) rest ++ more) mid
     (EvictB mid_shard.frontier (giving (clock_by_each next (map (λ (f : HotRecord). demotes f) rest ++ more))).at) after
     (stage_with rest_shard touches (placed_each hots (vacated rest places)) (clock_by_each next (map (λ (f : HotRecord). demotes f) rest ++ more))))
-    → (touches : List Bool → ℕ) (places : List Content) → AreDone short_keys digest worker (stage_with shard touches places clock) (map (λ (f : HotRecord). demotes f) back ++ more) before
+    → (touches : List Bool → ℕ) (places : List Content) → AreDone digest worker (stage_with shard touches places clock) (map (λ (f : HotRecord). demotes f) back ++ more) before
     (EvictB shard.frontier (giving (clock_by_each clock (map (λ (f : HotRecord). demotes f) back ++ more))).at) after
     (stage_with rest_shard touches (placed_each hots (vacated back places)) (clock_by_each clock (map (λ (f : HotRecord). demotes f) back ++ more)))
 transfers_returned digest worker shard mid_shard rest_shard found rest back more hots clock next before mid after is returning later same run touches places =
-    subst (λ (fs : List HotRecord). AreDone short_keys digest worker (stage_with shard touches places clock) (map (λ (f : HotRecord). demotes f) fs ++ more) before
+    subst (λ (fs : List HotRecord). AreDone digest worker (stage_with shard touches places clock) (map (λ (f : HotRecord). demotes f) fs ++ more) before
     (EvictB shard.frontier (giving (clock_by_each clock (map (λ (f : HotRecord). demotes f) fs ++ more))).at) after
     (stage_with rest_shard touches (placed_each hots (vacated fs places)) (clock_by_each clock (map (λ (f : HotRecord). demotes f) fs ++ more)))) (sym is)
-    (transfers_back short_keys digest worker shard mid_shard found clock next transfers before mid after _ _ touches places returning later
-    (subst (λ (c : Reading). AreDone short_keys digest worker (stage_with mid_shard touches (replaced found.key vacant places) next) transfers mid
+    (transfers_back digest worker shard mid_shard found clock next transfers before mid after _ _ touches places returning later
+    (subst (λ (c : Reading). AreDone digest worker (stage_with mid_shard touches (replaced found.key vacant places) next) transfers mid
     (EvictB shard.frontier (giving (clock_by_each c transfers)).at) after
     (stage_with rest_shard touches (placed_each hots (vacated rest (replaced found.key vacant places))) (clock_by_each c transfers))) later
-    (subst (λ (f : List Bool). AreDone short_keys digest worker (stage_with mid_shard touches (replaced found.key vacant places) next) transfers mid
+    (subst (λ (f : List Bool). AreDone digest worker (stage_with mid_shard touches (replaced found.key vacant places) next) transfers mid
     (EvictB f (giving (clock_by_each next transfers)).at) after
     (stage_with rest_shard touches (placed_each hots (vacated rest (replaced found.key vacant places))) (clock_by_each next transfers))) same
     (run touches (replaced found.key vacant places)))))

@@ -6,7 +6,6 @@ use Rattle.std.specs.List.{AllByRecursion, IsAmong}
 use Rattle.lamport_clocks.specs.declared.stamp.Stamp.{Stamp}
 use Rattle.lamport_clocks.specs.Clock.{is_open}
 use Rattle.lamport_clocks.specs.Reading.{Reading}
-use Rattle.record_text.specs.Format.{Format, short_keys}
 use Rattle.log_codec.specs.declared.command.Command.{Command}
 use Rattle.log_codec.specs.declared.command.Command.TheVariants.{EvictB}
 use Rattle.merkle_records.specs.Merkle.{Digest}
@@ -65,22 +64,22 @@ rising_unique (x ∷ xs) (y ∷ ys) one two there back =
     (λ k is. same_tail x y k xs ys one same is (there k (among_tail x k xs is)))
     (λ k is. same_tail y x k ys xs two (sym same) is (back k (among_tail y k ys is))))
 
-pub promotable_unique : (format : Format) (stage : Stage) (threshold : Option ℕ) (xs ys : List ℕ) → ArePromotable format stage threshold xs → ArePromotable format stage threshold ys → xs ≡ ys
-promotable_unique format stage threshold xs ys one two =
+pub promotable_unique : (stage : Stage) (threshold : Option ℕ) (xs ys : List ℕ) → ArePromotable stage threshold xs → ArePromotable stage threshold ys → xs ≡ ys
+promotable_unique stage threshold xs ys one two =
     rising_unique xs ys one.rising two.rising (λ k is. (two.promotable k).1 ((one.promotable k).0 is)) (λ k is. (one.promotable k).1 ((two.promotable k).0 is))
 
 -- ---- one stage
 
 module _ (stage : Stage) (threshold : Option ℕ) (back : List HotRecord) (keys : List ℕ) (returning : back ≡ untouched_in stage.places)
-    (first : AreFirstPromotable short_keys stage threshold (vacancies stage.places + length back) keys) where
+    (first : AreFirstPromotable stage threshold (vacancies stage.places + length back) keys) where
   abbrev pub transfers : List Transfer
   transfers = map (λ (f : HotRecord). demotes f) back ++ map (λ (k : ℕ). promotes k) keys
 
   -- the transfers of the move
-  are_transfers : (promotable : List ℕ) → ArePromotable short_keys stage threshold promotable → transfers ≡ transfers_of stage promotable
+  are_transfers : (promotable : List ℕ) → ArePromotable stage threshold promotable → transfers ≡ transfers_of stage promotable
   are_transfers promotable are =
       ap (λ (ks : List ℕ). map (λ (f : HotRecord). demotes f) back ++ map (λ (k : ℕ). promotes k) ks)
-      (first.first ∙ ap (take (vacancies stage.places + length back)) (promotable_unique short_keys stage threshold first.promotable promotable first.are_promotable are))
+      (first.first ∙ ap (take (vacancies stage.places + length back)) (promotable_unique stage threshold first.promotable promotable first.are_promotable are))
       ∙ ap (λ (fs : List HotRecord). map (λ (f : HotRecord). demotes f) fs ++ map (λ (k : ℕ). promotes k) (take (vacancies stage.places + length fs) promotable)) returning
 
   -- the clock that has the frontier taken in, and the one at the end
@@ -91,50 +90,50 @@ module _ (stage : Stage) (threshold : Option ℕ) (back : List HotRecord) (keys 
     abbrev pub end_clock : Reading
     end_clock = giving (clock_by_each start_clock transfers)
 
-    needed : (promotable : List ℕ) → ArePromotable short_keys stage threshold promotable → end_clock ≡ clock_needed stage promotable
+    needed : (promotable : List ℕ) → ArePromotable stage threshold promotable → end_clock ≡ clock_needed stage promotable
     needed promotable are =
         ap (λ (es : List Transfer). giving (clock_by_each start_clock es)) (are_transfers promotable are)
         ∙ ap (λ (fs : List HotRecord). giving (clock_by_each (taking (renewing_each stage.clock fs) stage.shard.stamp) (transfers_of stage promotable))) staying
 
-    pub is_past : stage.clock.end < end_clock.at.counter → IsPastEnd short_keys threshold stage
+    pub is_past : stage.clock.end < end_clock.at.counter → IsPastEnd threshold stage
     is_past past = record {
       promotable = first.promotable;
       are_promotable = first.are_promotable;
       past = subst (λ (c : Reading). stage.clock.end < c.at.counter) (needed first.promotable first.are_promotable) past;
     }
 
-    pub past_is : IsPastEnd short_keys threshold stage → stage.clock.end < end_clock.at.counter
+    pub past_is : IsPastEnd threshold stage → stage.clock.end < end_clock.at.counter
     past_is past = subst (λ (c : Reading). stage.clock.end < c.at.counter) (sym (needed past.promotable past.are_promotable)) past.past
 
     -- the frontier alone passes it
-    pub past_at_start : stage.clock.end < start_clock.at.counter → IsPastEnd short_keys threshold stage
+    pub past_at_start : stage.clock.end < start_clock.at.counter → IsPastEnd threshold stage
     past_at_start past = is_past (omega (arith, past, clock_by_each-up start_clock transfers))
 
     -- A run of the transfers is the move.
     pub is_move : (digest : Digest) (worker : ℕ) (mid later : Reading) (start logged : List Command) (left : Shard) (places : List Content) (new : Stage)
         → mid ≡ start_clock → later ≡ giving (clock_by_each mid transfers)
-        → start ≡ renewing_commands short_keys stage.clock touched ++ taking_in (pending_shard stage.shard) ∷ []
-        → AreDone short_keys digest worker (stage_with stage.shard (λ k. 0) (renewed_places worker stage.clock stage.places touched) mid) transfers start
+        → start ≡ renewing_commands stage.clock touched ++ taking_in (pending_shard stage.shard) ∷ []
+        → AreDone digest worker (stage_with stage.shard (λ k. 0) (renewed_places worker stage.clock stage.places touched) mid) transfers start
         (EvictB stage.shard.frontier (giving (clock_by_each mid transfers)).at) logged
         (stage_with left (λ k. 0) places (clock_by_each mid transfers))
         → new ≡ record { shard = record left { touches = λ k. 0; stamp = later.at; evictor = worker }; places = places; clock = later }
-        → IsMove short_keys digest worker threshold stage logged new
+        → IsMove digest worker threshold stage logged new
     is_move digest worker mid later start logged left places new begins ends starts run becomes = record {
       promotable = first.promotable;
       are_promotable = first.are_promotable;
       descents = run.descents;
       transfers = run.transfers ∙ are_transfers first.promotable first.are_promotable;
-      ways = subst (λ (s : Stage). AreDescents short_keys digest worker s run.descents) started run.ways;
+      ways = subst (λ (s : Stage). AreDescents digest worker s run.descents) started run.ways;
       commands = run.logged
-          ∙ ap (λ (cs : List Command). cs ++ (commands_by_each short_keys digest worker first_stage run.descents ++ last mid ∷ [])) starts
-          ∙ append_assoc (renewing_commands short_keys stage.clock touched) (taking_in (pending_shard stage.shard) ∷ []) (commands_by_each short_keys digest worker first_stage run.descents ++ last mid ∷ [])
-          ∙ ap (λ (s : Stage). renewing_commands short_keys stage.clock touched ++ taking_in (pending_shard stage.shard) ∷ (commands_by_each short_keys digest worker s run.descents ++ last mid ∷ [])) started
-          ∙ ap (λ (c : Reading). renewing_commands short_keys stage.clock touched
-          ++ taking_in (pending_shard stage.shard) ∷ (commands_by_each short_keys digest worker (begun worker stage) run.descents ++ EvictB stage.shard.frontier (giving c).at ∷ []))
+          ∙ ap (λ (cs : List Command). cs ++ (commands_by_each digest worker first_stage run.descents ++ last mid ∷ [])) starts
+          ∙ append_assoc (renewing_commands stage.clock touched) (taking_in (pending_shard stage.shard) ∷ []) (commands_by_each digest worker first_stage run.descents ++ last mid ∷ [])
+          ∙ ap (λ (s : Stage). renewing_commands stage.clock touched ++ taking_in (pending_shard stage.shard) ∷ (commands_by_each digest worker s run.descents ++ last mid ∷ [])) started
+          ∙ ap (λ (c : Reading). renewing_commands stage.clock touched
+          ++ taking_in (pending_shard stage.shard) ∷ (commands_by_each digest worker (begun worker stage) run.descents ++ EvictB stage.shard.frontier (giving c).at ∷ []))
           (ap (λ (s : Stage). s.clock) done)
-          ∙ ap (λ (fs : List HotRecord). renewing_commands short_keys stage.clock fs
-          ++ taking_in (pending_shard stage.shard) ∷ (commands_by_each short_keys digest worker (begun worker stage) run.descents
-          ++ EvictB stage.shard.frontier (moved short_keys digest worker stage run.descents).clock.at ∷ [])) staying;
+          ∙ ap (λ (fs : List HotRecord). renewing_commands stage.clock fs
+          ++ taking_in (pending_shard stage.shard) ∷ (commands_by_each digest worker (begun worker stage) run.descents
+          ++ EvictB stage.shard.frontier (moved digest worker stage run.descents).clock.at ∷ [])) staying;
       after = becomes
           ∙ ap (λ (c : Reading). let now : Stage = record { shard = record left { touches = λ k. 0; stamp = c.at; evictor = worker }; places = places; clock = c } in now) ends
           ∙ ap (handed_out worker) done;
@@ -150,8 +149,8 @@ module _ (stage : Stage) (threshold : Option ℕ) (back : List HotRecord) (keys 
         started = ap (λ (c : Reading). stage_with stage.shard (λ k. 0) (renewed_places worker stage.clock stage.places touched) c) begins
             ∙ ap (λ (fs : List HotRecord). stage_with stage.shard (λ k. 0) (renewed_places worker stage.clock stage.places fs) (taking (renewing_each stage.clock fs) stage.shard.stamp)) staying
 
-        done : stage_with left (λ k. 0) places (clock_by_each mid transfers) ≡ done_by_each short_keys digest worker (begun worker stage) run.descents
-        done = run.leaves ∙ ap (λ (s : Stage). done_by_each short_keys digest worker s run.descents) started
+        done : stage_with left (λ k. 0) places (clock_by_each mid transfers) ≡ done_by_each digest worker (begun worker stage) run.descents
+        done = run.leaves ∙ ap (λ (s : Stage). done_by_each digest worker s run.descents) started
 
 -- ---- the clock within a move
 
@@ -169,7 +168,7 @@ open_after clock mid later touched stamp transfers epoch begins ends =
 
 -- the keys that the code found
 pub first_keys : (stage : Stage) (threshold : Option ℕ) (back : List HotRecord) (found keys : List ℕ) (vacant' count : ℕ) → vacant' ≡ vacancies stage.places → count ≡ length back → keys ≡ found
-    → AreFirstPromotable short_keys stage threshold (vacant' + count) found → AreFirstPromotable short_keys stage threshold (vacancies stage.places + length back) keys
+    → AreFirstPromotable stage threshold (vacant' + count) found → AreFirstPromotable stage threshold (vacancies stage.places + length back) keys
 first_keys stage threshold back found keys vacant' count vacancy many same first =
-    subst (AreFirstPromotable short_keys stage threshold (vacancies stage.places + length back)) (sym same)
-    (subst (λ (room : ℕ). AreFirstPromotable short_keys stage threshold room found) (ap (λ (v : ℕ). v + count) vacancy ∙ ap (λ (n : ℕ). vacancies stage.places + n) many) first)
+    subst (AreFirstPromotable stage threshold (vacancies stage.places + length back)) (sym same)
+    (subst (λ (room : ℕ). AreFirstPromotable stage threshold room found) (ap (λ (v : ℕ). v + count) vacancy ∙ ap (λ (n : ℕ). vacancies stage.places + n) many) first)

@@ -10,7 +10,6 @@ use Rattle.tree_keys.specs.BitsLaws.{length-bits_of, number_back}
 use Rattle.tree_keys.specs.Path.{side, same_path}
 use Rattle.tree_keys.proofs.BitsLaws.{bits_of-number_of, number_of-lt}
 use Rattle.tree_keys.proofs.PathLaws.{same_path-self, same_path-true, same_path-apart}
-use Rattle.record_text.specs.Format.{short_keys}
 use Rattle.host_shard.specs.declared.record.Record.{Record}
 use Rattle.host_shard.specs.Content.{Content, cold, hot, vacant, key_path}
 use Rattle.host_shard.specs.Shard.{Shard}
@@ -81,27 +80,27 @@ rising_front (suc n) (x ∷ xs) rising = (all_front (λ b. x < b) n xs rising.0,
 
 -- ---- hot keys
 
-hot_among : (path : List Bool) (places : List Content) → is_hot path places ≡ false → IsAmong (hot_paths short_keys places) path → ⊥
+hot_among : (path : List Bool) (places : List Content) → is_hot path places ≡ false → IsAmong (hot_paths places) path → ⊥
 hot_among path [] is among = absurd (omega (arith, among.1.0))
 hot_among path (cold shard ∷ places) is among = hot_among path places is among
 hot_among path (vacant ∷ places) is among = hot_among path places is among
 hot_among path (hot found ∷ places) is (zero, among) =
     true≢false (sym (ap (λ (b : Bool). b || is_hot path places) (ap (λ (p : List Bool). same_path p path) (sym among.1) ∙ same_path-self path)) ∙ is)
-hot_among path (hot found ∷ places) is (suc i, among) = hot_among path places (second (same_path (key_path short_keys found.key) path) (is_hot path places) is) (i, (omega (arith, among.0), among.1))
+hot_among path (hot found ∷ places) is (suc i, among) = hot_among path places (second (same_path (key_path found.key) path) (is_hot path places) is) (i, (omega (arith, among.0), among.1))
   where
     second : (a b : Bool) → (a || b) ≡ false → b ≡ false
     second true b h = absurd (true≢false h)
     second false b h = h
 
-not_hot : (path : List Bool) (places : List Content) → (IsAmong (hot_paths short_keys places) path → ⊥) → is_hot path places ≡ false
+not_hot : (path : List Bool) (places : List Content) → (IsAmong (hot_paths places) path → ⊥) → is_hot path places ≡ false
 not_hot path [] apart = refl
 not_hot path (cold shard ∷ places) apart = not_hot path places apart
 not_hot path (vacant ∷ places) apart = not_hot path places apart
 not_hot path (hot found ∷ places) apart =
-    go (same_path (key_path short_keys found.key) path) refl (not_hot path places (λ among. apart (suc among.0, (omega (arith, among.1.0), among.1.1))))
+    go (same_path (key_path found.key) path) refl (not_hot path places (λ among. apart (suc among.0, (omega (arith, among.1.0), among.1.1))))
   where
-    go : (b : Bool) → same_path (key_path short_keys found.key) path ≡ b → is_hot path places ≡ false → (b || is_hot path places) ≡ false
-    go true same rest = absurd (apart (0, (omega arith, sym (same_path-true (key_path short_keys found.key) path same))))
+    go : (b : Bool) → same_path (key_path found.key) path ≡ b → is_hot path places ≡ false → (b || is_hot path places) ≡ false
+    go true same rest = absurd (apart (0, (omega arith, sym (same_path-true (key_path found.key) path same))))
     go false other rest = rest
 
 -- ---- one record
@@ -273,7 +272,7 @@ module _ (least : ℕ) (frontier : List Bool) (places : List Content) where
   promotable_rising (e ∷ listed) order = rising_step e listed (promotable_key least frontier places e.0 e.1) refl order.0 (promotable_rising listed order.1)
 
   own_step : (shard : Shard) (e : List Bool × Record) (keys : List ℕ) (o : Option ℕ) → shard.frontier ≡ frontier → promotable_key least frontier places e.0 e.1 ≡ o
-      → AllByRecursion (λ key. IsKeyOf short_keys shard (key_path short_keys key)) keys → AllByRecursion (λ key. IsKeyOf short_keys shard (key_path short_keys key)) (listed_key o ++ keys)
+      → AllByRecursion (λ key. IsKeyOf shard (key_path key)) keys → AllByRecursion (λ key. IsKeyOf shard (key_path key)) (listed_key o ++ keys)
   own_step shard e keys None same is all = all
   own_step shard e keys (Some k) same is all =
       let promotable = promotable_at e.0 e.1 k is in (
@@ -284,13 +283,13 @@ module _ (least : ℕ) (frontier : List Bool) (places : List Content) where
         all,
       )
 
-  pub promotable_own : (shard : Shard) (listed : Listed) → shard.frontier ≡ frontier → AllByRecursion (λ key. IsKeyOf short_keys shard (key_path short_keys key)) (promotable_among least frontier places listed)
+  pub promotable_own : (shard : Shard) (listed : Listed) → shard.frontier ≡ frontier → AllByRecursion (λ key. IsKeyOf shard (key_path key)) (promotable_among least frontier places listed)
   promotable_own shard [] same = tt
   promotable_own shard (e ∷ listed) same = own_step shard e (promotable_among least frontier places listed) (promotable_key least frontier places e.0 e.1) same refl (promotable_own shard listed same)
 
 -- The keys that are promotable in a stage are those of its records.
 pub are_promotable : (stage : Stage) (listed : Listed) (least : ℕ) → 0 < least → AreInOrder listed → stage.shard.touches ≡ touches_in (record_at listed)
-    → ArePromotable short_keys stage (Some least) (promotable_among least stage.shard.frontier stage.places listed)
+    → ArePromotable stage (Some least) (promotable_among least stage.shard.frontier stage.places listed)
 are_promotable stage listed least some order touches = record {
   rising = rising_pairs _ (promotable_rising least stage.shard.frontier stage.places listed order);
   promotable = λ key. (

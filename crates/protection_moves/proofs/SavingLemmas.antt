@@ -8,7 +8,6 @@ use Rattle.tree_keys.specs.Path.{same_path}
 use Rattle.tree_keys.proofs.PathLaws.{same_path-true, same_path-self}
 use Rattle.record_text.specs.declared.value.Value.{Value}
 use Rattle.merkle_records.specs.Merkle.{Digest}
-use Rattle.record_text.specs.Format.{Format}
 use Rattle.host_shard.specs.declared.record.Record.{Record}
 use Rattle.host_shard.specs.declared.link.Link.{Link}
 use Rattle.host_shard.specs.Records.{Kept, with_kept, values_in, touches_in}
@@ -127,20 +126,20 @@ one_of true value o some = refl
 one_of false value o some = some
 
 -- what has a record keeps one
-pub closed_there : (format : Format) (digest : Digest) (lent : Bool) (tree : Tree) (links : List Link) (last : Value) (k : List Bool)
-    → IsSome (tree k) → IsSome (closed_records format digest lent tree links last k)
-closed_there format digest lent tree [] last k some = some
-closed_there format digest lent tree (link ∷ links) last k some =
-    one_of (same_path k link.path) (closed_value format digest lent link.path link.taken links last) (closed_records format digest lent tree links last k)
-    (closed_there format digest lent tree links last k some)
+pub closed_there : (digest : Digest) (lent : Bool) (tree : Tree) (links : List Link) (last : Value) (k : List Bool)
+    → IsSome (tree k) → IsSome (closed_records digest lent tree links last k)
+closed_there digest lent tree [] last k some = some
+closed_there digest lent tree (link ∷ links) last k some =
+    one_of (same_path k link.path) (closed_value digest lent link.path link.taken links last) (closed_records digest lent tree links last k)
+    (closed_there digest lent tree links last k some)
 
 -- the paths of other links are as they were
-pub closed_elsewhere : (format : Format) (digest : Digest) (lent : Bool) (tree : Tree) (links : List Link) (last : Value) (k : List Bool)
-    → AllByRecursion (λ (link : Link). same_path k link.path ≡ false) links → closed_records format digest lent tree links last k ≡ tree k
-closed_elsewhere format digest lent tree [] last k apart = refl
-closed_elsewhere format digest lent tree (link ∷ links) last k apart =
-    ap (λ (b : Bool). if b then Some (closed_value format digest lent link.path link.taken links last) else closed_records format digest lent tree links last k) apart.0
-    ∙ closed_elsewhere format digest lent tree links last k apart.1
+pub closed_elsewhere : (digest : Digest) (lent : Bool) (tree : Tree) (links : List Link) (last : Value) (k : List Bool)
+    → AllByRecursion (λ (link : Link). same_path k link.path ≡ false) links → closed_records digest lent tree links last k ≡ tree k
+closed_elsewhere digest lent tree [] last k apart = refl
+closed_elsewhere digest lent tree (link ∷ links) last k apart =
+    ap (λ (b : Bool). if b then Some (closed_value digest lent link.path link.taken links last) else closed_records digest lent tree links last k) apart.0
+    ∙ closed_elsewhere digest lent tree links last k apart.1
 
 -- what was saved along links was there
 pub saved_was : (tree : Tree) (links : List Link) → AllByRecursion (λ (kept : SavedRecord). kept.value ≡ tree kept.path) (saved_along tree links)

@@ -5,7 +5,6 @@ use Rattle.lamport_clocks.specs.declared.stamp.Stamp.{Stamp}
 use Rattle.record_text.specs.declared.element.Element.{Element}
 use Rattle.record_text.specs.declared.value.Value.{Value}
 use Rattle.record_text.specs.declared.value.Value.TheVariants as values
-use Rattle.record_text.specs.Format.{Format}
 use Rattle.log_codec.specs.declared.command.Command.{Command}
 use Rattle.log_codec.specs.declared.command.Command.TheVariants.{AddM, EvictM, AddB, EvictBM}
 use Rattle.merkle_records.specs.Merkle.{Digest}
@@ -34,16 +33,16 @@ abbrev pub without_record : Tree → List Bool → Tree
 without_record tree path = λ k. if same_path k path then None else tree k
 
 -- the shard, with a record that comes back to it
-abbrev pub with_back : Format → Shard → HotRecord → Shard
-with_back format shard found =
-    record shard { records = with_record shard.records (key_path format found.key) (values.Blob found.value) }
+abbrev pub with_back : Shard → HotRecord → Shard
+with_back shard found =
+    record shard { records = with_record shard.records (key_path found.key) (values.Blob found.value) }
 
 -- The links are the chain to the transfer's key. A record that comes back stands in the shard for that.
-abbrev pub AreLinks : Format → Shard → Transfer → List Link → Type 0
-AreLinks format shard (demotes found) links =
-    IsChain format (tree_of (with_back format shard found)) (key_path format found.key) shard.frontier shard.value links
-AreLinks format shard (promotes key) links =
-    IsChain format (tree_of shard) (key_path format key) shard.frontier shard.value links
+abbrev pub AreLinks : Shard → Transfer → List Link → Type 0
+AreLinks shard (demotes found) links =
+    IsChain (tree_of (with_back shard found)) (key_path found.key) shard.frontier shard.value links
+AreLinks shard (promotes key) links =
+    IsChain (tree_of shard) (key_path key) shard.frontier shard.value links
 
 -- ---- the commands
 
@@ -63,9 +62,9 @@ come_back element at link = AddB element.path element.value element.stamp elemen
 abbrev pub become_hot : Stamp → List Bool → Link → List Command
 become_hot stamp at link = AddM link.path link.value at ∷ EvictBM link.path at stamp ∷ []
 
-abbrev pub commands_by : Format → Stage → Transfer → List Link → List Command
-commands_by format stage (demotes found) links = visit_but_last stage.shard.frontier links (come_back (pending_hot format found))
-commands_by format stage (promotes key) links = visit_but_last stage.shard.frontier links (become_hot (giving stage.clock).at)
+abbrev pub commands_by : Stage → Transfer → List Link → List Command
+commands_by stage (demotes found) links = visit_but_last stage.shard.frontier links (come_back (pending_hot found))
+commands_by stage (promotes key) links = visit_but_last stage.shard.frontier links (become_hot (giving stage.clock).at)
 
 -- ---- what they leave
 
@@ -80,23 +79,23 @@ promoted_record worker stage key links = record {
 }
 
 -- The shard without a record that became hot: its pointer is deferred.
-abbrev pub shard_without : Format → Digest → Shard → ℕ → List Link → Shard
-shard_without format digest shard key links =
+abbrev pub shard_without : Digest → Shard → ℕ → List Link → Shard
+shard_without digest shard key links =
     let last = last_value shard.value links in
     record shard {
-      value = closed_value format digest true shard.frontier shard.value links last;
-      records = without_record (closed_records format digest true shard.records links last) (key_path format key);
+      value = closed_value digest true shard.frontier shard.value links last;
+      records = without_record (closed_records digest true shard.records links last) (key_path key);
     }
 
 -- The place of a record that came back becomes vacant, and one that becomes hot takes the lowest vacant place.
-abbrev pub done_by : Format → Digest → ℕ → Stage → Transfer → List Link → Stage
-done_by format digest worker stage (demotes found) links = record {
-  shard = rehashed format digest (with_back format stage.shard found) links (values.Blob found.value);
+abbrev pub done_by : Digest → ℕ → Stage → Transfer → List Link → Stage
+done_by digest worker stage (demotes found) links = record {
+  shard = rehashed digest (with_back stage.shard found) links (values.Blob found.value);
   places = replaced found.key vacant stage.places;
   clock = clock_by stage.clock (demotes found);
 }
-done_by format digest worker stage (promotes key) links = record {
-  shard = shard_without format digest stage.shard key links;
+done_by digest worker stage (promotes key) links = record {
+  shard = shard_without digest stage.shard key links;
   places = placed (promoted_record worker stage key links) stage.places;
   clock = clock_by stage.clock (promotes key);
 }
@@ -104,19 +103,19 @@ done_by format digest worker stage (promotes key) links = record {
 -- ---- transfers one after another
 
 -- each with its links in the shard as the ones before leave it
-abbrev pub AreDescents : Format → Digest → ℕ → Stage → List Descent → Type 0
-AreDescents format digest worker stage [] = Unit {0}
-AreDescents format digest worker stage (descent ∷ descents) =
-    AreLinks format stage.shard descent.transfer descent.links
-    × AreDescents format digest worker (done_by format digest worker stage descent.transfer descent.links) descents
+abbrev pub AreDescents : Digest → ℕ → Stage → List Descent → Type 0
+AreDescents digest worker stage [] = Unit {0}
+AreDescents digest worker stage (descent ∷ descents) =
+    AreLinks stage.shard descent.transfer descent.links
+    × AreDescents digest worker (done_by digest worker stage descent.transfer descent.links) descents
 
-abbrev pub done_by_each : Format → Digest → ℕ → Stage → List Descent → Stage
-done_by_each format digest worker stage [] = stage
-done_by_each format digest worker stage (descent ∷ descents) =
-    done_by_each format digest worker (done_by format digest worker stage descent.transfer descent.links) descents
+abbrev pub done_by_each : Digest → ℕ → Stage → List Descent → Stage
+done_by_each digest worker stage [] = stage
+done_by_each digest worker stage (descent ∷ descents) =
+    done_by_each digest worker (done_by digest worker stage descent.transfer descent.links) descents
 
-abbrev pub commands_by_each : Format → Digest → ℕ → Stage → List Descent → List Command
-commands_by_each format digest worker stage [] = []
-commands_by_each format digest worker stage (descent ∷ descents) =
-    commands_by format stage descent.transfer descent.links
-    ++ commands_by_each format digest worker (done_by format digest worker stage descent.transfer descent.links) descents
+abbrev pub commands_by_each : Digest → ℕ → Stage → List Descent → List Command
+commands_by_each digest worker stage [] = []
+commands_by_each digest worker stage (descent ∷ descents) =
+    commands_by stage descent.transfer descent.links
+    ++ commands_by_each digest worker (done_by digest worker stage descent.transfer descent.links) descents

@@ -2,7 +2,6 @@
 use Rattle.std.specs.Prelude.{◌≡◌, ℕ, Bool, List, [], ◌∷◌, ◌++◌, map}
 use Rattle.lamport_clocks.specs.Reading.{Reading}
 use Rattle.record_text.specs.declared.element.Element.{Element}
-use Rattle.record_text.specs.Format.{Format}
 use Rattle.log_codec.specs.declared.command.Command.{Command}
 use Rattle.log_codec.specs.declared.command.Command.TheVariants.{AddB}
 use Rattle.merkle_records.specs.Merkle.{Digest}
@@ -21,10 +20,10 @@ abbrev pub taking_in : Element → Command
 taking_in element = AddB element.path element.value element.stamp element.verifier
 
 -- Transfers from one stage to another: behind these commands theirs are logged, and then a last one.
-pub record AreDone (format : Format) (digest : Digest) (worker : ℕ) (old : Stage) (asked : List Transfer) (before : List Command) (last : Command)
+pub record AreDone (digest : Digest) (worker : ℕ) (old : Stage) (asked : List Transfer) (before : List Command) (last : Command)
     (after : List Command) (new : Stage) : Type 0 where
   pub descents : List Descent
   pub transfers : map (λ descent. descent.transfer) descents ≡ asked
-  pub ways : AreDescents format digest worker old descents
-  pub logged : after ≡ before ++ (commands_by_each format digest worker old descents ++ last ∷ [])
-  pub leaves : new ≡ done_by_each format digest worker old descents
+  pub ways : AreDescents digest worker old descents
+  pub logged : after ≡ before ++ (commands_by_each digest worker old descents ++ last ∷ [])
+  pub leaves : new ≡ done_by_each digest worker old descents

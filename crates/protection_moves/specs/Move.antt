@@ -1,6 +1,5 @@
 -- Moving one shard at a close.
 use Rattle.std.specs.Prelude.{◌≡◌, ℕ, ◌<◌, List, ◌++◌, Option, map}
-use Rattle.record_text.specs.Format.{Format}
 use Rattle.log_codec.specs.declared.command.Command.{Command}
 use Rattle.merkle_records.specs.Merkle.{Digest}
 use Rattle.host_shard.specs.Shard.{pending_shard}
@@ -30,28 +29,28 @@ handed_out worker stage = record {
 }
 
 -- the stage behind a move with these descents
-abbrev pub moved : Format → Digest → ℕ → Stage → List Descent → Stage
-moved format digest worker stage descents = handed_out worker (done_by_each format digest worker (begun worker stage) descents)
+abbrev pub moved : Digest → ℕ → Stage → List Descent → Stage
+moved digest worker stage descents = handed_out worker (done_by_each digest worker (begun worker stage) descents)
 
 -- the commands of a move with these descents
-abbrev pub move_commands : Format → Digest → ℕ → Stage → List Descent → List Command
-move_commands format digest worker stage descents =
-    renewing_commands format stage.clock (touched_in stage.places)
-    ++ between (pending_shard stage.shard) (moved format digest worker stage descents).clock.at
-    (commands_by_each format digest worker (begun worker stage) descents)
+abbrev pub move_commands : Digest → ℕ → Stage → List Descent → List Command
+move_commands digest worker stage descents =
+    renewing_commands stage.clock (touched_in stage.places)
+    ++ between (pending_shard stage.shard) (moved digest worker stage descents).clock.at
+    (commands_by_each digest worker (begun worker stage) descents)
 
 -- The move of a shard by this worker, for some threshold: its commands, and the stage that it leaves.
-pub record IsMove (format : Format) (digest : Digest) (worker : ℕ) (threshold : Option ℕ) (old : Stage) (logged : List Command) (new : Stage) : Type 0 where
+pub record IsMove (digest : Digest) (worker : ℕ) (threshold : Option ℕ) (old : Stage) (logged : List Command) (new : Stage) : Type 0 where
   pub promotable : List ℕ
-  pub are_promotable : ArePromotable format old threshold promotable
+  pub are_promotable : ArePromotable old threshold promotable
   pub descents : List Descent
   pub transfers : map (λ descent. descent.transfer) descents ≡ transfers_of old promotable
-  pub ways : AreDescents format digest worker (begun worker old) descents
-  pub commands : logged ≡ move_commands format digest worker old descents
-  pub after : new ≡ moved format digest worker old descents
+  pub ways : AreDescents digest worker (begun worker old) descents
+  pub commands : logged ≡ move_commands digest worker old descents
+  pub after : new ≡ moved digest worker old descents
 
 -- the counters that a move takes pass the end
-pub record IsPastEnd (format : Format) (threshold : Option ℕ) (stage : Stage) : Type 0 where
+pub record IsPastEnd (threshold : Option ℕ) (stage : Stage) : Type 0 where
   pub promotable : List ℕ
-  pub are_promotable : ArePromotable format stage threshold promotable
+  pub are_promotable : ArePromotable stage threshold promotable
   pub past : stage.clock.end < (clock_needed stage promotable).at.counter

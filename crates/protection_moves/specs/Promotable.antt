@@ -3,7 +3,6 @@ use Rattle.std.specs.Prelude.{◌≡◌, ℕ, ◌<◌, ◌==◌, ◌||◌, Bool,
 use Rattle.std.specs.List.{AllByRecursion}
 use Rattle.tree_keys.specs.Bits.{number_of}
 use Rattle.tree_keys.specs.Path.{side, same_path}
-use Rattle.record_text.specs.Format.{Format, short_keys}
 use Rattle.host_shard.specs.declared.record.Record.{Record}
 use Rattle.host_shard.specs.Content.{Content, cold, hot, vacant, key_path}
 use Rattle.host_shard.specs.Records.{Listed}
@@ -14,7 +13,7 @@ use Rattle.protection_moves.specs.Transfer.{ArePromotable}
 abbrev pub is_hot : List Bool → List Content → Bool
 is_hot path [] = false
 is_hot path (cold shard ∷ places) = is_hot path places
-is_hot path (hot found ∷ places) = same_path (key_path short_keys found.key) path || is_hot path places
+is_hot path (hot found ∷ places) = same_path (key_path found.key) path || is_hot path places
 is_hot path (vacant ∷ places) = is_hot path places
 
 -- the key of a record, if it is promotable: it was touched so often, lies below the frontier, isn't hot, and is a whole key
@@ -41,7 +40,7 @@ AreRising [] = Unit {0}
 AreRising (key ∷ keys) = AllByRecursion (λ other. key < other) keys × AreRising keys
 
 -- the first of the keys that are promotable, at most so many
-pub record AreFirstPromotable (format : Format) (stage : Stage) (threshold : Option ℕ) (room : ℕ) (keys : List ℕ) : Type 0 where
+pub record AreFirstPromotable (stage : Stage) (threshold : Option ℕ) (room : ℕ) (keys : List ℕ) : Type 0 where
   pub promotable : List ℕ
-  pub are_promotable : ArePromotable format stage threshold promotable
+  pub are_promotable : ArePromotable stage threshold promotable
   pub first : keys ≡ take room promotable

@@ -1,7 +1,6 @@
 -- Hot records that stay hot: each is taken in and handed out again.
 use Rattle.std.specs.Prelude.{ℕ, List, [], ◌∷◌, ◌++◌}
 use Rattle.lamport_clocks.specs.Reading.{Reading}
-use Rattle.record_text.specs.Format.{Format}
 use Rattle.log_codec.specs.declared.command.Command.{Command}
 use Rattle.host_shard.specs.declared.content.HotRecord.{HotRecord}
 use Rattle.host_shard.specs.Content.{Content, hot, pending_hot}
@@ -31,7 +30,7 @@ renewed_places worker clock places (found ∷ more) =
     renewed_places worker (renewing clock found.stamp) (replaced found.key (hot (renewed_record worker clock found)) places) more
 
 -- the commands
-abbrev pub renewing_commands : Format → Reading → List HotRecord → List Command
-renewing_commands format clock [] = []
-renewing_commands format clock (found ∷ more) =
-    between (pending_hot format found) (renewing clock found.stamp).at [] ++ renewing_commands format (renewing clock found.stamp) more
+abbrev pub renewing_commands : Reading → List HotRecord → List Command
+renewing_commands clock [] = []
+renewing_commands clock (found ∷ more) =
+    between (pending_hot found) (renewing clock found.stamp).at [] ++ renewing_commands (renewing clock found.stamp) more

@@ -1,7 +1,6 @@
 -- A shard with its hot places, as it stands before, within and after a move.
 use Rattle.std.specs.Prelude.{ℕ, suc, ◌==◌, Bool, false, not, List, [], ◌∷◌, map, filter, nat_lt, if◌then◌else◌}
 use Rattle.lamport_clocks.specs.Reading.{Reading}
-use Rattle.record_text.specs.Format.{Format}
 use Rattle.stamp_order.specs.InOrder.{in_order}
 use Rattle.host_shard.specs.declared.content.HotRecord.{HotRecord}
 use Rattle.host_shard.specs.Shard.{Shard}
@@ -21,8 +20,8 @@ hot_records (hot found ∷ places) = found ∷ hot_records places
 hot_records (vacant ∷ places) = hot_records places
 
 -- the paths of their keys
-abbrev pub hot_paths : Format → List Content → List (List Bool)
-hot_paths format places = map (λ found. key_path format found.key) (hot_records places)
+abbrev pub hot_paths : List Content → List (List Bool)
+hot_paths places = map (λ found. key_path found.key) (hot_records places)
 
 -- how many hot places are vacant
 abbrev pub vacancies : List Content → ℕ

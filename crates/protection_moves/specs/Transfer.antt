@@ -1,8 +1,8 @@
 -- Which keys become hot or cease to be at a close.
 use Rattle.std.specs.Prelude.{◌↔◌, ℕ, ◌+◌, ◌<◌, ◌≤◌, ◌^◌, List, [], ◌∷◌, ◌++◌, Option, Some, None, map, take, length, AllPairs}
 use Rattle.std.specs.List.{IsAmong}
+use Rattle.tree_keys.specs.Path.{key_bits}
 use Rattle.lamport_clocks.specs.Reading.{Reading}
-use Rattle.record_text.specs.Format.{Format, path_bits}
 use Rattle.host_shard.specs.declared.content.HotRecord.{HotRecord}
 use Rattle.host_shard.specs.Content.{key_path}
 use Rattle.host_shard.specs.Mirrors.{IsKeyOf}
@@ -16,21 +16,21 @@ pub data Transfer : Type 0 where
   promotes : ℕ → Transfer
 
 -- a key of the shard that isn't hot was touched this often at least in the epoch that closes
-pub record IsTouchedOften (format : Format) (stage : Stage) (threshold key : ℕ) : Type 0 where
-  pub in_range : key < 2 ^ path_bits format
-  pub own : IsKeyOf format stage.shard (key_path format key)
-  pub cold : IsAmong (hot_paths format stage.places) (key_path format key) → ⊥
-  pub often : threshold ≤ stage.shard.touches (key_path format key)
+pub record IsTouchedOften (stage : Stage) (threshold key : ℕ) : Type 0 where
+  pub in_range : key < 2 ^ key_bits
+  pub own : IsKeyOf stage.shard (key_path key)
+  pub cold : IsAmong (hot_paths stage.places) (key_path key) → ⊥
+  pub often : threshold ≤ stage.shard.touches (key_path key)
 
 -- where a threshold is given, the key is to become hot if there is room
-abbrev pub IsPromotable : Format → Stage → Option ℕ → ℕ → Type 0
-IsPromotable format stage None key = ⊥
-IsPromotable format stage (Some threshold) key = IsTouchedOften format stage threshold key
+abbrev pub IsPromotable : Stage → Option ℕ → ℕ → Type 0
+IsPromotable stage None key = ⊥
+IsPromotable stage (Some threshold) key = IsTouchedOften stage threshold key
 
 -- these keys are promotable, and no other, in their order
-pub record ArePromotable (format : Format) (stage : Stage) (threshold : Option ℕ) (keys : List ℕ) : Type 0 where
+pub record ArePromotable (stage : Stage) (threshold : Option ℕ) (keys : List ℕ) : Type 0 where
   pub rising : AllPairs (λ a b. a < b) keys
-  pub promotable : (key : ℕ) → IsAmong keys key ↔ IsPromotable format stage threshold key
+  pub promotable : (key : ℕ) → IsAmong keys key ↔ IsPromotable stage threshold key
 
 -- The transfers of a move: each hot record that was not touched comes back, by key; and so many of the promotable keys become hot
 -- as hot places are vacant then.

@@ -1,10 +1,10 @@
 //! Hot records that were not touched: each comes back to its shard.
 ghost use Rattle.std.specs.Prelude.{◌≡◌, ◌<◌, ◌≤◌, ℕ, List, Bool, ◌++◌, length, map, None, IfOk, OnOk, OnErr, IsTrue};
 ghost use Rattle.std.specs.List.{AllByRecursion};
+ghost use Rattle.record_text.specs.Longest.{longest_blob};
 ghost use Rattle.arrayvec.specs.ArrayVec.{array_vec_len};
 ghost use Rattle.lamport_clocks.specs.Clock.{is_open};
 ghost use Rattle.record_text.specs.declared.value.Value.TheVariants as values;
-ghost use Rattle.record_text.specs.Format.{short_keys};
 ghost use Rattle.record_text.specs.Value.{IsOf};
 ghost use Rattle.log_codec.specs.Command.{IsCommand};
 ghost use Rattle.log_codec.specs.declared.command.Command.TheVariants.{EvictB};
@@ -38,8 +38,8 @@ use tree_keys::Path;
 
 // Gives a hot record a place among the records of its shard. For want of memory all is as before.
 fn put_back(shard: &mut Shard, found: &HotRecord) -> Result<(), Memory>
-    ensures back { OnOk result (shown shard.new ≡ with_back short_keys (shown shard.old) found.now) }
-    ensures kind { OnOk result (IsOf short_keys (key_path short_keys found.now.key) (values.Blob found.now.value)) }
+    ensures back { OnOk result (shown shard.new ≡ with_back (shown shard.old) found.now) }
+    ensures kind { OnOk result (IsOf longest_blob (key_path found.now.key) (values.Blob found.now.value)) }
     ensures as_before { OnErr result (shown shard.new ≡ shown shard.old) }
 {
     let path = Path::of_key(found.key);
@@ -50,8 +50,8 @@ fn put_back(shard: &mut Shard, found: &HotRecord) -> Result<(), Memory>
 
 // Takes its place away again: its path has what it had.
 fn take_away(shard: &mut Shard, found: &HotRecord, was: &Option<Value>)
-    ensures as_before { (old : ShownShard) → shown shard.old ≡ with_back short_keys old found.now → was.now ≡ old.records (key_path short_keys found.now.key)
-        → (was.now ≡ None → old.touches (key_path short_keys found.now.key) ≡ 0) → shown shard.new ≡ old }
+    ensures as_before { (old : ShownShard) → shown shard.old ≡ with_back old found.now → was.now ≡ old.records (key_path found.now.key)
+        → (was.now ≡ None → old.touches (key_path found.now.key) ≡ 0) → shown shard.new ≡ old }
 {
     restore_one(&mut shard.records, &Path::of_key(found.key), was);
 }
@@ -64,14 +64,14 @@ fn rehash_back<D: Digests>(
     found: &HotRecord,
     commands: &mut Vec<Command>,
 ) -> Result<Saved, Memory>
-    requires fits { IsShard short_keys (shown shard.old) }
-    requires own { IsKeyOf short_keys (shown shard.old) (key_path short_keys found.now.key) }
-    ensures back { IfOk result (λ saved. (old : ShownShard) → shown shard.old ≡ with_back short_keys old found.now
-        → IsReturning short_keys (D.functions d.now).digest found.now old commands.old.items commands.new.items (shown shard.new)) }
+    requires fits { IsShard longest_blob (shown shard.old) }
+    requires own { IsKeyOf (shown shard.old) (key_path found.now.key) }
+    ensures back { IfOk result (λ saved. (old : ShownShard) → shown shard.old ≡ with_back old found.now
+        → IsReturning (D.functions d.now).digest found.now old commands.old.items commands.new.items (shown shard.new)) }
     ensures saved { IfOk result (λ saved. IsSavedOf (shown shard.old) saved (shown shard.new)) }
-    ensures typed { OnOk result (AllByRecursion (IsCommand short_keys) commands.old.items
-        → AllByRecursion (IsCommand short_keys) commands.new.items) }
-    ensures fits { OnOk result (IsShard short_keys (shown shard.new)) }
+    ensures typed { OnOk result (AllByRecursion (IsCommand longest_blob) commands.old.items
+        → AllByRecursion (IsCommand longest_blob) commands.new.items) }
+    ensures fits { OnOk result (IsShard longest_blob (shown shard.new)) }
     ensures frontier { OnOk result (shard.new.frontier ≡ shard.old.frontier) }
     ensures as_before { OnErr result (shown shard.new ≡ shown shard.old) }
 {
@@ -96,22 +96,22 @@ pub(crate) fn demote_each<D: Digests>(
     keys: &[u64],
     commands: &mut Vec<Command>,
 ) -> Result<ArrayVec<HotRecord, HOT_PLACES>, Memory>
-    requires fits { IsShard short_keys (shown shard.old) }
-    requires own_back { AllByRecursion (λ found. IsKeyOf short_keys (shown shard.old) (key_path short_keys found.key)) back.now }
-    requires own { AllByRecursion (λ key. IsKeyOf short_keys (shown shard.old) (key_path short_keys key)) keys.now }
+    requires fits { IsShard longest_blob (shown shard.old) }
+    requires own_back { AllByRecursion (λ found. IsKeyOf (shown shard.old) (key_path found.key)) back.now }
+    requires own { AllByRecursion (λ key. IsKeyOf (shown shard.old) (key_path key)) keys.now }
     requires rising { AreRising keys.now }
     requires few { length keys.now ≤ 4 }
     requires open { AllByRecursion (λ found. IsTrue (is_open clock.now found.stamp.epoch)) back.now }
     requires within { (giving (clock_by_each clock.now (map demotes back.now ++ map promotes keys.now))).at.counter ≤ clock.now.end }
     ensures done { IfOk result (λ hot. (touches : List Bool → ℕ) (places : List Content)
-        → AreDone short_keys (D.functions d.now).digest worker (stage_with (shown shard.old) touches places clock.now)
+        → AreDone (D.functions d.now).digest worker (stage_with (shown shard.old) touches places clock.now)
         (map demotes back.now ++ map promotes keys.now) commands.old.items
         (EvictB shard.old.frontier (giving (clock_by_each clock.now (map demotes back.now ++ map promotes keys.now))).at) commands.new.items
         (stage_with (shown shard.new) touches (placed_each hot.items (vacated back.now places))
         (clock_by_each clock.now (map demotes back.now ++ map promotes keys.now)))) }
-    ensures typed { OnOk result (AllByRecursion (IsCommand short_keys) commands.old.items
-        → AllByRecursion (IsCommand short_keys) commands.new.items) }
-    ensures fits { OnOk result (IsShard short_keys (shown shard.new)) }
+    ensures typed { OnOk result (AllByRecursion (IsCommand longest_blob) commands.old.items
+        → AllByRecursion (IsCommand longest_blob) commands.new.items) }
+    ensures fits { OnOk result (IsShard longest_blob (shown shard.new)) }
     ensures as_before { OnErr result (shown shard.new ≡ shown shard.old) }
 {
     let (found, rest) = match back.split_first() {

@@ -2,7 +2,7 @@
 ghost use Rattle.std.specs.Prelude.{◌≡◌, ◌↔◌, ◌<◌, ◌≤◌, ℕ, IfOk, IfSome, OnErr, IsTrue, Err, length, map};
 ghost use Rattle.std.specs.List.{AllByRecursion};
 ghost use Rattle.lamport_clocks.specs.Clock.{is_open};
-ghost use Rattle.record_text.specs.Format.{short_keys};
+ghost use Rattle.record_text.specs.Longest.{longest_blob};
 ghost use Rattle.log_codec.specs.Command.{IsCommand};
 ghost use Rattle.host_shard.specs.Content.{key_path};
 ghost use Rattle.host_shard.specs.Mirrors.{IsShard, IsKeyOf};
@@ -37,19 +37,19 @@ pub fn migrate<D: Digests>(
     worker: u16,
     clock: &mut Clock,
 ) -> Result<Commands, MoveFault>
-    requires fits { IsShard short_keys (shown shard.old) }
+    requires fits { IsShard longest_blob (shown shard.old) }
     requires open { IsTrue (is_open clock.old shard.old.stamp.epoch) }
     requires places { length hot.old ≤ 4 }
     requires hot_open { AllByRecursion (λ found. IsTrue (is_open clock.old found.stamp.epoch))
         (hot_records (map shown_content hot.old)) }
-    requires hot_own { AllByRecursion (λ found. IsKeyOf short_keys (shown shard.old) (key_path short_keys found.key))
+    requires hot_own { AllByRecursion (λ found. IsKeyOf (shown shard.old) (key_path found.key))
         (hot_records (map shown_content hot.old)) }
     requires threshold { IfSome threshold (λ touches. 0 < touches) }
-    ensures moved { IfOk result (λ commands. IsMove short_keys (D.functions d.now).digest worker threshold
+    ensures moved { IfOk result (λ commands. IsMove (D.functions d.now).digest worker threshold
         (shown_stage shard.old hot.old clock.old) commands (shown_stage shard.new hot.new clock.new)) }
-    ensures typed { IfOk result (λ commands. AllByRecursion (IsCommand short_keys) commands) }
-    ensures clock_end { (result ≡ Err ClockEnd) ↔ IsPastEnd short_keys threshold (shown_stage shard.old hot.old clock.old) }
-    ensures fits { IsShard short_keys (shown shard.new) }
+    ensures typed { IfOk result (λ commands. AllByRecursion (IsCommand longest_blob) commands) }
+    ensures clock_end { (result ≡ Err ClockEnd) ↔ IsPastEnd threshold (shown_stage shard.old hot.old clock.old) }
+    ensures fits { IsShard longest_blob (shown shard.new) }
     ensures open { (epoch : ℕ) → is_open clock.new epoch ≡ is_open clock.old epoch }
     ensures as_before { OnErr result (shown_stage shard.new hot.new clock.new ≡ shown_stage shard.old hot.old clock.old) }
 {

@@ -3,7 +3,6 @@ ghost use Rattle.std.specs.Prelude.{◌≡◌, ◌<◌, ◌≤◌, length, map, 
 ghost use Rattle.std.specs.List.{AllByRecursion};
 ghost use Rattle.arrayvec.specs.ArrayVec.{array_vec_len};
 ghost use Rattle.lamport_clocks.specs.Reading.{Reading};
-ghost use Rattle.record_text.specs.Format.{short_keys};
 ghost use Rattle.host_shard.specs.Content.{key_path};
 ghost use Rattle.host_shard.specs.Mirrors.{IsKeyOf};
 ghost use Rattle.host_shard.specs.Shown.{shown, shown_content};
@@ -57,8 +56,8 @@ fn touched_often(
 ) -> ArrayVec<u64, HOT_PLACES>
     requires some { 0 < least }
     requires few { room ≤ 4 }
-    ensures first { (clock : Reading) → AreFirstPromotable short_keys (shown_stage shard.now places.now clock) (Some least) room result.items }
-    ensures own { AllByRecursion (λ key. IsKeyOf short_keys (shown shard.now) (key_path short_keys key)) result.items }
+    ensures first { (clock : Reading) → AreFirstPromotable (shown_stage shard.now places.now clock) (Some least) room result.items }
+    ensures own { AllByRecursion (λ key. IsKeyOf (shown shard.now) (key_path key)) result.items }
     ensures rising { AreRising result.items }
 {
     let mut keys = ArrayVec::new();
@@ -82,8 +81,8 @@ pub(crate) fn promotable_keys(
 ) -> ArrayVec<u64, HOT_PLACES>
     requires some { IfSome threshold (λ least. 0 < least) }
     requires few { room ≤ 4 }
-    ensures first { (clock : Reading) → AreFirstPromotable short_keys (shown_stage shard.now places.now clock) threshold room result.items }
-    ensures own { AllByRecursion (λ key. IsKeyOf short_keys (shown shard.now) (key_path short_keys key)) result.items }
+    ensures first { (clock : Reading) → AreFirstPromotable (shown_stage shard.now places.now clock) threshold room result.items }
+    ensures own { AllByRecursion (λ key. IsKeyOf (shown shard.now) (key_path key)) result.items }
     ensures rising { AreRising result.items }
 {
     match threshold {

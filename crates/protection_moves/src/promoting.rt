@@ -1,8 +1,8 @@
 //! Keys that become hot: the record of each leaves its shard.
 ghost use Rattle.std.specs.Prelude.{◌≡◌, ◌<◌, ◌≤◌, ℕ, List, [], ◌∷◌, Bool, ◌++◌, length, map, IfOk, OnOk, OnErr};
 ghost use Rattle.std.specs.List.{AllByRecursion};
+ghost use Rattle.record_text.specs.Longest.{longest_blob};
 ghost use Rattle.arrayvec.specs.ArrayVec.{array_vec_len};
-ghost use Rattle.record_text.specs.Format.{short_keys};
 ghost use Rattle.log_codec.specs.Command.{IsCommand};
 ghost use Rattle.log_codec.specs.declared.command.Command.TheVariants.{EvictB};
 ghost use Rattle.host_shard.specs.Content.{Content, key_path};
@@ -52,7 +52,7 @@ fn last_path(at: &Path, links: &[Link]) -> Path
 
 // The value of a path whose pointer to a link's path is deferred, with the digest of the value that was added.
 fn deferring<D: Digests>(d: &D, at: &Path, value: &Value, link: &Link) -> Value
-    ensures value { result ≡ deferring short_keys (D.functions d.now).digest at.now value.now link.now }
+    ensures value { result ≡ deferring (D.functions d.now).digest at.now value.now link.now }
 {
     let node = match value {
         Value::Node(node) => node,
@@ -72,7 +72,7 @@ fn deferring<D: Digests>(d: &D, at: &Path, value: &Value, link: &Link) -> Value
 // Rehashes a shard behind a chain whose last record is lent. Its own record stays. For want of memory all is as before.
 fn lend<D: Digests>(d: &D, shard: &mut Shard, links: &[Link]) -> Result<(), Memory>
     requires some { 0 < length links.now }
-    ensures lent { OnOk result (IsLent short_keys (D.functions d.now).digest (shown shard.old) links.now (shown shard.new)) }
+    ensures lent { OnOk result (IsLent (D.functions d.now).digest (shown shard.old) links.now (shown shard.new)) }
     ensures as_before { OnErr result (shown shard.new ≡ shown shard.old) }
 {
     let (link, above) = match links.split_last() {
@@ -104,14 +104,14 @@ fn promote<D: Digests>(
     key: u64,
     commands: &mut Vec<Command>,
 ) -> Result<Promotion, Memory>
-    requires fits { IsShard short_keys (shown shard.old) }
-    requires own { IsKeyOf short_keys (shown shard.old) (key_path short_keys key) }
-    ensures lending { IfOk result (λ promotion. IsLending short_keys (D.functions d.now).digest worker stamp key (shown shard.old) commands.old.items
+    requires fits { IsShard longest_blob (shown shard.old) }
+    requires own { IsKeyOf (shown shard.old) (key_path key) }
+    ensures lending { IfOk result (λ promotion. IsLending (D.functions d.now).digest worker stamp key (shown shard.old) commands.old.items
         promotion.hot commands.new.items (shown shard.new)) }
     ensures saved { IfOk result (λ promotion. IsSavedOf (shown shard.old) promotion.saved (shown shard.new)) }
-    ensures typed { OnOk result (AllByRecursion (IsCommand short_keys) commands.old.items
-        → AllByRecursion (IsCommand short_keys) commands.new.items) }
-    ensures fits { OnOk result (IsShard short_keys (shown shard.new)) }
+    ensures typed { OnOk result (AllByRecursion (IsCommand longest_blob) commands.old.items
+        → AllByRecursion (IsCommand longest_blob) commands.new.items) }
+    ensures fits { OnOk result (IsShard longest_blob (shown shard.new)) }
     ensures frontier { OnOk result (shard.new.frontier ≡ shard.old.frontier) }
     ensures as_before { OnErr result (shown shard.new ≡ shown shard.old) }
 {
@@ -142,20 +142,20 @@ pub(crate) fn promote_each<D: Digests>(
     keys: &[u64],
     commands: &mut Vec<Command>,
 ) -> Result<ArrayVec<HotRecord, HOT_PLACES>, Memory>
-    requires fits { IsShard short_keys (shown shard.old) }
-    requires own { AllByRecursion (λ key. IsKeyOf short_keys (shown shard.old) (key_path short_keys key)) keys.now }
+    requires fits { IsShard longest_blob (shown shard.old) }
+    requires own { AllByRecursion (λ key. IsKeyOf (shown shard.old) (key_path key)) keys.now }
     requires rising { AreRising keys.now }
     requires few { length keys.now ≤ 4 }
     requires within { (giving (clock_by_each clock.now (map promotes keys.now))).at.counter ≤ clock.now.end }
     ensures done { IfOk result (λ hot. (touches : List Bool → ℕ) (places : List Content)
-        → AreDone short_keys (D.functions d.now).digest worker (stage_with (shown shard.old) touches places clock.now)
+        → AreDone (D.functions d.now).digest worker (stage_with (shown shard.old) touches places clock.now)
         (map promotes keys.now) commands.old.items
         (EvictB shard.old.frontier (giving (clock_by_each clock.now (map promotes keys.now))).at) commands.new.items
         (stage_with (shown shard.new) touches (placed_each hot.items places) (clock_by_each clock.now (map promotes keys.now)))) }
     ensures len { IfOk result (λ hot. array_vec_len hot ≡ length keys.now) }
-    ensures typed { OnOk result (AllByRecursion (IsCommand short_keys) commands.old.items
-        → AllByRecursion (IsCommand short_keys) commands.new.items) }
-    ensures fits { OnOk result (IsShard short_keys (shown shard.new)) }
+    ensures typed { OnOk result (AllByRecursion (IsCommand longest_blob) commands.old.items
+        → AllByRecursion (IsCommand longest_blob) commands.new.items) }
+    ensures fits { OnOk result (IsShard longest_blob (shown shard.new)) }
     ensures as_before { OnErr result (shown shard.new ≡ shown shard.old) }
 {
     let next = match given(clock) {
@@ -188,8 +188,8 @@ fn handed_out(
 ) -> Result<ArrayVec<HotRecord, HOT_PLACES>, Memory>
     ensures none { IfOk result (λ hot. hot.items ≡ []) }
     ensures logged { OnOk result (commands.new.items ≡ commands.old.items ++ EvictB path stamp ∷ []) }
-    ensures typed { OnOk result (AllByRecursion (IsCommand short_keys) commands.old.items
-        → AllByRecursion (IsCommand short_keys) commands.new.items) }
+    ensures typed { OnOk result (AllByRecursion (IsCommand longest_blob) commands.old.items
+        → AllByRecursion (IsCommand longest_blob) commands.new.items) }
 {
     commands.push(Command::EvictB { path, stamp })?;
     Ok(ArrayVec::new())

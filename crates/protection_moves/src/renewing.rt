@@ -2,9 +2,9 @@
 ghost use Rattle.std.specs.Prelude.{◌≡◌, ◌<◌, ◌≤◌, ◌^◌, [], ◌∷◌, ◌++◌, length, map, IfOk, OnOk, IsTrue};
 ghost use Rattle.std.specs.List.{AllByRecursion};
 ghost use Rattle.lamport_clocks.specs.Clock.{is_open};
-ghost use Rattle.record_text.specs.Format.{short_keys};
 ghost use Rattle.record_text.specs.Value.{IsOf};
 ghost use Rattle.record_text.specs.Element.{IsStamp};
+ghost use Rattle.record_text.specs.Longest.{longest_blob};
 ghost use Rattle.log_codec.specs.Command.{IsCommand};
 ghost use Rattle.host_shard.specs.Shown.{shown_content};
 ghost use Rattle.host_plan.specs.Visit.{between};
@@ -30,12 +30,12 @@ pub(crate) fn begin(
     requires few { length records.now ≤ 4 }
     requires open { AllByRecursion (λ found. IsTrue (is_open clock.now found.stamp.epoch)) records.now }
     requires within { (renewing_each clock.now records.now).at.counter ≤ clock.now.end }
-    requires kind { IsOf short_keys element.path element.value }
+    requires kind { IsOf longest_blob element.path element.value }
     requires added { IsStamp element.stamp }
     requires verifier { element.verifier < 2 ^ 16 }
     ensures logged { IfOk result (λ commands. commands.items
-        ≡ renewing_commands short_keys clock.now records.now ++ taking_in element ∷ []) }
-    ensures typed { IfOk result (λ commands. AllByRecursion (IsCommand short_keys) commands.items) }
+        ≡ renewing_commands clock.now records.now ++ taking_in element ∷ []) }
+    ensures typed { IfOk result (λ commands. AllByRecursion (IsCommand longest_blob) commands.items) }
 {
     let mut commands = room_for(alloc, records.len() + 1)?;
     log_renewals(&mut commands, clock, records)?;
@@ -53,12 +53,12 @@ fn room_for(alloc: Global, renewals: usize) -> Result<Vec<Command>, Memory>
 
 // Logs that an element is taken in.
 fn log_taking(commands: &mut Vec<Command>, element: Element) -> Result<(), Memory>
-    requires kind { IsOf short_keys element.path element.value }
+    requires kind { IsOf longest_blob element.path element.value }
     requires added { IsStamp element.stamp }
     requires verifier { element.verifier < 2 ^ 16 }
     ensures logged { OnOk result (commands.new.items ≡ commands.old.items ++ taking_in element ∷ []) }
-    ensures typed { OnOk result (AllByRecursion (IsCommand short_keys) commands.old.items
-        → AllByRecursion (IsCommand short_keys) commands.new.items) }
+    ensures typed { OnOk result (AllByRecursion (IsCommand longest_blob) commands.old.items
+        → AllByRecursion (IsCommand longest_blob) commands.new.items) }
 {
     commands.push(Command::AddB {
         path: element.path,
@@ -71,12 +71,12 @@ fn log_taking(commands: &mut Vec<Command>, element: Element) -> Result<(), Memor
 
 // Logs that an element is taken in and its path handed out with this stamp.
 fn log_renewal(commands: &mut Vec<Command>, element: Element, stamp: Stamp) -> Result<(), Memory>
-    requires kind { IsOf short_keys element.path element.value }
+    requires kind { IsOf longest_blob element.path element.value }
     requires added { IsStamp element.stamp }
     requires verifier { element.verifier < 2 ^ 16 }
     ensures logged { OnOk result (commands.new.items ≡ commands.old.items ++ between element stamp []) }
-    ensures typed { OnOk result (AllByRecursion (IsCommand short_keys) commands.old.items
-        → AllByRecursion (IsCommand short_keys) commands.new.items) }
+    ensures typed { OnOk result (AllByRecursion (IsCommand longest_blob) commands.old.items
+        → AllByRecursion (IsCommand longest_blob) commands.new.items) }
 {
     let path = element.path;
     log_taking(commands, element)?;
@@ -93,9 +93,9 @@ fn log_renewals(
     requires open { AllByRecursion (λ found. IsTrue (is_open clock.now found.stamp.epoch)) records.now }
     requires within { (renewing_each clock.now records.now).at.counter ≤ clock.now.end }
     ensures logged { OnOk result (commands.new.items
-        ≡ commands.old.items ++ renewing_commands short_keys clock.now records.now) }
-    ensures typed { OnOk result (AllByRecursion (IsCommand short_keys) commands.old.items
-        → AllByRecursion (IsCommand short_keys) commands.new.items) }
+        ≡ commands.old.items ++ renewing_commands clock.now records.now) }
+    ensures typed { OnOk result (AllByRecursion (IsCommand longest_blob) commands.old.items
+        → AllByRecursion (IsCommand longest_blob) commands.new.items) }
 {
     let (first, rest) = match records.split_first() {
         Some(parts) => parts,

@@ -3,12 +3,12 @@ use Rattle.std.proofs.Common.{◌≡◌, ℕ, ◌*◌, ◌/◌, ◌%◌, ◌<◌
 use Rattle.std.specs.List.{list_all}
 use Rattle.std.specs.Option.{option_and_then}
 use Rattle.std.specs.Result.{result_ok}
+use Rattle.record_text.specs.Longest.{longest_blob}
 use Rattle.hex.specs.Hex.{decode_of, decode_pairs, decode_sized}
 use Rattle.hex.specs.declared.error.FromHexError.{FromHexError}
 use Rattle.hex.specs.declared.error.FromHexError.TheVariants.{OddLength, InvalidStringLength}
 use Rattle.hex.proofs.HexLemmas.{decode_of-ok}
 use Rattle.record_text.specs.declared.operation.Operation.{Operation}
-use Rattle.record_text.specs.Format.{short_keys}
 use Rattle.record_text.specs.Value.{IsBlob}
 use Rattle.record_text.proofs.FieldLaws.{AreBytes}
 use Rattle.script_text.specs.Words.{is_lower_digit}
@@ -90,7 +90,7 @@ receipt-short : (receipt : Receipt) → IsReceipt receipt → length (receipt_te
 unfolding receipt_text
 receipt-short receipt is =
     omega (arith, length-append (receipt_text receipt.operation) receipt.tag, is.1, text_short receipt.operation.value is.0.value) where
-      text_short : (value : Option (List ℕ)) → IsBlob short_keys value → length (receipt_text (record receipt.operation { value = value })) ≤ 94
+      text_short : (value : Option (List ℕ)) → IsBlob longest_blob value → length (receipt_text (record receipt.operation { value = value })) ≤ 94
       text_short None fits = omega arith
       text_short (Some bytes) fits = omega (arith, fits)
 

@@ -3,7 +3,6 @@ use Rattle.std.proofs.Common.{◌≡◌, ℕ, ◌<◌, ◌^◌, Bool, true, fals
 use Rattle.std.specs.Int.{w16, w32, w64, to_be_bytes}
 use Rattle.std.proofs.lemmas.Bool.{eqb-true}
 use Rattle.lamport_clocks.specs.declared.stamp.Stamp.{Stamp}
-use Rattle.record_text.specs.Format.{short_keys}
 use Rattle.record_text.specs.Value.{IsBlob}
 use Rattle.record_text.specs.Element.{IsStamp}
 use Rattle.record_text.specs.Texts.{stamp_text, blob_text}
@@ -12,6 +11,7 @@ use Rattle.record_text.specs.Reading.{run_at, u16_at, u32_at, stamp_at, blob_at}
 use Rattle.record_text.proofs.FieldLaws.{AreBytes, Begins, Begins-then, wide64, number_begins, number_again, bind_ok, Ok-is, field_begins, byte_field_begins, field_again}
 use Rattle.record_text.proofs.ValueTextLaws.{blob_begins, blob_again}
 use Rattle.record_text.proofs.ElementTextLaws.{u16_begins, u16_again, u32_begins, u32_again, stamp_begins, stamp_again}
+use Rattle.record_text.specs.Longest.{longest_blob}
 use Rattle.receipts.specs.declared.tagged_texts.Receipt.{Receipt}
 use Rattle.receipts.specs.declared.tagged_texts.Certificate.{Certificate}
 use Rattle.receipts.specs.Receipts.{IsOperation, kind_tag, receipt_text, certificate_text}
@@ -121,18 +121,18 @@ abbrev access_text : Access → List ℕ
 access_text access = (kind_tag access.0 ∷ to_be_bytes w64 access.1) ++ blob_text access.2
 
 abbrev IsAccess : Access → Type 0
-IsAccess access = (access.1 < 2 ^ 64) × IsBlob short_keys access.2
+IsAccess access = (access.1 < 2 ^ 64) × IsBlob longest_blob access.2
 
 access_begins : (bytes : List ℕ) (access : Access) (rest : List ℕ) → AreBytes bytes → access_at bytes ≡ Ok (access, rest)
     → Begins bytes (access_text access) rest × IsAccess access
 unfolding access_at
 access_begins bytes access rest fits e =
-    let a = bind_ok (field 1 kind_in bytes) (λ put. u64_at put.1 >>= λ key. blob_at short_keys key.1 >>= λ value. Ok ((put.0, key.0, value.0), value.1)) (access, rest) e in
-    let b = bind_ok (u64_at a.0.1) (λ key. blob_at short_keys key.1 >>= λ value. Ok ((a.0.0, key.0, value.0), value.1)) (access, rest) a.2 in
-    let c = bind_ok (blob_at short_keys b.0.1) (λ value. Ok ((a.0.0, b.0.0, value.0), value.1)) (access, rest) b.2 in
+    let a = bind_ok (field 1 kind_in bytes) (λ put. u64_at put.1 >>= λ key. blob_at longest_blob key.1 >>= λ value. Ok ((put.0, key.0, value.0), value.1)) (access, rest) e in
+    let b = bind_ok (u64_at a.0.1) (λ key. blob_at longest_blob key.1 >>= λ value. Ok ((a.0.0, key.0, value.0), value.1)) (access, rest) a.2 in
+    let c = bind_ok (blob_at longest_blob b.0.1) (λ value. Ok ((a.0.0, b.0.0, value.0), value.1)) (access, rest) b.2 in
     let first = kind_begins bytes a.0.0 a.0.1 fits a.1 in
     let second = u64_begins a.0.1 b.0.0 b.0.1 first.rest_fits b.1 in
-    let third = blob_begins short_keys b.0.1 c.0.0 c.0.1 second.0.rest_fits c.1 in
+    let third = blob_begins longest_blob b.0.1 c.0.0 c.0.1 second.0.rest_fits c.1 in
     let two = Begins-then bytes (kind_tag a.0.0 ∷ []) a.0.1 (to_be_bytes w64 b.0.0) b.0.1 first second.0 in
     let three = Begins-then bytes (kind_tag a.0.0 ∷ to_be_bytes w64 b.0.0) b.0.1 (blob_text c.0.0) c.0.1 two third.0 in
     let made : Access = (a.0.0, b.0.0, c.0.0) in
@@ -145,10 +145,10 @@ access_again access rest is =
     let key : List ℕ = to_be_bytes w64 access.1 in
     let value : List ℕ = blob_text access.2 in
     let regrouped : ((kind_tag access.0 ∷ key) ++ value) ++ rest ≡ kind_tag access.0 ∷ (key ++ (value ++ rest)) = append_assoc (kind_tag access.0 ∷ key) value rest in
-    ap (λ (bytes : List ℕ). field 1 kind_in bytes >>= λ put. u64_at put.1 >>= λ key. blob_at short_keys key.1 >>= λ value. Ok ((put.0, key.0, value.0), value.1)) regrouped
-    ∙ ap (λ (r : Parsed Bool). r >>= λ put. u64_at put.1 >>= λ key. blob_at short_keys key.1 >>= λ value. Ok ((put.0, key.0, value.0), value.1)) (kind_again access.0 (key ++ (value ++ rest)))
-    ∙ ap (λ (r : Parsed ℕ). r >>= λ key. blob_at short_keys key.1 >>= λ value. Ok ((access.0, key.0, value.0), value.1)) (u64_again access.1 (value ++ rest) is.0)
-    ∙ ap (λ (r : Parsed (Option (List ℕ))). r >>= λ value. Ok ((access.0, access.1, value.0), value.1)) (blob_again short_keys access.2 rest is.1)
+    ap (λ (bytes : List ℕ). field 1 kind_in bytes >>= λ put. u64_at put.1 >>= λ key. blob_at longest_blob key.1 >>= λ value. Ok ((put.0, key.0, value.0), value.1)) regrouped
+    ∙ ap (λ (r : Parsed Bool). r >>= λ put. u64_at put.1 >>= λ key. blob_at longest_blob key.1 >>= λ value. Ok ((put.0, key.0, value.0), value.1)) (kind_again access.0 (key ++ (value ++ rest)))
+    ∙ ap (λ (r : Parsed ℕ). r >>= λ key. blob_at longest_blob key.1 >>= λ value. Ok ((access.0, key.0, value.0), value.1)) (u64_again access.1 (value ++ rest) is.0)
+    ∙ ap (λ (r : Parsed (Option (List ℕ))). r >>= λ value. Ok ((access.0, access.1, value.0), value.1)) (blob_again longest_blob access.2 rest is.1)
 
 -- ---- receipts
 

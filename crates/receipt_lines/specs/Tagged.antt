@@ -2,9 +2,9 @@
 use Rattle.std.specs.Prelude.{ℕ, ◌==◌, Bool, true, false, List, [], ◌∷◌, Option, Some, None, Ok, Err, if◌then◌else◌}
 use Rattle.std.specs.Int.{w64, from_be_bytes}
 use Rattle.lamport_clocks.specs.declared.stamp.Stamp.{Stamp}
-use Rattle.record_text.specs.Format.{short_keys}
 use Rattle.record_text.specs.Fields.{Parsed, field, ◌>>=◌}
 use Rattle.record_text.specs.Reading.{first_byte, run_at, u16_at, u32_at, stamp_at, blob_at}
+use Rattle.record_text.specs.Longest.{longest_blob}
 use Rattle.receipts.specs.declared.tagged_texts.Receipt.{Receipt}
 use Rattle.receipts.specs.declared.tagged_texts.Certificate.{Certificate}
 use Rattle.receipts.specs.Receipts.{kind_tag}
@@ -41,7 +41,7 @@ unfoldable pub access_at : List ℕ → Parsed (Bool × ℕ × Option (List ℕ)
 access_at bytes = do
   put ← field 1 kind_in bytes
   key ← u64_at put.1
-  value ← blob_at short_keys key.1
+  value ← blob_at longest_blob key.1
   Ok ((put.0, key.0, value.0), value.1)
 
 -- a receipt: 1, what it says of an operation, and the tag

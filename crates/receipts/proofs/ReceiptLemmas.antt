@@ -5,11 +5,11 @@ use Rattle.std.proofs.lemmas.List.{take_all}
 use Rattle.std.proofs.Math.Seq.{take-append_seam, drop-append_seam}
 use Rattle.record_text.specs.declared.operation.Operation.{Operation}
 use Rattle.record_text.specs.Texts.{blob_text}
-use Rattle.record_text.specs.Format.{short_keys}
 use Rattle.record_text.specs.Value.{IsBlob}
 use Rattle.record_text.specs.Reading.{blob_at}
 use Rattle.record_text.proofs.ValueTextLaws.{blob_again}
 use Rattle.record_text.proofs.FieldLaws.{Ok-is, AreBytes, AreBytes-take, AreBytes-drop, wide16, wide32, wide64}
+use Rattle.record_text.specs.Longest.{longest_blob}
 use Rattle.receipts.specs.declared.tagged_texts.Certificate.{Certificate}
 use Rattle.receipts.specs.Receipts.{IsOperation, kind_tag, receipt_text, certificate_text}
 
@@ -167,9 +167,9 @@ kind-one false true same = absurd (omega arith)
 kind-one true false same = absurd (omega arith)
 kind-one true true same = refl
 
-blob-one : (a b : Option (List ℕ)) → IsBlob short_keys a → IsBlob short_keys b → blob_text a ≡ blob_text b → a ≡ b
+blob-one : (a b : Option (List ℕ)) → IsBlob longest_blob a → IsBlob longest_blob b → blob_text a ≡ blob_text b → a ≡ b
 blob-one a b is_a is_b same =
-    let both = Ok-is _ _ (sym (blob_again short_keys a [] is_a) ∙ ap (λ (t : List ℕ). blob_at short_keys (t ++ [])) same ∙ blob_again short_keys b [] is_b) in
+    let both = Ok-is _ _ (sym (blob_again longest_blob a [] is_a) ∙ ap (λ (t : List ℕ). blob_at longest_blob (t ++ [])) same ∙ blob_again longest_blob b [] is_b) in
     ap (λ (p : Option (List ℕ) × List ℕ). p.0) both
 
 some-one : (a b : Operation) → Some a ≡ Some b → a ≡ b

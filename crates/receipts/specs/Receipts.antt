@@ -3,10 +3,10 @@ use Rattle.std.specs.Prelude.{ℕ, ◌<◌, ◌^◌, Bool, true, false, List, �
 use Rattle.std.specs.Int.{w16, w32, w64, to_be_bytes}
 use Rattle.record_hash.specs.Functions.{DigestFunctions}
 use Rattle.record_text.specs.declared.operation.Operation.{Operation}
-use Rattle.record_text.specs.Format.{short_keys}
 use Rattle.record_text.specs.Value.{IsBlob}
 use Rattle.record_text.specs.Element.{IsStamp}
 use Rattle.record_text.specs.Texts.{stamp_text, blob_text}
+use Rattle.record_text.specs.Longest.{longest_blob}
 
 -- 6 for a get and 7 for a put, as their commands begin
 abbrev pub kind_tag : Bool → ℕ
@@ -33,4 +33,4 @@ pub record IsOperation (operation : Operation) : Type 0 where
   pub verifier : operation.verifier < 2 ^ 16
   pub index : operation.index < 2 ^ 64
   pub key : operation.key < 2 ^ 64
-  pub value : IsBlob short_keys operation.value
+  pub value : IsBlob longest_blob operation.value

@@ -2,9 +2,9 @@
 ghost use Rattle.std.specs.Prelude.{◌≡◌, ℕ, ◌<◌, ◌≤◌, ◌^◌, ◌++◌, Bool, List, length, Option, Some, IfSome};
 ghost use Rattle.std.specs.Int.{w16, w32, w64, from_be_bytes};
 ghost use Rattle.record_text.specs.declared.operation.Operation.{Operation};
-ghost use Rattle.record_text.specs.Format.{short_keys};
 ghost use Rattle.record_text.specs.Value.{IsBlob};
 ghost use Rattle.record_text.specs.Texts.{blob_text};
+ghost use Rattle.record_text.specs.Longest.{longest_blob};
 ghost use Rattle.receipts.specs.Receipts.{IsOperation, kind_tag, receipt_text, certificate_text};
 
 use crate::issuing::{CERTIFICATE, CERTIFICATE_LEN, GET, PUT, RECEIPT};
@@ -98,7 +98,7 @@ fn kind_in(tag: u8) -> Option<bool>
 // The data value of a key whose whole text these bytes are.
 fn blob_in(key: u64, bytes: &[u8]) -> Option<Blob>
     ensures found { IfSome result (λ blob. bytes.now ≡ blob_text blob) }
-    ensures only { (blob : Option (List ℕ)) → IsBlob short_keys blob → bytes.now ≡ blob_text blob
+    ensures only { (blob : Option (List ℕ)) → IsBlob longest_blob blob → bytes.now ≡ blob_text blob
         → result ≡ Some blob }
 {
     let Ok((value, len)) = read_value(&Path::of_key(key), bytes) else {

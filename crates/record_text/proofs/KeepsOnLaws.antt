@@ -1,12 +1,12 @@
 -- Readers that more bytes behind don't disturb: a field, one reader after another, and a choice of readers.
 use Rattle.std.proofs.Common.{◌≡◌, ℕ, ◌+◌, ◌≤◌, ◌==◌, Bool, true, false, cond, ltb, List, [], ◌∷◌, ◌++◌, length, take, drop, Option, Some, None, Result, Ok, Err, refl, sym, ap, ◌∙◌, ◌⊎◌, inl, inr, arith}
-use Rattle.std.specs.Int.{w16, w32, byte_len, from_be_bytes}
+use Rattle.std.specs.Int.{w16, w32, byte_len, from_be_bytes, w64}
 use Rattle.std.proofs.lemmas.Bool.{ltb-false, le-ltb}
 use Rattle.std.proofs.lemmas.List.{take-append-le, drop-append-le, length-append, length-drop}
+use Rattle.tree_keys.specs.Path.{is_data}
 use Rattle.record_text.specs.declared.reader.TextFault.{TextFault}
 use Rattle.record_text.specs.declared.reader.TextFault.TheVariants.{Malformed, Truncated}
 use Rattle.record_text.specs.declared.value.Value.TheVariants as values
-use Rattle.record_text.specs.Format.{Format, path_bits}
 use Rattle.record_text.specs.Fields.{Parsed, ◌>>=◌, ranged, field, KeepsOn}
 use Rattle.record_text.specs.Reading.{first_byte, run_at, byte_at, flag_in, count_in, path_in, path_at, blob_behind, blob_at, pointer_tag_in, path_below_in, path_below_at, pointer_behind, pointer_at, node_at, value_by, value_at, u16_at, u32_at, stamp_at, element_at}
 use Rattle.record_text.proofs.FieldLaws.{bind_ok, Ok-is, field_ok}
@@ -104,48 +104,48 @@ pub keeps_on-u32 : KeepsOn u32_at
 unfolding u32_at
 keeps_on-u32 = keeps_on-field 4 (λ run. Some (from_be_bytes w32 run))
 
-pub keeps_on-path : (format : Format) → KeepsOn (path_at format)
+pub keeps_on-path : KeepsOn path_at
 unfolding path_at
-keeps_on-path format = keeps_on-field (1 + byte_len format.word) (path_in format)
+keeps_on-path = keeps_on-field (1 + byte_len w64) path_in
 
-pub keeps_on-path_below : (format : Format) (prefix : List Bool) → KeepsOn (path_below_at format prefix)
+pub keeps_on-path_below : (prefix : List Bool) → KeepsOn (path_below_at prefix)
 unfolding path_below_at
-keeps_on-path_below format prefix = keeps_on-field (1 + byte_len format.word) (path_below_in format prefix)
+keeps_on-path_below prefix = keeps_on-field (1 + byte_len w64) (path_below_in prefix)
 
-keeps_on-blob_behind : (format : Format) (present : Bool) → KeepsOn (blob_behind format present)
-keeps_on-blob_behind format false = keeps_on-nothing None
-keeps_on-blob_behind format true =
-    keeps_on-then (field 1 (count_in format)) (λ count bytes. run_at count bytes >>= λ text. Ok (Some text.0, text.1)) (keeps_on-field 1 (count_in format))
+keeps_on-blob_behind : (longest : ℕ) (present : Bool) → KeepsOn (blob_behind longest present)
+keeps_on-blob_behind longest false = keeps_on-nothing None
+keeps_on-blob_behind longest true =
+    keeps_on-then (field 1 (count_in longest)) (λ count bytes. run_at count bytes >>= λ text. Ok (Some text.0, text.1)) (keeps_on-field 1 (count_in longest))
     (λ count. keeps_on-made (run_at count) (λ text. Some text) (keeps_on-run count))
 
-pub keeps_on-blob : (format : Format) → KeepsOn (blob_at format)
+pub keeps_on-blob : (longest : ℕ) → KeepsOn (blob_at longest)
 unfolding blob_at
-keeps_on-blob format =
-    keeps_on-then (field 1 flag_in) (blob_behind format) (keeps_on-field 1 flag_in) (keeps_on-blob_behind format)
+keeps_on-blob longest =
+    keeps_on-then (field 1 flag_in) (blob_behind longest) (keeps_on-field 1 flag_in) (keeps_on-blob_behind longest)
 
-keeps_on-pointer_behind : (format : Format) (prefix : List Bool) (tag : Option Bool) → KeepsOn (pointer_behind format prefix tag)
-keeps_on-pointer_behind format prefix None = keeps_on-nothing None
-keeps_on-pointer_behind format prefix (Some deferred) =
-    keeps_on-then (path_below_at format prefix) (λ path bytes. run_at 32 bytes >>= λ digest. Ok (Some (record { path = path; digest = digest.0; deferred = deferred }), digest.1)) (keeps_on-path_below format prefix)
+keeps_on-pointer_behind : (prefix : List Bool) (tag : Option Bool) → KeepsOn (pointer_behind prefix tag)
+keeps_on-pointer_behind prefix None = keeps_on-nothing None
+keeps_on-pointer_behind prefix (Some deferred) =
+    keeps_on-then (path_below_at prefix) (λ path bytes. run_at 32 bytes >>= λ digest. Ok (Some (record { path = path; digest = digest.0; deferred = deferred }), digest.1)) (keeps_on-path_below prefix)
     (λ path. keeps_on-made (run_at 32) (λ digest. Some (record { path = path; digest = digest; deferred = deferred })) (keeps_on-run 32))
 
-pub keeps_on-pointer : (format : Format) (prefix : List Bool) → KeepsOn (pointer_at format prefix)
+pub keeps_on-pointer : (prefix : List Bool) → KeepsOn (pointer_at prefix)
 unfolding pointer_at
-keeps_on-pointer format prefix =
-    keeps_on-then (field 1 pointer_tag_in) (pointer_behind format prefix) (keeps_on-field 1 pointer_tag_in) (keeps_on-pointer_behind format prefix)
+keeps_on-pointer prefix =
+    keeps_on-then (field 1 pointer_tag_in) (pointer_behind prefix) (keeps_on-field 1 pointer_tag_in) (keeps_on-pointer_behind prefix)
 
-pub keeps_on-node : (format : Format) (path : List Bool) → KeepsOn (node_at format path)
+pub keeps_on-node : (path : List Bool) → KeepsOn (node_at path)
 unfolding node_at
-keeps_on-node format path =
-    keeps_on-then (pointer_at format (path ++ false ∷ [])) (λ side0 bytes. pointer_at format (path ++ true ∷ []) bytes >>= λ side1. Ok (record { side0 = side0; side1 = side1.0 }, side1.1)) (keeps_on-pointer format (path ++ false ∷ []))
-    (λ side0. keeps_on-made (pointer_at format (path ++ true ∷ [])) (λ side1. record { side0 = side0; side1 = side1 }) (keeps_on-pointer format (path ++ true ∷ [])))
+keeps_on-node path =
+    keeps_on-then (pointer_at (path ++ false ∷ [])) (λ side0 bytes. pointer_at (path ++ true ∷ []) bytes >>= λ side1. Ok (record { side0 = side0; side1 = side1.0 }, side1.1)) (keeps_on-pointer (path ++ false ∷ []))
+    (λ side0. keeps_on-made (pointer_at (path ++ true ∷ [])) (λ side1. record { side0 = side0; side1 = side1 }) (keeps_on-pointer (path ++ true ∷ [])))
 
-keeps_on-value_by : (format : Format) (path : List Bool) (is_key : Bool) → KeepsOn (value_by format path is_key)
-keeps_on-value_by format path true = keeps_on-made (blob_at format) (λ blob. values.Blob blob) (keeps_on-blob format)
-keeps_on-value_by format path false = keeps_on-made (node_at format path) (λ node. values.Node node) (keeps_on-node format path)
+keeps_on-value_by : (longest : ℕ) (path : List Bool) (is_key : Bool) → KeepsOn (value_by longest path is_key)
+keeps_on-value_by longest path true = keeps_on-made (blob_at longest) (λ blob. values.Blob blob) (keeps_on-blob longest)
+keeps_on-value_by longest path false = keeps_on-made (node_at path) (λ node. values.Node node) (keeps_on-node path)
 
-pub keeps_on-value : (format : Format) (path : List Bool) → KeepsOn (value_at format path)
-keeps_on-value format path = keeps_on-value_by format path (length path == path_bits format)
+pub keeps_on-value : (longest : ℕ) (path : List Bool) → KeepsOn (value_at longest path)
+keeps_on-value longest path = keeps_on-value_by longest path (is_data path)
 
 pub keeps_on-stamp : KeepsOn stamp_at
 unfolding stamp_at
@@ -153,11 +153,11 @@ keeps_on-stamp =
     keeps_on-then u32_at (λ epoch bytes. u32_at bytes >>= λ counter. Ok (record { epoch = epoch; counter = counter.0 }, counter.1)) keeps_on-u32
     (λ epoch. keeps_on-made u32_at (λ counter. record { epoch = epoch; counter = counter }) keeps_on-u32)
 
-pub keeps_on-element : (format : Format) → KeepsOn (element_at format)
+pub keeps_on-element : (longest : ℕ) → KeepsOn (element_at longest)
 unfolding element_at
-keeps_on-element format =
-    keeps_on-then (path_at format) (λ path bytes. value_at format path bytes >>= λ value. stamp_at value.1 >>= λ stamp. u16_at stamp.1 >>= λ verifier. Ok (record { path = path; value = value.0; stamp = stamp.0; verifier = verifier.0 }, verifier.1)) (keeps_on-path format)
-    (λ path. keeps_on-then (value_at format path) (λ value bytes. stamp_at bytes >>= λ stamp. u16_at stamp.1 >>= λ verifier. Ok (record { path = path; value = value; stamp = stamp.0; verifier = verifier.0 }, verifier.1)) (keeps_on-value format path)
+keeps_on-element longest =
+    keeps_on-then path_at (λ path bytes. value_at longest path bytes >>= λ value. stamp_at value.1 >>= λ stamp. u16_at stamp.1 >>= λ verifier. Ok (record { path = path; value = value.0; stamp = stamp.0; verifier = verifier.0 }, verifier.1)) keeps_on-path
+    (λ path. keeps_on-then (value_at longest path) (λ value bytes. stamp_at bytes >>= λ stamp. u16_at stamp.1 >>= λ verifier. Ok (record { path = path; value = value; stamp = stamp.0; verifier = verifier.0 }, verifier.1)) (keeps_on-value longest path)
     (λ value. keeps_on-then stamp_at (λ stamp bytes. u16_at bytes >>= λ verifier. Ok (record { path = path; value = value; stamp = stamp; verifier = verifier.0 }, verifier.1)) keeps_on-stamp
     (λ stamp. keeps_on-made u16_at (λ verifier. record { path = path; value = value; stamp = stamp; verifier = verifier }) keeps_on-u16)))
 

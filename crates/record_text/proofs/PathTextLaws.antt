@@ -1,16 +1,15 @@
 -- The text of a path: what was read as one is spelled so, and what is spelled so is read.
 use Rattle.std.proofs.Common.{◌≡◌, ℕ, ◌+◌, ◌-◌, ◌*◌, ◌/◌, ◌%◌, ◌^◌, ◌<◌, ◌≤◌, ◌==◌, ◌&&◌, Bool, true, false, cond, leb, List, [], ◌∷◌, ◌++◌, length, take, Option, Some, None, IsTrue, Ok, refl, sym, ap, subst, ◌∙◌, arith}
-use Rattle.std.specs.Int.{byte_len, from_be_bytes, to_be_bytes}
+use Rattle.std.specs.Int.{byte_len, from_be_bytes, to_be_bytes, w64}
 use Rattle.std.proofs.lemmas.Bool.{leb-true, le-leb, eqb-true, eq-eqb, and_parts, and_from}
 use Rattle.std.proofs.lemmas.Nat.{shr_split, shr_high, mod_low, pow_pos, shl_below}
 use Rattle.tree_keys.specs.Bits.{bits_of, number_of}
 use Rattle.tree_keys.specs.BitsLaws.{length-bits_of, number_back}
-use Rattle.tree_keys.specs.Path.{word_of, path_in_word, is_prefix}
+use Rattle.tree_keys.specs.Path.{word_of, path_in_word, is_prefix, key_bits, IsPath}
 use Rattle.tree_keys.proofs.BitsLaws.{bits_of-number_of, number_of-lt, first_below}
-use Rattle.record_text.specs.Format.{Format, path_bits}
 use Rattle.record_text.specs.Reading.{path_in, path_at, if_below, path_below_in, path_below_at}
 use Rattle.record_text.specs.Texts.{path_text}
-use Rattle.record_text.proofs.FieldLaws.{AreBytes, AreBytes-rest, Begins, IsWide, field_begins, field_again}
+use Rattle.record_text.proofs.FieldLaws.{AreBytes, AreBytes-rest, Begins, IsWide, field_begins, field_again, wide64}
 
 -- ---- a path in a word
 
@@ -52,35 +51,35 @@ word_of-lt width path fits =
 -- ---- a path's text
 
 -- a field in the range of paths is the path's text
-path_in-text : (format : Format) (wide : IsWide format.word (2 ^ path_bits format)) (text : List ℕ) (path : List Bool) → length text ≡ 1 + byte_len format.word → AreBytes text → path_in format text ≡ Some path → (text ≡ path_text format path) × (length path ≤ path_bits format)
-path_in-text format wide [] path len fits e = absurd (omega arith)
-path_in-text format wide (count ∷ bytes) path len fits e =
-    let word : ℕ = from_be_bytes format.word bytes in
+path_in-text : (text : List ℕ) (path : List Bool) → length text ≡ 1 + byte_len w64 → AreBytes text → path_in text ≡ Some path → (text ≡ path_text path) × IsPath path
+path_in-text [] path len fits e = absurd (omega arith)
+path_in-text (count ∷ bytes) path len fits e =
+    let word : ℕ = from_be_bytes w64 bytes in
     let tail_fits = AreBytes-rest count bytes fits in
-    let held = word_of-path_in_word (path_bits format) count (from_be_bytes format.word bytes) path (wide.below bytes tail_fits) e in
-    let spelled : to_be_bytes format.word (word_of (path_bits format) path) ≡ bytes = ap (to_be_bytes format.word) held.2 ∙ wide.back bytes (omega arith) tail_fits in
+    let held = word_of-path_in_word key_bits count (from_be_bytes w64 bytes) path (wide64.below bytes tail_fits) e in
+    let spelled : to_be_bytes w64 (word_of key_bits path) ≡ bytes = ap (to_be_bytes w64) held.2 ∙ wide64.back bytes (omega arith) tail_fits in
     (ap (λ (n : ℕ). n ∷ bytes) (sym held.0) ∙ ap (λ (word : List ℕ). length path ∷ word) (sym spelled), omega (arith, held.0, held.1))
 
 -- a path's text is in the range of paths
-path_text-in : (format : Format) (wide : IsWide format.word (2 ^ path_bits format)) (path : List Bool) → length path ≤ path_bits format → path_in format (path_text format path) ≡ Some path
-path_text-in format wide path fits =
-    ap (λ (word : ℕ). path_in_word (path_bits format) (length path) word) (wide.again (word_of (path_bits format) path) (word_of-lt (path_bits format) path fits))
-    ∙ path_in_word-word_of (path_bits format) path fits
+path_text-in : (path : List Bool) → IsPath path → path_in (path_text path) ≡ Some path
+path_text-in path fits =
+    ap (λ (word : ℕ). path_in_word key_bits (length path) word) (wide64.again (word_of key_bits path) (word_of-lt key_bits path fits))
+    ∙ path_in_word-word_of key_bits path fits
 
-path_text-length : (format : Format) (wide : IsWide format.word (2 ^ path_bits format)) (path : List Bool) → length (path_text format path) ≡ 1 + byte_len format.word
-path_text-length format wide path = omega (arith, wide.len (word_of (path_bits format) path))
+path_text-length : (path : List Bool) → length (path_text path) ≡ 1 + byte_len w64
+path_text-length path = omega (arith, wide64.len (word_of key_bits path))
 
-pub path_begins : (format : Format) (wide : IsWide format.word (2 ^ path_bits format)) (bytes : List ℕ) (path : List Bool) (rest : List ℕ) → AreBytes bytes → path_at format bytes ≡ Ok (path, rest) → Begins bytes (path_text format path) rest × (length path ≤ path_bits format)
+pub path_begins : (bytes : List ℕ) (path : List Bool) (rest : List ℕ) → AreBytes bytes → path_at bytes ≡ Ok (path, rest) → Begins bytes (path_text path) rest × IsPath path
 unfolding path_at
-path_begins format wide bytes path rest fits e =
-    let f = field_begins (1 + byte_len format.word) (path_in format) bytes path rest fits e in
-    let text = path_in-text format wide (take (1 + byte_len format.word) bytes) path f.1 f.3 f.2 in
+path_begins bytes path rest fits e =
+    let f = field_begins (1 + byte_len w64) path_in bytes path rest fits e in
+    let text = path_in-text (take (1 + byte_len w64) bytes) path f.1 f.3 f.2 in
     (subst (λ (t : List ℕ). Begins bytes t rest) text.0 f.0, text.1)
 
-pub path_again : (format : Format) (wide : IsWide format.word (2 ^ path_bits format)) (path : List Bool) (rest : List ℕ) → length path ≤ path_bits format → path_at format (path_text format path ++ rest) ≡ Ok (path, rest)
+pub path_again : (path : List Bool) (rest : List ℕ) → IsPath path → path_at (path_text path ++ rest) ≡ Ok (path, rest)
 unfolding path_at
-path_again format wide path rest fits =
-    field_again (1 + byte_len format.word) (path_in format) (path_text format path) rest path (path_text-length format wide path) (path_text-in format wide path fits)
+path_again path rest fits =
+    field_again (1 + byte_len w64) path_in (path_text path) rest path (path_text-length path) (path_text-in path fits)
 
 -- ---- a path below a prefix
 
@@ -90,18 +89,18 @@ if_below-some prefix (Some other) path e =
     let c = chosen (is_prefix prefix other) other path e in
     (ap (λ (x : List Bool). Some x) c.1, subst (λ (x : List Bool). is_prefix prefix x ≡ true) c.1 c.0)
 
-pub path_below_begins : (format : Format) (wide : IsWide format.word (2 ^ path_bits format)) (prefix : List Bool) (bytes : List ℕ) (path : List Bool) (rest : List ℕ) → AreBytes bytes → path_below_at format prefix bytes ≡ Ok (path, rest)
-    → Begins bytes (path_text format path) rest × (length path ≤ path_bits format) × IsTrue (is_prefix prefix path)
+pub path_below_begins : (prefix : List Bool) (bytes : List ℕ) (path : List Bool) (rest : List ℕ) → AreBytes bytes → path_below_at prefix bytes ≡ Ok (path, rest)
+    → Begins bytes (path_text path) rest × IsPath path × IsTrue (is_prefix prefix path)
 unfolding path_below_at
-path_below_begins format wide prefix bytes path rest fits e =
-    let f = field_begins (1 + byte_len format.word) (path_below_in format prefix) bytes path rest fits e in
-    let below = if_below-some prefix (path_in format (take (1 + byte_len format.word) bytes)) path f.2 in
-    let text = path_in-text format wide (take (1 + byte_len format.word) bytes) path f.1 f.3 below.0 in
+path_below_begins prefix bytes path rest fits e =
+    let f = field_begins (1 + byte_len w64) (path_below_in prefix) bytes path rest fits e in
+    let below = if_below-some prefix (path_in (take (1 + byte_len w64) bytes)) path f.2 in
+    let text = path_in-text (take (1 + byte_len w64) bytes) path f.1 f.3 below.0 in
     (subst (λ (t : List ℕ). Begins bytes t rest) text.0 f.0, text.1, below.1)
 
-pub path_below_again : (format : Format) (wide : IsWide format.word (2 ^ path_bits format)) (prefix path : List Bool) (rest : List ℕ) → length path ≤ path_bits format → IsTrue (is_prefix prefix path) → path_below_at format prefix (path_text format path ++ rest) ≡ Ok (path, rest)
+pub path_below_again : (prefix path : List Bool) (rest : List ℕ) → IsPath path → IsTrue (is_prefix prefix path) → path_below_at prefix (path_text path ++ rest) ≡ Ok (path, rest)
 unfolding path_below_at
-path_below_again format wide prefix path rest fits below =
-    let within : path_below_in format prefix (path_text format path) ≡ Some path =
-    ap (if_below prefix) (path_text-in format wide path fits) ∙ ap (λ (b : Bool). cond b (Some path) None) below in
-    field_again (1 + byte_len format.word) (path_below_in format prefix) (path_text format path) rest path (path_text-length format wide path) within
+path_below_again prefix path rest fits below =
+    let within : path_below_in prefix (path_text path) ≡ Some path =
+    ap (if_below prefix) (path_text-in path fits) ∙ ap (λ (b : Bool). cond b (Some path) None) below in
+    field_again (1 + byte_len w64) (path_below_in prefix) (path_text path) rest path (path_text-length path) within

@@ -1,12 +1,11 @@
 -- The texts of values: what was read as one is spelled so and of its kind, and what is spelled so is read.
 use Rattle.std.proofs.Common.{◌≡◌, ℕ, ◌^◌, ◌<◌, ◌≤◌, Bool, true, false, cond, eqb, leb, List, [], ◌∷◌, ◌++◌, length, take, Option, Some, None, IsTrue, Ok, refl, sym, ap, subst, ◌∙◌, append_assoc, arith, ◌⊎◌, inl, inr}
 use Rattle.std.proofs.lemmas.Bool.{leb-true, le-leb, eqb-true, eqb-false, eq-eqb, ne_eqb}
-use Rattle.tree_keys.specs.Path.{is_prefix}
+use Rattle.tree_keys.specs.Path.{is_prefix, key_bits, IsPath, IsNodePath}
 use Rattle.record_text.specs.declared.value.Pointer.{Pointer}
 use Rattle.record_text.specs.declared.value.Node.{Node}
 use Rattle.record_text.specs.declared.value.Value.{Value}
 use Rattle.record_text.specs.declared.value.Value.TheVariants as values
-use Rattle.record_text.specs.Format.{Format, path_bits}
 use Rattle.record_text.specs.Value.{IsPointer, IsSide, IsBlob, IsOf, empty_node, initial_value}
 use Rattle.record_text.specs.Fields.{Parsed, ◌>>=◌, field}
 use Rattle.record_text.specs.Reading.{run_at, flag_in, count_in, blob_behind, blob_at, pointer_tag_in, path_below_at, pointer_behind, pointer_at, node_at, value_by, value_at}
@@ -46,44 +45,44 @@ count_chosen : (b : Bool) (n m : ℕ) → cond b (Some n) None ≡ Some m → (b
 count_chosen true n m e = (refl, cc)
 count_chosen false n m e = absurd (cc)
 
-blob_behind_begins : (format : Format) (present : Bool) (bytes : List ℕ) (blob : Option (List ℕ)) (rest : List ℕ) → AreBytes bytes → blob_behind format present bytes ≡ Ok (blob, rest)
-    → Begins (cond present 1 0 ∷ bytes) (blob_text blob) rest × IsBlob format blob
-blob_behind_begins format false bytes blob rest fits e =
+blob_behind_begins : (longest : ℕ) (present : Bool) (bytes : List ℕ) (blob : Option (List ℕ)) (rest : List ℕ) → AreBytes bytes → blob_behind longest present bytes ≡ Ok (blob, rest)
+    → Begins (cond present 1 0 ∷ bytes) (blob_text blob) rest × IsBlob longest blob
+blob_behind_begins longest false bytes blob rest fits e =
     let none : Option (List ℕ) = None in
-    subst (λ (x : Option (List ℕ) × List ℕ). Begins (0 ∷ bytes) (blob_text x.0) x.1 × IsBlob format x.0) (Ok-is (none, bytes) (blob, rest) e) (record { parts = refl; rest_fits = fits }, tt)
-blob_behind_begins format true bytes blob rest fits e =
-    let a = bind_ok (field 1 (count_in format) bytes) (λ count. run_at count.0 count.1 >>= λ text. Ok (Some text.0, text.1)) (blob, rest) e in
+    subst (λ (x : Option (List ℕ) × List ℕ). Begins (0 ∷ bytes) (blob_text x.0) x.1 × IsBlob longest x.0) (Ok-is (none, bytes) (blob, rest) e) (record { parts = refl; rest_fits = fits }, tt)
+blob_behind_begins longest true bytes blob rest fits e =
+    let a = bind_ok (field 1 (count_in longest) bytes) (λ count. run_at count.0 count.1 >>= λ text. Ok (Some text.0, text.1)) (blob, rest) e in
     let b = bind_ok (run_at a.0.0 a.0.1) (λ text. Ok (Some text.0, text.1)) (blob, rest) a.2 in
-    let first = byte_field_begins (count_in format) bytes a.0.0 a.0.1 fits a.1 in
-    let count = count_chosen (leb first.0 format.longest) first.0 a.0.0 first.2 in
+    let first = byte_field_begins (count_in longest) bytes a.0.0 a.0.1 fits a.1 in
+    let count = count_chosen (leb first.0 longest) first.0 a.0.0 first.2 in
     let second = run_begins a.0.0 a.0.1 b.0.0 b.0.1 first.1.rest_fits b.1 in
     let both = Begins-then bytes (first.0 ∷ []) a.0.1 b.0.0 b.0.1 first.1 second.0 in
     let len : first.0 ≡ length b.0.0 = count.1 ∙ sym second.1 in
-    let within : length b.0.0 ≤ format.longest = subst (λ (n : ℕ). n ≤ format.longest) len (leb-true _ _ count.0) in
+    let within : length b.0.0 ≤ longest = subst (λ (n : ℕ). n ≤ longest) len (leb-true _ _ count.0) in
     let some : Option (List ℕ) = Some b.0.0 in
     let whole : Begins (1 ∷ bytes) (blob_text (Some b.0.0)) b.0.1 = record {
       parts = ap (λ (t : List ℕ). 1 ∷ t) (both.parts ∙ ap (λ (n : ℕ). n ∷ b.0.0 ++ b.0.1) len);
       rest_fits = both.rest_fits;
     } in
-    subst (λ (x : Option (List ℕ) × List ℕ). Begins (1 ∷ bytes) (blob_text x.0) x.1 × IsBlob format x.0) (Ok-is (some, b.0.1) (blob, rest) b.2) (whole, within)
+    subst (λ (x : Option (List ℕ) × List ℕ). Begins (1 ∷ bytes) (blob_text x.0) x.1 × IsBlob longest x.0) (Ok-is (some, b.0.1) (blob, rest) b.2) (whole, within)
 
-pub blob_begins : (format : Format) (bytes : List ℕ) (blob : Option (List ℕ)) (rest : List ℕ) → AreBytes bytes → blob_at format bytes ≡ Ok (blob, rest) → Begins bytes (blob_text blob) rest × IsBlob format blob
+pub blob_begins : (longest : ℕ) (bytes : List ℕ) (blob : Option (List ℕ)) (rest : List ℕ) → AreBytes bytes → blob_at longest bytes ≡ Ok (blob, rest) → Begins bytes (blob_text blob) rest × IsBlob longest blob
 unfolding blob_at
-blob_begins format bytes blob rest fits e =
-    let a = bind_ok (field 1 flag_in bytes) (λ present. blob_behind format present.0 present.1) (blob, rest) e in
+blob_begins longest bytes blob rest fits e =
+    let a = bind_ok (field 1 flag_in bytes) (λ present. blob_behind longest present.0 present.1) (blob, rest) e in
     let first = byte_field_begins flag_in bytes a.0.0 a.0.1 fits a.1 in
-    let b = blob_behind_begins format a.0.0 a.0.1 blob rest first.1.rest_fits a.2 in
+    let b = blob_behind_begins longest a.0.0 a.0.1 blob rest first.1.rest_fits a.2 in
     let whole : bytes ≡ cond a.0.0 1 0 ∷ a.0.1 = first.1.parts ∙ ap (λ (n : ℕ). n ∷ a.0.1) (sym (flag_byte first.0 a.0.0 first.2)) in
     (record { parts = whole ∙ b.0.parts; rest_fits = b.0.rest_fits }, b.1)
 
-pub blob_again : (format : Format) (blob : Option (List ℕ)) (rest : List ℕ) → IsBlob format blob → blob_at format (blob_text blob ++ rest) ≡ Ok (blob, rest)
+pub blob_again : (longest : ℕ) (blob : Option (List ℕ)) (rest : List ℕ) → IsBlob longest blob → blob_at longest (blob_text blob ++ rest) ≡ Ok (blob, rest)
 unfolding blob_at
-blob_again format None rest fits = rw (field_again 1 flag_in (0 ∷ []) rest false refl refl) refl
-blob_again format (Some bytes) rest fits =
-    let within : count_in format (length bytes ∷ []) ≡ Some (length bytes) = ap (λ (b : Bool). cond b (Some (length bytes)) None) (le-leb _ _ fits) in
+blob_again longest None rest fits = rw (field_again 1 flag_in (0 ∷ []) rest false refl refl) refl
+blob_again longest (Some bytes) rest fits =
+    let within : count_in longest (length bytes ∷ []) ≡ Some (length bytes) = ap (λ (b : Bool). cond b (Some (length bytes)) None) (le-leb _ _ fits) in
     rw (
       field_again 1 flag_in (1 ∷ []) (length bytes ∷ bytes ++ rest) true refl refl,
-      field_again 1 (count_in format) (length bytes ∷ []) (bytes ++ rest) (length bytes) refl within,
+      field_again 1 (count_in longest) (length bytes ∷ []) (bytes ++ rest) (length bytes) refl within,
       run_again (length bytes) bytes rest refl,
     ) refl
 
@@ -108,36 +107,36 @@ tag_byte-is b tag e =
     ]
 
 -- a pointer's text starts with its tag
-pointer_behind_begins : (format : Format) (wide : IsWide format.word (2 ^ path_bits format)) (node : List Bool) (side : Bool) (tag : Option Bool) (bytes : List ℕ) (pointer : Option Pointer) (rest : List ℕ) → AreBytes bytes → pointer_behind format (node ++ side ∷ []) tag bytes ≡ Ok (pointer, rest)
-    → Begins (tag_byte tag ∷ bytes) (pointer_text format pointer) rest × IsSide format node side pointer
+pointer_behind_begins : (node : List Bool) (side : Bool) (tag : Option Bool) (bytes : List ℕ) (pointer : Option Pointer) (rest : List ℕ) → AreBytes bytes → pointer_behind (node ++ side ∷ []) tag bytes ≡ Ok (pointer, rest)
+    → Begins (tag_byte tag ∷ bytes) (pointer_text pointer) rest × IsSide node side pointer
 unfolding tag_byte
-pointer_behind_begins format wide node side None bytes pointer rest fits e =
+pointer_behind_begins node side None bytes pointer rest fits e =
     let none : Option Pointer = None in
-    subst (λ (x : Option Pointer × List ℕ). Begins (0 ∷ bytes) (pointer_text format x.0) x.1 × IsSide format node side x.0) (Ok-is (none, bytes) (pointer, rest) e) (record { parts = refl; rest_fits = fits }, tt)
-pointer_behind_begins format wide node side (Some deferred) bytes pointer rest fits e =
+    subst (λ (x : Option Pointer × List ℕ). Begins (0 ∷ bytes) (pointer_text x.0) x.1 × IsSide node side x.0) (Ok-is (none, bytes) (pointer, rest) e) (record { parts = refl; rest_fits = fits }, tt)
+pointer_behind_begins node side (Some deferred) bytes pointer rest fits e =
     let prefix : List Bool = node ++ side ∷ [] in
-    let a = bind_ok (path_below_at format prefix bytes) (λ path. run_at 32 path.1 >>= λ digest. Ok (Some (record { path = path.0; digest = digest.0; deferred = deferred }), digest.1)) (pointer, rest) e in
+    let a = bind_ok (path_below_at prefix bytes) (λ path. run_at 32 path.1 >>= λ digest. Ok (Some (record { path = path.0; digest = digest.0; deferred = deferred }), digest.1)) (pointer, rest) e in
     let b = bind_ok (run_at 32 a.0.1) (λ digest. Ok (Some (record { path = a.0.0; digest = digest.0; deferred = deferred }), digest.1)) (pointer, rest) a.2 in
-    let first = path_below_begins format wide prefix bytes a.0.0 a.0.1 fits a.1 in
+    let first = path_below_begins prefix bytes a.0.0 a.0.1 fits a.1 in
     let second = run_begins 32 a.0.1 b.0.0 b.0.1 first.0.rest_fits b.1 in
-    let both = Begins-then bytes (path_text format a.0.0) a.0.1 b.0.0 b.0.1 first.0 second.0 in
+    let both = Begins-then bytes (path_text a.0.0) a.0.1 b.0.0 b.0.1 first.0 second.0 in
     let made : Pointer = record { path = a.0.0; digest = b.0.0; deferred = deferred } in
     let some : Option Pointer = Some made in
-    let whole : Begins (deferred_tag deferred ∷ bytes) (pointer_text format (Some made)) b.0.1 = record {
+    let whole : Begins (deferred_tag deferred ∷ bytes) (pointer_text (Some made)) b.0.1 = record {
       parts = ap (λ (t : List ℕ). deferred_tag deferred ∷ t) both.parts;
       rest_fits = both.rest_fits;
     } in
-    let kind : IsPointer format node side made = record { below = first.2; fits = first.1; digest = second.1 } in
-    subst (λ (x : Option Pointer × List ℕ). Begins (deferred_tag deferred ∷ bytes) (pointer_text format x.0) x.1 × IsSide format node side x.0) (Ok-is (some, b.0.1) (pointer, rest) b.2) (whole, kind)
+    let kind : IsPointer node side made = record { below = first.2; fits = first.1; digest = second.1 } in
+    subst (λ (x : Option Pointer × List ℕ). Begins (deferred_tag deferred ∷ bytes) (pointer_text x.0) x.1 × IsSide node side x.0) (Ok-is (some, b.0.1) (pointer, rest) b.2) (whole, kind)
 
-pub pointer_begins : (format : Format) (wide : IsWide format.word (2 ^ path_bits format)) (node : List Bool) (side : Bool) (bytes : List ℕ) (pointer : Option Pointer) (rest : List ℕ) → AreBytes bytes → pointer_at format (node ++ side ∷ []) bytes ≡ Ok (pointer, rest)
-    → Begins bytes (pointer_text format pointer) rest × IsSide format node side pointer
+pub pointer_begins : (node : List Bool) (side : Bool) (bytes : List ℕ) (pointer : Option Pointer) (rest : List ℕ) → AreBytes bytes → pointer_at (node ++ side ∷ []) bytes ≡ Ok (pointer, rest)
+    → Begins bytes (pointer_text pointer) rest × IsSide node side pointer
 unfolding pointer_at
-pointer_begins format wide node side bytes pointer rest fits e =
+pointer_begins node side bytes pointer rest fits e =
     let prefix : List Bool = node ++ side ∷ [] in
-    let a = bind_ok (field 1 pointer_tag_in bytes) (λ tag. pointer_behind format prefix tag.0 tag.1) (pointer, rest) e in
+    let a = bind_ok (field 1 pointer_tag_in bytes) (λ tag. pointer_behind prefix tag.0 tag.1) (pointer, rest) e in
     let first = byte_field_begins pointer_tag_in bytes a.0.0 a.0.1 fits a.1 in
-    let b = pointer_behind_begins format wide node side a.0.0 a.0.1 pointer rest first.1.rest_fits a.2 in
+    let b = pointer_behind_begins node side a.0.0 a.0.1 pointer rest first.1.rest_fits a.2 in
     let whole : bytes ≡ tag_byte a.0.0 ∷ a.0.1 = first.1.parts ∙ ap (λ (n : ℕ). n ∷ a.0.1) (sym (tag_byte-is first.0 a.0.0 first.2)) in
     (record { parts = whole ∙ b.0.parts; rest_fits = b.0.rest_fits }, b.1)
 
@@ -146,94 +145,94 @@ deferred_tag-in true = refl
 deferred_tag-in false = refl
 
 -- a side that has a text, under a prefix of its path
-abbrev pub IsUnder : Format → List Bool → Option Pointer → Type 0
-IsUnder format prefix None = Unit {0}
-IsUnder format prefix (Some pointer) = IsTrue (is_prefix prefix pointer.path) × (length pointer.path ≤ path_bits format) × (length pointer.digest ≡ 32)
+abbrev pub IsUnder : List Bool → Option Pointer → Type 0
+IsUnder prefix None = Unit {0}
+IsUnder prefix (Some pointer) = IsTrue (is_prefix prefix pointer.path) × IsPath pointer.path × (length pointer.digest ≡ 32)
 
-pub pointer_again_under : (format : Format) (wide : IsWide format.word (2 ^ path_bits format)) (prefix : List Bool) (pointer : Option Pointer) (rest : List ℕ) → IsUnder format prefix pointer → pointer_at format prefix (pointer_text format pointer ++ rest) ≡ Ok (pointer, rest)
+pub pointer_again_under : (prefix : List Bool) (pointer : Option Pointer) (rest : List ℕ) → IsUnder prefix pointer → pointer_at prefix (pointer_text pointer ++ rest) ≡ Ok (pointer, rest)
 unfolding pointer_at
-pointer_again_under format wide prefix None rest is = rw (field_again 1 pointer_tag_in (0 ∷ []) rest None refl refl) refl
-pointer_again_under format wide prefix (Some pointer) rest is =
-    let regrouped : (path_text format pointer.path ++ pointer.digest) ++ rest ≡ path_text format pointer.path ++ (pointer.digest ++ rest) = append_assoc (path_text format pointer.path) pointer.digest rest in
-    let first : field 1 pointer_tag_in (deferred_tag pointer.deferred ∷ (path_text format pointer.path ++ pointer.digest) ++ rest) ≡ Ok (Some pointer.deferred, (path_text format pointer.path ++ pointer.digest) ++ rest) =
-    field_again 1 pointer_tag_in (deferred_tag pointer.deferred ∷ []) ((path_text format pointer.path ++ pointer.digest) ++ rest) (Some pointer.deferred) refl (deferred_tag-in pointer.deferred) in
-    let second : path_below_at format prefix ((path_text format pointer.path ++ pointer.digest) ++ rest) ≡ Ok (pointer.path, pointer.digest ++ rest) =
-    ap (path_below_at format prefix) regrouped ∙ path_below_again format wide prefix pointer.path (pointer.digest ++ rest) is.1 is.0 in
-    ap (λ (r : Parsed (Option Bool)). r >>= λ tag. pointer_behind format prefix tag.0 tag.1) first
+pointer_again_under prefix None rest is = rw (field_again 1 pointer_tag_in (0 ∷ []) rest None refl refl) refl
+pointer_again_under prefix (Some pointer) rest is =
+    let regrouped : (path_text pointer.path ++ pointer.digest) ++ rest ≡ path_text pointer.path ++ (pointer.digest ++ rest) = append_assoc (path_text pointer.path) pointer.digest rest in
+    let first : field 1 pointer_tag_in (deferred_tag pointer.deferred ∷ (path_text pointer.path ++ pointer.digest) ++ rest) ≡ Ok (Some pointer.deferred, (path_text pointer.path ++ pointer.digest) ++ rest) =
+    field_again 1 pointer_tag_in (deferred_tag pointer.deferred ∷ []) ((path_text pointer.path ++ pointer.digest) ++ rest) (Some pointer.deferred) refl (deferred_tag-in pointer.deferred) in
+    let second : path_below_at prefix ((path_text pointer.path ++ pointer.digest) ++ rest) ≡ Ok (pointer.path, pointer.digest ++ rest) =
+    ap (path_below_at prefix) regrouped ∙ path_below_again prefix pointer.path (pointer.digest ++ rest) is.1 is.0 in
+    ap (λ (r : Parsed (Option Bool)). r >>= λ tag. pointer_behind prefix tag.0 tag.1) first
     ∙ (ap (λ (r : Parsed (List Bool)). r >>= λ path. run_at 32 path.1 >>= λ digest. Ok (Some (record { path = path.0; digest = digest.0; deferred = pointer.deferred }), digest.1)) second
     ∙ ap (λ (r : Parsed (List ℕ)). r >>= λ digest. Ok (Some (record { path = pointer.path; digest = digest.0; deferred = pointer.deferred }), digest.1)) (run_again 32 pointer.digest rest is.2))
 
-IsUnder-side : (format : Format) (node : List Bool) (side : Bool) (pointer : Option Pointer) → IsSide format node side pointer → IsUnder format (node ++ side ∷ []) pointer
-IsUnder-side format node side None kind = tt
-IsUnder-side format node side (Some pointer) kind = (kind.below, kind.fits, kind.digest)
+IsUnder-side : (node : List Bool) (side : Bool) (pointer : Option Pointer) → IsSide node side pointer → IsUnder (node ++ side ∷ []) pointer
+IsUnder-side node side None kind = tt
+IsUnder-side node side (Some pointer) kind = (kind.below, kind.fits, kind.digest)
 
 -- whatever its node, a pointer is under the path of no bits
-pub IsUnder-root : (format : Format) (node : List Bool) (side : Bool) (pointer : Option Pointer) → IsSide format node side pointer → IsUnder format [] pointer
-IsUnder-root format node side None kind = tt
-IsUnder-root format node side (Some pointer) kind = (refl, kind.fits, kind.digest)
+pub IsUnder-root : (node : List Bool) (side : Bool) (pointer : Option Pointer) → IsSide node side pointer → IsUnder [] pointer
+IsUnder-root node side None kind = tt
+IsUnder-root node side (Some pointer) kind = (refl, kind.fits, kind.digest)
 
-pub pointer_again : (format : Format) (wide : IsWide format.word (2 ^ path_bits format)) (node : List Bool) (side : Bool) (pointer : Option Pointer) (rest : List ℕ) → IsSide format node side pointer → pointer_at format (node ++ side ∷ []) (pointer_text format pointer ++ rest) ≡ Ok (pointer, rest)
-pointer_again format wide node side pointer rest kind =
-    pointer_again_under format wide (node ++ side ∷ []) pointer rest (IsUnder-side format node side pointer kind)
+pub pointer_again : (node : List Bool) (side : Bool) (pointer : Option Pointer) (rest : List ℕ) → IsSide node side pointer → pointer_at (node ++ side ∷ []) (pointer_text pointer ++ rest) ≡ Ok (pointer, rest)
+pointer_again node side pointer rest kind =
+    pointer_again_under (node ++ side ∷ []) pointer rest (IsUnder-side node side pointer kind)
 
-pub node_begins : (format : Format) (wide : IsWide format.word (2 ^ path_bits format)) (path : List Bool) (bytes : List ℕ) (node : Node) (rest : List ℕ) → AreBytes bytes → node_at format path bytes ≡ Ok (node, rest)
-    → Begins bytes (pointer_text format node.side0 ++ pointer_text format node.side1) rest × IsSide format path false node.side0 × IsSide format path true node.side1
+pub node_begins : (path : List Bool) (bytes : List ℕ) (node : Node) (rest : List ℕ) → AreBytes bytes → node_at path bytes ≡ Ok (node, rest)
+    → Begins bytes (pointer_text node.side0 ++ pointer_text node.side1) rest × IsSide path false node.side0 × IsSide path true node.side1
 unfolding node_at
-node_begins format wide path bytes node rest fits e =
-    let a = bind_ok (pointer_at format (path ++ false ∷ []) bytes) (λ side0. pointer_at format (path ++ true ∷ []) side0.1 >>= λ side1. Ok (record { side0 = side0.0; side1 = side1.0 }, side1.1)) (node, rest) e in
-    let b = bind_ok (pointer_at format (path ++ true ∷ []) a.0.1) (λ side1. Ok (record { side0 = a.0.0; side1 = side1.0 }, side1.1)) (node, rest) a.2 in
-    let first = pointer_begins format wide path false bytes a.0.0 a.0.1 fits a.1 in
-    let second = pointer_begins format wide path true a.0.1 b.0.0 b.0.1 first.0.rest_fits b.1 in
-    let both = Begins-then bytes (pointer_text format a.0.0) a.0.1 (pointer_text format b.0.0) b.0.1 first.0 second.0 in
+node_begins path bytes node rest fits e =
+    let a = bind_ok (pointer_at (path ++ false ∷ []) bytes) (λ side0. pointer_at (path ++ true ∷ []) side0.1 >>= λ side1. Ok (record { side0 = side0.0; side1 = side1.0 }, side1.1)) (node, rest) e in
+    let b = bind_ok (pointer_at (path ++ true ∷ []) a.0.1) (λ side1. Ok (record { side0 = a.0.0; side1 = side1.0 }, side1.1)) (node, rest) a.2 in
+    let first = pointer_begins path false bytes a.0.0 a.0.1 fits a.1 in
+    let second = pointer_begins path true a.0.1 b.0.0 b.0.1 first.0.rest_fits b.1 in
+    let both = Begins-then bytes (pointer_text a.0.0) a.0.1 (pointer_text b.0.0) b.0.1 first.0 second.0 in
     let made : Node = record { side0 = a.0.0; side1 = b.0.0 } in
-    subst (λ (x : Node × List ℕ). Begins bytes (pointer_text format x.0.side0 ++ pointer_text format x.0.side1) x.1 × IsSide format path false x.0.side0 × IsSide format path true x.0.side1) (Ok-is (made, b.0.1) (node, rest) b.2) (both, first.1, second.1)
+    subst (λ (x : Node × List ℕ). Begins bytes (pointer_text x.0.side0 ++ pointer_text x.0.side1) x.1 × IsSide path false x.0.side0 × IsSide path true x.0.side1) (Ok-is (made, b.0.1) (node, rest) b.2) (both, first.1, second.1)
 
-pub node_again : (format : Format) (wide : IsWide format.word (2 ^ path_bits format)) (path : List Bool) (node : Node) (rest : List ℕ) → IsSide format path false node.side0 → IsSide format path true node.side1 → node_at format path ((pointer_text format node.side0 ++ pointer_text format node.side1) ++ rest) ≡ Ok (node, rest)
+pub node_again : (path : List Bool) (node : Node) (rest : List ℕ) → IsSide path false node.side0 → IsSide path true node.side1 → node_at path ((pointer_text node.side0 ++ pointer_text node.side1) ++ rest) ≡ Ok (node, rest)
 unfolding node_at
-node_again format wide path node rest kind0 kind1 =
-    let first : pointer_at format (path ++ false ∷ []) ((pointer_text format node.side0 ++ pointer_text format node.side1) ++ rest) ≡ Ok (node.side0, pointer_text format node.side1 ++ rest) =
-    ap (pointer_at format (path ++ false ∷ [])) (append_assoc (pointer_text format node.side0) (pointer_text format node.side1) rest) ∙ pointer_again format wide path false node.side0 (pointer_text format node.side1 ++ rest) kind0 in
-    ap (λ (r : Parsed (Option Pointer)). r >>= λ side0. pointer_at format (path ++ true ∷ []) side0.1 >>= λ side1. Ok (record { side0 = side0.0; side1 = side1.0 }, side1.1)) first
-    ∙ ap (λ (r : Parsed (Option Pointer)). r >>= λ side1. Ok (record { side0 = node.side0; side1 = side1.0 }, side1.1)) (pointer_again format wide path true node.side1 rest kind1)
+node_again path node rest kind0 kind1 =
+    let first : pointer_at (path ++ false ∷ []) ((pointer_text node.side0 ++ pointer_text node.side1) ++ rest) ≡ Ok (node.side0, pointer_text node.side1 ++ rest) =
+    ap (pointer_at (path ++ false ∷ [])) (append_assoc (pointer_text node.side0) (pointer_text node.side1) rest) ∙ pointer_again path false node.side0 (pointer_text node.side1 ++ rest) kind0 in
+    ap (λ (r : Parsed (Option Pointer)). r >>= λ side0. pointer_at (path ++ true ∷ []) side0.1 >>= λ side1. Ok (record { side0 = side0.0; side1 = side1.0 }, side1.1)) first
+    ∙ ap (λ (r : Parsed (Option Pointer)). r >>= λ side1. Ok (record { side0 = node.side0; side1 = side1.0 }, side1.1)) (pointer_again path true node.side1 rest kind1)
 
 -- ---- the value of a path
 
-value_by_begins : (format : Format) (wide : IsWide format.word (2 ^ path_bits format)) (path : List Bool) (is_key : Bool) (bytes : List ℕ) (value : Value) (rest : List ℕ) → AreBytes bytes → length path ≤ path_bits format → eqb (length path) (path_bits format) ≡ is_key
-    → value_by format path is_key bytes ≡ Ok (value, rest) → Begins bytes (value_text format value) rest × IsOf format path value
-value_by_begins format wide path true bytes value rest fits short is e =
-    let a = bind_ok (blob_at format bytes) (λ blob. Ok (values.Blob blob.0, blob.1)) (value, rest) e in
-    let first = blob_begins format bytes a.0.0 a.0.1 fits a.1 in
+value_by_begins : (longest : ℕ) (path : List Bool) (is_key : Bool) (bytes : List ℕ) (value : Value) (rest : List ℕ) → AreBytes bytes → IsPath path → eqb (length path) key_bits ≡ is_key
+    → value_by longest path is_key bytes ≡ Ok (value, rest) → Begins bytes (value_text value) rest × IsOf longest path value
+value_by_begins longest path true bytes value rest fits short is e =
+    let a = bind_ok (blob_at longest bytes) (λ blob. Ok (values.Blob blob.0, blob.1)) (value, rest) e in
+    let first = blob_begins longest bytes a.0.0 a.0.1 fits a.1 in
     let made : Value = values.Blob a.0.0 in
-    subst (λ (x : Value × List ℕ). Begins bytes (value_text format x.0) x.1 × IsOf format path x.0) (Ok-is (made, a.0.1) (value, rest) a.2) (first.0, (eqb-true _ _ is, first.1))
-value_by_begins format wide path false bytes value rest fits short is e =
-    let a = bind_ok (node_at format path bytes) (λ node. Ok (values.Node node.0, node.1)) (value, rest) e in
-    let first = node_begins format wide path bytes a.0.0 a.0.1 fits a.1 in
+    subst (λ (x : Value × List ℕ). Begins bytes (value_text x.0) x.1 × IsOf longest path x.0) (Ok-is (made, a.0.1) (value, rest) a.2) (first.0, (eqb-true _ _ is, first.1))
+value_by_begins longest path false bytes value rest fits short is e =
+    let a = bind_ok (node_at path bytes) (λ node. Ok (values.Node node.0, node.1)) (value, rest) e in
+    let first = node_begins path bytes a.0.0 a.0.1 fits a.1 in
     let made : Value = values.Node a.0.0 in
-    let shorter : length path < path_bits format = omega (arith, eqb-false _ _ is) in
-    subst (λ (x : Value × List ℕ). Begins bytes (value_text format x.0) x.1 × IsOf format path x.0) (Ok-is (made, a.0.1) (value, rest) a.2) (first.0, (shorter, first.1, first.2))
+    let shorter : IsNodePath path = omega (arith, eqb-false _ _ is) in
+    subst (λ (x : Value × List ℕ). Begins bytes (value_text x.0) x.1 × IsOf longest path x.0) (Ok-is (made, a.0.1) (value, rest) a.2) (first.0, (shorter, first.1, first.2))
 
-pub value_begins : (format : Format) (wide : IsWide format.word (2 ^ path_bits format)) (path : List Bool) (bytes : List ℕ) (value : Value) (rest : List ℕ) → AreBytes bytes → length path ≤ path_bits format
-    → value_at format path bytes ≡ Ok (value, rest) → Begins bytes (value_text format value) rest × IsOf format path value
-value_begins format wide path bytes value rest fits short e =
-    value_by_begins format wide path (eqb (length path) (path_bits format)) bytes value rest fits short refl e
+pub value_begins : (longest : ℕ) (path : List Bool) (bytes : List ℕ) (value : Value) (rest : List ℕ) → AreBytes bytes → IsPath path
+    → value_at longest path bytes ≡ Ok (value, rest) → Begins bytes (value_text value) rest × IsOf longest path value
+value_begins longest path bytes value rest fits short e =
+    value_by_begins longest path (eqb (length path) key_bits) bytes value rest fits short refl e
 
-pub value_again : (format : Format) (wide : IsWide format.word (2 ^ path_bits format)) (path : List Bool) (value : Value) (rest : List ℕ) → IsOf format path value → value_at format path (value_text format value ++ rest) ≡ Ok (value, rest)
-value_again format wide path (values.Blob blob) rest kind =
-    ap (λ (b : Bool). value_by format path b (blob_text blob ++ rest)) (eq-eqb _ _ kind.0)
-    ∙ ap (λ (r : Parsed (Option (List ℕ))). r >>= λ blob. Ok (values.Blob blob.0, blob.1)) (blob_again format blob rest kind.1)
-value_again format wide path (values.Node node) rest kind =
-    ap (λ (b : Bool). value_by format path b ((pointer_text format node.side0 ++ pointer_text format node.side1) ++ rest)) (ne_eqb _ _ (λ same. absurd (omega (arith, kind.0, same))))
-    ∙ ap (λ (r : Parsed Node). r >>= λ node. Ok (values.Node node.0, node.1)) (node_again format wide path node rest kind.1 kind.2)
+pub value_again : (longest : ℕ) (path : List Bool) (value : Value) (rest : List ℕ) → IsOf longest path value → value_at longest path (value_text value ++ rest) ≡ Ok (value, rest)
+value_again longest path (values.Blob blob) rest kind =
+    ap (λ (b : Bool). value_by longest path b (blob_text blob ++ rest)) (eq-eqb _ _ kind.0)
+    ∙ ap (λ (r : Parsed (Option (List ℕ))). r >>= λ blob. Ok (values.Blob blob.0, blob.1)) (blob_again longest blob rest kind.1)
+value_again longest path (values.Node node) rest kind =
+    ap (λ (b : Bool). value_by longest path b ((pointer_text node.side0 ++ pointer_text node.side1) ++ rest)) (ne_eqb _ _ (λ same. absurd (omega (arith, kind.0, same))))
+    ∙ ap (λ (r : Parsed Node). r >>= λ node. Ok (values.Node node.0, node.1)) (node_again path node rest kind.1 kind.2)
 
 -- a path of some value is no longer than a data path
-pub path_of_value : (format : Format) (path : List Bool) (value : Value) → IsOf format path value → length path ≤ path_bits format
-path_of_value format path (values.Blob blob) kind = omega (arith, kind.0)
-path_of_value format path (values.Node node) kind = omega (arith, kind.0)
+pub path_of_value : (longest : ℕ) (path : List Bool) (value : Value) → IsOf longest path value → IsPath path
+path_of_value longest path (values.Blob blob) kind = omega (arith, kind.0)
+path_of_value longest path (values.Node node) kind = omega (arith, kind.0)
 
 -- what a path starts with is of its kind
-pub initial_value-kind : (format : Format) (path : List Bool) → length path ≤ path_bits format → IsOf format path (initial_value format path)
-initial_value-kind format path fits = go (eqb (length path) (path_bits format)) refl
+pub initial_value-kind : (longest : ℕ) (path : List Bool) → IsPath path → IsOf longest path (initial_value path)
+initial_value-kind longest path fits = go (eqb (length path) key_bits) refl
   where
-    go : (is_key : Bool) → eqb (length path) (path_bits format) ≡ is_key → IsOf format path (cond is_key (values.Blob None) (values.Node empty_node))
+    go : (is_key : Bool) → eqb (length path) key_bits ≡ is_key → IsOf longest path (cond is_key (values.Blob None) (values.Node empty_node))
     go true is = (eqb-true _ _ is, tt)
     go false is = (omega (arith, eqb-false _ _ is), tt, tt)

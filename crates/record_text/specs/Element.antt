@@ -1,8 +1,7 @@
 -- What is an element, and what is a stamp: numbers of their widths, and a value of the path's kind.
-use Rattle.std.specs.Prelude.{◌^◌, ◌<◌}
+use Rattle.std.specs.Prelude.{ℕ, ◌^◌, ◌<◌}
 use Rattle.lamport_clocks.specs.declared.stamp.Stamp.{Stamp}
 use Rattle.record_text.specs.declared.element.Element.{Element}
-use Rattle.record_text.specs.Format.{Format}
 use Rattle.record_text.specs.Value.{IsOf}
 
 -- an epoch and a counter of 32 bits
@@ -11,7 +10,7 @@ pub record IsStamp (stamp : Stamp) : Type 0 where
   pub counter : stamp.counter < 2 ^ 32
 
 -- the value is of the path's kind, and the verifier's number has 16 bits
-pub record IsElement (format : Format) (element : Element) : Type 0 where
-  pub kind : IsOf format element.path element.value
+pub record IsElement (longest : ℕ) (element : Element) : Type 0 where
+  pub kind : IsOf longest element.path element.value
   pub stamp : IsStamp element.stamp
   pub verifier : element.verifier < 2 ^ 16

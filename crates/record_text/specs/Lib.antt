@@ -1,5 +1,5 @@
 -- What the clauses on texts cite, in reading order.
-pub mod Format
+pub mod Longest
 pub mod Value
 pub mod Same
 pub mod Element

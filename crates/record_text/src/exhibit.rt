@@ -1,6 +1,5 @@
 //! What an audit has to show.
 ghost use Rattle.std.specs.Prelude.{◌≡◌, ◌≤◌, length};
-ghost use Rattle.record_text.specs.Format.{short_keys};
 ghost use Rattle.record_text.specs.Texts.{value_text};
 
 use crate::element::Element;
@@ -30,7 +29,7 @@ impl Model for ValueText {
 impl ValueText {
     /// The text of this value.
     pub fn of(value: &Value) -> Self
-        ensures text { result ≡ value_text short_keys value.now }
+        ensures text { result ≡ value_text value.now }
     {
         ValueText {
             bytes: value_text(value),

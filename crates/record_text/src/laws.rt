@@ -1,58 +1,59 @@
 //! What follows from the definitions of texts. These functions do nothing: their contracts are the laws.
 ghost use Rattle.std.specs.Prelude.{◌≡◌, ℕ, ◌≤◌, Bool, List, ◌∷◌, ◌++◌, length, Err};
+ghost use Rattle.tree_keys.specs.Path.{IsPath};
 ghost use Rattle.lamport_clocks.specs.declared.stamp.Stamp.{Stamp};
 ghost use Rattle.record_text.specs.declared.value.Value.{Value};
 ghost use Rattle.record_text.specs.declared.element.Element.{Element};
 ghost use Rattle.record_text.specs.declared.reader.TextFault.TheVariants.{Truncated};
-ghost use Rattle.record_text.specs.Format.{short_keys, path_bits};
 ghost use Rattle.record_text.specs.Value.{IsOf, initial_value};
 ghost use Rattle.record_text.specs.Element.{IsStamp, IsElement};
 ghost use Rattle.record_text.specs.Fields.{KeepsOn};
 ghost use Rattle.record_text.specs.Reading.{path_at, value_at, stamp_at, element_at};
 ghost use Rattle.record_text.specs.Texts.{path_text, value_text, stamp_text, element_text};
+ghost use Rattle.record_text.specs.Longest.{longest_blob};
 
 /// No text of a kind begins another of its kind: whatever follows two texts, they are one text of one thing
 /// where the bytes are the same. For values that holds among those of paths of one length.
 pub fn no_text_begins_another()
     ensures paths { (a b : List Bool) (x y : List ℕ)
-        → length a ≤ path_bits short_keys → length b ≤ path_bits short_keys
-        → path_text short_keys a ++ x ≡ path_text short_keys b ++ y → (a ≡ b) × (x ≡ y) }
+        → IsPath a → IsPath b
+        → path_text a ++ x ≡ path_text b ++ y → (a ≡ b) × (x ≡ y) }
     ensures values { (p q : List Bool) (a b : Value) (x y : List ℕ)
-        → length p ≡ length q → IsOf short_keys p a → IsOf short_keys q b
-        → value_text short_keys a ++ x ≡ value_text short_keys b ++ y → (a ≡ b) × (x ≡ y) }
+        → length p ≡ length q → IsOf longest_blob p a → IsOf longest_blob q b
+        → value_text a ++ x ≡ value_text b ++ y → (a ≡ b) × (x ≡ y) }
     ensures stamps { (a b : Stamp) (x y : List ℕ) → IsStamp a → IsStamp b
         → stamp_text a ++ x ≡ stamp_text b ++ y → (a ≡ b) × (x ≡ y) }
     ensures elements { (a b : Element) (x y : List ℕ)
-        → IsElement short_keys a → IsElement short_keys b
-        → element_text short_keys a ++ x ≡ element_text short_keys b ++ y → (a ≡ b) × (x ≡ y) }
+        → IsElement longest_blob a → IsElement longest_blob b
+        → element_text a ++ x ≡ element_text b ++ y → (a ≡ b) × (x ≡ y) }
 {}
 
 /// What a path starts with is of its kind.
 pub fn initial_values_are_of_their_paths()
-    ensures kind { (path : List Bool) → length path ≤ path_bits short_keys
-        → IsOf short_keys path (initial_value short_keys path) }
+    ensures kind { (path : List Bool) → IsPath path
+        → IsOf longest_blob path (initial_value path) }
 {}
 
 /// More bytes behind change neither what was read, nor that the bytes are malformed. What is left is no
 /// longer than what there was.
 pub fn readers_keep_on()
-    ensures paths { KeepsOn (path_at short_keys) }
-    ensures values { (path : List Bool) → KeepsOn (value_at short_keys path) }
+    ensures paths { KeepsOn path_at }
+    ensures values { (path : List Bool) → KeepsOn (value_at longest_blob path) }
     ensures stamps { KeepsOn stamp_at }
-    ensures elements { KeepsOn (element_at short_keys) }
+    ensures elements { KeepsOn (element_at longest_blob) }
 {}
 
 /// A text that is cut short is truncated, wherever it is cut.
 pub fn fronts_are_truncated()
     ensures paths { (path : List Bool) (front : List ℕ) (c : ℕ) (more : List ℕ)
-        → length path ≤ path_bits short_keys → path_text short_keys path ≡ front ++ c ∷ more
-        → path_at short_keys front ≡ Err Truncated }
+        → IsPath path → path_text path ≡ front ++ c ∷ more
+        → path_at front ≡ Err Truncated }
     ensures values { (path : List Bool) (value : Value) (front : List ℕ) (c : ℕ) (more : List ℕ)
-        → IsOf short_keys path value → value_text short_keys value ≡ front ++ c ∷ more
-        → value_at short_keys path front ≡ Err Truncated }
+        → IsOf longest_blob path value → value_text value ≡ front ++ c ∷ more
+        → value_at longest_blob path front ≡ Err Truncated }
     ensures stamps { (stamp : Stamp) (front : List ℕ) (c : ℕ) (more : List ℕ)
         → IsStamp stamp → stamp_text stamp ≡ front ++ c ∷ more → stamp_at front ≡ Err Truncated }
     ensures elements { (element : Element) (front : List ℕ) (c : ℕ) (more : List ℕ)
-        → IsElement short_keys element → element_text short_keys element ≡ front ++ c ∷ more
-        → element_at short_keys front ≡ Err Truncated }
+        → IsElement longest_blob element → element_text element ≡ front ++ c ∷ more
+        → element_at longest_blob front ≡ Err Truncated }
 {}

@@ -1,11 +1,11 @@
 //! A reader over bytes, field by field.
 ghost use Rattle.std.specs.Prelude.{◌≡◌, ℕ, ◌<◌, ◌≤◌, ◌∷◌, [], ◌++◌, length, Ok, Err, IfOk, IfErr, IfSome, IsTrue};
 ghost use Rattle.std.specs.Int.{w64, from_be_bytes};
-ghost use Rattle.record_text.specs.Format.{short_keys};
 ghost use Rattle.tree_keys.specs.Path.{is_prefix};
 ghost use Rattle.record_text.specs.Value.{IsBlob, IsSide, IsOf};
 ghost use Rattle.record_text.specs.Fields.{Takes, field};
 ghost use Rattle.record_text.specs.Reading.{run_at, byte_at, flag_in, count_in, path_at, path_below_at, blob_at, path_in, pointer_tag_in, pointer_at, node_at, value_at, u16_at, u32_at, stamp_at, element_at};
+ghost use Rattle.record_text.specs.Longest.{longest_blob};
 
 use crate::element::Element;
 use crate::value::{Blob, LONGEST_BLOB, Node, Pointer, Value};
@@ -93,7 +93,7 @@ impl<'a> Reader<'a> {
     /// A path: at most 64 bits, the unused bits 0.
     #[tactic(auto, unfolding(crate::specs::Reading::path_at))]
     pub fn path(&mut self) -> Result<Path, TextFault>
-        ensures takes { Takes result self.new (path_at short_keys self.old) }
+        ensures takes { Takes result self.new (path_at self.old) }
         ensures fits { IfOk result (λ path. length path ≤ KEY_BITS) }
     {
         let bytes = self.run(PATH_TEXT_LEN)?;
@@ -106,7 +106,7 @@ impl<'a> Reader<'a> {
     // A path that begins with this prefix.
     #[tactic(auto, unfolding(crate::specs::Reading::path_below_at))]
     fn path_below(&mut self, prefix: &Path) -> Result<Path, TextFault>
-        ensures takes { Takes result self.new (path_below_at short_keys prefix.now self.old) }
+        ensures takes { Takes result self.new (path_below_at prefix.now self.old) }
         ensures fits { IfOk result (λ path. length path ≤ KEY_BITS) }
         ensures below { IfOk result (λ path. IsTrue (is_prefix prefix.now path)) }
     {
@@ -124,8 +124,8 @@ impl<'a> Reader<'a> {
     // A data value: none, or its bytes, at most 64.
     #[tactic(auto, unfolding(crate::specs::Reading::blob_at))]
     fn blob(&mut self) -> Result<Blob, TextFault>
-        ensures takes { Takes result self.new (blob_at short_keys self.old) }
-        ensures kind { IfOk result (IsBlob short_keys) }
+        ensures takes { Takes result self.new (blob_at longest_blob self.old) }
+        ensures kind { IfOk result (IsBlob longest_blob) }
     {
         if !self.flag()? {
             return Ok(Blob::none());
@@ -140,8 +140,8 @@ impl<'a> Reader<'a> {
     fn pointer(&mut self, node: &Path, side: bool) -> Result<Option<Pointer>, TextFault>
         requires short { length node.now < 64 }
         ensures takes { Takes result self.new
-            (pointer_at short_keys (node.now ++ side ∷ []) self.old) }
-        ensures kind { IfOk result (IsSide short_keys node.now side) }
+            (pointer_at (node.now ++ side ∷ []) self.old) }
+        ensures kind { IfOk result (IsSide node.now side) }
     {
         let Some(deferred) = self.pointer_tag()? else {
             return Ok(None);
@@ -159,8 +159,8 @@ impl<'a> Reader<'a> {
     #[tactic(auto, unfolding(crate::specs::Reading::node_at))]
     fn node(&mut self, path: &Path) -> Result<Node, TextFault>
         requires short { length path.now < 64 }
-        ensures takes { Takes result self.new (node_at short_keys path.now self.old) }
-        ensures kind { IfOk result (λ node. IsOf short_keys path.now (Value.Node node)) }
+        ensures takes { Takes result self.new (node_at path.now self.old) }
+        ensures kind { IfOk result (λ node. IsOf longest_blob path.now (Value.Node node)) }
     {
         let side0 = self.pointer(path, false)?;
         let side1 = self.pointer(path, true)?;
@@ -169,8 +169,8 @@ impl<'a> Reader<'a> {
 
     /// The value of this path: a data value at a key, and a node at a shorter path.
     pub fn value(&mut self, path: &Path) -> Result<Value, TextFault>
-        ensures takes { Takes result self.new (value_at short_keys path.now self.old) }
-        ensures kind { IfOk result (IsOf short_keys path.now) }
+        ensures takes { Takes result self.new (value_at longest_blob path.now self.old) }
+        ensures kind { IfOk result (IsOf longest_blob path.now) }
     {
         if path.len() == KEY_BITS {
             let blob = self.blob()?;
@@ -184,8 +184,8 @@ impl<'a> Reader<'a> {
     /// An element: its path, its value, its stamp, and the verifier that evicted it.
     #[tactic(auto, unfolding(crate::specs::Reading::element_at))]
     pub fn element(&mut self) -> Result<Element, TextFault>
-        ensures takes { Takes result self.new (element_at short_keys self.old) }
-        ensures kind { IfOk result (λ element. IsOf short_keys element.path element.value) }
+        ensures takes { Takes result self.new (element_at longest_blob self.old) }
+        ensures kind { IfOk result (λ element. IsOf longest_blob element.path element.value) }
     {
         let path = self.path()?;
         let value = self.value(&path)?;
@@ -214,7 +214,7 @@ impl<'a> Reader<'a> {
     // The number of bytes of a data value.
     #[tactic(auto, unfolding(crate::specs::Reading::byte_at))]
     fn count(&mut self) -> Result<usize, TextFault>
-        ensures takes { Takes result self.new (field 1 (count_in short_keys) self.old) }
+        ensures takes { Takes result self.new (field 1 (count_in longest_blob) self.old) }
         ensures fits { IfOk result (λ count. count ≤ LONGEST_BLOB) }
     {
         let count = usize::from(self.byte()?);
@@ -265,7 +265,7 @@ impl<'a> Reader<'a> {
 // The path that nine bytes spell, if they spell one.
 fn path_in(bytes: &[u8]) -> Option<Path>
     requires whole { length bytes.now ≡ PATH_TEXT_LEN }
-    ensures value { result ≡ path_in short_keys bytes.now }
+    ensures value { result ≡ path_in bytes.now }
     ensures fits { IfSome result (λ path. length path ≤ KEY_BITS) }
 {
     Path::of_word(bytes[0], word_in(&bytes[1..]))

@@ -1,13 +1,14 @@
 //! Reads a path, a value or an element that bytes spell.
 ghost use Rattle.std.specs.Prelude.{◌≡◌, ℕ, ◌≤◌, Bool, List, ◌++◌, length, take, Ok, IfOk};
+ghost use Rattle.tree_keys.specs.Path.{IsPath};
 ghost use Rattle.record_text.specs.declared.value.Value.{Value};
 ghost use Rattle.record_text.specs.declared.element.Element.{Element};
-ghost use Rattle.record_text.specs.Format.{short_keys, path_bits};
 ghost use Rattle.record_text.specs.Value.{IsOf};
 ghost use Rattle.record_text.specs.Element.{IsElement};
 ghost use Rattle.record_text.specs.Fields.{counted};
 ghost use Rattle.record_text.specs.Reading.{path_at, value_at, element_at};
 ghost use Rattle.record_text.specs.Texts.{path_text, value_text, element_text};
+ghost use Rattle.record_text.specs.Longest.{longest_blob};
 
 use crate::element::Element;
 use crate::reader::{Reader, TextFault};
@@ -17,13 +18,13 @@ use tree_keys::Path;
 /// The path whose text these bytes begin with, and the length of its text. Others may follow it.
 pub fn read_path(bytes: &[u8]) -> Result<(Path, usize), TextFault>
     // Which path or fault it is.
-    ensures exact { result ≡ counted bytes.now (path_at short_keys bytes.now) }
+    ensures exact { result ≡ counted bytes.now (path_at bytes.now) }
     // What is read is spelled so.
-    ensures found { IfOk result (λ found. take found.1 bytes.now ≡ path_text short_keys found.0) }
+    ensures found { IfOk result (λ found. take found.1 bytes.now ≡ path_text found.0) }
     // What is spelled so is read, whatever follows.
-    ensures only { (path : List Bool) (rest : List ℕ) → length path ≤ path_bits short_keys
-        → bytes.now ≡ path_text short_keys path ++ rest
-        → result ≡ Ok (path, length (path_text short_keys path)) }
+    ensures only { (path : List Bool) (rest : List ℕ) → IsPath path
+        → bytes.now ≡ path_text path ++ rest
+        → result ≡ Ok (path, length (path_text path)) }
 {
     let mut reader = Reader::new(bytes);
     match reader.path() {
@@ -36,14 +37,14 @@ pub fn read_path(bytes: &[u8]) -> Result<(Path, usize), TextFault>
 /// at a key, and a node at a shorter path. Others may follow it.
 pub fn read_value(path: &Path, bytes: &[u8]) -> Result<(Value, usize), TextFault>
     // Which value or fault it is.
-    ensures exact { result ≡ counted bytes.now (value_at short_keys path.now bytes.now) }
+    ensures exact { result ≡ counted bytes.now (value_at longest_blob path.now bytes.now) }
     // What is read is spelled so, and of the path's kind.
-    ensures found { IfOk result (λ found. take found.1 bytes.now ≡ value_text short_keys found.0) }
-    ensures kind { IfOk result (λ found. IsOf short_keys path.now found.0) }
+    ensures found { IfOk result (λ found. take found.1 bytes.now ≡ value_text found.0) }
+    ensures kind { IfOk result (λ found. IsOf longest_blob path.now found.0) }
     // What is spelled so is read, whatever follows.
-    ensures only { (value : Value) (rest : List ℕ) → IsOf short_keys path.now value
-        → bytes.now ≡ value_text short_keys value ++ rest
-        → result ≡ Ok (value, length (value_text short_keys value)) }
+    ensures only { (value : Value) (rest : List ℕ) → IsOf longest_blob path.now value
+        → bytes.now ≡ value_text value ++ rest
+        → result ≡ Ok (value, length (value_text value)) }
 {
     let mut reader = Reader::new(bytes);
     match reader.value(path) {
@@ -55,14 +56,14 @@ pub fn read_value(path: &Path, bytes: &[u8]) -> Result<(Value, usize), TextFault
 /// The element whose text these bytes begin with, and the length of its text. Others may follow it.
 pub fn read_element(bytes: &[u8]) -> Result<(Element, usize), TextFault>
     // Which element or fault it is.
-    ensures exact { result ≡ counted bytes.now (element_at short_keys bytes.now) }
+    ensures exact { result ≡ counted bytes.now (element_at longest_blob bytes.now) }
     // What is read is spelled so, and its value is of its path's kind.
-    ensures found { IfOk result (λ found. take found.1 bytes.now ≡ element_text short_keys found.0) }
-    ensures kind { IfOk result (λ found. IsElement short_keys found.0) }
+    ensures found { IfOk result (λ found. take found.1 bytes.now ≡ element_text found.0) }
+    ensures kind { IfOk result (λ found. IsElement longest_blob found.0) }
     // What is spelled so is read, whatever follows.
-    ensures only { (element : Element) (rest : List ℕ) → IsElement short_keys element
-        → bytes.now ≡ element_text short_keys element ++ rest
-        → result ≡ Ok (element, length (element_text short_keys element)) }
+    ensures only { (element : Element) (rest : List ℕ) → IsElement longest_blob element
+        → bytes.now ≡ element_text element ++ rest
+        → result ≡ Ok (element, length (element_text element)) }
 {
     let mut reader = Reader::new(bytes);
     match reader.element() {

@@ -1,8 +1,8 @@
 //! Values: data at a key, two pointers at a node.
 ghost use Rattle.std.specs.Prelude.{◌≡◌, ◌≤◌, ◌<◌, ◌↔◌, length, Option, Some, None, IsTrue, IfSome, IsNone};
 ghost use Rattle.std.specs.Option.{option_map};
-ghost use Rattle.record_text.specs.Format.{short_keys};
 ghost use Rattle.record_text.specs.Value.{IsOf, node_side, with_side, empty_node, initial_value};
+ghost use Rattle.record_text.specs.Longest.{longest_blob};
 
 use arrayvec::ArrayVec;
 use std::marker::Model;
@@ -181,8 +181,8 @@ impl Node {
 
 /// What a path starts with: no data value at a key, and a node with nothing below it at a shorter path.
 pub fn initial(path: &Path) -> Value
-    ensures value { result ≡ initial_value short_keys path.now }
-    ensures kind { IsOf short_keys path.now result }
+    ensures value { result ≡ initial_value path.now }
+    ensures kind { IsOf longest_blob path.now result }
 {
     if path.len() == KEY_BITS {
         Value::Blob(Blob::none())

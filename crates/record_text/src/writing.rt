@@ -2,7 +2,6 @@
 ghost use Rattle.std.specs.Prelude.{◌≡◌, ◌+◌, ◌≤◌, [], ◌++◌, length, Option, Some, None};
 ghost use Rattle.std.specs.Int.{w16, w32, w64, to_be_bytes};
 ghost use Rattle.arrayvec.specs.ArrayVec.{array_vec_len};
-ghost use Rattle.record_text.specs.Format.{short_keys};
 ghost use Rattle.record_text.specs.Texts.{path_text, blob_text, deferred_tag, pointer_text, value_text, stamp_text, element_text};
 
 use crate::element::Element;
@@ -22,7 +21,7 @@ pub const LONGEST_ELEMENT_TEXT: usize = 103;
 
 /// The text of a value.
 pub fn value_text(value: &Value) -> ArrayVec<u8, LONGEST_VALUE_TEXT>
-    ensures text { result.items ≡ value_text short_keys value.now }
+    ensures text { result.items ≡ value_text value.now }
 {
     let mut text = ArrayVec::new();
     push_value(&mut text, value);
@@ -31,7 +30,7 @@ pub fn value_text(value: &Value) -> ArrayVec<u8, LONGEST_VALUE_TEXT>
 
 /// The text of an element.
 pub fn element_text(element: &Element) -> ArrayVec<u8, LONGEST_ELEMENT_TEXT>
-    ensures text { result.items ≡ element_text short_keys element.now }
+    ensures text { result.items ≡ element_text element.now }
 {
     let mut text = ArrayVec::new();
     push_path(&mut text, &element.path);
@@ -44,7 +43,7 @@ pub fn element_text(element: &Element) -> ArrayVec<u8, LONGEST_ELEMENT_TEXT>
 /// Appends the text of a path, of 9 bytes.
 pub fn push_path<const CAP: usize>(items: &mut ArrayVec<u8, CAP>, path: &Path)
     requires room { array_vec_len items.old + PATH_TEXT_LEN ≤ CAP }
-    ensures text { items.new.items ≡ items.old.items ++ path_text short_keys path.now }
+    ensures text { items.new.items ≡ items.old.items ++ path_text path.now }
     ensures len { array_vec_len items.new ≡ array_vec_len items.old + PATH_TEXT_LEN }
 {
     items.push(path.len());
@@ -54,7 +53,7 @@ pub fn push_path<const CAP: usize>(items: &mut ArrayVec<u8, CAP>, path: &Path)
 /// Appends the text of a value, of at most 84 bytes.
 pub fn push_value<const CAP: usize>(items: &mut ArrayVec<u8, CAP>, value: &Value)
     requires room { array_vec_len items.old + LONGEST_VALUE_TEXT ≤ CAP }
-    ensures text { items.new.items ≡ items.old.items ++ value_text short_keys value.now }
+    ensures text { items.new.items ≡ items.old.items ++ value_text value.now }
     ensures len { array_vec_len items.new ≤ array_vec_len items.old + LONGEST_VALUE_TEXT }
 {
     match value {
@@ -122,7 +121,7 @@ fn push_blob<const CAP: usize>(items: &mut ArrayVec<u8, CAP>, blob: &Blob)
 // Appends the text of a side's pointer, of at most 42 bytes.
 fn push_pointer<const CAP: usize>(items: &mut ArrayVec<u8, CAP>, pointer: &Option<Pointer>)
     requires room { array_vec_len items.old + 42 ≤ CAP }
-    ensures text { items.new.items ≡ items.old.items ++ pointer_text short_keys pointer.now }
+    ensures text { items.new.items ≡ items.old.items ++ pointer_text pointer.now }
     ensures len { array_vec_len items.new ≤ array_vec_len items.old + 42 }
 {
     match pointer {

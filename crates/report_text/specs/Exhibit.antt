@@ -3,7 +3,6 @@ use Rattle.std.specs.Prelude.{ℕ, List, ◌++◌, codes}
 use Rattle.std.specs.Fmt.{decimal}
 use Rattle.std.specs.List.{flat_map}
 use Rattle.hex.specs.Hex.{encode_lower}
-use Rattle.record_text.specs.Format.{short_keys}
 use Rattle.record_text.specs.Texts.{element_text}
 use Rattle.record_text.specs.declared.element.Element.{Element}
 use Rattle.record_text.specs.declared.exhibit.Exhibit.{Exhibit}
@@ -24,7 +23,7 @@ multisets_line epoch = codes "multisets " ++ decimal epoch ++ line_end
 
 -- a word, and the text of an element as lower-case digits
 abbrev pub element_line : List ℕ → Element → List ℕ
-element_line word element = word ++ encode_lower (element_text short_keys element) ++ line_end
+element_line word element = word ++ encode_lower (element_text element) ++ line_end
 
 -- an element that was added
 abbrev pub added_line : Element → List ℕ

@@ -8,7 +8,7 @@ use Rattle.lamport_clocks.specs.Header.{IsHeader}
 use Rattle.record_hash.specs.Functions.{DigestFunctions}
 use Rattle.record_text.specs.declared.exhibit.Exhibit.TheVariants.{Clean}
 use Rattle.record_text.specs.declared.request.Request.{Request}
-use Rattle.record_text.specs.Format.{short_keys, format_of}
+use Rattle.record_text.specs.Longest.{longest_of, longest_blob}
 use Rattle.log_codec.specs.Command.{IsCommand}
 use Rattle.log_codec.specs.Log.{read_log}
 use Rattle.merkle_records.specs.Merkle.{GivesDigests}
@@ -43,9 +43,9 @@ use Rattle.run_reports.proofs.TextLemmas.{read_texts, histories_read_back, none_
 
 module _ {C R : Type 0} (host : Host C R) where
   -- a verifier begins with nothing, or with the root
-  opening_good : (number : ℕ) → host.header.first < 2 ^ 32 → IsHeader host.header → IsGood short_keys (opening number host.header)
+  opening_good : (number : ℕ) → host.header.first < 2 ^ 32 → IsHeader host.header → IsGood longest_blob (opening number host.header)
   opening_good number first is = record {
-    kinds = cond_both (number == 0) (root_entry ∷ []) [] (AllByRecursion (IsKind short_keys))
+    kinds = cond_both (number == 0) (root_entry ∷ []) [] (AllByRecursion (IsKind longest_blob))
         (λ here. ((omega arith, tt, tt), tt)) (λ here. tt);
     narrow = opening_narrow number host.header first (omega (arith, is.end));
   }
@@ -53,9 +53,9 @@ module _ {C R : Type 0} (host : Host C R) where
   -- Logs that are accepted have texts, where their commands are typed and the stamps of what they add are in their ranges.
   logs_spelled : (number : ℕ) (workers : List Worker) (d : Worker) → GivesDigests host.functions.digest → host.header.first < 2 ^ 32 → IsHeader host.header
       → ((i : ℕ) → i < length workers → IsAccepted (machinery host (number + i)) (opening (number + i) host.header) (get_or workers i d).log)
-      → AreTyped short_keys (map (λ worker. worker.log) workers)
+      → AreTyped longest_blob (map (λ worker. worker.log) workers)
       → AllByRecursion IsStamped (added_among (all_events (histories_from (scheme host) host.header number (map (λ worker. worker.log) workers))))
-      → AllByRecursion (AllByRecursion (IsCommand short_keys)) (map (λ worker. worker.log) workers)
+      → AllByRecursion (AllByRecursion (IsCommand longest_blob)) (map (λ worker. worker.log) workers)
   logs_spelled number [] d digests first is accepted typed stamped = tt
   logs_spelled number (worker ∷ workers) d digests first is accepted typed stamped = (
     accepted_spelled (rules_under (scheme host) host.header number) digests (omega (arith, is.verifiers)) number 0 (opening number host.header) worker.log
@@ -126,7 +126,7 @@ module _ (keeps : KeepsPromise) (functions : DigestFunctions) (settings : Settin
     promise : IsPromised host world
     promise = keeps functions settings script events can enabled
 
-    spelled : AllByRecursion (AllByRecursion (IsCommand short_keys)) (logs_of world)
+    spelled : AllByRecursion (AllByRecursion (IsCommand longest_blob)) (logs_of world)
     spelled =
         logs_spelled host 0 world.workers (fresh host.header) can.digests first can.in_range.header
         (λ i within. subst (λ (n : ℕ). IsAccepted (machinery host n) (opening n host.header) (worker_at host world i).log) (omega arith) (promise.accepted i within).0)
@@ -138,7 +138,7 @@ module _ (keeps : KeepsPromise) (functions : DigestFunctions) (settings : Settin
     read : histories_at (scheme host) host.header texts ≡ histories host world
     read = histories_read_back (scheme host) host.header (logs_of world) refl spelled
 
-    refused : refused_among (scheme host) host.header 0 (map (read_log (format_of host.header)) texts) ≡ None
+    refused : refused_among (scheme host) host.header 0 (map (read_log (longest_of host.header)) texts) ≡ None
     refused =
         ap (refused_among (scheme host) host.header 0) (read_texts (logs_of world) spelled)
         ∙ none_among (scheme host) host.header 0 (logs_of world) []
@@ -146,8 +146,8 @@ module _ (keeps : KeepsPromise) (functions : DigestFunctions) (settings : Settin
 
     ends : end_due functions settings.header texts ≡ Done (certified_count (scheme host) host.header.first (histories host world))
     ends =
-        ap (λ (hs : List (List Event)). end_of (scheme host) host.header (map (read_log (format_of host.header)) texts) hs None) read
-        ∙ end_done (scheme host) host.header (map (read_log (format_of host.header)) texts) (histories host world) promise.certified refused
+        ap (λ (hs : List (List Event)). end_of (scheme host) host.header (map (read_log (longest_of host.header)) texts) hs None) read
+        ∙ end_done (scheme host) host.header (map (read_log (longest_of host.header)) texts) (histories host world) promise.certified refused
 
     clean : exhibit_at functions (Some settings.header) texts ≡ Clean
     clean = ap (certified_exhibit (scheme host) host.header.first) read ∙ promise.nothing_to_show
@@ -171,7 +171,7 @@ module _ (keeps : KeepsPromise) where
   pub reads : HoldsOfRuns (λ host world. histories_at (scheme host) host.header (texts_of (logs_of world)) ≡ histories host world)
   reads = read keeps
 
-  pub refuses_none : HoldsOfRuns (λ host world. refused_among (scheme host) host.header 0 (map (read_log (format_of host.header)) (texts_of (logs_of world))) ≡ None)
+  pub refuses_none : HoldsOfRuns (λ host world. refused_among (scheme host) host.header 0 (map (read_log (longest_of host.header)) (texts_of (logs_of world))) ≡ None)
   refuses_none = refused keeps
 
   pub comes_to_end : HoldsOfRuns (λ host world.

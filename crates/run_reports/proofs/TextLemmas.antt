@@ -1,5 +1,6 @@
 -- Logs whose commands have texts are read back, and none of them is refused.
 use Rattle.std.proofs.Common.{◌≡◌, ℕ, zero, suc, ◌+◌, ◌<◌, false, List, [], ◌∷◌, map, length, replicate, get_or, min, Option, None, refl, sym, ◌∙◌, ap, subst, nat_lt, if◌then◌else◌, arith}
+use Rattle.record_text.specs.Longest.{longest_of, longest_blob}
 use Rattle.base_words.specs.Traced.{traced}
 use Rattle.std.specs.List.{flat_map, AllByRecursion}
 use Rattle.std.specs.Option.{option_map, option_or}
@@ -7,8 +8,6 @@ use Rattle.std.proofs.lemmas.Bool.Decides.{nat_tests}
 use Rattle.lamport_clocks.specs.declared.header.Header.{Header}
 use Rattle.record_hash.specs.Functions.{DigestFunctions}
 use Rattle.record_text.specs.declared.refusal.Refusal.{Refusal}
-use Rattle.record_text.specs.Format.{short_keys, format_of}
-use Rattle.record_text.proofs.FieldLaws.{wide64}
 use Rattle.log_codec.specs.declared.command.Command.{Command}
 use Rattle.log_codec.specs.Command.{IsCommand}
 use Rattle.log_codec.specs.Log.{Log, whole, read_log}
@@ -29,11 +28,11 @@ abbrev pub whole_log : List Command → Log
 whole_log commands = record { commands = commands; end = whole }
 
 -- What is written is read back.
-pub read_texts : (logs : List (List Command)) → AllByRecursion (AllByRecursion (IsCommand short_keys)) logs
-    → map (read_log short_keys) (texts_of logs) ≡ map whole_log logs
+pub read_texts : (logs : List (List Command)) → AllByRecursion (AllByRecursion (IsCommand longest_blob)) logs
+    → map (read_log longest_blob) (texts_of logs) ≡ map whole_log logs
 read_texts [] spelled = refl
 read_texts (log ∷ logs) spelled =
-    ap (λ (l : Log). l ∷ map (read_log short_keys) (texts_of logs)) (read_log-text short_keys wide64 log spelled.0)
+    ap (λ (l : Log). l ∷ map (read_log longest_blob) (texts_of logs)) (read_log-text longest_blob log spelled.0)
     ∙ ap (λ (ls : List Log). whole_log log ∷ ls) (read_texts logs spelled.1)
 
 commands_of_whole : (logs : List (List Command)) → map (λ (log : Log). log.commands) (map whole_log logs) ≡ logs
@@ -41,11 +40,11 @@ commands_of_whole [] = refl
 commands_of_whole (log ∷ logs) = ap (λ (ls : List (List Command)). log ∷ ls) (commands_of_whole logs)
 
 -- So the histories of the bytes are those of the commands.
-pub histories_read_back : (scheme : Scheme) (header : Header) (logs : List (List Command)) → scheme.format ≡ short_keys
-    → AllByRecursion (AllByRecursion (IsCommand short_keys)) logs
+pub histories_read_back : (scheme : Scheme) (header : Header) (logs : List (List Command)) → scheme.longest ≡ longest_blob
+    → AllByRecursion (AllByRecursion (IsCommand longest_blob)) logs
     → histories_at scheme header (texts_of logs) ≡ histories_from scheme header 0 logs
 histories_read_back scheme header logs short spelled =
-    ap (λ format. histories_in scheme header (map (read_log format) (texts_of logs))) short
+    ap (λ longest. histories_in scheme header (map (read_log longest) (texts_of logs))) short
     ∙ ap (histories_in scheme header) (read_texts logs spelled)
     ∙ ap (histories_from scheme header 0) (commands_of_whole logs)
 
@@ -80,10 +79,10 @@ end_done scheme header logs hs certified none =
 -- ---- logs of no bytes
 
 -- nothing is read of them
-empty_texts : (n : ℕ) → map (read_log short_keys) (replicate n []) ≡ map whole_log (replicate n [])
+empty_texts : (n : ℕ) → map (read_log longest_blob) (replicate n []) ≡ map whole_log (replicate n [])
 empty_texts zero = refl
 empty_texts (suc n) =
-    ap (λ (l : Log). l ∷ map (read_log short_keys) (replicate n [])) (read_log-empty short_keys)
+    ap (λ (l : Log). l ∷ map (read_log longest_blob) (replicate n [])) (read_log-empty longest_blob)
     ∙ ap (λ (ls : List Log). whole_log [] ∷ ls) (empty_texts n)
 
 -- logs with no commands have no bytes
@@ -121,7 +120,7 @@ module _ (functions : DigestFunctions) (header : Header) (n : ℕ) where
   -- A check of them comes to the end, with no epoch.
   pub empty_end : end_due functions header (replicate n []) ≡ Done 0
   empty_end =
-      end_done scheme header (map (read_log (format_of header)) (replicate n [])) hs (certifies_none ∙ sym seals_none)
+      end_done scheme header (map (read_log (longest_of header)) (replicate n [])) hs (certifies_none ∙ sym seals_none)
       (ap (refused_among scheme header 0) (empty_texts n) ∙ none_refused scheme header 0 n)
       ∙ ap (λ (certified : ℕ). Done certified) certifies_none
 

@@ -11,7 +11,6 @@ use Rattle.record_text.specs.declared.value.Value.{Value}
 use Rattle.record_text.specs.declared.value.Value.TheVariants as values
 use Rattle.record_text.specs.declared.refusal.Refusal.{Refusal}
 use Rattle.record_text.specs.declared.refusal.Refusal.TheVariants as refusals
-use Rattle.record_text.specs.Format.{Format}
 use Rattle.record_text.specs.Value.{node_side, with_side, empty_node, initial_value}
 use Rattle.record_text.specs.Texts.{value_text}
 use Rattle.merkle_records.specs.declared.cases.AddCase.{AddCase}
@@ -47,59 +46,59 @@ test_passed false refusal next x is = (refl, is)
 -- ---- what an add tells
 
 -- The parent's pointer of the child's side leads nowhere, to the child, or below it; and what the two become.
-pub data IsAdd (format : Format) (digest : Digest) (parent : Entry) (path : List Bool) (value : Value) (on : Bool) (at : Node) (family : Family) : Type 0 where
-  on_empty : node_side at on ≡ None → value ≡ initial_value format path
-      → family ≡ family_of parent (record { on = on; node = at }) (record { node = pointing format digest at on path value; value = value }) path None
-      → IsAdd format digest parent path value on at family
+pub data IsAdd (digest : Digest) (parent : Entry) (path : List Bool) (value : Value) (on : Bool) (at : Node) (family : Family) : Type 0 where
+  on_empty : node_side at on ≡ None → value ≡ initial_value path
+      → family ≡ family_of parent (record { on = on; node = at }) (record { node = pointing digest at on path value; value = value }) path None
+      → IsAdd digest parent path value on at family
   on_same : (pointer : Pointer) → node_side at on ≡ Some pointer → pointer.path ≡ path → pointer.deferred ≡ false
-      → pointer.digest ≡ digest (value_text format value) → kid_of parent on ≡ false
+      → pointer.digest ≡ digest (value_text value) → kid_of parent on ≡ false
       → family ≡ family_of parent (record { on = on; node = at }) (record { node = at; value = value }) path None
-      → IsAdd format digest parent path value on at family
-  on_split : (pointer : Pointer) → node_side at on ≡ Some pointer → (which : Bool) → side path pointer.path ≡ Some which → value ≡ initial_value format path
+      → IsAdd digest parent path value on at family
+  on_split : (pointer : Pointer) → node_side at on ≡ Some pointer → (which : Bool) → side path pointer.path ≡ Some which → value ≡ initial_value path
       → family ≡ family_of parent (record { on = on; node = at })
-      (record { node = pointing format digest at on path (initial_value format path); value = values.Node (with_side empty_node which (Some pointer)) }) path (Some which)
-      → IsAdd format digest parent path value on at family
+      (record { node = pointing digest at on path (initial_value path); value = values.Node (with_side empty_node which (Some pointer)) }) path (Some which)
+      → IsAdd digest parent path value on at family
 
 -- the parent is a node, and the child lies below it on a side
-pub record IsAdded (format : Format) (digest : Digest) (parent : Entry) (path : List Bool) (value : Value) (family : Family) : Type 0 where
+pub record IsAdded (digest : Digest) (parent : Entry) (path : List Bool) (value : Value) (family : Family) : Type 0 where
   pub on : Bool
   pub at : Node
   pub below : side parent.path path ≡ Some on
   pub is_node : node_of parent.value ≡ Some at
-  pub how : IsAdd format digest parent path value on at family
+  pub how : IsAdd digest parent path value on at family
 
-pub added_how : (format : Format) (digest : Digest) (parent : Entry) (path : List Bool) (value : Value) (family : Family)
-    → add_under format digest parent path value ≡ Ok family → IsAdded format digest parent path value family
-added_how format digest parent path value family is = by_side (side parent.path path) refl is
+pub added_how : (digest : Digest) (parent : Entry) (path : List Bool) (value : Value) (family : Family)
+    → add_under digest parent path value ≡ Ok family → IsAdded digest parent path value family
+added_how digest parent path value family is = by_side (side parent.path path) refl is
   where
-    initial : (next : Result Family Refusal) → test (not (same_value value (initial_value format path))) refusals.NotInitial next ≡ Ok family
-        → (value ≡ initial_value format path) × (next ≡ Ok family)
-    initial next is = go (same_value value (initial_value format path)) refl is
+    initial : (next : Result Family Refusal) → test (not (same_value value (initial_value path))) refusals.NotInitial next ≡ Ok family
+        → (value ≡ initial_value path) × (next ≡ Ok family)
+    initial next is = go (same_value value (initial_value path)) refl is
       where
-        go : (b : Bool) → same_value value (initial_value format path) ≡ b → test (not b) refusals.NotInitial next ≡ Ok family → (value ≡ initial_value format path) × (next ≡ Ok family)
-        go true same is = (same_value-true value (initial_value format path) same, is)
+        go : (b : Bool) → same_value value (initial_value path) ≡ b → test (not b) refusals.NotInitial next ≡ Ok family → (value ≡ initial_value path) × (next ≡ Ok family)
+        go true same is = (same_value-true value (initial_value path) same, is)
         go false same is = absurd (err_ok refusals.NotInitial family is)
 
     empty : (on : Bool) (at : Node) (pointer : Option Pointer) → node_side at on ≡ pointer → pointer ≡ None
-        → test (not (same_value value (initial_value format path))) refusals.NotInitial
-        (Ok (family_of parent (record { on = on; node = at }) (added_by format digest at on path value pointer cases.Empty) path None)) ≡ Ok family
-        → IsAdd format digest parent path value on at family
+        → test (not (same_value value (initial_value path))) refusals.NotInitial
+        (Ok (family_of parent (record { on = on; node = at }) (added_by digest at on path value pointer cases.Empty) path None)) ≡ Ok family
+        → IsAdd digest parent path value on at family
     empty on at pointer there none is =
-        let told = initial (Ok (family_of parent (record { on = on; node = at }) (added_by format digest at on path value pointer cases.Empty) path None)) is in
+        let told = initial (Ok (family_of parent (record { on = on; node = at }) (added_by digest at on path value pointer cases.Empty) path None)) is in
         on_empty (there ∙ none) told.0 (sym (same_Ok _ family told.1))
 
     same : (on : Bool) (at : Node) (pointer : Pointer) → node_side at on ≡ Some pointer → same_path pointer.path path ≡ true
         → test pointer.deferred refusals.Deferred
-        (test (not (same_bytes pointer.digest (digest (value_text format value)))) refusals.WrongDigest
+        (test (not (same_bytes pointer.digest (digest (value_text value)))) refusals.WrongDigest
         (test (kid_of parent on) refusals.HasChild
         (Ok (family_of parent (record { on = on; node = at }) (record { node = at; value = value }) path None)))) ≡ Ok family
-        → IsAdd format digest parent path value on at family
+        → IsAdd digest parent path value on at family
     same on at pointer there is_path is =
         let first = test_passed pointer.deferred refusals.Deferred _ family is in
-        let second = test_passed (not (same_bytes pointer.digest (digest (value_text format value)))) refusals.WrongDigest _ family first.1 in
+        let second = test_passed (not (same_bytes pointer.digest (digest (value_text value)))) refusals.WrongDigest _ family first.1 in
         let third = test_passed (kid_of parent on) refusals.HasChild _ family second.1 in
         on_same pointer there (same_path-true pointer.path path is_path) first.0
-        (same_bytes-true pointer.digest (digest (value_text format value)) (passed (same_bytes pointer.digest (digest (value_text format value))) second.0))
+        (same_bytes-true pointer.digest (digest (value_text value)) (passed (same_bytes pointer.digest (digest (value_text value))) second.0))
         third.0 (sym (same_Ok _ family third.1))
       where
         passed : (b : Bool) → not b ≡ false → b ≡ true
@@ -107,71 +106,71 @@ added_how format digest parent path value family is = by_side (side parent.path 
         passed false h = absurd (true≢false h)
 
     split : (on : Bool) (at : Node) (pointer : Pointer) → node_side at on ≡ Some pointer → (s : Option Bool) → side path pointer.path ≡ s
-        → add_by format digest parent (record { on = on; node = at }) path value (if is_some s then cases.Split else cases.Foreign) ≡ Ok family
+        → add_by digest parent (record { on = on; node = at }) path value (if is_some s then cases.Split else cases.Foreign) ≡ Ok family
         → case_of (node_side at on) path ≡ (if is_some s then cases.Split else cases.Foreign)
-        → IsAdd format digest parent path value on at family
+        → IsAdd digest parent path value on at family
     split on at pointer there None below is by = absurd (err_ok refusals.Foreign family is)
     split on at pointer there (Some which) below is by =
         let told = initial _ is in
         on_split pointer there which below told.0 (sym (same_Ok _ family told.1) ∙ family_is)
       where
-        family_is : family_of parent (record { on = on; node = at }) (after_add format digest at on path value) path (leads_below path (node_side at on))
+        family_is : family_of parent (record { on = on; node = at }) (after_add digest at on path value) path (leads_below path (node_side at on))
             ≡ family_of parent (record { on = on; node = at })
-            (record { node = pointing format digest at on path (initial_value format path); value = values.Node (with_side empty_node which (Some pointer)) }) path (Some which)
+            (record { node = pointing digest at on path (initial_value path); value = values.Node (with_side empty_node which (Some pointer)) }) path (Some which)
         family_is =
-            ap (λ (c : AddCase). family_of parent (record { on = on; node = at }) (added_by format digest at on path value (node_side at on) c) path (leads_below path (node_side at on))) by
-            ∙ ap (λ (o : Option Pointer). family_of parent (record { on = on; node = at }) (added_by format digest at on path value o cases.Split) path (leads_below path o)) there
+            ap (λ (c : AddCase). family_of parent (record { on = on; node = at }) (added_by digest at on path value (node_side at on) c) path (leads_below path (node_side at on))) by
+            ∙ ap (λ (o : Option Pointer). family_of parent (record { on = on; node = at }) (added_by digest at on path value o cases.Split) path (leads_below path o)) there
             ∙ ap (λ (s : Option Bool). family_of parent (record { on = on; node = at })
-            (record { node = pointing format digest at on path (initial_value format path); value = values.Node (taken_over s pointer) }) path s) below
+            (record { node = pointing digest at on path (initial_value path); value = values.Node (taken_over s pointer) }) path s) below
 
     by_pointer : (on : Bool) (at : Node) (pointer : Option Pointer) → node_side at on ≡ pointer
-        → add_by format digest parent (record { on = on; node = at }) path value (case_of (node_side at on) path) ≡ Ok family
-        → IsAdd format digest parent path value on at family
+        → add_by digest parent (record { on = on; node = at }) path value (case_of (node_side at on) path) ≡ Ok family
+        → IsAdd digest parent path value on at family
     by_pointer on at None there is =
         empty on at None there refl
-        (subst (λ (a : Added). test (not (same_value value (initial_value format path))) refusals.NotInitial
+        (subst (λ (a : Added). test (not (same_value value (initial_value path))) refusals.NotInitial
         (Ok (family_of parent (record { on = on; node = at }) a path None)) ≡ Ok family) (as_added None there)
-        (subst (λ (c : AddCase). add_by format digest parent (record { on = on; node = at }) path value c ≡ Ok family) (ap (λ (o : Option Pointer). case_of o path) there) is))
+        (subst (λ (c : AddCase). add_by digest parent (record { on = on; node = at }) path value c ≡ Ok family) (ap (λ (o : Option Pointer). case_of o path) there) is))
       where
-        as_added : (o : Option Pointer) → node_side at on ≡ o → after_add format digest at on path value ≡ added_by format digest at on path value o (case_of o path)
-        as_added o there = ap (λ (q : Option Pointer). added_by format digest at on path value q (case_of q path)) there
+        as_added : (o : Option Pointer) → node_side at on ≡ o → after_add digest at on path value ≡ added_by digest at on path value o (case_of o path)
+        as_added o there = ap (λ (q : Option Pointer). added_by digest at on path value q (case_of q path)) there
     by_pointer on at (Some pointer) there is = by_same (same_path pointer.path path) refl
       where
-        by_same : (b : Bool) → same_path pointer.path path ≡ b → IsAdd format digest parent path value on at family
+        by_same : (b : Bool) → same_path pointer.path path ≡ b → IsAdd digest parent path value on at family
         by_same true is_path =
             same on at pointer there is_path
             (subst (λ (a : Added). test pointer.deferred refusals.Deferred
-            (test (not (same_bytes pointer.digest (digest (value_text format value)))) refusals.WrongDigest
+            (test (not (same_bytes pointer.digest (digest (value_text value)))) refusals.WrongDigest
             (test (kid_of parent on) refusals.HasChild
             (Ok (family_of parent (record { on = on; node = at }) a path None)))) ≡ Ok family) added
             (subst (λ (o : Option Pointer). test (is_deferred o) refusals.Deferred
-            (test (not (has_digest o (digest (value_text format value)))) refusals.WrongDigest
+            (test (not (has_digest o (digest (value_text value)))) refusals.WrongDigest
             (test (kid_of parent on) refusals.HasChild
-            (Ok (family_of parent (record { on = on; node = at }) (after_add format digest at on path value) path None)))) ≡ Ok family) there
-            (subst (λ (c : AddCase). add_by format digest parent (record { on = on; node = at }) path value c ≡ Ok family) case_same is)))
+            (Ok (family_of parent (record { on = on; node = at }) (after_add digest at on path value) path None)))) ≡ Ok family) there
+            (subst (λ (c : AddCase). add_by digest parent (record { on = on; node = at }) path value c ≡ Ok family) case_same is)))
           where
             case_same : case_of (node_side at on) path ≡ cases.Same
             case_same = ap (λ (o : Option Pointer). case_of o path) there ∙ ap (λ (b : Bool). if b then cases.Same else if is_some (side path pointer.path) then cases.Split else cases.Foreign) is_path
 
-            added : after_add format digest at on path value ≡ record { node = at; value = value }
-            added = ap (λ (c : AddCase). added_by format digest at on path value (node_side at on) c) case_same
+            added : after_add digest at on path value ≡ record { node = at; value = value }
+            added = ap (λ (c : AddCase). added_by digest at on path value (node_side at on) c) case_same
         by_same false apart =
             split on at pointer there (side path pointer.path) refl
-            (subst (λ (c : AddCase). add_by format digest parent (record { on = on; node = at }) path value c ≡ Ok family) case_split is) case_split
+            (subst (λ (c : AddCase). add_by digest parent (record { on = on; node = at }) path value c ≡ Ok family) case_split is) case_split
           where
             case_split : case_of (node_side at on) path ≡ (if is_some (side path pointer.path) then cases.Split else cases.Foreign)
             case_split = ap (λ (o : Option Pointer). case_of o path) there ∙ ap (λ (b : Bool). if b then cases.Same else if is_some (side path pointer.path) then cases.Split else cases.Foreign) apart
 
     by_node : (on : Bool) → side parent.path path ≡ Some on → (o : Option Node) → node_of parent.value ≡ o
-        → need (above_on (Some on) o) refusals.NotBelow (λ above. add_by format digest parent above path value (case_of (node_side above.node above.on) path)) ≡ Ok family
-        → IsAdded format digest parent path value family
+        → need (above_on (Some on) o) refusals.NotBelow (λ above. add_by digest parent above path value (case_of (node_side above.node above.on) path)) ≡ Ok family
+        → IsAdded digest parent path value family
     by_node on below None there is = absurd (err_ok refusals.NotBelow family is)
     by_node on below (Some at) there is =
         record { on = on; at = at; below = below; is_node = there; how = by_pointer on at (node_side at on) refl is }
 
     by_side : (s : Option Bool) → side parent.path path ≡ s
-        → need (above_on s (node_of parent.value)) refusals.NotBelow (λ above. add_by format digest parent above path value (case_of (node_side above.node above.on) path)) ≡ Ok family
-        → IsAdded format digest parent path value family
+        → need (above_on s (node_of parent.value)) refusals.NotBelow (λ above. add_by digest parent above path value (case_of (node_side above.node above.on) path)) ≡ Ok family
+        → IsAdded digest parent path value family
     by_side None below is = absurd (err_ok refusals.NotBelow family is)
     by_side (Some on) below is = by_node on below (node_of parent.value) refl is
 
@@ -241,15 +240,15 @@ left_how parent child after changed then_do ends is = by_side (side parent.path 
     by_side (Some on) below is = by_node on below (node_of parent.value) refl is
 
 -- an evict gives the pointer the digest of the value that goes out
-abbrev pub evicted_into : Format → Digest → Entry → Node → Bool → Pointer → Node
-evicted_into format digest child at on pointer = pointing format digest at on child.path child.value
+abbrev pub evicted_into : Digest → Entry → Node → Bool → Pointer → Node
+evicted_into digest child at on pointer = pointing digest at on child.path child.value
 
-pub evicted_how : (format : Format) (digest : Digest) (parent child after : Entry) → evict_under format digest parent child ≡ Ok after
-    → IsLeft parent child after (evicted_into format digest child)
-evicted_how format digest parent child after is =
-    left_how parent child after (evicted_into format digest child)
+pub evicted_how : (digest : Digest) (parent child after : Entry) → evict_under digest parent child ≡ Ok after
+    → IsLeft parent child after (evicted_into digest child)
+evicted_how digest parent child after is =
+    left_how parent child after (evicted_into digest child)
     (λ on at. test (holds_wrong child.hold (kid_of parent on) (is_deferred (node_side at on))) refusals.WrongHold
-    (Ok (left_by parent (record { on = on; node = at }) (after_evict format digest at on child.path child.value))))
+    (Ok (left_by parent (record { on = on; node = at }) (after_evict digest at on child.path child.value))))
     (λ on at pointer there passed. sym (same_Ok _ after (test_passed (holds_wrong child.hold (kid_of parent on) (is_deferred (node_side at on))) refusals.WrongHold _ after passed).1))
     is
 

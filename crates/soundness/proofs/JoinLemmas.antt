@@ -2,13 +2,12 @@
 use Rattle.std.proofs.Common.{◌≡◌, ◌≢◌, ◌⊎◌, ℕ, Bool, true, false, List, length, Option, Some, None, refl, sym, ◌∙◌, ap, subst, inl, inr, if◌then◌else◌, ◌==◌, arith}
 use Rattle.std.proofs.lemmas.Bool.{false≢true, true≢false}
 use Rattle.std.proofs.lemmas.Option.{none-some, same_Some}
-use Rattle.tree_keys.specs.Path.{side}
+use Rattle.tree_keys.specs.Path.{side, is_data}
 use Rattle.record_text.specs.declared.value.Pointer.{Pointer}
 use Rattle.record_text.specs.declared.value.Node.{Node}
 use Rattle.record_text.specs.declared.value.Value.{Value}
 use Rattle.record_text.specs.declared.value.Value.TheVariants as values
 use Rattle.record_text.specs.declared.element.Element.{Element}
-use Rattle.record_text.specs.Format.{Format, path_bits}
 use Rattle.record_text.specs.Value.{IsOf, IsPointer, node_side, with_side, empty_node, initial_value}
 use Rattle.record_text.specs.Texts.{value_text}
 use Rattle.merkle_records.specs.Merkle.{Digest, GivesDigests, pointer_to, pointing}
@@ -57,15 +56,15 @@ node_is (values.Node held) at is = ap values.Node (same_Some held at is)
 pub node_blob : (value : Value) (at : Node) → node_of value ≡ Some at → blob_of value ≡ None
 node_blob value at is = ap blob_of (node_is value at is)
 
-initial_blob : (format : Format) (path : List Bool) → blob_of (initial_value format path) ≡ None
-initial_blob format path = go (length path == path_bits format)
+initial_blob : (path : List Bool) → blob_of (initial_value path) ≡ None
+initial_blob path = go (is_data path)
   where
     go : (b : Bool) → blob_of (if b then values.Blob None else values.Node empty_node) ≡ None
     go true = refl
     go false = refl
 
-initial_bare : (format : Format) (path : List Bool) (which : Bool) → side_of (node_of (initial_value format path)) which ≡ None
-initial_bare format path which = go (length path == path_bits format) which
+initial_bare : (path : List Bool) (which : Bool) → side_of (node_of (initial_value path)) which ≡ None
+initial_bare path which = go (is_data path) which
   where
     go : (b : Bool) (which : Bool) → side_of (node_of (if b then values.Blob None else values.Node empty_node)) which ≡ None
     go true which = refl
@@ -73,12 +72,12 @@ initial_bare format path which = go (length path == path_bits format) which
     go false false = refl
 
 -- what is kept by a digest
-pub kept_value : (format : Format) (digest : Digest) (kept : List ℕ) (spot : Spot) → IsKeptBy format digest kept spot
-    → (value : Value) × (spot ≡ merkle value) × (kept ≡ digest (value_text format value))
-kept_value format digest kept untouched is = absurd is
-kept_value format digest kept (cached verifier entry) is = absurd is
-kept_value format digest kept (merkle value) is = (value, refl, is)
-kept_value format digest kept (waiting element) is = absurd is
+pub kept_value : (digest : Digest) (kept : List ℕ) (spot : Spot) → IsKeptBy digest kept spot
+    → (value : Value) × (spot ≡ merkle value) × (kept ≡ digest (value_text value))
+kept_value digest kept untouched is = absurd is
+kept_value digest kept (cached verifier entry) is = absurd is
+kept_value digest kept (merkle value) is = (value, refl, is)
+kept_value digest kept (waiting element) is = absurd is
 
 -- ---- what was last evicted, where a parent and a child that isn't kept by its digest change
 
@@ -106,9 +105,9 @@ abbrev pub KeepsElsewhere : List Bool → Spots → Spots → Type 0
 KeepsElsewhere k old new = (path : List Bool) (element : Element) → k ≢ path → old path ≡ waiting element → new path ≡ waiting element
 
 -- the world behind a step, where what waited at the old spots waits on, and nothing else waits
-abbrev pub WorldAfter : Format → Digest → AllShown → LastEvicted → Stored → Spots → Type 0
-WorldAfter format digest shown last stored old =
-    (spots : Spots) × IsWorld format digest shown last stored spots × KeepsWaiting old spots × KeepsWaiting spots old
+abbrev pub WorldAfter : ℕ → Digest → AllShown → LastEvicted → Stored → Spots → Type 0
+WorldAfter longest digest shown last stored old =
+    (spots : Spots) × IsWorld longest digest shown last stored spots × KeepsWaiting old spots × KeepsWaiting spots old
 
 abbrev pub is_waiting : Spot → Bool
 is_waiting untouched = false
@@ -150,22 +149,22 @@ none_since old new k spot at never elsewhere path element waits = go (this_or_ot
     go (inr away) = elsewhere path element away waits
 
 -- What all joins have in common.
-pub join_world : (format : Format) (digest : Digest) (shown : AllShown) (last : LastEvicted) (stored : Stored) (spots : Spots) (home : ℕ) (next : Shown) (parent child : Entry)
+pub join_world : (longest : ℕ) (digest : Digest) (shown : AllShown) (last : LastEvicted) (stored : Stored) (spots : Spots) (home : ℕ) (next : Shown) (parent child : Entry)
     → (on : Bool) (at now : Node) (pointer : Pointer)
-    → IsWorld format digest shown last stored spots
+    → IsWorld longest digest shown last stored spots
     → spots parent.path ≡ cached home parent → node_of parent.value ≡ Some at → side parent.path child.path ≡ Some on
     → ShowSame next (showing_both (shown home) (changed_parent parent now on true) child.path (Some child))
     → node_side now on ≡ Some pointer → pointer.path ≡ child.path → pointer.deferred ≡ false
     → ((which : Bool) → which ≢ on → node_side now which ≡ node_side at which)
-    → IsOf format parent.path (values.Node now) → IsOf format child.path child.value → child.hold ≡ M
-    → FitsUnder format digest spots parent.path child.path on (cached home child)
+    → IsOf longest parent.path (values.Node now) → IsOf longest child.path child.value → child.hold ≡ M
+    → FitsUnder digest spots parent.path child.path on (cached home child)
     → ((other : ℕ) → cached_in other (spots child.path) ≡ None)
     → blob_of child.value ≡ blob_at (spots child.path)
     → ((element : Element) → spots child.path ≡ waiting element → ⊥)
-    → WorldAfter format digest (with_shown shown home next) last stored spots
-join_world format digest shown last stored spots home next parent child on at now pointer world was is_node below shows points to flag others kind child_kind hold fits hidden blob free = (
+    → WorldAfter longest digest (with_shown shown home next) last stored spots
+join_world longest digest shown last stored spots home next parent child on at now pointer world was is_node below shows points to flag others kind child_kind hold fits hidden blob free = (
   new,
-  world_pair format digest shown last last stored spots home next parent after child.path (cached home child) world tree was apart
+  world_pair longest digest shown last last stored spots home next parent after child.path (cached home child) world tree was apart
       (subst (λ (e : Option Entry). ShowSame next (showing_both (shown home) after child.path e)) (sym (cached_here home child)) shows)
       (λ other away. cached_elsewhere home other child away ∙ sym (hidden other))
       (sym (node_blob parent.value at is_node)) blob
@@ -185,33 +184,33 @@ join_world format digest shown last stored spots home next parent child on at no
     apart : parent.path ≢ child.path
     apart = above_apart parent.path child.path on below
 
-    tree : IsTree format digest new
+    tree : IsTree longest digest new
     tree =
-        pair_moves format digest spots new parent child.path on home at now true (cached home child) pointer world.tree was is_node below points to others
+        pair_moves longest digest spots new parent child.path on home at now true (cached home child) pointer world.tree was is_node below points to others
         kind (refl, child_kind) refl
-        (subst (λ (b : Bool). LeadsBy format digest b (Some home) pointer.digest (cached home child)) (sym flag) (refl, hold))
+        (subst (λ (b : Bool). LeadsBy digest b (Some home) pointer.digest (cached home child)) (sym flag) (refl, hold))
         fits
         (with_pair_parent spots home after child.path (cached home child) apart)
         (with_spot_at (with_spot spots after.path (cached home after)) child.path (cached home child))
         (λ j first second. with_pair_other spots home after child.path j (cached home child) first second)
 
 -- What is known of a join: where the parent stands, and how the child was added.
-pub record Joining (format : Format) (digest : Digest) (shown : AllShown) (spots : Spots) (home : ℕ) (next : Shown) (parent after child : Entry) : Type 0 where
+pub record Joining (longest : ℕ) (digest : Digest) (shown : AllShown) (spots : Spots) (home : ℕ) (next : Shown) (parent after child : Entry) : Type 0 where
   pub value : Value
-  pub kind : IsOf format child.path value
+  pub kind : IsOf longest child.path value
   pub was : spots parent.path ≡ cached home parent
   pub shows : ShowSame next (showing_both (shown home) after child.path (Some child))
-  pub added : IsAdded format digest parent child.path value (record { parent = after; child = child })
+  pub added : IsAdded digest parent child.path value (record { parent = after; child = child })
 
-pub joining : (format : Format) (digest : Digest) (shown : AllShown) (last : LastEvicted) (stored : Stored) (spots : Spots) (home : ℕ) (next : Shown) (parent after child : Entry)
-    → IsWorld format digest shown last stored spots → DidAddM format digest (shown home) next parent after child
-    → Joining format digest shown spots home next parent after child
-joining format digest shown last stored spots home next parent after child world did = record {
+pub joining : (longest : ℕ) (digest : Digest) (shown : AllShown) (last : LastEvicted) (stored : Stored) (spots : Spots) (home : ℕ) (next : Shown) (parent after child : Entry)
+    → IsWorld longest digest shown last stored spots → DidAddM longest digest (shown home) next parent after child
+    → Joining longest digest shown spots home next parent after child
+joining longest digest shown last stored spots home next parent after child world did = record {
   value = did.value;
   kind = did.kind;
   was = spot_of_shown home (spots parent.path) parent (sym (world.shows home parent.path) ∙ did.had_parent);
   shows = did.shown;
-  added = added_how format digest parent child.path did.value (record { parent = after; child = child }) did.added;
+  added = added_how digest parent child.path did.value (record { parent = after; child = child }) did.added;
 }
 
 -- the pointer of a side of what a cached parent holds
@@ -221,50 +220,50 @@ parent_pointer spots home parent at on was is_node =
     ap (λ (s : Spot). pointer_at s on) was ∙ ap (λ (o : Option Node). side_of o on) is_node
 
 -- what the parent is, is of its path's kind
-pub parent_kind : (format : Format) (digest : Digest) (spots : Spots) (home : ℕ) (parent : Entry) (at : Node) → IsTree format digest spots → spots parent.path ≡ cached home parent
-    → node_of parent.value ≡ Some at → IsOf format parent.path (values.Node at)
-parent_kind format digest spots home parent at tree was is_node =
-    subst (IsOf format parent.path) (node_is parent.value at is_node)
-    (subst (IsKind format parent.path) was (tree.kind parent.path)).1
+pub parent_kind : (longest : ℕ) (digest : Digest) (spots : Spots) (home : ℕ) (parent : Entry) (at : Node) → IsTree longest digest spots → spots parent.path ≡ cached home parent
+    → node_of parent.value ≡ Some at → IsOf longest parent.path (values.Node at)
+parent_kind longest digest spots home parent at tree was is_node =
+    subst (IsOf longest parent.path) (node_is parent.value at is_node)
+    (subst (IsKind longest parent.path) was (tree.kind parent.path)).1
 
 -- Where the pointer leads nowhere, the child is untouched.
-pub empty_untouched : (format : Format) (digest : Digest) (shown : AllShown) (spots : Spots) (home : ℕ) (next : Shown) (parent after child : Entry)
-    → IsTree format digest spots → (j : Joining format digest shown spots home next parent after child)
+pub empty_untouched : (longest : ℕ) (digest : Digest) (shown : AllShown) (spots : Spots) (home : ℕ) (next : Shown) (parent after child : Entry)
+    → IsTree longest digest spots → (j : Joining longest digest shown spots home next parent after child)
     → node_side j.added.at j.added.on ≡ None → spots child.path ≡ untouched
-empty_untouched format digest shown spots home next parent after child tree j none =
+empty_untouched longest digest shown spots home next parent after child tree j none =
     untouched_since (spots child.path)
-    (λ touched. nothing_there format digest spots parent.path j.added.on tree (ap is_touched j.was)
+    (λ touched. nothing_there longest digest spots parent.path j.added.on tree (ap is_touched j.was)
     (parent_pointer spots home parent j.added.at j.added.on j.was j.added.is_node ∙ none) child.path touched j.added.below)
 
 -- And so it is where the pointer leads below it.
-pub split_untouched : (format : Format) (digest : Digest) (shown : AllShown) (spots : Spots) (home : ℕ) (next : Shown) (parent after child : Entry)
-    → IsTree format digest spots → (j : Joining format digest shown spots home next parent after child)
+pub split_untouched : (longest : ℕ) (digest : Digest) (shown : AllShown) (spots : Spots) (home : ℕ) (next : Shown) (parent after child : Entry)
+    → IsTree longest digest spots → (j : Joining longest digest shown spots home next parent after child)
     → (pointer : Pointer) → node_side j.added.at j.added.on ≡ Some pointer → (which : Bool) → side child.path pointer.path ≡ Some which
     → spots child.path ≡ untouched
-split_untouched format digest shown spots home next parent after child tree j pointer there which further =
+split_untouched longest digest shown spots home next parent after child tree j pointer there which further =
     untouched_since (spots child.path)
     (λ touched. above_no_prefix child.path pointer.path which further
     (subst (λ (o : Option Pointer). Covers o child.path) (parent_pointer spots home parent j.added.at j.added.on j.was j.added.is_node ∙ there)
     (tree.cover parent.path child.path j.added.on (ap is_touched j.was) touched j.added.below)))
 
 -- Where the pointer led nowhere.
-pub join_empty : (format : Format) (digest : Digest) (shown : AllShown) (last : LastEvicted) (stored : Stored) (spots : Spots) (home : ℕ) (next : Shown) (parent after child : Entry)
-    → GivesDigests digest → IsWorld format digest shown last stored spots → (j : Joining format digest shown spots home next parent after child)
-    → node_side j.added.at j.added.on ≡ None → j.value ≡ initial_value format child.path
-    → after ≡ changed_parent parent (pointing format digest j.added.at j.added.on child.path j.value) j.added.on true
+pub join_empty : (longest : ℕ) (digest : Digest) (shown : AllShown) (last : LastEvicted) (stored : Stored) (spots : Spots) (home : ℕ) (next : Shown) (parent after child : Entry)
+    → GivesDigests digest → IsWorld longest digest shown last stored spots → (j : Joining longest digest shown spots home next parent after child)
+    → node_side j.added.at j.added.on ≡ None → j.value ≡ initial_value child.path
+    → after ≡ changed_parent parent (pointing digest j.added.at j.added.on child.path j.value) j.added.on true
     → child ≡ new_entry child.path j.value M
-    → WorldAfter format digest (with_shown shown home next) last stored spots
-join_empty format digest shown last stored spots home next parent after child digests world j none initial after_is child_is =
-    join_world format digest shown last stored spots home next parent child on at now (pointer_to format digest child.path j.value) world j.was j.added.is_node j.added.below
+    → WorldAfter longest digest (with_shown shown home next) last stored spots
+join_empty longest digest shown last stored spots home next parent after child digests world j none initial after_is child_is =
+    join_world longest digest shown last stored spots home next parent child on at now (pointer_to digest child.path j.value) world j.was j.added.is_node j.added.below
     (subst (λ (a : Entry). ShowSame next (showing_both (shown home) a child.path (Some child))) after_is j.shows)
     (pointer_set at on _) refl refl (λ which other. pointer_set_other at on which _ other)
-    (IsOf-after_evict format digest parent.path child.path on at j.value digests j.added.below (parent_kind format digest spots home parent at world.tree j.was j.added.is_node) j.kind)
-    (subst (IsOf format child.path) (sym value_is) j.kind)
+    (IsOf-after_evict longest digest parent.path child.path on at j.value digests j.added.below (parent_kind longest digest spots home parent at world.tree j.was j.added.is_node) j.kind)
+    (subst (IsOf longest child.path) (sym value_is) j.kind)
     (ap (λ (e : Entry). e.hold) child_is)
-    (fits_empty format digest spots parent.path child.path on (cached home child) world.tree above bare_side j.added.below
-    (λ which. ap (λ (v : Value). side_of (node_of v) which) (value_is ∙ initial) ∙ initial_bare format child.path which))
+    (fits_empty longest digest spots parent.path child.path on (cached home child) world.tree above bare_side j.added.below
+    (λ which. ap (λ (v : Value). side_of (node_of v) which) (value_is ∙ initial) ∙ initial_bare child.path which))
     (λ other. ap (cached_in other) was_untouched)
-    (ap blob_of (value_is ∙ initial) ∙ initial_blob format child.path ∙ ap blob_at (sym was_untouched))
+    (ap blob_of (value_is ∙ initial) ∙ initial_blob child.path ∙ ap blob_at (sym was_untouched))
     (λ element waits. not_waiting (spots child.path) untouched element was_untouched refl waits)
   where
     on : Bool
@@ -274,7 +273,7 @@ join_empty format digest shown last stored spots home next parent after child di
     at = j.added.at
 
     now : Node
-    now = pointing format digest at on child.path j.value
+    now = pointing digest at on child.path j.value
 
     value_is : child.value ≡ j.value
     value_is = ap (λ (e : Entry). e.value) child_is
@@ -286,25 +285,25 @@ join_empty format digest shown last stored spots home next parent after child di
     bare_side = parent_pointer spots home parent at on j.was j.added.is_node ∙ none
 
     was_untouched : spots child.path ≡ untouched
-    was_untouched = empty_untouched format digest shown spots home next parent after child world.tree j none
+    was_untouched = empty_untouched longest digest shown spots home next parent after child world.tree j none
 
 -- Where the pointer led below the child.
-pub join_split : (format : Format) (digest : Digest) (shown : AllShown) (last : LastEvicted) (stored : Stored) (spots : Spots) (home : ℕ) (next : Shown) (parent after child : Entry)
-    → GivesDigests digest → IsWorld format digest shown last stored spots → (j : Joining format digest shown spots home next parent after child)
+pub join_split : (longest : ℕ) (digest : Digest) (shown : AllShown) (last : LastEvicted) (stored : Stored) (spots : Spots) (home : ℕ) (next : Shown) (parent after child : Entry)
+    → GivesDigests digest → IsWorld longest digest shown last stored spots → (j : Joining longest digest shown spots home next parent after child)
     → (pointer : Pointer) → node_side j.added.at j.added.on ≡ Some pointer → (which : Bool) → side child.path pointer.path ≡ Some which
-    → j.value ≡ initial_value format child.path
-    → after ≡ changed_parent parent (pointing format digest j.added.at j.added.on child.path (initial_value format child.path)) j.added.on true
+    → j.value ≡ initial_value child.path
+    → after ≡ changed_parent parent (pointing digest j.added.at j.added.on child.path (initial_value child.path)) j.added.on true
     → child ≡ set_kid (new_entry child.path (values.Node (with_side empty_node which (Some pointer))) M) which (kid_of parent j.added.on)
-    → WorldAfter format digest (with_shown shown home next) last stored spots
-join_split format digest shown last stored spots home next parent after child digests world j pointer there which further initial after_is child_is =
-    join_world format digest shown last stored spots home next parent child on at now (pointer_to format digest child.path (initial_value format child.path)) world j.was j.added.is_node j.added.below
+    → WorldAfter longest digest (with_shown shown home next) last stored spots
+join_split longest digest shown last stored spots home next parent after child digests world j pointer there which further initial after_is child_is =
+    join_world longest digest shown last stored spots home next parent child on at now (pointer_to digest child.path (initial_value child.path)) world j.was j.added.is_node j.added.below
     (subst (λ (a : Entry). ShowSame next (showing_both (shown home) a child.path (Some child))) after_is j.shows)
     (pointer_set at on _) refl refl (λ side other. pointer_set_other at on side _ other)
-    (IsOf-after_evict format digest parent.path child.path on at (initial_value format child.path) digests j.added.below
-    (parent_kind format digest spots home parent at world.tree j.was j.added.is_node) (subst (IsOf format child.path) initial j.kind))
-    (subst (IsOf format child.path) (sym value_is) taken_kind)
+    (IsOf-after_evict longest digest parent.path child.path on at (initial_value child.path) digests j.added.below
+    (parent_kind longest digest spots home parent at world.tree j.was j.added.is_node) (subst (IsOf longest child.path) initial j.kind))
+    (subst (IsOf longest child.path) (sym value_is) taken_kind)
     (ap (λ (e : Entry). e.hold) child_is)
-    (fits_split format digest spots parent.path child.path on (cached home child) pointer which world.tree points j.added.below further
+    (fits_split longest digest spots parent.path child.path on (cached home child) pointer which world.tree points j.added.below further
     (ap (λ (v : Value). side_of (node_of v) which) value_is ∙ pointer_set empty_node which (Some pointer))
     (λ side other. ap (λ (v : Value). side_of (node_of v) side) value_is ∙ pointer_set_other empty_node which side (Some pointer) other ∙ bare side)
     home_is)
@@ -319,7 +318,7 @@ join_split format digest shown last stored spots home next parent after child di
     at = j.added.at
 
     now : Node
-    now = pointing format digest at on child.path (initial_value format child.path)
+    now = pointing digest at on child.path (initial_value child.path)
 
     value_is : child.value ≡ values.Node (with_side empty_node which (Some pointer))
     value_is = ap (λ (e : Entry). e.value) child_is
@@ -327,12 +326,12 @@ join_split format digest shown last stored spots home next parent after child di
     points : pointer_at (spots parent.path) on ≡ Some pointer
     points = parent_pointer spots home parent at on j.was j.added.is_node ∙ there
 
-    fits : IsPointer format parent.path on pointer
-    fits = pointer_kind format parent.path (spots parent.path) on pointer (world.tree.kind parent.path) points
+    fits : IsPointer parent.path on pointer
+    fits = pointer_kind longest parent.path (spots parent.path) on pointer (world.tree.kind parent.path) points
 
-    taken_kind : IsOf format child.path (values.Node (with_side empty_node which (Some pointer)))
+    taken_kind : IsOf longest child.path (values.Node (with_side empty_node which (Some pointer)))
     taken_kind =
-        IsOf-with_side format child.path empty_node which (Some pointer) (omega (arith, length-side child.path pointer.path which further, fits.fits), tt, tt)
+        IsOf-with_side longest child.path empty_node which (Some pointer) (omega (arith, length-side child.path pointer.path which further, fits.fits), tt, tt)
         (record { below = is_prefix-side child.path pointer.path which further; fits = fits.fits; digest = fits.digest })
 
     bare : (side : Bool) → node_side empty_node side ≡ None
@@ -346,4 +345,4 @@ join_split format digest shown last stored spots home next parent after child di
         ∙ ap (λ (s : Spot). home_of s on) (sym j.was)
 
     was_untouched : spots child.path ≡ untouched
-    was_untouched = split_untouched format digest shown spots home next parent after child world.tree j pointer there which further
+    was_untouched = split_untouched longest digest shown spots home next parent after child world.tree j pointer there which further

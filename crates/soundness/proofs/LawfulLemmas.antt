@@ -3,12 +3,12 @@ use Rattle.std.proofs.Common.{◌≡◌, ◌≢◌, ℕ, ◌==◌, Bool, true, f
 use Rattle.std.specs.List.{AllByRecursion}
 use Rattle.std.proofs.lemmas.Bool.{true≢false, not-false, eqb-true, ne_eqb}
 use Rattle.std.proofs.lemmas.Result.{IfOk-at_ok}
+use Rattle.tree_keys.specs.Path.{IsData, is_data}
 use Rattle.lamport_clocks.specs.declared.header.Header.{Header}
 use Rattle.lamport_clocks.specs.declared.stamp.Stamp.{Stamp}
 use Rattle.lamport_clocks.specs.Clock.{received, sent, advanced}
 use Rattle.base_words.proofs.StepLaws.{test-ok}
 use Rattle.record_text.specs.declared.value.Value.{Value}
-use Rattle.record_text.specs.Format.{Format, path_bits}
 use Rattle.record_text.specs.Texts.{value_text}
 use Rattle.record_text.specs.Value.{IsOf, node_side, initial_value}
 use Rattle.log_codec.specs.declared.command.Command.{Command}
@@ -32,7 +32,7 @@ use Rattle.verifier_commands.specs.State.{opening, root_entry}
 use Rattle.verifier_commands.specs.Change.{Change}
 use Rattle.verifier_commands.specs.Changes.{above, leads_to, is_deferred, has_digest, holds_wrong, is_by_digest, set_kid_on, add_by, add_under, evict_under, defer_under, is_by_stamp}
 use Rattle.record_text.specs.Same.{same_value}
-use Rattle.verifier_commands.specs.Transition.{Rules, Step, is_root, is_data, is_full, transition, add_m, evict_m, add_b, evict_b, evict_bm, get, put, next_epoch}
+use Rattle.verifier_commands.specs.Transition.{Rules, Step, is_root, is_full, transition, add_m, evict_m, add_b, evict_b, evict_bm, get, put, next_epoch}
 use Rattle.verifier_commands.specs.Machine.{Machine, rules_for}
 use Rattle.verifier_commands.specs.Trace.{events_from, events_behind, changed}
 use Rattle.soundness.specs.History.{Event}
@@ -52,36 +52,36 @@ abbrev pub IsFamily : List Bool → List Bool → Family → Type 0
 IsFamily parent path family = (family.parent.path ≡ parent) × (family.child.path ≡ path)
 
 -- an add keeps the parent's path, by where the pointer leads
-pub add_by-paths : (format : Format) (digest : Digest) (parent : Entry) (place : Parent) (path : List Bool)
+pub add_by-paths : (digest : Digest) (parent : Entry) (place : Parent) (path : List Bool)
     (value : Value) (leads : AddCase) (family : Family)
-    → add_by format digest parent place path value leads ≡ Ok family → IsFamily parent.path path family
-add_by-paths format digest parent place path value cases.Foreign family is = absurd (cc)
-add_by-paths format digest parent place path value cases.Empty family is =
-    let made = test-ok (not (same_value value (initial_value format path))) _ _ family is in
+    → add_by digest parent place path value leads ≡ Ok family → IsFamily parent.path path family
+add_by-paths digest parent place path value cases.Foreign family is = absurd (cc)
+add_by-paths digest parent place path value cases.Empty family is =
+    let made = test-ok (not (same_value value (initial_value path))) _ _ family is in
     IfOk-at_ok (IsFamily parent.path path) made.1 (refl, refl)
-add_by-paths format digest parent place path value cases.Split family is =
-    let made = test-ok (not (same_value value (initial_value format path))) _ _ family is in
+add_by-paths digest parent place path value cases.Split family is =
+    let made = test-ok (not (same_value value (initial_value path))) _ _ family is in
     IfOk-at_ok (IsFamily parent.path path) made.1 (refl, set_kid_on-path _ _ _)
-add_by-paths format digest parent place path value cases.Same family is =
+add_by-paths digest parent place path value cases.Same family is =
     let pointer = node_side place.node place.on in
     let checked = test-ok (is_deferred pointer) _ _ family is in
-    let digested = test-ok (not (has_digest pointer (digest (value_text format value)))) _ _ family checked.1 in
+    let digested = test-ok (not (has_digest pointer (digest (value_text value)))) _ _ family checked.1 in
     let lone = test-ok (kid_of parent place.on) _ _ family digested.1 in
     IfOk-at_ok (IsFamily parent.path path) lone.1 (refl, refl)
 
 -- an add under a parent keeps the paths
-pub add_under-paths : (format : Format) (digest : Digest) (parent : Entry) (path : List Bool) (value : Value)
+pub add_under-paths : (digest : Digest) (parent : Entry) (path : List Bool) (value : Value)
     (family : Family)
-    → add_under format digest parent path value ≡ Ok family → IsFamily parent.path path family
-add_under-paths format digest parent path value family is =
+    → add_under digest parent path value ≡ Ok family → IsFamily parent.path path family
+add_under-paths digest parent path value family is =
     let place = need-ok (above parent path) _ _ family is in
     let leads = case_of (node_side place.0.node place.0.on) path in
-    add_by-paths format digest parent place.0 path value leads family place.2
+    add_by-paths digest parent place.0 path value leads family place.2
 
 -- an evict keeps the parent's path
-pub evict_under-path : (format : Format) (digest : Digest) (parent child after : Entry)
-    → evict_under format digest parent child ≡ Ok after → after.path ≡ parent.path
-evict_under-path format digest parent child after is =
+pub evict_under-path : (digest : Digest) (parent child after : Entry)
+    → evict_under digest parent child ≡ Ok after → after.path ≡ parent.path
+evict_under-path digest parent child after is =
     let place = need-ok (above parent child.path) _ _ after is in
     let pointer = node_side place.0.node place.0.on in
     let led = test-ok (not (leads_to pointer child.path)) _ _ after place.2 in
@@ -103,7 +103,7 @@ defer_under-path parent child after is =
 -- what was done is lawful, and the entries are distinct after it
 abbrev pub IsLawful : Rules → State → Change × State → Type 0
 IsLawful rules state done =
-    HasDone rules.scheme.format rules.scheme.digest (shown_by state) (shown_by done.1) done.0 × AreDistinct done.1.cache.entries
+    HasDone rules.scheme.longest rules.scheme.digest (shown_by state) (shown_by done.1) done.0 × AreDistinct done.1.cache.entries
 
 -- an entry that came in deferred
 by_stamp : (hold : Hold) → not (is_by_stamp hold) ≡ false → hold ≡ B
@@ -118,16 +118,16 @@ found_at p k xs e path found = ap (λ (q : List Bool). entry_of q xs) path ∙ f
 
 lawful_add_m : (rules : Rules) (state : State) (path : List Bool) (value : Value) (parent : List Bool)
     (done : Change × State)
-    → IsOf rules.scheme.format path value → AreDistinct state.cache.entries
-    → add_m rules.scheme.format rules.scheme.digest state path value parent ≡ Ok done → IsLawful rules state done
+    → IsOf rules.scheme.longest path value → AreDistinct state.cache.entries
+    → add_m rules.scheme.digest state path value parent ≡ Ok done → IsLawful rules state done
 lawful_add_m rules state path value parent done kind distinct is =
     let xs = state.cache.entries in
     let inner = test-ok (is_root path) _ _ done is in
     let fresh = test-ok (is_some (entry_of path xs)) _ _ done inner.1 in
     let room = test-ok (is_full state) _ _ done fresh.1 in
     let holder = need-ok (entry_of parent xs) _ _ done room.1 in
-    let family = and_then-ok (add_under rules.scheme.format rules.scheme.digest holder.0 path value) _ done holder.2 in
-    let paths = add_under-paths rules.scheme.format rules.scheme.digest holder.0 path value family.0 family.1 in
+    let family = and_then-ok (add_under rules.scheme.digest holder.0 path value) _ done holder.2 in
+    let paths = add_under-paths rules.scheme.digest holder.0 path value family.0 family.1 in
     let child_path : path ≡ family.0.child.path = sym paths.1 in
     let found = found_at family.0.parent.path parent xs holder.0 paths.0 holder.1 in
     let none : IsNone (entry_of family.0.child.path xs) = subst (λ p. IsNone (entry_of p xs)) child_path fresh.0 in
@@ -135,8 +135,8 @@ lawful_add_m rules state path value parent done kind distinct is =
       record {
         value = value;
         had_parent = found_own parent xs holder.0 holder.1;
-        kind = subst (λ (p : List Bool). IsOf rules.scheme.format p value) child_path kind;
-        added = ap (λ (p : List Bool). add_under rules.scheme.format rules.scheme.digest holder.0 p value) paths.1 ∙ family.1;
+        kind = subst (λ (p : List Bool). IsOf rules.scheme.longest p value) child_path kind;
+        added = ap (λ (p : List Bool). add_under rules.scheme.digest holder.0 p value) paths.1 ∙ family.1;
         shown = λ j. shown-joined j xs family.0.parent holder.0 family.0.child found none;
       },
       distinct-joined xs family.0.parent family.0.child distinct none,
@@ -144,15 +144,15 @@ lawful_add_m rules state path value parent done kind distinct is =
 
 lawful_evict_m : (rules : Rules) (state : State) (path parent : List Bool) (done : Change × State)
     → AreDistinct state.cache.entries
-    → evict_m rules.scheme.format rules.scheme.digest state path parent ≡ Ok done → IsLawful rules state done
+    → evict_m rules.scheme.digest state path parent ≡ Ok done → IsLawful rules state done
 lawful_evict_m rules state path parent done distinct is =
     let xs = state.cache.entries in
     let inner = test-ok (is_root path) _ _ done is in
     let child = need-ok (entry_of path xs) _ _ done inner.1 in
     let holder = need-ok (entry_of parent xs) _ _ done child.2 in
-    let after = and_then-ok (evict_under rules.scheme.format rules.scheme.digest holder.0 child.0) _ done holder.2 in
+    let after = and_then-ok (evict_under rules.scheme.digest holder.0 child.0) _ done holder.2 in
     let child_path : path ≡ child.0.path = sym (entry_of-path path xs child.0 child.1) in
-    let kept = evict_under-path rules.scheme.format rules.scheme.digest holder.0 child.0 after.0 after.1 in
+    let kept = evict_under-path rules.scheme.digest holder.0 child.0 after.0 after.1 in
     let found = found_at after.0.path parent xs holder.0 kept holder.1 in
     IfOk-at_ok (IsLawful rules state) after.2 (
       record {
@@ -166,7 +166,7 @@ lawful_evict_m rules state path parent done distinct is =
 
 lawful_add_b : (rules : Rules) (state : State) (path : List Bool) (value : Value) (stamp : Stamp) (verifier : ℕ)
     (done : Change × State)
-    → IsOf rules.scheme.format path value → AreDistinct state.cache.entries
+    → IsOf rules.scheme.longest path value → AreDistinct state.cache.entries
     → add_b rules.verifiers state path value stamp verifier ≡ Ok done → IsLawful rules state done
 lawful_add_b rules state path value stamp verifier done kind distinct is =
     let xs = state.cache.entries in
@@ -232,41 +232,41 @@ lawful_evict_bm rules state path parent stamp done distinct is =
     )
 
 -- the test of a data path tells its length
-data_length : (format : Format) (path own : List Bool) → own ≡ path → not (is_data format path) ≡ false
-    → length own ≡ path_bits format
-data_length format path own same is = ap (λ (p : List Bool). length p) same ∙ eqb-true _ _ (not-false _ is)
+data_length : (path own : List Bool) → own ≡ path → not (is_data path) ≡ false
+    → IsData own
+data_length path own same is = ap (λ (p : List Bool). length p) same ∙ eqb-true _ _ (not-false _ is)
 
 lawful_get : (rules : Rules) (state : State) (path : List Bool) (value : Value) (done : Change × State)
-    → AreDistinct state.cache.entries → get rules.scheme.format state path value ≡ Ok done → IsLawful rules state done
+    → AreDistinct state.cache.entries → get state path value ≡ Ok done → IsLawful rules state done
 lawful_get rules state path value done distinct is =
     let xs = state.cache.entries in
     let entry = need-ok (entry_of path xs) _ _ done is in
-    let data_path = test-ok (not (is_data rules.scheme.format path)) _ _ done entry.2 in
+    let data_path = test-ok (not (is_data path)) _ _ done entry.2 in
     let same = test-ok (not (same_value entry.0.value value)) _ _ done data_path.1 in
     IfOk-at_ok (IsLawful rules state) same.1 (
       record {
         had = found_own path xs entry.0 entry.1;
-        at_data = data_length rules.scheme.format path entry.0.path (entry_of-path path xs entry.0 entry.1) data_path.0;
+        at_data = data_length path entry.0.path (entry_of-path path xs entry.0 entry.1) data_path.0;
         shown = λ j. refl;
       },
       distinct,
     )
 
 lawful_put : (rules : Rules) (state : State) (path : List Bool) (value : Value) (done : Change × State)
-    → IsOf rules.scheme.format path value → AreDistinct state.cache.entries
-    → put rules.scheme.format state path value ≡ Ok done → IsLawful rules state done
+    → IsOf rules.scheme.longest path value → AreDistinct state.cache.entries
+    → put state path value ≡ Ok done → IsLawful rules state done
 lawful_put rules state path value done kind distinct is =
     let xs = state.cache.entries in
     let entry = need-ok (entry_of path xs) _ _ done is in
-    let data_path = test-ok (not (is_data rules.scheme.format path)) _ _ done entry.2 in
+    let data_path = test-ok (not (is_data path)) _ _ done entry.2 in
     let own : entry.0.path ≡ path = entry_of-path path xs entry.0 entry.1 in
     let found = found_own path xs entry.0 entry.1 in
     IfOk-at_ok (IsLawful rules state) data_path.1 (
       record {
         value = value;
         had = found;
-        at_data = data_length rules.scheme.format path entry.0.path own data_path.0;
-        kind = subst (λ (p : List Bool). IsOf rules.scheme.format p value) (sym own) kind;
+        at_data = data_length path entry.0.path own data_path.0;
+        kind = subst (λ (p : List Bool). IsOf rules.scheme.longest p value) (sym own) kind;
         wrote = refl;
         shown = λ j. shown-replaced j xs (with_value entry.0 value) entry.0 found;
       },
@@ -282,7 +282,7 @@ lawful_next_epoch rules state done distinct is =
 -- ---- any command
 
 lawful_step : (rules : Rules) (state : State) (command : Command) (done : Change × State)
-    → IsTyped rules.scheme.format command → AreDistinct state.cache.entries
+    → IsTyped rules.scheme.longest command → AreDistinct state.cache.entries
     → transition rules state command ≡ Ok done → IsLawful rules state done
 lawful_step rules state (AddM path value parent) done ranges distinct is =
     lawful_add_m rules state path value parent done ranges distinct is
@@ -303,27 +303,27 @@ lawful_step rules state NextEpoch done ranges distinct is =
 
 -- An accepted command did what its change tells, and left the entries distinct.
 pub lawful : (rules : Rules) (state : State) (command : Command) (change : Change) (after : State)
-    → IsTyped rules.scheme.format command → AreDistinct state.cache.entries
+    → IsTyped rules.scheme.longest command → AreDistinct state.cache.entries
     → transition rules state command ≡ Ok (change, after)
-    → HasDone rules.scheme.format rules.scheme.digest (shown_by state) (shown_by after) change × AreDistinct after.cache.entries
+    → HasDone rules.scheme.longest rules.scheme.digest (shown_by state) (shown_by after) change × AreDistinct after.cache.entries
 lawful rules state command change after ranges distinct is =
     lawful_step rules state command (change, after) ranges distinct is
 
 -- ---- a log
 
 -- each event is what a step did to what the one before it left
-abbrev pub IsChain : Format → Digest → Shown → List Event → Type 0
-IsChain format digest shown [] = Unit {0}
-IsChain format digest shown (event ∷ events) =
-    (next : Shown) × HasDone format digest shown next event.change × IsChain format digest next events
+abbrev pub IsChain : ℕ → Digest → Shown → List Event → Type 0
+IsChain longest digest shown [] = Unit {0}
+IsChain longest digest shown (event ∷ events) =
+    (next : Shown) × HasDone longest digest shown next event.change × IsChain longest digest next events
 
 -- what a step did, and a chain behind it
 chain_behind : (scheme : Scheme) (machine : Machine) (command : Command) (commands : List Command) (step : Step)
-    → IsTyped scheme.format command → AreDistinct machine.state.cache.entries
+    → IsTyped scheme.longest command → AreDistinct machine.state.cache.entries
     → transition (rules_for scheme machine) machine.state command ≡ step
     → ((after : Machine) → AreDistinct after.state.cache.entries
-    → IsChain scheme.format scheme.digest (shown_by after.state) (events_from scheme after commands))
-    → IsChain scheme.format scheme.digest (shown_by machine.state) (events_behind scheme machine commands step)
+    → IsChain scheme.longest scheme.digest (shown_by after.state) (events_from scheme after commands))
+    → IsChain scheme.longest scheme.digest (shown_by machine.state) (events_behind scheme machine commands step)
 chain_behind scheme machine command commands (Ok done) range distinct is further =
     let law = lawful_step (rules_for scheme machine) machine.state command done range distinct is in
     (shown_by done.1, law.0, further (changed scheme machine done) law.1)
@@ -331,8 +331,8 @@ chain_behind scheme machine command commands (Err refusal) range distinct is fur
 
 -- The events of a log are a chain from the verifier with which it begins.
 pub log_run : (scheme : Scheme) (machine : Machine) (commands : List Command)
-    → AllByRecursion (IsTyped scheme.format) commands → AreDistinct machine.state.cache.entries
-    → IsChain scheme.format scheme.digest (shown_by machine.state) (events_from scheme machine commands)
+    → AllByRecursion (IsTyped scheme.longest) commands → AreDistinct machine.state.cache.entries
+    → IsChain scheme.longest scheme.digest (shown_by machine.state) (events_from scheme machine commands)
 unfolding traced
 log_run scheme machine [] ranges distinct = tt
 log_run scheme machine (command ∷ commands) ranges distinct =

@@ -9,7 +9,6 @@ use Rattle.record_text.specs.declared.value.Node.{Node}
 use Rattle.record_text.specs.declared.value.Value.{Value}
 use Rattle.record_text.specs.declared.value.Value.TheVariants as values
 use Rattle.record_text.specs.declared.element.Element.{Element}
-use Rattle.record_text.specs.Format.{Format}
 use Rattle.record_text.specs.Value.{IsOf, node_side, with_side}
 use Rattle.merkle_records.specs.Merkle.{Digest, GivesDigests, pointer_to, deferred_pointer}
 use Rattle.merkle_records.proofs.KindLaws.{IsOf-after_evict, IsOf-after_defer}
@@ -33,29 +32,29 @@ pub record IsOut (child : Entry) (spot : Spot) : Type 0 where
   pub hidden : (home : ℕ) → cached_in home spot ≡ None
 
 -- the world behind a step that left a record at this spot, where nothing else waits that didn't
-abbrev pub LeftAt : Format → Digest → AllShown → LastEvicted → Stored → Spots → List Bool → Spot → Type 0
-LeftAt format digest shown last stored old path spot =
-    (spots : Spots) × IsWorld format digest shown last stored spots × KeepsWaiting old spots × (spots path ≡ spot)
+abbrev pub LeftAt : ℕ → Digest → AllShown → LastEvicted → Stored → Spots → List Bool → Spot → Type 0
+LeftAt longest digest shown last stored old path spot =
+    (spots : Spots) × IsWorld longest digest shown last stored spots × KeepsWaiting old spots × (spots path ≡ spot)
     × KeepsElsewhere path spots old
 
 -- What an evict and a deferral have in common: the parent's node changes, its kid bit is cleared, and its pointer
 -- leads where the child is now.
-leave_world : (format : Format) (digest : Digest) (shown : AllShown) (last now_taken : LastEvicted) (stored : Stored) (spots : Spots) (home : ℕ) (next : Shown) (parent child after : Entry)
+leave_world : (longest : ℕ) (digest : Digest) (shown : AllShown) (last now_taken : LastEvicted) (stored : Stored) (spots : Spots) (home : ℕ) (next : Shown) (parent child after : Entry)
     → (changed : Node → Bool → Pointer → Node) (spot : Spot) (pointer : Pointer)
-    → IsWorld format digest shown last stored spots
+    → IsWorld longest digest shown last stored spots
     → (left : IsLeft parent child after changed)
     → shown home parent.path ≡ Some parent → shown home child.path ≡ Some child
     → ShowSame next (showing_both (shown home) after child.path None)
-    → IsOut child spot → IsKind format child.path spot
+    → IsOut child spot → IsKind longest child.path spot
     → node_side (changed left.at left.on left.pointer) left.on ≡ Some pointer → pointer.path ≡ child.path
     → ((which : Bool) → which ≢ left.on → node_side (changed left.at left.on left.pointer) which ≡ node_side left.at which)
-    → (IsOf format parent.path (values.Node left.at) → IsOf format parent.path (values.Node (changed left.at left.on left.pointer)))
-    → LeadsBy format digest pointer.deferred None pointer.digest spot
+    → (IsOf longest parent.path (values.Node left.at) → IsOf longest parent.path (values.Node (changed left.at left.on left.pointer)))
+    → LeadsBy digest pointer.deferred None pointer.digest spot
     → ((path : List Bool) (value : Value) → with_pair spots home (changed_parent parent (changed left.at left.on left.pointer) left.on false) child.path spot path ≡ merkle value → now_taken path ≡ Some value)
-    → LeftAt format digest (with_shown shown home next) now_taken stored spots child.path spot
-leave_world format digest shown last now_taken stored spots home next parent child after changed spot pointer world left had_parent had_child shows out child_kind points to others kind leads taken_is = (
+    → LeftAt longest digest (with_shown shown home next) now_taken stored spots child.path spot
+leave_world longest digest shown last now_taken stored spots home next parent child after changed spot pointer world left had_parent had_child shows out child_kind points to others kind leads taken_is = (
   new,
-  world_pair format digest shown last now_taken stored spots home next parent now_parent child.path spot world tree was apart
+  world_pair longest digest shown last now_taken stored spots home next parent now_parent child.path spot world tree was apart
       (subst (λ (e : Option Entry). ShowSame next (showing_both (shown home) now_parent child.path e)) (sym (out.hidden home))
       (subst (λ (a : Entry). ShowSame next (showing_both (shown home) a child.path None)) left.after_is shows))
       (λ other away. out.hidden other ∙ sym (ap (cached_in other) was_child ∙ cached_elsewhere home other child away))
@@ -88,11 +87,11 @@ leave_world format digest shown last now_taken stored spots home next parent chi
     no_home : (which : Bool) → home_of (cached home child) which ≡ None
     no_home which = ap (λ (b : Bool). if b then Some home else None) (no_kids child which left.kids)
 
-    tree : IsTree format digest new
+    tree : IsTree longest digest new
     tree =
-        pair_moves format digest spots new parent child.path left.on home left.at now false spot pointer world.tree was left.is_node left.below points to others
-        (kind (parent_kind format digest spots home parent left.at world.tree was left.is_node)) child_kind out.touched leads
-        (fits_known format digest spots parent.path child.path left.on spot left.pointer world.tree
+        pair_moves longest digest spots new parent child.path left.on home left.at now false spot pointer world.tree was left.is_node left.below points to others
+        (kind (parent_kind longest digest spots home parent left.at world.tree was left.is_node)) child_kind out.touched leads
+        (fits_known longest digest spots parent.path child.path left.on spot left.pointer world.tree
         (parent_pointer spots home parent left.at left.on was left.is_node ∙ left.points) left.leads
         (ap is_touched was_child)
         (λ which. pointers which)
@@ -105,8 +104,8 @@ leave_world format digest shown last now_taken stored spots home next parent chi
         pointers which = ap (λ (v : Option Value). pointer_in v which) out.value ∙ ap (λ (s : Spot). pointer_at s which) (sym was_child)
 
 -- what the child is, is of its path's kind
-child_kind : (format : Format) (digest : Digest) (spots : Spots) (home : ℕ) (child : Entry) → IsTree format digest spots → spots child.path ≡ cached home child → IsOf format child.path child.value
-child_kind format digest spots home child tree was = (subst (IsKind format child.path) was (tree.kind child.path)).1
+child_kind : (longest : ℕ) (digest : Digest) (spots : Spots) (home : ℕ) (child : Entry) → IsTree longest digest spots → spots child.path ≡ cached home child → IsOf longest child.path child.value
+child_kind longest digest spots home child tree was = (subst (IsKind longest child.path) was (tree.kind child.path)).1
 
 -- what was last evicted, once an evictM took the child's value
 taken_now : (last : LastEvicted) (spots : Spots) (home : ℕ) (after : Entry) (k : List Bool) (kept : Value) → after.path ≢ k
@@ -132,44 +131,44 @@ taken_now last spots home after k kept apart was path value is = go (this_or_oth
         ∙ was path value (sym (with_pair_other spots home after k path (merkle kept) away further) ∙ is)
 
 -- A child is evicted into its parent.
-pub leave_step : (format : Format) (digest : Digest) (shown : AllShown) (last : LastEvicted) (stored : Stored) (spots : Spots) (home : ℕ) (next : Shown) (parent after child : Entry)
-    → GivesDigests digest → IsWorld format digest shown last stored spots → DidEvictM format digest (shown home) next parent after child
-    → WorldAfter format digest (with_shown shown home next) (with_last_evicted last child.path child.value) stored spots
-leave_step format digest shown last stored spots home next parent after child digests world did =
+pub leave_step : (longest : ℕ) (digest : Digest) (shown : AllShown) (last : LastEvicted) (stored : Stored) (spots : Spots) (home : ℕ) (next : Shown) (parent after child : Entry)
+    → GivesDigests digest → IsWorld longest digest shown last stored spots → DidEvictM digest (shown home) next parent after child
+    → WorldAfter longest digest (with_shown shown home next) (with_last_evicted last child.path child.value) stored spots
+leave_step longest digest shown last stored spots home next parent after child digests world did =
     (out.0, out.1, out.2, none_since spots out.0 child.path (merkle child.value) out.3 refl out.4)
   where
-    left : IsLeft parent child after (evicted_into format digest child)
-    left = evicted_how format digest parent child after did.evicted
+    left : IsLeft parent child after (evicted_into digest child)
+    left = evicted_how digest parent child after did.evicted
 
-    of_kind : IsOf format child.path child.value
+    of_kind : IsOf longest child.path child.value
     of_kind =
-        child_kind format digest spots home child world.tree
+        child_kind longest digest spots home child world.tree
         (spot_of_shown home (spots child.path) child (sym (world.shows home child.path) ∙ did.had_child))
 
-    out : LeftAt format digest (with_shown shown home next) (with_last_evicted last child.path child.value) stored spots child.path (merkle child.value)
-    out = leave_world format digest shown last (with_last_evicted last child.path child.value) stored spots home next parent child after (evicted_into format digest child)
-        (merkle child.value) (pointer_to format digest child.path child.value) world left did.had_parent did.had_child did.shown
+    out : LeftAt longest digest (with_shown shown home next) (with_last_evicted last child.path child.value) stored spots child.path (merkle child.value)
+    out = leave_world longest digest shown last (with_last_evicted last child.path child.value) stored spots home next parent child after (evicted_into digest child)
+        (merkle child.value) (pointer_to digest child.path child.value) world left did.had_parent did.had_child did.shown
         (record { value = refl; touched = refl; homeless = λ which. refl; hidden = λ home. refl })
         of_kind
         (pointer_set left.at left.on _) refl (λ which other. pointer_set_other left.at left.on which _ other)
-        (λ above. IsOf-after_evict format digest parent.path child.path left.on left.at child.value digests left.below above of_kind)
+        (λ above. IsOf-after_evict longest digest parent.path child.path left.on left.at child.value digests left.below above of_kind)
         refl
-        (taken_now last spots home (changed_parent parent (evicted_into format digest child left.at left.on left.pointer) left.on false) child.path child.value
+        (taken_now last spots home (changed_parent parent (evicted_into digest child left.at left.on left.pointer) left.on false) child.path child.value
         (above_apart parent.path child.path left.on left.below) world.was_evicted)
 
 -- A child is evicted out of its parent with an element.
-pub defer_step : (format : Format) (digest : Digest) (shown : AllShown) (last : LastEvicted) (stored : Stored) (spots : Spots) (home : ℕ) (next : Shown) (parent after child : Entry) (element : Element)
-    → IsWorld format digest shown last stored spots → DidEvictBM (shown home) next parent after child element
-    → LeftAt format digest (with_shown shown home next) last stored spots element.path (waiting element)
-defer_step format digest shown last stored spots home next parent after child element world did =
-    subst (λ (i : List Bool). LeftAt format digest (with_shown shown home next) last stored spots i (waiting element)) (sym did.path)
-    (leave_world format digest shown last last stored spots home next parent child after deferred_in
+pub defer_step : (longest : ℕ) (digest : Digest) (shown : AllShown) (last : LastEvicted) (stored : Stored) (spots : Spots) (home : ℕ) (next : Shown) (parent after child : Entry) (element : Element)
+    → IsWorld longest digest shown last stored spots → DidEvictBM (shown home) next parent after child element
+    → LeftAt longest digest (with_shown shown home next) last stored spots element.path (waiting element)
+defer_step longest digest shown last stored spots home next parent after child element world did =
+    subst (λ (i : List Bool). LeftAt longest digest (with_shown shown home next) last stored spots i (waiting element)) (sym did.path)
+    (leave_world longest digest shown last last stored spots home next parent child after deferred_in
     (waiting element) (deferred_pointer left.pointer) world left did.had_parent did.had_child did.shown
     (record { value = ap Some did.value; touched = refl; homeless = λ which. refl; hidden = λ home. refl })
-    (did.path, subst (IsOf format child.path) (sym did.value) of_kind)
+    (did.path, subst (IsOf longest child.path) (sym did.value) of_kind)
     (pointer_set left.at left.on _) left.leads (λ which other. pointer_set_other left.at left.on which _ other)
-    (λ above. subst (λ (o : Option Pointer). IsOf format parent.path (values.Node (with_side left.at left.on (option_map deferred_pointer o)))) left.points
-    (IsOf-after_defer format parent.path left.on left.at above))
+    (λ above. subst (λ (o : Option Pointer). IsOf longest parent.path (values.Node (with_side left.at left.on (option_map deferred_pointer o)))) left.points
+    (IsOf-after_defer longest parent.path left.on left.at above))
     tt
     (taken_pair last spots home (changed_parent parent (deferred_in left.at left.on left.pointer) left.on false) child.path (waiting element)
     (above_apart parent.path child.path left.on left.below) refl world.was_evicted))
@@ -177,7 +176,7 @@ defer_step format digest shown last stored spots home next parent after child el
     left : IsLeft parent child after deferred_in
     left = deferred_how parent child after did.deferred
 
-    of_kind : IsOf format child.path child.value
+    of_kind : IsOf longest child.path child.value
     of_kind =
-        child_kind format digest spots home child world.tree
+        child_kind longest digest spots home child world.tree
         (spot_of_shown home (spots child.path) child (sym (world.shows home child.path) ∙ did.had_child))

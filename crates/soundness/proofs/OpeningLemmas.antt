@@ -3,11 +3,11 @@ use Rattle.std.proofs.Common.{◌≡◌, ◌≢◌, ◌⊎◌, ℕ, Bool, true, 
 use Rattle.std.proofs.lemmas.Bool.{false≢true, cases_eq}
 use Rattle.std.proofs.lemmas.Option.{none-some}
 use Rattle.tree_keys.specs.Bits.{number_of}
-use Rattle.tree_keys.specs.Path.{side}
+use Rattle.tree_keys.specs.Path.{side, IsData}
 use Rattle.lamport_clocks.specs.declared.header.Header.{Header}
 use Rattle.record_text.specs.declared.value.Pointer.{Pointer}
 use Rattle.record_text.specs.declared.value.Value.{Value}
-use Rattle.record_text.specs.Format.{short_keys, path_bits}
+use Rattle.record_text.specs.Longest.{longest_blob}
 use Rattle.merkle_records.specs.Merkle.{Digest}
 use Rattle.verifier_commands.specs.State.{root_entry}
 use Rattle.stamp_order.specs.Serial.{none_everywhere}
@@ -23,15 +23,15 @@ abbrev pub opening_spots : Spots
 opening_spots [] = cached 0 root_entry
 opening_spots (bit ∷ path) = untouched
 
-opening_tree : (digest : Digest) → IsTree short_keys digest opening_spots
+opening_tree : (digest : Digest) → IsTree longest_blob digest opening_spots
 opening_tree digest = record { kind = kind; link = link; cover = cover }
   where
-    kind : (path : List Bool) → IsKind short_keys path (opening_spots path)
+    kind : (path : List Bool) → IsKind longest_blob path (opening_spots path)
     kind [] = (refl, (omega arith, tt, tt))
     kind (bit ∷ path) = tt
 
     link : (path : List Bool) (on : Bool) (pointer : Pointer) → pointer_at (opening_spots path) on ≡ Some pointer
-        → Leads short_keys digest (home_of (opening_spots path) on) pointer (opening_spots pointer.path)
+        → Leads digest (home_of (opening_spots path) on) pointer (opening_spots pointer.path)
     link [] true pointer is = absurd (none-some pointer is)
     link [] false pointer is = absurd (none-some pointer is)
     link (bit ∷ path) on pointer is = absurd (none-some pointer is)
@@ -42,7 +42,7 @@ opening_tree digest = record { kind = kind; link = link; cover = cover }
     cover path (bit ∷ other) on touched below is = absurd (false≢true below)
     cover (bit ∷ path) [] on touched below is = absurd (none-some on is)
 
-pub opening_world : (digest : Digest) (header : Header) → IsWorld short_keys digest (opening_shown header) none_evicted none_everywhere opening_spots
+pub opening_world : (digest : Digest) (header : Header) → IsWorld longest_blob digest (opening_shown header) none_evicted none_everywhere opening_spots
 opening_world digest header = record { tree = opening_tree digest; shows = shows; was_evicted = was_evicted; holds = holds }
   where
     root_shown : (path : List Bool) → showing (λ other. None) [] (Some root_entry) path ≡ cached_in 0 (opening_spots path)
@@ -70,6 +70,6 @@ opening_world digest header = record { tree = opening_tree digest; shows = shows
     was_evicted [] value is = absurd (false≢true (ap is_merkle is))
     was_evicted (bit ∷ path) value is = absurd (false≢true (ap is_merkle is))
 
-    holds : (path : List Bool) → length path ≡ path_bits short_keys → blob_at (opening_spots path) ≡ none_everywhere (number_of path)
+    holds : (path : List Bool) → IsData path → blob_at (opening_spots path) ≡ none_everywhere (number_of path)
     holds [] wide = refl
     holds (bit ∷ path) wide = refl

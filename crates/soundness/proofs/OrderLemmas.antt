@@ -173,8 +173,8 @@ module _ (scheme : Scheme) (header : Header) where
 
   -- a verifier's history up to an epoch is a chain from its opening
   history_chain : AreHistories scheme header → (number : ℕ) (logs : List (List Command)) (epoch v : ℕ)
-      → AllByRecursion (AllByRecursion (IsTyped scheme.format)) logs
-      → IsChain scheme.format scheme.digest (shown_by (opening v header))
+      → AllByRecursion (AllByRecursion (IsTyped scheme.longest)) logs
+      → IsChain scheme.longest scheme.digest (shown_by (opening v header))
       (up_to event_moment epoch (history_of scheme header number logs v))
   history_chain known number [] epoch v ranges = tt
   history_chain known number (log ∷ logs) epoch v ranges =
@@ -187,24 +187,24 @@ module _ (scheme : Scheme) (header : Header) where
       behind = history_of scheme header (suc number) logs v
 
       chain : List Event → Type 0
-      chain zs = IsChain scheme.format scheme.digest (shown_by (opening v header)) (up_to event_moment epoch zs)
+      chain zs = IsChain scheme.longest scheme.digest (shown_by (opening v header)) (up_to event_moment epoch zs)
 
       go : (number ≡ v) ⊎ (number ≡ v → ⊥) → chain behind → chain (if eqb number v then events else behind)
       go (inl same) rest =
           subst (λ (b : Bool). chain (if b then events else behind)) (sym (eq-eqb number v same))
-          (subst (λ (n : ℕ). IsChain scheme.format scheme.digest (shown_by (opening n header)) (up_to event_moment epoch events))
+          (subst (λ (n : ℕ). IsChain scheme.longest scheme.digest (shown_by (opening n header)) (up_to event_moment epoch events))
           same (log_run_up_to scheme header number epoch log ranges.0 (known.sorted number log)))
       go (inr apart) rest =
           subst (λ (b : Bool). chain (if b then events else behind)) (sym (ne_eqb number v apart)) rest
 
   -- The events of all logs up to an epoch, in the merged order, are a run from the opening.
   pub order_run : AreHistories scheme header → (logs : List (List Command)) (epoch : ℕ)
-      → AllByRecursion (AllByRecursion (IsTyped scheme.format)) logs
-      → IsRun scheme.format scheme.digest (opening_shown header) (order_up_to epoch (histories_of scheme header logs))
+      → AllByRecursion (AllByRecursion (IsTyped scheme.longest)) logs
+      → IsRun scheme.longest scheme.digest (opening_shown header) (order_up_to epoch (histories_of scheme header logs))
   order_run known logs epoch ranges =
       let events = order_up_to epoch (histories_of scheme header logs) in
-      run_of_parts scheme.format scheme.digest (opening_shown header) events
-      (λ v. subst (IsChain scheme.format scheme.digest (shown_by (opening v header))) (sym (part_up_to known logs epoch v))
+      run_of_parts scheme.longest scheme.digest (opening_shown header) events
+      (λ v. subst (IsChain scheme.longest scheme.digest (shown_by (opening v header))) (sym (part_up_to known logs epoch v))
       (history_chain known 0 logs epoch v ranges))
 
   -- ---- the elements

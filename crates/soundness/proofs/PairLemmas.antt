@@ -4,7 +4,6 @@ use Rattle.std.proofs.lemmas.Bool.{false≢true, true≢false}
 use Rattle.std.proofs.lemmas.Option.{same_Some}
 use Rattle.tree_keys.specs.Path.{side, is_prefix}
 use Rattle.record_text.specs.declared.value.Pointer.{Pointer}
-use Rattle.record_text.specs.Format.{Format}
 use Rattle.merkle_records.specs.Merkle.{Digest}
 use Rattle.verifier_cache.specs.declared.entry.Entry.{Entry}
 use Rattle.soundness.specs.Spot.{Spot, cached, Spots, is_touched, pointer_at, home_of, LeadsBy, Leads, Covers, IsKind, IsTree}
@@ -13,7 +12,7 @@ use Rattle.soundness.proofs.MovedLemmas.{pointer_below, pointer_touched, leads_s
 
 -- A parent in a cache and its child on a side change: the parent's pointer of that side leads to the child from
 -- now on, all that is touched there is the child or lies below it, and no other pointer leads to the child.
-pub record TwoMove (format : Format) (digest : Digest) (old new : Spots) (p k : List Bool) (on : Bool) (home : ℕ) (before after : Entry) (spot : Spot) (pointer : Pointer) : Type 0 where
+pub record TwoMove (longest : ℕ) (digest : Digest) (old new : Spots) (p k : List Bool) (on : Bool) (home : ℕ) (before after : Entry) (spot : Spot) (pointer : Pointer) : Type 0 where
   pub parent_before : old p ≡ cached home before
   pub parent_now : new p ≡ cached home after
   pub child_now : new k ≡ spot
@@ -22,16 +21,16 @@ pub record TwoMove (format : Format) (digest : Digest) (old new : Spots) (p k : 
   pub same_hold : after.hold ≡ before.hold
   pub points : pointer_at (cached home after) on ≡ Some pointer
   pub points_to : pointer.path ≡ k
-  pub leads : Leads format digest (home_of (cached home after) on) pointer spot
+  pub leads : Leads digest (home_of (cached home after) on) pointer spot
   pub other_pointer : (which : Bool) → which ≢ on → pointer_at (cached home after) which ≡ pointer_at (cached home before) which
   pub other_home : (which : Bool) → which ≢ on → home_of (cached home after) which ≡ home_of (cached home before) which
   pub between : (j : List Bool) → is_touched (old j) ≡ true → side p j ≡ Some on → is_prefix k j ≡ true
   pub child_touched : is_touched spot ≡ true
-  pub child_link : (which : Bool) (q : Pointer) → pointer_at spot which ≡ Some q → Leads format digest (home_of spot which) q (old q.path)
+  pub child_link : (which : Bool) (q : Pointer) → pointer_at spot which ≡ Some q → Leads digest (home_of spot which) q (old q.path)
   pub child_cover : (which : Bool) (j : List Bool) → is_touched (old j) ≡ true → side k j ≡ Some which → Covers (pointer_at spot which) j
   pub alone : (j : List Bool) (which : Bool) (q : Pointer) → p ≢ j → pointer_at (old j) which ≡ Some q → k ≢ q.path
-  pub kind_parent : IsKind format p (cached home after)
-  pub kind_child : IsKind format k spot
+  pub kind_parent : IsKind longest p (cached home after)
+  pub kind_child : IsKind longest k spot
 
 -- a side is that of the child, or the other
 side_or_other : (which on : Bool) → (which ≡ on) ⊎ (which ≢ on)
@@ -45,71 +44,71 @@ covers_below : (pointer : Option Pointer) (k j : List Bool) → Covers pointer k
 covers_below None k j covers h = absurd covers
 covers_below (Some pointer) k j covers h = is_prefix-trans pointer.path k j covers h
 
-pub two_move : (format : Format) (digest : Digest) (old new : Spots) (p k : List Bool) (on : Bool) (home : ℕ) (before after : Entry) (spot : Spot) (pointer : Pointer)
-    → TwoMove format digest old new p k on home before after spot pointer → IsTree format digest old → IsTree format digest new
-two_move format digest old new p k on home before after spot pointer m tree = record { kind = kind; link = link; cover = cover }
+pub two_move : (longest : ℕ) (digest : Digest) (old new : Spots) (p k : List Bool) (on : Bool) (home : ℕ) (before after : Entry) (spot : Spot) (pointer : Pointer)
+    → TwoMove longest digest old new p k on home before after spot pointer → IsTree longest digest old → IsTree longest digest new
+two_move longest digest old new p k on home before after spot pointer m tree = record { kind = kind; link = link; cover = cover }
   where
-    kind : (j : List Bool) → IsKind format j (new j)
+    kind : (j : List Bool) → IsKind longest j (new j)
     kind j = go (this_or_other p j) (this_or_other k j)
       where
-        go : (p ≡ j) ⊎ (p ≢ j) → (k ≡ j) ⊎ (k ≢ j) → IsKind format j (new j)
-        go (inl same) other = subst (λ (i : List Bool). IsKind format i (new i)) same (subst (IsKind format p) (sym m.parent_now) m.kind_parent)
-        go (inr apart) (inl same) = subst (λ (i : List Bool). IsKind format i (new i)) same (subst (IsKind format k) (sym m.child_now) m.kind_child)
-        go (inr apart) (inr further) = subst (IsKind format j) (sym (m.elsewhere j apart further)) (tree.kind j)
+        go : (p ≡ j) ⊎ (p ≢ j) → (k ≡ j) ⊎ (k ≢ j) → IsKind longest j (new j)
+        go (inl same) other = subst (λ (i : List Bool). IsKind longest i (new i)) same (subst (IsKind longest p) (sym m.parent_now) m.kind_parent)
+        go (inr apart) (inl same) = subst (λ (i : List Bool). IsKind longest i (new i)) same (subst (IsKind longest k) (sym m.child_now) m.kind_child)
+        go (inr apart) (inr further) = subst (IsKind longest j) (sym (m.elsewhere j apart further)) (tree.kind j)
 
     -- what is not the child is led to as before
-    target : (flag : Bool) (at : Option ℕ) (kept : List ℕ) (j : List Bool) → k ≢ j → LeadsBy format digest flag at kept (old j) → LeadsBy format digest flag at kept (new j)
+    target : (flag : Bool) (at : Option ℕ) (kept : List ℕ) (j : List Bool) → k ≢ j → LeadsBy digest flag at kept (old j) → LeadsBy digest flag at kept (new j)
     target flag at kept j further leads = go (this_or_other p j)
       where
-        go : (p ≡ j) ⊎ (p ≢ j) → LeadsBy format digest flag at kept (new j)
+        go : (p ≡ j) ⊎ (p ≢ j) → LeadsBy digest flag at kept (new j)
         go (inl same) =
-            subst (λ (i : List Bool). LeadsBy format digest flag at kept (new i)) same
-            (subst (LeadsBy format digest flag at kept) (sym m.parent_now)
-            (leads_same_hold format digest flag at kept home before after m.same_hold
-            (subst (LeadsBy format digest flag at kept) m.parent_before
-            (subst (λ (i : List Bool). LeadsBy format digest flag at kept (old i)) (sym same) leads))))
-        go (inr apart) = subst (LeadsBy format digest flag at kept) (sym (m.elsewhere j apart further)) leads
+            subst (λ (i : List Bool). LeadsBy digest flag at kept (new i)) same
+            (subst (LeadsBy digest flag at kept) (sym m.parent_now)
+            (leads_same_hold digest flag at kept home before after m.same_hold
+            (subst (LeadsBy digest flag at kept) m.parent_before
+            (subst (λ (i : List Bool). LeadsBy digest flag at kept (old i)) (sym same) leads))))
+        go (inr apart) = subst (LeadsBy digest flag at kept) (sym (m.elsewhere j apart further)) leads
 
     parent_links : (which : Bool) (q : Pointer) → pointer_at (cached home after) which ≡ Some q
-        → Leads format digest (home_of (cached home after) which) q (new q.path)
+        → Leads digest (home_of (cached home after) which) q (new q.path)
     parent_links which q is = go (side_or_other which on)
       where
-        go : (which ≡ on) ⊎ (which ≢ on) → Leads format digest (home_of (cached home after) which) q (new q.path)
+        go : (which ≡ on) ⊎ (which ≢ on) → Leads digest (home_of (cached home after) which) q (new q.path)
         go (inl same) =
             let is_it : pointer ≡ q = same_Some pointer q (sym m.points ∙ ap (pointer_at (cached home after)) (sym same) ∙ is) in
-            subst (λ (r : Pointer). Leads format digest (home_of (cached home after) which) r (new r.path)) is_it
-            (subst (λ (w : Bool). Leads format digest (home_of (cached home after) w) pointer (new pointer.path)) (sym same)
-            (subst (λ (i : List Bool). Leads format digest (home_of (cached home after) on) pointer (new i)) (sym m.points_to)
-            (subst (Leads format digest (home_of (cached home after) on) pointer) (sym m.child_now) m.leads)))
+            subst (λ (r : Pointer). Leads digest (home_of (cached home after) which) r (new r.path)) is_it
+            (subst (λ (w : Bool). Leads digest (home_of (cached home after) w) pointer (new pointer.path)) (sym same)
+            (subst (λ (i : List Bool). Leads digest (home_of (cached home after) on) pointer (new i)) (sym m.points_to)
+            (subst (Leads digest (home_of (cached home after) on) pointer) (sym m.child_now) m.leads)))
         go (inr other) =
             let was : pointer_at (cached home before) which ≡ Some q = sym (m.other_pointer which other) ∙ is in
             let was_old : pointer_at (old p) which ≡ Some q = ap (λ (s : Spot). pointer_at s which) m.parent_before ∙ was in
-            let q_below : side p q.path ≡ Some which = pointer_below format p (old p) which q (tree.kind p) was_old in
+            let q_below : side p q.path ≡ Some which = pointer_below longest p (old p) which q (tree.kind p) was_old in
             let apart : k ≢ q.path = λ same. other (same_Some which on (sym q_below ∙ ap (side p) (sym same) ∙ m.below)) in
             target q.deferred (home_of (cached home after) which) q.digest q.path apart
-            (subst (λ (h : Option ℕ). Leads format digest h q (old q.path))
+            (subst (λ (h : Option ℕ). Leads digest h q (old q.path))
             (ap (λ (s : Spot). home_of s which) m.parent_before ∙ sym (m.other_home which other))
             (tree.link p which q was_old))
 
-    child_links : (which : Bool) (q : Pointer) → pointer_at spot which ≡ Some q → Leads format digest (home_of spot which) q (new q.path)
+    child_links : (which : Bool) (q : Pointer) → pointer_at spot which ≡ Some q → Leads digest (home_of spot which) q (new q.path)
     child_links which q is =
-        let q_below : side k q.path ≡ Some which = pointer_below format k spot which q m.kind_child is in
+        let q_below : side k q.path ≡ Some which = pointer_below longest k spot which q m.kind_child is in
         target q.deferred (home_of spot which) q.digest q.path (above_apart k q.path which q_below) (m.child_link which q is)
 
     other_links : (j : List Bool) (which : Bool) (q : Pointer) → p ≢ j → pointer_at (old j) which ≡ Some q
-        → Leads format digest (home_of (old j) which) q (new q.path)
+        → Leads digest (home_of (old j) which) q (new q.path)
     other_links j which q apart is = target q.deferred (home_of (old j) which) q.digest q.path (m.alone j which q apart is) (tree.link j which q is)
 
-    link : (j : List Bool) (which : Bool) (q : Pointer) → pointer_at (new j) which ≡ Some q → Leads format digest (home_of (new j) which) q (new q.path)
+    link : (j : List Bool) (which : Bool) (q : Pointer) → pointer_at (new j) which ≡ Some q → Leads digest (home_of (new j) which) q (new q.path)
     link j which q is = go (this_or_other p j) (this_or_other k j)
       where
-        moved_link : (s : Spot) → new j ≡ s → (pointer_at s which ≡ Some q → Leads format digest (home_of s which) q (new q.path))
-            → Leads format digest (home_of (new j) which) q (new q.path)
+        moved_link : (s : Spot) → new j ≡ s → (pointer_at s which ≡ Some q → Leads digest (home_of s which) q (new q.path))
+            → Leads digest (home_of (new j) which) q (new q.path)
         moved_link s at links =
-            subst (λ (t : Spot). Leads format digest (home_of t which) q (new q.path)) (sym at)
+            subst (λ (t : Spot). Leads digest (home_of t which) q (new q.path)) (sym at)
             (links (subst (λ (t : Spot). pointer_at t which ≡ Some q) at is))
 
-        go : (p ≡ j) ⊎ (p ≢ j) → (k ≡ j) ⊎ (k ≢ j) → Leads format digest (home_of (new j) which) q (new q.path)
+        go : (p ≡ j) ⊎ (p ≢ j) → (k ≡ j) ⊎ (k ≢ j) → Leads digest (home_of (new j) which) q (new q.path)
         go (inl same) other = moved_link (cached home after) (ap new (sym same) ∙ m.parent_now) (parent_links which q)
         go (inr apart) (inl same) = moved_link spot (ap new (sym same) ∙ m.child_now) (child_links which q)
         go (inr apart) (inr further) = moved_link (old j) (m.elsewhere j apart further) (other_links j which q apart)
@@ -193,17 +192,17 @@ two_move format digest old new p k on home before after spot pointer m tree = re
 -- ---- one parent
 
 -- Where a touched path's pointer leads to a touched path, no other path's does.
-pub one_parent : (format : Format) (digest : Digest) (spots : Spots) (p k : List Bool) (on : Bool) (pointer : Pointer) → IsTree format digest spots
+pub one_parent : (longest : ℕ) (digest : Digest) (spots : Spots) (p k : List Bool) (on : Bool) (pointer : Pointer) → IsTree longest digest spots
     → is_touched (spots k) ≡ true → pointer_at (spots p) on ≡ Some pointer → pointer.path ≡ k
     → (j : List Bool) (which : Bool) (q : Pointer) → p ≢ j → pointer_at (spots j) which ≡ Some q → k ≢ q.path
-one_parent format digest spots p k on pointer tree touched points to j which q apart is same =
+one_parent longest digest spots p k on pointer tree touched points to j which q apart is same =
     go (side-compare p j k on which p_below j_below)
   where
     p_below : side p k ≡ Some on
-    p_below = subst (λ (i : List Bool). side p i ≡ Some on) to (pointer_below format p (spots p) on pointer (tree.kind p) points)
+    p_below = subst (λ (i : List Bool). side p i ≡ Some on) to (pointer_below longest p (spots p) on pointer (tree.kind p) points)
 
     j_below : side j k ≡ Some which
-    j_below = subst (λ (i : List Bool). side j i ≡ Some which) (sym same) (pointer_below format j (spots j) which q (tree.kind j) is)
+    j_below = subst (λ (i : List Bool). side j i ≡ Some which) (sym same) (pointer_below longest j (spots j) which q (tree.kind j) is)
 
     go : (p ≡ j) ⊎ ((side p j ≡ Some on) ⊎ (side j p ≡ Some which)) → ⊥
     go (inl one) = apart one

@@ -1,6 +1,7 @@
 -- The elements that wait at the end of the merged order up to an epoch are those that come in later epochs.
 use Rattle.std.proofs.Common.{◌≡◌, ℕ, zero, suc, ◌+◌, ◌<◌, ◌≤◌, nat_lt, nat_le, filter, Bool, true, false, List, [], ◌∷◌, ◌++◌, Option, None, append-nil, refl, sym, ◌∙◌, ap, subst, arith}
 use Rattle.record_hash.specs.Functions.{DigestFunctions}
+use Rattle.record_text.specs.Longest.{longest_blob}
 use Rattle.merkle_records.specs.Scheme.{scheme_of, Scheme}
 use Rattle.std.specs.List.{AllByRecursion}
 use Rattle.std.specs.Option.{unwrap_or}
@@ -9,7 +10,6 @@ use Rattle.std.proofs.lemmas.List.Elements.{filter-append}
 use Rattle.lamport_clocks.specs.declared.header.Header.{Header}
 use Rattle.lamport_clocks.specs.declared.stamp.Stamp.{Stamp}
 use Rattle.record_text.specs.declared.element.Element.{Element}
-use Rattle.record_text.specs.Format.{short_keys}
 use Rattle.log_codec.specs.declared.command.Command.{Command}
 use Rattle.merkle_records.specs.Merkle.{GivesDigests}
 use Rattle.stamp_order.proofs.InOrderLaws.{every-weaker, every-append, every-filter}
@@ -297,8 +297,8 @@ module _ (scheme : Scheme) (header : Header) (logs : List (List Command)) (last 
 -- And its path's spot waits with it.
 pub later_waiting : (functions : DigestFunctions) (header : Header) (logs : List (List Command)) (last : ℕ)
     → let histories = histories_of (scheme_of functions header) header logs in
-    GivesDigests functions.digest → AreTyped short_keys logs → ArePermuted header.first last (order_of histories)
-    → first_clash short_keys none_evicted (changes_in (order_up_to last histories)) ≡ None
+    GivesDigests functions.digest → AreTyped longest_blob logs → ArePermuted header.first last (order_of histories)
+    → first_clash none_evicted (changes_in (order_up_to last histories)) ≡ None
     → (spots : Spots) × IsBehind functions.digest header (order_up_to last histories) spots
     × ((x : Element) → x.stamp.epoch ≤ last → 1 ≤ count_of x (added_among (order_after last histories)) → spots x.path ≡ waiting x)
 later_waiting functions header logs last digests typed permuted free =

@@ -1,5 +1,6 @@
 -- The elements that a verifier evicts are of its number, and the stamp of each is above those of all before it.
 use Rattle.std.proofs.Common.{◌≡◌, ℕ, suc, not, nat_le, List, [], ◌∷◌, ◌++◌, is_some, Ok, Err, refl, ap, subst, ◌∙◌, inl, inr, arith}
+use Rattle.tree_keys.specs.Path.{is_data}
 use Rattle.merkle_records.specs.Scheme.{Scheme}
 use Rattle.std.specs.List.{AllByRecursion}
 use Rattle.std.specs.Ordering.{is_lt}
@@ -24,7 +25,7 @@ use Rattle.verifier_commands.specs.State.{opening}
 use Rattle.verifier_commands.specs.Change.{Change, did_add_m, did_evict_m, did_add_b, did_evict_b, did_evict_bm, did_get, did_put, did_next_epoch}
 use Rattle.verifier_commands.specs.Changes.{add_under, evict_under, defer_under, is_by_stamp}
 use Rattle.record_text.specs.Same.{same_value}
-use Rattle.verifier_commands.specs.Transition.{Rules, Step, is_root, is_data, is_full, transition}
+use Rattle.verifier_commands.specs.Transition.{Rules, Step, is_root, is_full, transition}
 use Rattle.verifier_commands.specs.Machine.{Machine, rules_for, opening_machine}
 use Rattle.verifier_commands.specs.Trace.{events_from, events_behind, changed}
 use Rattle.soundness.specs.History.{Event, log_events}
@@ -51,13 +52,13 @@ own_step rules state (AddM path value parent) done is =
     let fresh = test-ok (is_some (entry_of path state.cache.entries)) _ _ done inner.1 in
     let room = test-ok (is_full state) _ _ done fresh.1 in
     let holder = need-ok (entry_of parent state.cache.entries) _ _ done room.1 in
-    let family = and_then-ok (add_under rules.scheme.format rules.scheme.digest holder.0 path value) _ done holder.2 in
+    let family = and_then-ok (add_under rules.scheme.digest holder.0 path value) _ done holder.2 in
     IfOk-at_ok (EvictsOwn rules.number) family.2 tt
 own_step rules state (EvictM path parent) done is =
     let inner = test-ok (is_root path) _ _ done is in
     let child = need-ok (entry_of path state.cache.entries) _ _ done inner.1 in
     let holder = need-ok (entry_of parent state.cache.entries) _ _ done child.2 in
-    let after = and_then-ok (evict_under rules.scheme.format rules.scheme.digest holder.0 child.0) _ done holder.2 in
+    let after = and_then-ok (evict_under rules.scheme.digest holder.0 child.0) _ done holder.2 in
     IfOk-at_ok (EvictsOwn rules.number) after.2 tt
 own_step rules state (AddB path value stamp verifier) done is =
     let inner = test-ok (is_root path) _ _ done is in
@@ -82,12 +83,12 @@ own_step rules state (EvictBM path parent stamp) done is =
     IfOk-at_ok (EvictsOwn rules.number) clock.2 (refl, tt)
 own_step rules state (Get path value) done is =
     let entry = need-ok (entry_of path state.cache.entries) _ _ done is in
-    let data_path = test-ok (not (is_data rules.scheme.format path)) _ _ done entry.2 in
+    let data_path = test-ok (not (is_data path)) _ _ done entry.2 in
     let same = test-ok (not (same_value entry.0.value value)) _ _ done data_path.1 in
     IfOk-at_ok (EvictsOwn rules.number) same.1 tt
 own_step rules state (Put path value) done is =
     let entry = need-ok (entry_of path state.cache.entries) _ _ done is in
-    let data_path = test-ok (not (is_data rules.scheme.format path)) _ _ done entry.2 in
+    let data_path = test-ok (not (is_data path)) _ _ done entry.2 in
     IfOk-at_ok (EvictsOwn rules.number) data_path.1 tt
 own_step rules state NextEpoch done is =
     let turn = timed-ok (advanced state.clock) _ done is in

@@ -1,7 +1,6 @@
 -- A list of events of several verifiers as one run of all caches.
 use Rattle.std.proofs.Common.{◌≡◌, ◌≢◌, ◌⊎◌, ℕ, Bool, eqb, if◌then◌else◌, List, [], ◌∷◌, ◌++◌, refl, sym, ap, subst, inl, inr}
 use Rattle.std.proofs.lemmas.Bool.{cond-true, cond-false, eq-eqb, ne_eqb, cases_eq}
-use Rattle.record_text.specs.Format.{Format}
 use Rattle.merkle_records.specs.Merkle.{Digest}
 use Rattle.stamp_order.specs.Merged.{of_verifier}
 use Rattle.soundness.specs.History.{Event}
@@ -11,19 +10,19 @@ use Rattle.soundness.specs.World.{AllShown, with_shown}
 use Rattle.soundness.proofs.LawfulLemmas.{IsChain}
 
 -- Each event is a step of its verifier's cache, from these caches on.
-abbrev pub IsRun : Format → Digest → AllShown → List Event → Type 0
-IsRun format digest shown [] = Unit {0}
-IsRun format digest shown (event ∷ events) =
-    (next : Shown) × HasDone format digest (shown event.verifier) next event.change × IsRun format digest (with_shown shown event.verifier next) events
+abbrev pub IsRun : ℕ → Digest → AllShown → List Event → Type 0
+IsRun longest digest shown [] = Unit {0}
+IsRun longest digest shown (event ∷ events) =
+    (next : Shown) × HasDone longest digest (shown event.verifier) next event.change × IsRun longest digest (with_shown shown event.verifier next) events
 
 -- ---- runs from chains
 
 -- A front of a chain is a chain.
-pub chain_front : (format : Format) (digest : Digest) (shown : Shown) (front back : List Event)
-    → IsChain format digest shown (front ++ back) → IsChain format digest shown front
-chain_front format digest shown [] back chain = tt
-chain_front format digest shown (event ∷ front) back chain =
-    (chain.0, chain.1, chain_front format digest chain.0 front back chain.2)
+pub chain_front : (longest : ℕ) (digest : Digest) (shown : Shown) (front back : List Event)
+    → IsChain longest digest shown (front ++ back) → IsChain longest digest shown front
+chain_front longest digest shown [] back chain = tt
+chain_front longest digest shown (event ∷ front) back chain =
+    (chain.0, chain.1, chain_front longest digest chain.0 front back chain.2)
 
 -- the first event and those of its verifier behind it are its verifier's part
 own_part : (event : Event) (events : List Event)
@@ -37,27 +36,27 @@ other_part event events v apart =
     cond-false (eqb event.verifier v) _ _ (ne_eqb event.verifier v (λ same. apart (sym same)))
 
 -- Where each verifier's part of the events is a chain of its own, the events are a run.
-pub run_of_parts : (format : Format) (digest : Digest) (shown : AllShown) (events : List Event)
-    → ((v : ℕ) → IsChain format digest (shown v) (of_verifier event_moment v events))
-    → IsRun format digest shown events
-run_of_parts format digest shown [] parts = tt
-run_of_parts format digest shown (event ∷ events) parts =
-    (own.0, own.1, run_of_parts format digest (with_shown shown event.verifier own.0) events further)
+pub run_of_parts : (longest : ℕ) (digest : Digest) (shown : AllShown) (events : List Event)
+    → ((v : ℕ) → IsChain longest digest (shown v) (of_verifier event_moment v events))
+    → IsRun longest digest shown events
+run_of_parts longest digest shown [] parts = tt
+run_of_parts longest digest shown (event ∷ events) parts =
+    (own.0, own.1, run_of_parts longest digest (with_shown shown event.verifier own.0) events further)
   where
-    own : IsChain format digest (shown event.verifier) (event ∷ of_verifier event_moment event.verifier events)
-    own = subst (IsChain format digest (shown event.verifier)) (own_part event events) (parts event.verifier)
+    own : IsChain longest digest (shown event.verifier) (event ∷ of_verifier event_moment event.verifier events)
+    own = subst (IsChain longest digest (shown event.verifier)) (own_part event events) (parts event.verifier)
 
     further : (v : ℕ)
-        → IsChain format digest (with_shown shown event.verifier own.0 v) (of_verifier event_moment v events)
+        → IsChain longest digest (with_shown shown event.verifier own.0 v) (of_verifier event_moment v events)
     further v = go (cases_eq v event.verifier)
       where
         go : (v ≡ event.verifier) ⊎ (v ≡ event.verifier → ⊥)
-            → IsChain format digest (with_shown shown event.verifier own.0 v) (of_verifier event_moment v events)
+            → IsChain longest digest (with_shown shown event.verifier own.0 v) (of_verifier event_moment v events)
         go (inl same) =
-            subst (λ (s : Shown). IsChain format digest s (of_verifier event_moment v events))
+            subst (λ (s : Shown). IsChain longest digest s (of_verifier event_moment v events))
             (sym (ap (λ (b : Bool). if b then own.0 else shown v) (eq-eqb v event.verifier same)))
-            (subst (λ (w : ℕ). IsChain format digest own.0 (of_verifier event_moment w events)) (sym same) own.2)
+            (subst (λ (w : ℕ). IsChain longest digest own.0 (of_verifier event_moment w events)) (sym same) own.2)
         go (inr apart) =
-            subst (λ (s : Shown). IsChain format digest s (of_verifier event_moment v events))
+            subst (λ (s : Shown). IsChain longest digest s (of_verifier event_moment v events))
             (sym (ap (λ (b : Bool). if b then own.0 else shown v) (ne_eqb v event.verifier apart)))
-            (subst (IsChain format digest (shown v)) (other_part event events v apart) (parts v))
+            (subst (IsChain longest digest (shown v)) (other_part event events v apart) (parts v))

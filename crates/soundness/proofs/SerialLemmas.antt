@@ -5,7 +5,6 @@ use Rattle.std.specs.Map.{update}
 use Rattle.std.proofs.lemmas.Bool.{true≢false}
 use Rattle.tree_keys.specs.Bits.{number_of}
 use Rattle.record_text.specs.declared.element.Element.{Element}
-use Rattle.record_text.specs.Format.{Format}
 use Rattle.merkle_records.specs.Merkle.{Digest, GivesDigests}
 use Rattle.stamp_order.specs.Serial.{IsSerialFrom}
 use Rattle.verifier_cache.specs.declared.entry.Entry.{Entry}
@@ -126,46 +125,46 @@ waits_once_out element pending rest out =
     subst (λ (n : ℕ). 1 ≤ n) (sym (count_without element element pending rest out ∙ ap (λ (b : Bool). one_more b (count_of element rest)) (same_element-self element))) (omega arith)
 
 -- an element that waits is of its path
-pub waits_own : (format : Format) (digest : Digest) (shown : AllShown) (last : LastEvicted) (stored : Stored) (spots : Spots) → IsWorld format digest shown last stored spots
+pub waits_own : (longest : ℕ) (digest : Digest) (shown : AllShown) (last : LastEvicted) (stored : Stored) (spots : Spots) → IsWorld longest digest shown last stored spots
     → (path : List Bool) (x : Element) → spots path ≡ waiting x → x.path ≡ path
-waits_own format digest shown last stored spots world path x there = (subst (IsKind format path) there (world.tree.kind path)).0
+waits_own longest digest shown last stored spots world path x there = (subst (IsKind longest path) there (world.tree.kind path)).0
 
 -- a record that goes with an element stood in the cache, so it didn't wait
-pub free_at : (format : Format) (digest : Digest) (shown : AllShown) (last : LastEvicted) (stored : Stored) (spots : Spots) (home : ℕ) (child : Entry) (element : Element)
-    → IsWorld format digest shown last stored spots → shown home child.path ≡ Some child → element.path ≡ child.path
+pub free_at : (longest : ℕ) (digest : Digest) (shown : AllShown) (last : LastEvicted) (stored : Stored) (spots : Spots) (home : ℕ) (child : Entry) (element : Element)
+    → IsWorld longest digest shown last stored spots → shown home child.path ≡ Some child → element.path ≡ child.path
     → (x : Element) → spots element.path ≡ waiting x → ⊥
-free_at format digest shown last stored spots home child element world had path x there =
+free_at longest digest shown last stored spots home child element world had path x there =
     not_waiting (spots element.path) (cached home child) x
     (ap spots path ∙ spot_of_shown home (spots child.path) child (sym (world.shows home child.path) ∙ had)) refl there
 
 -- ---- the run
 
 -- the first clash is a collision
-abbrev pub Collides : Format → Digest → LastEvicted → List Event → Type 0
-Collides format digest last events =
-    (strings : Strings) × (first_clash format last (map (λ (event : Event). event.change) events) ≡ Some strings) × IsCollision digest strings
+abbrev pub Collides : Digest → LastEvicted → List Event → Type 0
+Collides digest last events =
+    (strings : Strings) × (first_clash last (map (λ (event : Event). event.change) events) ≡ Some strings) × IsCollision digest strings
 
 -- there is no clash, and the operations are serial
-abbrev pub IsSound : Format → LastEvicted → Stored → List Event → Type 0
-IsSound format last stored events =
-    (first_clash format last (map (λ (event : Event). event.change) events) ≡ None) × IsSerialFrom stored (operations_in events)
+abbrev pub IsSound : LastEvicted → Stored → List Event → Type 0
+IsSound last stored events =
+    (first_clash last (map (λ (event : Event). event.change) events) ≡ None) × IsSerialFrom stored (operations_in events)
 
 -- behind a change that shows no clash
-abbrev CollidesBehind : Format → Digest → LastEvicted → Change → List Event → Type 0
-CollidesBehind format digest last change events =
-    (strings : Strings) × (option_or (clash_of format last change) (first_clash format (last_evicted_after last change) (map (λ (event : Event). event.change) events)) ≡ Some strings) × IsCollision digest strings
+abbrev CollidesBehind : Digest → LastEvicted → Change → List Event → Type 0
+CollidesBehind digest last change events =
+    (strings : Strings) × (option_or (clash_of last change) (first_clash (last_evicted_after last change) (map (λ (event : Event). event.change) events)) ≡ Some strings) × IsCollision digest strings
 
-abbrev IsFree : Format → LastEvicted → Change → List Event → Type 0
-IsFree format last change events =
-    option_or (clash_of format last change) (first_clash format (last_evicted_after last change) (map (λ (event : Event). event.change) events)) ≡ None
+abbrev IsFree : LastEvicted → Change → List Event → Type 0
+IsFree last change events =
+    option_or (clash_of last change) (first_clash (last_evicted_after last change) (map (λ (event : Event). event.change) events)) ≡ None
 
-pub run_keeps : (format : Format) (digest : Digest) → HasOneText format → GivesDigests digest → (events : List Event) (shown : AllShown) (last : LastEvicted) (stored : Stored) (spots : Spots) (pending : List Element)
-    → IsWorld format digest shown last stored spots → IsWaiting spots pending → IsRun format digest shown events → IsScheduled pending events
-    → Collides format digest last events ⊎ IsSound format last stored events
-run_keeps format digest one digests [] shown last stored spots pending world waits run scheduled = inr (refl, tt)
-run_keeps format digest one digests (event ∷ events) shown last stored spots pending world waits run scheduled =
+pub run_keeps : (longest : ℕ) (digest : Digest) → HasOneText longest → GivesDigests digest → (events : List Event) (shown : AllShown) (last : LastEvicted) (stored : Stored) (spots : Spots) (pending : List Element)
+    → IsWorld longest digest shown last stored spots → IsWaiting spots pending → IsRun longest digest shown events → IsScheduled pending events
+    → Collides digest last events ⊎ IsSound last stored events
+run_keeps longest digest one digests [] shown last stored spots pending world waits run scheduled = inr (refl, tt)
+run_keeps longest digest one digests (event ∷ events) shown last stored spots pending world waits run scheduled =
     go (λ last stored spots pending world waits scheduled.
-    run_keeps format digest one digests events (with_shown shown event.verifier run.0) last stored spots pending world waits run.2 scheduled)
+    run_keeps longest digest one digests events (with_shown shown event.verifier run.0) last stored spots pending world waits run.2 scheduled)
     event.change run.1 scheduled
   where
     next_shown : AllShown
@@ -174,32 +173,32 @@ run_keeps format digest one digests (event ∷ events) shown last stored spots p
     Further : Type 0
     Further =
         (last : LastEvicted) (stored : Stored) (spots : Spots) (pending : List Element)
-        → IsWorld format digest next_shown last stored spots → IsWaiting spots pending → IsScheduled pending events
-        → Collides format digest last events ⊎ IsSound format last stored events
+        → IsWorld longest digest next_shown last stored spots → IsWaiting spots pending → IsScheduled pending events
+        → Collides digest last events ⊎ IsSound last stored events
 
     Behind : Change → Type 0
-    Behind change = CollidesBehind format digest last change events ⊎ (IsFree format last change events × IsSerialFrom stored (operations_in (record event { change = change } ∷ events)))
+    Behind change = CollidesBehind digest last change events ⊎ (IsFree last change events × IsSerialFrom stored (operations_in (record event { change = change } ∷ events)))
 
     -- what holds behind a change without clash and operation
-    plain : (change : Change) → clash_of format last change ≡ None
+    plain : (change : Change) → clash_of last change ≡ None
         → (IsSerialFrom stored (operations_in events) → IsSerialFrom stored (operations_in (record event { change = change } ∷ events)))
-        → Collides format digest (last_evicted_after last change) events ⊎ IsSound format (last_evicted_after last change) stored events → Behind change
+        → Collides digest (last_evicted_after last change) events ⊎ IsSound (last_evicted_after last change) stored events → Behind change
     plain change free same (inl collides) = inl (collides.0, first collides.1, collides.2)
       where
-        first : {x : Option Strings} → first_clash format (last_evicted_after last change) (map (λ (event : Event). event.change) events) ≡ x
-            → option_or (clash_of format last change) (first_clash format (last_evicted_after last change) (map (λ (event : Event). event.change) events)) ≡ x
-        first is = ap (λ (o : Option Strings). option_or o (first_clash format (last_evicted_after last change) (map (λ (event : Event). event.change) events))) free ∙ is
+        first : {x : Option Strings} → first_clash (last_evicted_after last change) (map (λ (event : Event). event.change) events) ≡ x
+            → option_or (clash_of last change) (first_clash (last_evicted_after last change) (map (λ (event : Event). event.change) events)) ≡ x
+        first is = ap (λ (o : Option Strings). option_or o (first_clash (last_evicted_after last change) (map (λ (event : Event). event.change) events))) free ∙ is
     plain change free same (inr sound) = inr (
-      ap (λ (o : Option Strings). option_or o (first_clash format (last_evicted_after last change) (map (λ (event : Event). event.change) events))) free ∙ sound.0,
+      ap (λ (o : Option Strings). option_or o (first_clash (last_evicted_after last change) (map (λ (event : Event). event.change) events))) free ∙ sound.0,
       same sound.1,
     )
 
     joined : Further → (parent after child : Entry) → IsScheduled pending events
-        → Clashes format digest last (did_add_m parent after child) ⊎ Passes format digest next_shown last last stored spots (did_add_m parent after child)
+        → Clashes digest last (did_add_m parent after child) ⊎ Passes longest digest next_shown last last stored spots (did_add_m parent after child)
         → Behind (did_add_m parent after child)
     joined further parent after child scheduled (inl clashes) = inl (
       clashes.0,
-      ap (λ (o : Option Strings). option_or o (first_clash format last (map (λ (event : Event). event.change) events))) clashes.1,
+      ap (λ (o : Option Strings). option_or o (first_clash last (map (λ (event : Event). event.change) events))) clashes.1,
       clashes.2,
     )
     joined further parent after child scheduled (inr passes) =
@@ -207,43 +206,43 @@ run_keeps format digest one digests (event ∷ events) shown last stored spots p
         plain (did_add_m parent after child) passes.0 (λ serial. serial)
         (further last stored world_then.0 pending world_then.1 (wait_on spots world_then.0 pending world_then.2 world_then.3 waits) scheduled)
 
-    went : Further → (change : Change) (element : Element) → clash_of format last change ≡ None → last_evicted_after last change ≡ last
+    went : Further → (change : Change) (element : Element) → clash_of last change ≡ None → last_evicted_after last change ≡ last
         → (IsSerialFrom stored (operations_in events) → IsSerialFrom stored (operations_in (record event { change = change } ∷ events)))
         → ((x : Element) → spots element.path ≡ waiting x → ⊥)
-        → LeftAt format digest next_shown last stored spots element.path (waiting element) → IsScheduled (element ∷ pending) events → Behind change
+        → LeftAt longest digest next_shown last stored spots element.path (waiting element) → IsScheduled (element ∷ pending) events → Behind change
     went further change element none same quiet free left scheduled =
         plain change none quiet
-        (subst (λ (t : LastEvicted). Collides format digest t events ⊎ IsSound format t stored events) (sym same)
+        (subst (λ (t : LastEvicted). Collides digest t events ⊎ IsSound t stored events) (sym same)
         (further last stored left.0 (element ∷ pending) left.1 (wait_more spots left.0 pending element left.2 left.3 left.4 free waits) scheduled))
 
-    go : Further → (change : Change) → HasDone format digest (shown event.verifier) run.0 change → IsScheduledBy pending change (λ after. IsScheduled after events) → Behind change
+    go : Further → (change : Change) → HasDone longest digest (shown event.verifier) run.0 change → IsScheduledBy pending change (λ after. IsScheduled after events) → Behind change
     go further (did_add_m parent after child) did scheduled =
-        joined further parent after child scheduled (join_step format digest shown last stored spots event.verifier run.0 parent after child one digests world did)
+        joined further parent after child scheduled (join_step longest digest shown last stored spots event.verifier run.0 parent after child one digests world did)
     go further (did_evict_m parent after child) did scheduled =
-        let world_then = leave_step format digest shown last stored spots event.verifier run.0 parent after child digests world did in
+        let world_then = leave_step longest digest shown last stored spots event.verifier run.0 parent after child digests world did in
         plain (did_evict_m parent after child) refl (λ serial. serial)
         (further (last_evicted_after last (did_evict_m parent after child)) stored world_then.0 pending world_then.1 (wait_on spots world_then.0 pending world_then.2 world_then.3 waits) scheduled)
     go further (did_add_b child element) did scheduled =
-        let back = come_step format digest shown last stored spots event.verifier run.0 child element world did (waits.each element (waits_once_out element pending scheduled.0 scheduled.1)) in
+        let back = come_step longest digest shown last stored spots event.verifier run.0 child element world did (waits.each element (waits_once_out element pending scheduled.0 scheduled.1)) in
         plain (did_add_b child element) refl (λ serial. serial)
-        (further last stored back.0 scheduled.0 back.1 (wait_less spots back.0 pending scheduled.0 element scheduled.1 back.2 back.3 (waits_own format digest shown last stored spots world) waits) scheduled.2)
+        (further last stored back.0 scheduled.0 back.1 (wait_less spots back.0 pending scheduled.0 element scheduled.1 back.2 back.3 (waits_own longest digest shown last stored spots world) waits) scheduled.2)
     go further (did_evict_b child element) did scheduled =
-        went further (did_evict_b child element) element refl refl (λ serial. serial) (free_at format digest shown last stored spots event.verifier child element world did.had_child did.path)
-        (go_step format digest shown last stored spots event.verifier run.0 child element world did) scheduled
+        went further (did_evict_b child element) element refl refl (λ serial. serial) (free_at longest digest shown last stored spots event.verifier child element world did.had_child did.path)
+        (go_step longest digest shown last stored spots event.verifier run.0 child element world did) scheduled
     go further (did_evict_bm parent after child element) did scheduled =
-        went further (did_evict_bm parent after child element) element refl refl (λ serial. serial) (free_at format digest shown last stored spots event.verifier child element world did.had_child did.path)
-        (defer_step format digest shown last stored spots event.verifier run.0 parent after child element world did) scheduled
+        went further (did_evict_bm parent after child element) element refl refl (λ serial. serial) (free_at longest digest shown last stored spots event.verifier child element world did.had_child did.path)
+        (defer_step longest digest shown last stored spots event.verifier run.0 parent after child element world did) scheduled
     go further (did_get entry) did scheduled =
         plain (did_get entry) refl
-        (λ serial. (λ get. read_value format digest shown last stored spots event.verifier run.0 entry world did, serial))
-        (further last stored spots pending (same_step format digest shown last stored spots event.verifier run.0 world did.shown) waits scheduled)
+        (λ serial. (λ get. read_value longest digest shown last stored spots event.verifier run.0 entry world did, serial))
+        (further last stored spots pending (same_step longest digest shown last stored spots event.verifier run.0 world did.shown) waits scheduled)
     go further (did_put before after) did scheduled =
-        let world_then = write_step format digest shown last stored spots event.verifier run.0 before after world did in
+        let world_then = write_step longest digest shown last stored spots event.verifier run.0 before after world did in
         written (further last (update eqb stored (number_of after.path) (blob_of after.value)) world_then.0 pending world_then.1 (wait_on spots world_then.0 pending world_then.2 world_then.3 waits) scheduled)
       where
-        written : Collides format digest last events ⊎ IsSound format last (update eqb stored (number_of after.path) (blob_of after.value)) events → Behind (did_put before after)
+        written : Collides digest last events ⊎ IsSound last (update eqb stored (number_of after.path) (blob_of after.value)) events → Behind (did_put before after)
         written (inl collides) = inl collides
         written (inr sound) = inr (sound.0, (λ get. absurd (true≢false get), sound.1))
     go further (did_next_epoch sealed) did scheduled =
         plain (did_next_epoch sealed) refl (λ serial. serial)
-        (further last stored spots pending (same_step format digest shown last stored spots event.verifier run.0 world did) waits scheduled)
+        (further last stored spots pending (same_step longest digest shown last stored spots event.verifier run.0 world did) waits scheduled)

@@ -5,10 +5,10 @@ use Rattle.std.proofs.lemmas.Bool.{false≢true, true≢false, eq-eqb, ne_eqb, c
 use Rattle.std.proofs.lemmas.Map.{update_same, update_other}
 use Rattle.tree_keys.specs.Bits.{bits_of, number_of}
 use Rattle.tree_keys.proofs.BitsLaws.{bits_of-number_of}
+use Rattle.tree_keys.specs.Path.{IsData}
 use Rattle.record_text.specs.declared.value.Value.{Value}
 use Rattle.record_text.specs.declared.value.Value.TheVariants as values
 use Rattle.record_text.specs.declared.element.Element.{Element}
-use Rattle.record_text.specs.Format.{Format, path_bits}
 use Rattle.record_text.specs.Value.{IsOf}
 use Rattle.merkle_records.specs.Merkle.{Digest}
 use Rattle.verifier_cache.specs.declared.entry.Entry.{Entry}
@@ -40,10 +40,10 @@ taken_one last spots k spot not_merkle was path value is = go (this_or_other k p
     go (inr away) = was path value (sym (with_spot_other spots k path spot away) ∙ is)
 
 -- no data value changed
-holds_one : (format : Format) (stored : Stored) (spots : Spots) (k : List Bool) (spot : Spot) → blob_at spot ≡ blob_at (spots k)
-    → ((path : List Bool) → length path ≡ path_bits format → blob_at (spots path) ≡ stored (number_of path))
-    → (path : List Bool) → length path ≡ path_bits format → blob_at (with_spot spots k spot path) ≡ stored (number_of path)
-holds_one format stored spots k spot same_blob was path wide = go (this_or_other k path)
+holds_one : (stored : Stored) (spots : Spots) (k : List Bool) (spot : Spot) → blob_at spot ≡ blob_at (spots k)
+    → ((path : List Bool) → IsData path → blob_at (spots path) ≡ stored (number_of path))
+    → (path : List Bool) → IsData path → blob_at (with_spot spots k spot path) ≡ stored (number_of path)
+holds_one stored spots k spot same_blob was path wide = go (this_or_other k path)
   where
     go : (k ≡ path) ⊎ (k ≢ path) → blob_at (with_spot spots k spot path) ≡ stored (number_of path)
     go (inl same) =
@@ -71,24 +71,24 @@ not_both hold is_b is_m = true≢false (ap by_element (sym is_b ∙ is_m))
 -- ---- in and out with an element
 
 -- the world behind a step that took the record of a path back, where what waited elsewhere waits on, and nothing else
-abbrev pub TookBack : Format → Digest → AllShown → LastEvicted → Stored → Spots → List Bool → Type 0
-TookBack format digest shown last stored old k =
-    (spots : Spots) × IsWorld format digest shown last stored spots × KeepsElsewhere k old spots
+abbrev pub TookBack : ℕ → Digest → AllShown → LastEvicted → Stored → Spots → List Bool → Type 0
+TookBack longest digest shown last stored old k =
+    (spots : Spots) × IsWorld longest digest shown last stored spots × KeepsElsewhere k old spots
     × ((path : List Bool) (element : Element) → spots path ≡ waiting element → (k ≢ path) × (old path ≡ waiting element))
 
 -- A record comes in with the element that it waits with.
-pub come_step : (format : Format) (digest : Digest) (shown : AllShown) (last : LastEvicted) (stored : Stored) (spots : Spots) (home : ℕ) (next : Shown) (child : Entry) (element : Element)
-    → IsWorld format digest shown last stored spots → DidAddB format (shown home) next child element
+pub come_step : (longest : ℕ) (digest : Digest) (shown : AllShown) (last : LastEvicted) (stored : Stored) (spots : Spots) (home : ℕ) (next : Shown) (child : Entry) (element : Element)
+    → IsWorld longest digest shown last stored spots → DidAddB longest (shown home) next child element
     → spots element.path ≡ waiting element
-    → TookBack format digest (with_shown shown home next) last stored spots element.path
-come_step format digest shown last stored spots home next child element world did waits = (
+    → TookBack longest digest (with_shown shown home next) last stored spots element.path
+come_step longest digest shown last stored spots home next child element world did waits = (
   with_spot spots k (cached home child),
-  world_one format digest shown last last stored stored spots home next k (cached home child) world
-      (one_moves format digest spots (with_spot spots k (cached home child)) k (cached home child) moves world.tree)
+  world_one longest digest shown last last stored stored spots home next k (cached home child) world
+      (one_moves longest digest spots (with_spot spots k (cached home child)) k (cached home child) moves world.tree)
       (subst (λ (e : Option Entry). ShowSame next (showing_of e)) (sym (cached_here home child)) did.shown)
       (λ other away. cached_elsewhere home other child away ∙ ap (cached_in other) (sym was))
       (taken_one last spots k (cached home child) refl world.was_evicted)
-      (holds_one format stored spots k (cached home child) (ap blob_of value_is ∙ ap blob_at (sym was)) world.holds),
+      (holds_one stored spots k (cached home child) (ap blob_of value_is ∙ ap blob_at (sym was)) world.holds),
   λ path other apart there. with_spot_other spots k path (cached home child) (λ same. apart (sym path_is ∙ same)) ∙ there,
   λ path other there. (
     λ same. not_waiting (with_spot spots k (cached home child) path) (cached home child) other
@@ -114,7 +114,7 @@ come_step format digest shown last stored spots home next child element world di
     was : spots k ≡ waiting element
     was = ap spots path_is ∙ waits
 
-    moves : OneMoves format digest spots (with_spot spots k (cached home child)) k (cached home child)
+    moves : OneMoves longest digest spots (with_spot spots k (cached home child)) k (cached home child)
     moves = record {
       at = with_spot_at spots k (cached home child);
       elsewhere = λ j away. with_spot_other spots k j (cached home child) away;
@@ -122,32 +122,32 @@ come_step format digest shown last stored spots home next child element world di
       touched_after = refl;
       pointers = λ on. ap (λ (v : Value). side_of (node_of v) on) value_is ∙ ap (λ (s : Spot). pointer_at s on) (sym was);
       homes = λ on pointer is. no_home on ∙ ap (λ (s : Spot). home_of s on) (sym was);
-      led_to = λ flag at kept leads. led flag at kept (subst (LeadsBy format digest flag at kept) was leads);
-      of_kind = (refl, subst (λ (v : Value). IsOf format k v) (sym value_is) (subst (λ (i : List Bool). IsOf format i element.value) (sym path_is) did.kind));
+      led_to = λ flag at kept leads. led flag at kept (subst (LeadsBy digest flag at kept) was leads);
+      of_kind = (refl, subst (λ (v : Value). IsOf longest k v) (sym value_is) (subst (λ (i : List Bool). IsOf longest i element.value) (sym path_is) did.kind));
     }
       where
         no_home : (on : Bool) → home_of (cached home child) on ≡ None
         no_home true = ap (λ (e : Entry). if kid_of e true then Some home else None) did.came_as
         no_home false = ap (λ (e : Entry). if kid_of e false then Some home else None) did.came_as
 
-        led : (flag : Bool) (at : Option ℕ) (kept : List ℕ) → LeadsBy format digest flag at kept (waiting element) → LeadsBy format digest flag at kept (cached home child)
+        led : (flag : Bool) (at : Option ℕ) (kept : List ℕ) → LeadsBy digest flag at kept (waiting element) → LeadsBy digest flag at kept (cached home child)
         led true at kept leads = ap (λ (e : Entry). e.hold) did.came_as
         led false None kept leads = absurd leads
         led false (Some other) kept leads = absurd leads
 
 -- A record goes out with an element.
-pub go_step : (format : Format) (digest : Digest) (shown : AllShown) (last : LastEvicted) (stored : Stored) (spots : Spots) (home : ℕ) (next : Shown) (child : Entry) (element : Element)
-    → IsWorld format digest shown last stored spots → DidEvictB (shown home) next child element
-    → LeftAt format digest (with_shown shown home next) last stored spots element.path (waiting element)
-go_step format digest shown last stored spots home next child element world did =
-    subst (λ (i : List Bool). LeftAt format digest (with_shown shown home next) last stored spots i (waiting element)) (sym did.path) (
+pub go_step : (longest : ℕ) (digest : Digest) (shown : AllShown) (last : LastEvicted) (stored : Stored) (spots : Spots) (home : ℕ) (next : Shown) (child : Entry) (element : Element)
+    → IsWorld longest digest shown last stored spots → DidEvictB (shown home) next child element
+    → LeftAt longest digest (with_shown shown home next) last stored spots element.path (waiting element)
+go_step longest digest shown last stored spots home next child element world did =
+    subst (λ (i : List Bool). LeftAt longest digest (with_shown shown home next) last stored spots i (waiting element)) (sym did.path) (
       with_spot spots child.path (waiting element),
-      world_one format digest shown last last stored stored spots home next child.path (waiting element) world
-          (one_moves format digest spots (with_spot spots child.path (waiting element)) child.path (waiting element) moves world.tree)
+      world_one longest digest shown last last stored stored spots home next child.path (waiting element) world
+          (one_moves longest digest spots (with_spot spots child.path (waiting element)) child.path (waiting element) moves world.tree)
           did.shown
           (λ other away. sym (ap (cached_in other) was ∙ cached_elsewhere home other child away))
           (taken_one last spots child.path (waiting element) refl world.was_evicted)
-          (holds_one format stored spots child.path (waiting element) (ap blob_of did.value ∙ ap blob_at (sym was)) world.holds),
+          (holds_one stored spots child.path (waiting element) (ap blob_of did.value ∙ ap blob_at (sym was)) world.holds),
       keeps_one spots child.path (waiting element) (λ other waits. not_waiting (spots child.path) (cached home child) other was refl waits),
       with_spot_at spots child.path (waiting element),
       one_since spots child.path (waiting element),
@@ -156,7 +156,7 @@ go_step format digest shown last stored spots home next child element world did 
     was : spots child.path ≡ cached home child
     was = spot_of_shown home (spots child.path) child (sym (world.shows home child.path) ∙ did.had_child)
 
-    moves : OneMoves format digest spots (with_spot spots child.path (waiting element)) child.path (waiting element)
+    moves : OneMoves longest digest spots (with_spot spots child.path (waiting element)) child.path (waiting element)
     moves = record {
       at = with_spot_at spots child.path (waiting element);
       elsewhere = λ j away. with_spot_other spots child.path j (waiting element) away;
@@ -164,11 +164,11 @@ go_step format digest shown last stored spots home next child element world did 
       touched_after = refl;
       pointers = λ on. ap (λ (v : Value). side_of (node_of v) on) did.value ∙ ap (λ (s : Spot). pointer_at s on) (sym was);
       homes = λ on pointer is. sym (ap (λ (s : Spot). home_of s on) was ∙ ap (λ (b : Bool). if b then Some home else None) (no_kids child on did.kids));
-      led_to = λ flag at kept leads. led flag at kept (subst (LeadsBy format digest flag at kept) was leads);
-      of_kind = (did.path, subst (IsOf format child.path) (sym did.value) (subst (IsKind format child.path) was (world.tree.kind child.path)).1);
+      led_to = λ flag at kept leads. led flag at kept (subst (LeadsBy digest flag at kept) was leads);
+      of_kind = (did.path, subst (IsOf longest child.path) (sym did.value) (subst (IsKind longest child.path) was (world.tree.kind child.path)).1);
     }
       where
-        led : (flag : Bool) (at : Option ℕ) (kept : List ℕ) → LeadsBy format digest flag at kept (cached home child) → LeadsBy format digest flag at kept (waiting element)
+        led : (flag : Bool) (at : Option ℕ) (kept : List ℕ) → LeadsBy digest flag at kept (cached home child) → LeadsBy digest flag at kept (waiting element)
         led true at kept leads = tt
         led false None kept leads = absurd leads
         led false (Some other) kept leads = absurd (not_both child.hold did.hold leads.1)
@@ -176,10 +176,10 @@ go_step format digest shown last stored spots home next child element world did 
 -- ---- read and written
 
 -- Caches that show the same have the same world.
-pub same_step : (format : Format) (digest : Digest) (shown : AllShown) (last : LastEvicted) (stored : Stored) (spots : Spots) (home : ℕ) (next : Shown)
-    → IsWorld format digest shown last stored spots → ShowSame next (shown home)
-    → IsWorld format digest (with_shown shown home next) last stored spots
-same_step format digest shown last stored spots home next world same =
+pub same_step : (longest : ℕ) (digest : Digest) (shown : AllShown) (last : LastEvicted) (stored : Stored) (spots : Spots) (home : ℕ) (next : Shown)
+    → IsWorld longest digest shown last stored spots → ShowSame next (shown home)
+    → IsWorld longest digest (with_shown shown home next) last stored spots
+same_step longest digest shown last stored spots home next world same =
     record { tree = world.tree; shows = shows; was_evicted = world.was_evicted; holds = world.holds }
   where
     shows : (other : ℕ) (path : List Bool) → with_shown shown home next other path ≡ cached_in other (spots path)
@@ -192,16 +192,16 @@ same_step format digest shown last stored spots home next world same =
         go (inr apart) = ap (λ (b : Bool). (if b then next else shown other) path) (ne_eqb other home apart) ∙ world.shows other path
 
 -- What is read is the plain map's.
-pub read_value : (format : Format) (digest : Digest) (shown : AllShown) (last : LastEvicted) (stored : Stored) (spots : Spots) (home : ℕ) (next : Shown) (entry : Entry)
-    → IsWorld format digest shown last stored spots → DidGet format (shown home) next entry
+pub read_value : (longest : ℕ) (digest : Digest) (shown : AllShown) (last : LastEvicted) (stored : Stored) (spots : Spots) (home : ℕ) (next : Shown) (entry : Entry)
+    → IsWorld longest digest shown last stored spots → DidGet (shown home) next entry
     → blob_of entry.value ≡ stored (number_of entry.path)
-read_value format digest shown last stored spots home next entry world did =
+read_value longest digest shown last stored spots home next entry world did =
     ap blob_at (sym (spot_of_shown home (spots entry.path) entry (sym (world.shows home entry.path) ∙ did.had))) ∙ world.holds entry.path did.at_data
 
 -- a data path's value has no pointers
-data_bare : (format : Format) (path : List Bool) (value : Value) (on : Bool) → length path ≡ path_bits format → IsOf format path value → side_of (node_of value) on ≡ None
-data_bare format path (values.Blob blob) on wide kind = refl
-data_bare format path (values.Node held) on wide kind = absurd (omega (arith, kind.0))
+data_bare : (longest : ℕ) (path : List Bool) (value : Value) (on : Bool) → IsData path → IsOf longest path value → side_of (node_of value) on ≡ None
+data_bare longest path (values.Blob blob) on wide kind = refl
+data_bare longest path (values.Node held) on wide kind = absurd (omega (arith, kind.0))
 
 -- a path is had back from its number
 one_number : (p q : List Bool) → length p ≡ length q → number_of p ≡ number_of q → p ≡ q
@@ -209,14 +209,14 @@ one_number p q wide same =
     sym (bits_of-number_of p) ∙ ap (λ (n : ℕ). bits_of n (number_of p)) wide ∙ ap (bits_of (length q)) same ∙ bits_of-number_of q
 
 -- A data value is written, in the cache and in the plain map.
-pub write_step : (format : Format) (digest : Digest) (shown : AllShown) (last : LastEvicted) (stored : Stored) (spots : Spots) (home : ℕ) (next : Shown) (before after : Entry)
-    → IsWorld format digest shown last stored spots → DidPut format (shown home) next before after
-    → WorldAfter format digest (with_shown shown home next) last (update eqb stored (number_of after.path) (blob_of after.value)) spots
-write_step format digest shown last stored spots home next before after world did =
-    subst (λ (a : Entry). WorldAfter format digest (with_shown shown home next) last (update eqb stored (number_of a.path) (blob_of a.value)) spots) (sym did.wrote) (
+pub write_step : (longest : ℕ) (digest : Digest) (shown : AllShown) (last : LastEvicted) (stored : Stored) (spots : Spots) (home : ℕ) (next : Shown) (before after : Entry)
+    → IsWorld longest digest shown last stored spots → DidPut longest (shown home) next before after
+    → WorldAfter longest digest (with_shown shown home next) last (update eqb stored (number_of after.path) (blob_of after.value)) spots
+write_step longest digest shown last stored spots home next before after world did =
+    subst (λ (a : Entry). WorldAfter longest digest (with_shown shown home next) last (update eqb stored (number_of a.path) (blob_of a.value)) spots) (sym did.wrote) (
       with_spot spots before.path spot,
-      world_one format digest shown last last stored (update eqb stored (number_of before.path) (blob_of did.value)) spots home next before.path spot world
-          (one_moves format digest spots (with_spot spots before.path spot) before.path spot moves world.tree)
+      world_one longest digest shown last last stored (update eqb stored (number_of before.path) (blob_of did.value)) spots home next before.path spot world
+          (one_moves longest digest spots (with_spot spots before.path spot) before.path spot moves world.tree)
           (subst (λ (e : Option Entry). ShowSame next (showing (shown home) before.path e)) (ap Some did.wrote ∙ sym (cached_here home now)) did.shown)
           (λ other away. cached_elsewhere home other now away ∙ sym (ap (cached_in other) was ∙ cached_elsewhere home other before away))
           (taken_one last spots before.path spot refl world.was_evicted)
@@ -235,22 +235,22 @@ write_step format digest shown last stored spots home next before after world di
     was : spots before.path ≡ cached home before
     was = spot_of_shown home (spots before.path) before (sym (world.shows home before.path) ∙ did.had)
 
-    old_kind : IsOf format before.path before.value
-    old_kind = (subst (IsKind format before.path) was (world.tree.kind before.path)).1
+    old_kind : IsOf longest before.path before.value
+    old_kind = (subst (IsKind longest before.path) was (world.tree.kind before.path)).1
 
-    moves : OneMoves format digest spots (with_spot spots before.path spot) before.path spot
+    moves : OneMoves longest digest spots (with_spot spots before.path spot) before.path spot
     moves = record {
       at = with_spot_at spots before.path spot;
       elsewhere = λ j away. with_spot_other spots before.path j spot away;
       touched_before = ap is_touched was;
       touched_after = refl;
-      pointers = λ on. data_bare format before.path did.value on did.at_data did.kind ∙ sym (ap (λ (s : Spot). pointer_at s on) was ∙ data_bare format before.path before.value on did.at_data old_kind);
+      pointers = λ on. data_bare longest before.path did.value on did.at_data did.kind ∙ sym (ap (λ (s : Spot). pointer_at s on) was ∙ data_bare longest before.path before.value on did.at_data old_kind);
       homes = λ on pointer is. ap (λ (s : Spot). home_of s on) (sym was);
-      led_to = λ flag at kept leads. leads_same_hold format digest flag at kept home before now refl (subst (LeadsBy format digest flag at kept) was leads);
+      led_to = λ flag at kept leads. leads_same_hold digest flag at kept home before now refl (subst (LeadsBy digest flag at kept) was leads);
       of_kind = (refl, did.kind);
     }
 
-    holds : (path : List Bool) → length path ≡ path_bits format
+    holds : (path : List Bool) → IsData path
         → blob_at (with_spot spots before.path spot path) ≡ update eqb stored (number_of before.path) (blob_of did.value) (number_of path)
     holds path wide = go (this_or_other before.path path)
       where

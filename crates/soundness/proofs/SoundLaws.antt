@@ -5,9 +5,8 @@ use Rattle.std.specs.List.{AllByRecursion}
 use Rattle.std.proofs.lemmas.Bool.{leb-true}
 use Rattle.lamport_clocks.specs.declared.header.Header.{Header}
 use Rattle.record_text.specs.declared.element.Element.{Element}
-use Rattle.record_text.specs.Format.{short_keys}
-use Rattle.record_text.proofs.FieldLaws.{wide64}
 use Rattle.record_text.proofs.OneTextLaws.{one_value}
+use Rattle.record_text.specs.Longest.{longest_blob}
 use Rattle.log_codec.specs.declared.command.Command.{Command}
 use Rattle.record_hash.specs.Functions.{DigestFunctions}
 use Rattle.merkle_records.specs.Merkle.{GivesDigests}
@@ -37,9 +36,9 @@ use Rattle.soundness.proofs.OpeningLemmas.{opening_spots, opening_world}
 use Rattle.soundness.proofs.CertifiedLaws.{same_sum-true, even_where_none, uneven_where_some}
 
 -- no two values of a path have one text
-pub one_text : HasOneText short_keys
+pub one_text : HasOneText longest_blob
 one_text path a b is_a is_b same =
-    (one_value short_keys wide64 path path a b [] [] refl is_a is_b (ap (λ (text : List ℕ). text ++ []) same)).0
+    (one_value longest_blob path path a b [] [] refl is_a is_b (ap (λ (text : List ℕ). text ++ []) same)).0
 
 -- the events of logs are in order, and each log's are its verifier's
 pub are_histories : (scheme : Scheme) (header : Header) → AreHistories scheme header
@@ -68,9 +67,9 @@ none_waiting = record { each = λ x there. absurd (omega (arith, there)); once =
     only (bit ∷ path) x there = absurd (not_waiting (opening_spots (bit ∷ path)) untouched x refl refl there)
 
 pub sound : (functions : DigestFunctions) (header : Header) (logs : List (List Command)) (count : ℕ)
-    → GivesDigests functions.digest → AllByRecursion (AllByRecursion (IsTyped short_keys)) logs
+    → GivesDigests functions.digest → AllByRecursion (AllByRecursion (IsTyped longest_blob)) logs
     → AreBalanced (scheme_of functions header) (order_of (histories_of (scheme_of functions header) header logs)) header.first count
-    → IsSerialOrCollides (scheme_of functions header) (exhibit_of short_keys header.first count (histories_of (scheme_of functions header) header logs))
+    → IsSerialOrCollides (scheme_of functions header) (exhibit_of header.first count (histories_of (scheme_of functions header) header logs))
     (operations_in (order_within header.first count (histories_of (scheme_of functions header) header logs)))
 sound functions header logs count digests typed balanced = by (first_uneven order header.first count) refl
   where
@@ -84,14 +83,14 @@ sound functions header logs count digests typed balanced = by (first_uneven orde
     within = order_within header.first count histories
 
     clash : Option Strings
-    clash = first_clash short_keys none_evicted (map (λ (event : Event). event.change) within)
+    clash = first_clash none_evicted (map (λ (event : Event). event.change) within)
 
     -- up to the last of the epochs
     runs : (n : ℕ) → AreEven header.first (header.first + n) order
-        → CollidesAt short_keys functions.digest none_evicted (order_up_to (header.first + n) histories) ⊎ IsSound short_keys none_evicted none_everywhere (order_up_to (header.first + n) histories)
+        → CollidesAt functions.digest none_evicted (order_up_to (header.first + n) histories) ⊎ IsSound none_evicted none_everywhere (order_up_to (header.first + n) histories)
     runs n even =
         let split = order_splits (header.first + n) histories in
-        run_keeps short_keys functions.digest one_text digests (order_up_to (header.first + n) histories) (opening_shown header) none_evicted none_everywhere opening_spots []
+        run_keeps longest_blob functions.digest one_text digests (order_up_to (header.first + n) histories) (opening_shown header) none_evicted none_everywhere opening_spots []
         (opening_world functions.digest header) none_waiting
         (order_run (scheme_of functions header) header (are_histories (scheme_of functions header) header) logs (header.first + n) typed)
         (scheduled header.first (header.first + n) (order_up_to (header.first + n) histories) split.0
@@ -105,20 +104,20 @@ sound functions header logs count digests typed balanced = by (first_uneven orde
         count_permuted (added_in epoch order) (evicted_in epoch order) (even_where_none order header.first (suc n) none epoch from (omega (arith, up))) x
 
     at_count : (k : ℕ) → first_uneven order header.first k ≡ None
-        → CollidesAt short_keys functions.digest none_evicted (order_within header.first k histories) ⊎ IsSound short_keys none_evicted none_everywhere (order_within header.first k histories)
+        → CollidesAt functions.digest none_evicted (order_within header.first k histories) ⊎ IsSound none_evicted none_everywhere (order_within header.first k histories)
     at_count zero none = inr (refl, tt)
     at_count (suc n) none = runs n (all_even n none)
 
     ended : first_uneven order header.first count ≡ None
-        → CollidesAt short_keys functions.digest none_evicted within ⊎ IsSound short_keys none_evicted none_everywhere within
-        → IsSerialOrCollides (scheme_of functions header) (exhibit_of short_keys header.first count histories) (operations_in within)
+        → CollidesAt functions.digest none_evicted within ⊎ IsSound none_evicted none_everywhere within
+        → IsSerialOrCollides (scheme_of functions header) (exhibit_of header.first count histories) (operations_in within)
     ended none (inl collides) =
         inr (subst (Collides (scheme_of functions header))
         (sym (ap (λ (o : Option ℕ). exhibit_by order o clash) none ∙ ap (exhibit_by order None) collides.1)) collides.2)
     ended none (inr serial) =
         inl (ap (λ (o : Option ℕ). exhibit_by order o clash) none ∙ ap (exhibit_by order None) serial.0, serial.1)
 
-    by : (o : Option ℕ) → first_uneven order header.first count ≡ o → IsSerialOrCollides (scheme_of functions header) (exhibit_of short_keys header.first count histories) (operations_in within)
+    by : (o : Option ℕ) → first_uneven order header.first count ≡ o → IsSerialOrCollides (scheme_of functions header) (exhibit_of header.first count histories) (operations_in within)
     by None none = ended none (at_count count none)
     by (Some epoch) is =
         let uneven = uneven_where_some order header.first count epoch is in

@@ -66,15 +66,15 @@ module _ {X : Type 0} (at : X → Moment) where
 -- The events of a log in the epochs up to one are a chain, where the log's events stand in order.
 pub log_run_up_to : (scheme : Scheme) (header : Header) (number epoch : ℕ)
     (commands : List Command)
-    → AllByRecursion (IsTyped scheme.format) commands
+    → AllByRecursion (IsTyped scheme.longest) commands
     → IsMerged event_moment (log_events scheme header number commands)
-    → IsChain scheme.format scheme.digest (shown_by (opening number header))
+    → IsChain scheme.longest scheme.digest (shown_by (opening number header))
     (up_to event_moment epoch (log_events scheme header number commands))
 log_run_up_to scheme header number epoch commands ranges sorted =
     let events = log_events scheme header number commands in
     let split = split_up_to event_moment epoch events sorted in
-    let whole : IsChain scheme.format scheme.digest (shown_by (opening number header)) events =
+    let whole : IsChain scheme.longest scheme.digest (shown_by (opening number header)) events =
     log_run scheme (opening_machine number header) commands ranges
     (opening-distinct number header) in
-    chain_front scheme.format scheme.digest (shown_by (opening number header)) (up_to event_moment epoch events) split.0
-    (subst (IsChain scheme.format scheme.digest (shown_by (opening number header))) split.1 whole)
+    chain_front scheme.longest scheme.digest (shown_by (opening number header)) (up_to event_moment epoch events) split.0
+    (subst (IsChain scheme.longest scheme.digest (shown_by (opening number header))) split.1 whole)

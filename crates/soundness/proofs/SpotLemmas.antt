@@ -2,6 +2,7 @@
 -- what is there.
 use Rattle.std.proofs.Common.{◌≡◌, ◌⊎◌, ℕ, Bool, true, false, List, [], ◌∷◌, ◌++◌, Option, Some, None, eqb, if◌then◌else◌, refl, sym, ◌∙◌, ap, subst, inl, inr}
 use Rattle.record_hash.specs.Functions.{DigestFunctions}
+use Rattle.record_text.specs.Longest.{longest_blob}
 use Rattle.merkle_records.specs.Scheme.{scheme_of}
 use Rattle.std.specs.Option.{unwrap_or, option_or}
 use Rattle.std.proofs.lemmas.Option.{none-some}
@@ -9,7 +10,6 @@ use Rattle.tree_keys.specs.Path.{same_path}
 use Rattle.lamport_clocks.specs.declared.header.Header.{Header}
 use Rattle.record_text.specs.declared.element.Element.{Element}
 use Rattle.record_text.specs.declared.operation.Operation.{Operation}
-use Rattle.record_text.specs.Format.{Format, short_keys}
 use Rattle.log_codec.specs.declared.command.Command.{Command}
 use Rattle.merkle_records.specs.Merkle.{Digest, GivesDigests}
 use Rattle.stamp_order.specs.Serial.{none_everywhere, map_after}
@@ -51,22 +51,22 @@ both_same a b parent path child same =
     (showing_same a b parent.path (Some parent) same)
 
 -- what a step leaves in its cache is what its change tells
-did_shown : (format : Format) (digest : Digest) (old told new : Shown) → ShowSame old told → (change : Change)
-    → HasDone format digest old new change → ShowSame new (shown_after told change)
-did_shown format digest old told new same (did_add_m parent after child) did path =
+did_shown : (longest : ℕ) (digest : Digest) (old told new : Shown) → ShowSame old told → (change : Change)
+    → HasDone longest digest old new change → ShowSame new (shown_after told change)
+did_shown longest digest old told new same (did_add_m parent after child) did path =
     did.shown path ∙ both_same old told after child.path (Some child) same path
-did_shown format digest old told new same (did_evict_m parent after child) did path =
+did_shown longest digest old told new same (did_evict_m parent after child) did path =
     did.shown path ∙ both_same old told after child.path None same path
-did_shown format digest old told new same (did_add_b child element) did path =
+did_shown longest digest old told new same (did_add_b child element) did path =
     did.shown path ∙ showing_same old told child.path (Some child) same path
-did_shown format digest old told new same (did_evict_b child element) did path =
+did_shown longest digest old told new same (did_evict_b child element) did path =
     did.shown path ∙ showing_same old told child.path None same path
-did_shown format digest old told new same (did_evict_bm parent after child element) did path =
+did_shown longest digest old told new same (did_evict_bm parent after child element) did path =
     did.shown path ∙ both_same old told after child.path None same path
-did_shown format digest old told new same (did_get entry) did path = did.shown path ∙ same path
-did_shown format digest old told new same (did_put before after) did path =
+did_shown longest digest old told new same (did_get entry) did path = did.shown path ∙ same path
+did_shown longest digest old told new same (did_put before after) did path =
     did.shown path ∙ showing_same old told before.path (Some after) same path
-did_shown format digest old told new same (did_next_epoch sealed) did path = did path ∙ same path
+did_shown longest digest old told new same (did_next_epoch sealed) did path = did path ∙ same path
 
 with_same : (a b : AllShown) (home : ℕ) (new told : Shown) → AllShowSame a b → ShowSame new told
     → AllShowSame (with_shown a home new) (with_shown b home told)
@@ -89,33 +89,33 @@ no_first None later none = (refl, none)
 no_first (Some strings) later none = absurd (none-some strings (sym none))
 
 -- where a front and the event behind it show no clash
-no_clash_front : (format : Format) (last : LastEvicted) (front : List Event) (event : Event)
-    → first_clash format last (changes_in (front ++ event ∷ [])) ≡ None
-    → (first_clash format last (changes_in front) ≡ None)
-    × (clash_of format (last_evicted_behind last (changes_in front)) event.change ≡ None)
-no_clash_front format last [] event free = (refl, (no_first (clash_of format last event.change) None free).0)
-no_clash_front format last (first ∷ front) event free =
+no_clash_front : (last : LastEvicted) (front : List Event) (event : Event)
+    → first_clash last (changes_in (front ++ event ∷ [])) ≡ None
+    → (first_clash last (changes_in front) ≡ None)
+    × (clash_of (last_evicted_behind last (changes_in front)) event.change ≡ None)
+no_clash_front last [] event free = (refl, (no_first (clash_of last event.change) None free).0)
+no_clash_front last (first ∷ front) event free =
     let behind = last_evicted_after last first.change in
     let parts =
-    no_first (clash_of format last first.change) (first_clash format behind (changes_in (front ++ event ∷ []))) free in
-    let later = no_clash_front format behind front event parts.1 in
-    (ap (λ (o : Option Strings). option_or o (first_clash format behind (changes_in front))) parts.0 ∙ later.0, later.1)
+    no_first (clash_of last first.change) (first_clash behind (changes_in (front ++ event ∷ []))) free in
+    let later = no_clash_front behind front event parts.1 in
+    (ap (λ (o : Option Strings). option_or o (first_clash behind (changes_in front))) parts.0 ∙ later.0, later.1)
 
 -- ---- one step
 
 -- a world behind a step in which these wait, of whom this holds
-abbrev Moved : Format → Digest → AllShown → LastEvicted → Stored → List Element → (List Element → Type 0) → Type 0
-Moved format digest shown last stored pending behind =
-    (spots : Spots) × IsWorld format digest shown last stored spots × IsWaiting spots pending × behind pending
+abbrev Moved : ℕ → Digest → AllShown → LastEvicted → Stored → List Element → (List Element → Type 0) → Type 0
+Moved longest digest shown last stored pending behind =
+    (spots : Spots) × IsWorld longest digest shown last stored spots × IsWaiting spots pending × behind pending
 
-module _ (format : Format) (digest : Digest) (one : HasOneText format) where
+module _ (longest : ℕ) (digest : Digest) (one : HasOneText longest) where
   -- A step that shows no clash keeps the world, and its change tells what was last evicted and stored, and what waits.
   moved : GivesDigests digest → (event : Event) (shown : AllShown) (next : Shown) (last : LastEvicted) (stored : Stored)
       (spots : Spots) (pending : List Element) (behind : List Element → Type 0)
-      → IsWorld format digest shown last stored spots → IsWaiting spots pending
-      → (change : Change) → HasDone format digest (shown event.verifier) next change
-      → IsScheduledBy pending change behind → clash_of format last change ≡ None
-      → Moved format digest (with_shown shown event.verifier next) (last_evicted_after last change)
+      → IsWorld longest digest shown last stored spots → IsWaiting spots pending
+      → (change : Change) → HasDone longest digest (shown event.verifier) next change
+      → IsScheduledBy pending change behind → clash_of last change ≡ None
+      → Moved longest digest (with_shown shown event.verifier next) (last_evicted_after last change)
       (stored_behind stored (operations_by event change)) (pending_after pending change) behind
   moved digests event shown next last stored spots pending behind world waits = go
     where
@@ -123,11 +123,11 @@ module _ (format : Format) (digest : Digest) (one : HasOneText format) where
       home = event.verifier
 
       After : LastEvicted → Stored → List Element → Type 0
-      After last stored pending = Moved format digest (with_shown shown home next) last stored pending behind
+      After last stored pending = Moved longest digest (with_shown shown home next) last stored pending behind
 
-      joined : (parent after child : Entry) → behind pending → clash_of format last (did_add_m parent after child) ≡ None
-          → Clashes format digest last (did_add_m parent after child)
-          ⊎ Passes format digest (with_shown shown home next) last last stored spots (did_add_m parent after child)
+      joined : (parent after child : Entry) → behind pending → clash_of last (did_add_m parent after child) ≡ None
+          → Clashes digest last (did_add_m parent after child)
+          ⊎ Passes longest digest (with_shown shown home next) last last stored spots (did_add_m parent after child)
           → After last stored pending
       joined parent after child scheduled free (inl clashes) = absurd (none-some clashes.0 (sym free ∙ clashes.1))
       joined parent after child scheduled free (inr passes) =
@@ -136,49 +136,49 @@ module _ (format : Format) (digest : Digest) (one : HasOneText format) where
 
       went : (child : Entry) (element : Element) → shown home child.path ≡ Some child → element.path ≡ child.path
           → behind (element ∷ pending)
-          → LeftAt format digest (with_shown shown home next) last stored spots element.path (waiting element)
+          → LeftAt longest digest (with_shown shown home next) last stored spots element.path (waiting element)
           → After last stored (element ∷ pending)
       went child element had path scheduled left =
-          let free = free_at format digest shown last stored spots home child element world had path in
+          let free = free_at longest digest shown last stored spots home child element world had path in
           (left.0, left.1, wait_more spots left.0 pending element left.2 left.3 left.4 free waits, scheduled)
 
-      go : (change : Change) → HasDone format digest (shown home) next change → IsScheduledBy pending change behind
-          → clash_of format last change ≡ None
+      go : (change : Change) → HasDone longest digest (shown home) next change → IsScheduledBy pending change behind
+          → clash_of last change ≡ None
           → After (last_evicted_after last change) (stored_behind stored (operations_by event change)) (pending_after pending change)
       go (did_add_m parent after child) did scheduled free =
           joined parent after child scheduled free
-          (join_step format digest shown last stored spots home next parent after child one digests world did)
+          (join_step longest digest shown last stored spots home next parent after child one digests world did)
       go (did_evict_m parent after child) did scheduled free =
-          let now = leave_step format digest shown last stored spots home next parent after child digests world did in
+          let now = leave_step longest digest shown last stored spots home next parent after child digests world did in
           (now.0, now.1, wait_on spots now.0 pending now.2 now.3 waits, scheduled)
       go (did_add_b child element) did scheduled free =
           let there = waits.each element (waits_once_out element pending scheduled.0 scheduled.1) in
-          let back = come_step format digest shown last stored spots home next child element world did there in
+          let back = come_step longest digest shown last stored spots home next child element world did there in
           let left = wait_less spots back.0 pending scheduled.0 element scheduled.1 back.2 back.3
-          (waits_own format digest shown last stored spots world) waits in
+          (waits_own longest digest shown last stored spots world) waits in
           let out = ap (λ (rest : Option (List Element)). unwrap_or rest pending) scheduled.1 in
           subst (After last stored) (sym out) (back.0, back.1, left, scheduled.2)
       go (did_evict_b child element) did scheduled free =
           went child element did.had_child did.path scheduled
-          (go_step format digest shown last stored spots home next child element world did)
+          (go_step longest digest shown last stored spots home next child element world did)
       go (did_evict_bm parent after child element) did scheduled free =
           went child element did.had_child did.path scheduled
-          (defer_step format digest shown last stored spots home next parent after child element world did)
+          (defer_step longest digest shown last stored spots home next parent after child element world did)
       go (did_get entry) did scheduled free =
-          let same = same_step format digest shown last stored spots home next world did.shown in
+          let same = same_step longest digest shown last stored spots home next world did.shown in
           (spots, same, waits, scheduled)
       go (did_put before after) did scheduled free =
-          let now = write_step format digest shown last stored spots home next before after world did in
+          let now = write_step longest digest shown last stored spots home next before after world did in
           (now.0, now.1, wait_on spots now.0 pending now.2 now.3 waits, scheduled)
       go (did_next_epoch sealed) did scheduled free =
-          (spots, same_step format digest shown last stored spots home next world did, waits, scheduled)
+          (spots, same_step longest digest shown last stored spots home next world did, waits, scheduled)
 
   -- And it takes what is there.
   takes_there : (home : ℕ) (shown : AllShown) (next : Shown) (last : LastEvicted) (stored : Stored) (spots : Spots)
       (pending : List Element) (behind : List Element → Type 0)
-      → IsWorld format digest shown last stored spots → IsWaiting spots pending
-      → (change : Change) → HasDone format digest (shown home) next change → IsScheduledBy pending change behind
-      → clash_of format last change ≡ None
+      → IsWorld longest digest shown last stored spots → IsWaiting spots pending
+      → (change : Change) → HasDone longest digest (shown home) next change → IsScheduledBy pending change behind
+      → clash_of last change ≡ None
       → TakesWhatIsThere last spots change
   takes_there home shown next last stored spots pending behind world waits = go
     where
@@ -187,11 +187,11 @@ module _ (format : Format) (digest : Digest) (one : HasOneText format) where
       joined parent after child (inl is) = inl is
       joined parent after child (inr is) = inr (is, world.was_evicted child.path child.value is)
 
-      go : (change : Change) → HasDone format digest (shown home) next change → IsScheduledBy pending change behind
-          → clash_of format last change ≡ None → TakesWhatIsThere last spots change
+      go : (change : Change) → HasDone longest digest (shown home) next change → IsScheduledBy pending change behind
+          → clash_of last change ≡ None → TakesWhatIsThere last spots change
       go (did_add_m parent after child) did scheduled free =
           joined parent after child
-          (join_takes format digest shown last stored spots home next parent after child one world did free)
+          (join_takes longest digest shown last stored spots home next parent after child one world did free)
       go (did_evict_m parent after child) did scheduled free = tt
       go (did_add_b child element) did scheduled free =
           let there = waits.each element (waits_once_out element pending scheduled.0 scheduled.1) in
@@ -206,21 +206,21 @@ module _ (format : Format) (digest : Digest) (one : HasOneText format) where
 
 -- What stands behind a front: a world whose caches show what is told and in which these wait, and the events that go
 -- on from there.
-record Stand (format : Format) (digest : Digest) (told : AllShown) (last : LastEvicted) (stored : Stored)
+record Stand (longest : ℕ) (digest : Digest) (told : AllShown) (last : LastEvicted) (stored : Stored)
     (pending : List Element) (back : List Event) : Type 0 where
   shown : AllShown
   same : AllShowSame shown told
   spots : Spots
-  world : IsWorld format digest shown last stored spots
+  world : IsWorld longest digest shown last stored spots
   waits : IsWaiting spots pending
-  run : IsRun format digest shown back
+  run : IsRun longest digest shown back
   scheduled : IsScheduled pending back
 
 -- the world of a stand, by what is told
-world_told : (format : Format) (digest : Digest) (told : AllShown) (last : LastEvicted) (stored : Stored)
-    (pending : List Element) (back : List Event) (stand : Stand format digest told last stored pending back)
-    → IsWorld format digest told last stored stand.spots
-world_told format digest told last stored pending back stand = record {
+world_told : (longest : ℕ) (digest : Digest) (told : AllShown) (last : LastEvicted) (stored : Stored)
+    (pending : List Element) (back : List Event) (stand : Stand longest digest told last stored pending back)
+    → IsWorld longest digest told last stored stand.spots
+world_told longest digest told last stored pending back stand = record {
   tree = stand.world.tree;
   shows = λ home path. sym (stand.same home path) ∙ stand.world.shows home path;
   was_evicted = stand.world.was_evicted;
@@ -231,17 +231,17 @@ world_told format digest told last stored pending back stand = record {
 abbrev told_behind : AllShown → Event → AllShown
 told_behind told event = with_shown told event.verifier (shown_after (told event.verifier) event.change)
 
-module _ (format : Format) (digest : Digest) (one : HasOneText format) (digests : GivesDigests digest) where
+module _ (longest : ℕ) (digest : Digest) (one : HasOneText longest) (digests : GivesDigests digest) where
   -- One event on.
   stand_on : (event : Event) (back : List Event) (told : AllShown) (last : LastEvicted) (stored : Stored)
       (pending : List Element)
-      → Stand format digest told last stored pending (event ∷ back) → clash_of format last event.change ≡ None
-      → Stand format digest (told_behind told event) (last_evicted_after last event.change)
+      → Stand longest digest told last stored pending (event ∷ back) → clash_of last event.change ≡ None
+      → Stand longest digest (told_behind told event) (last_evicted_after last event.change)
       (stored_behind stored (operations_by event event.change)) (pending_after pending event.change) back
   stand_on event back told last stored pending stand free = record {
     shown = with_shown stand.shown event.verifier next;
     same = with_same stand.shown told event.verifier next (shown_after (told event.verifier) event.change) stand.same
-        (did_shown format digest (stand.shown event.verifier) (told event.verifier) next (stand.same event.verifier)
+        (did_shown longest digest (stand.shown event.verifier) (told event.verifier) next (stand.same event.verifier)
         event.change stand.run.1);
     spots = now.0;
     world = now.1;
@@ -253,22 +253,22 @@ module _ (format : Format) (digest : Digest) (one : HasOneText format) (digests 
       next : Shown
       next = stand.run.0
 
-      now : Moved format digest (with_shown stand.shown event.verifier next) (last_evicted_after last event.change)
+      now : Moved longest digest (with_shown stand.shown event.verifier next) (last_evicted_after last event.change)
           (stored_behind stored (operations_by event event.change)) (pending_after pending event.change)
           (λ after. IsScheduled after back)
       now =
-          moved format digest one digests event stand.shown next last stored stand.spots pending
+          moved longest digest one digests event stand.shown next last stored stand.spots pending
           (λ after. IsScheduled after back) stand.world stand.waits event.change stand.run.1 stand.scheduled free
 
   -- A whole front on, where it shows no clash.
   stand_behind : (front back : List Event) (told : AllShown) (last : LastEvicted) (stored : Stored) (pending : List Element)
-      → Stand format digest told last stored pending (front ++ back) → first_clash format last (changes_in front) ≡ None
-      → Stand format digest (shown_behind told front) (last_evicted_behind last (changes_in front))
+      → Stand longest digest told last stored pending (front ++ back) → first_clash last (changes_in front) ≡ None
+      → Stand longest digest (shown_behind told front) (last_evicted_behind last (changes_in front))
       (stored_behind stored (operations_in front)) (pending_behind pending (changes_in front)) back
   stand_behind [] back told last stored pending stand free = stand
   stand_behind (event ∷ front) back told last stored pending stand free =
       subst (λ (s : Stored).
-      Stand format digest (shown_behind now front) (last_evicted_behind now_taken (changes_in front)) s
+      Stand longest digest (shown_behind now front) (last_evicted_behind now_taken (changes_in front)) s
       (pending_behind now_pending (changes_in front)) back)
       (sym (stored_behind-append stored (operations_by event event.change) (operations_in front)))
       (stand_behind front back now now_taken (stored_behind stored (operations_by event event.change)) now_pending
@@ -283,20 +283,20 @@ module _ (format : Format) (digest : Digest) (one : HasOneText format) (digests 
       now_pending : List Element
       now_pending = pending_after pending event.change
 
-      parts : (clash_of format last event.change ≡ None) × (first_clash format now_taken (changes_in front) ≡ None)
-      parts = no_first (clash_of format last event.change) (first_clash format now_taken (changes_in front)) free
+      parts : (clash_of last event.change ≡ None) × (first_clash now_taken (changes_in front) ≡ None)
+      parts = no_first (clash_of last event.change) (first_clash now_taken (changes_in front)) free
 
 -- ---- the laws
 
 -- what stands behind a front of the merged order
 abbrev StandBehind : Digest → Header → List Event → List Event → Type 0
 StandBehind digest header front back =
-    Stand short_keys digest (shown_behind (opening_shown header) front) (last_evicted_behind none_evicted (changes_in front))
+    Stand longest_blob digest (shown_behind (opening_shown header) front) (last_evicted_behind none_evicted (changes_in front))
     (stored_behind none_everywhere (operations_in front)) (pending_behind [] (changes_in front)) back
 
 module _ (functions : DigestFunctions) (header : Header) (logs : List (List Command)) (last : ℕ) where
   -- at the opening
-  at_opening : AreTyped short_keys logs → ArePermuted header.first last (order_of (histories_of (scheme_of functions header) header logs))
+  at_opening : AreTyped longest_blob logs → ArePermuted header.first last (order_of (histories_of (scheme_of functions header) header logs))
       → StandBehind functions.digest header [] (order_up_to last (histories_of (scheme_of functions header) header logs))
   at_opening typed permuted = record {
     shown = opening_shown header;
@@ -309,43 +309,43 @@ module _ (functions : DigestFunctions) (header : Header) (logs : List (List Comm
   }
 
   -- behind a front
-  stand_at : (front back : List Event) → GivesDigests functions.digest → AreTyped short_keys logs
+  stand_at : (front back : List Event) → GivesDigests functions.digest → AreTyped longest_blob logs
       → ArePermuted header.first last (order_of (histories_of (scheme_of functions header) header logs))
       → order_up_to last (histories_of (scheme_of functions header) header logs) ≡ front ++ back
-      → first_clash short_keys none_evicted (changes_in front) ≡ None
+      → first_clash none_evicted (changes_in front) ≡ None
       → StandBehind functions.digest header front back
   stand_at front back digests typed permuted is free =
-      stand_behind short_keys functions.digest one_text digests front back (opening_shown header) none_evicted none_everywhere []
+      stand_behind longest_blob functions.digest one_text digests front back (opening_shown header) none_evicted none_everywhere []
       (subst (λ (l : List Event). StandBehind functions.digest header [] l) is (at_opening typed permuted)) free
 
   -- the spots of a stand agree with what the front left
   placed : (front back : List Event) (stand : StandBehind functions.digest header front back)
       → IsBehind functions.digest header front stand.spots
   placed front back stand =
-      record { world = world_told short_keys functions.digest _ _ _ _ back stand; waits = stand.waits }
+      record { world = world_told longest_blob functions.digest _ _ _ _ back stand; waits = stand.waits }
 
   -- Each path has one spot.
-  pub one_spot : (front back : List Event) → GivesDigests functions.digest → AreTyped short_keys logs
+  pub one_spot : (front back : List Event) → GivesDigests functions.digest → AreTyped longest_blob logs
       → ArePermuted header.first last (order_of (histories_of (scheme_of functions header) header logs))
       → order_up_to last (histories_of (scheme_of functions header) header logs) ≡ front ++ back
-      → first_clash short_keys none_evicted (changes_in front) ≡ None
+      → first_clash none_evicted (changes_in front) ≡ None
       → HaveSpots functions.digest header front
   one_spot front back digests typed permuted is free =
       let stand = stand_at front back digests typed permuted is free in
       (stand.spots, placed front back stand)
 
   -- The next event takes what is there.
-  pub takes_next : (front : List Event) (event : Event) (back : List Event) → GivesDigests functions.digest → AreTyped short_keys logs
+  pub takes_next : (front : List Event) (event : Event) (back : List Event) → GivesDigests functions.digest → AreTyped longest_blob logs
       → ArePermuted header.first last (order_of (histories_of (scheme_of functions header) header logs))
       → order_up_to last (histories_of (scheme_of functions header) header logs) ≡ front ++ event ∷ back
-      → first_clash short_keys none_evicted (changes_in (front ++ event ∷ [])) ≡ None
+      → first_clash none_evicted (changes_in (front ++ event ∷ [])) ≡ None
       → TakesFromSpots functions.digest header front event.change
   takes_next front event back digests typed permuted is free =
-      let parts = no_clash_front short_keys none_evicted front event free in
+      let parts = no_clash_front none_evicted front event free in
       let stand = stand_at front (event ∷ back) digests typed permuted is parts.0 in (
         stand.spots,
         placed front (event ∷ back) stand,
-        takes_there short_keys functions.digest one_text event.verifier stand.shown stand.run.0 _ _ stand.spots _
+        takes_there longest_blob functions.digest one_text event.verifier stand.shown stand.run.0 _ _ stand.spots _
             (λ after. IsScheduled after back) stand.world stand.waits event.change stand.run.1 stand.scheduled
             parts.1,
       )

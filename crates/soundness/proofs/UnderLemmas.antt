@@ -6,7 +6,6 @@ use Rattle.tree_keys.specs.Path.{side, is_prefix}
 use Rattle.record_text.specs.declared.value.Pointer.{Pointer}
 use Rattle.record_text.specs.declared.value.Node.{Node}
 use Rattle.record_text.specs.declared.value.Value.TheVariants as values
-use Rattle.record_text.specs.Format.{Format}
 use Rattle.record_text.specs.Value.{IsOf, node_side}
 use Rattle.merkle_records.specs.Merkle.{Digest}
 use Rattle.verifier_cache.specs.declared.entry.Entry.{Entry}
@@ -20,9 +19,9 @@ use Rattle.soundness.proofs.FamilyLaws.{kid_set, kid_set_other}
 
 -- A child at this spot fits under a parent on a side: all that is touched there is the child or below it, its
 -- pointers lead where they are to and cover what lies below it, and no other pointer leads to it.
-pub record FitsUnder (format : Format) (digest : Digest) (old : Spots) (p k : List Bool) (on : Bool) (spot : Spot) : Type 0 where
+pub record FitsUnder (digest : Digest) (old : Spots) (p k : List Bool) (on : Bool) (spot : Spot) : Type 0 where
   pub between : (j : List Bool) → is_touched (old j) ≡ true → side p j ≡ Some on → is_prefix k j ≡ true
-  pub child_link : (which : Bool) (q : Pointer) → pointer_at spot which ≡ Some q → Leads format digest (home_of spot which) q (old q.path)
+  pub child_link : (which : Bool) (q : Pointer) → pointer_at spot which ≡ Some q → Leads digest (home_of spot which) q (old q.path)
   pub child_cover : (which : Bool) (j : List Bool) → is_touched (old j) ≡ true → side k j ≡ Some which → Covers (pointer_at spot which) j
   pub alone : (j : List Bool) (which : Bool) (q : Pointer) → p ≢ j → pointer_at (old j) which ≡ Some q → k ≢ q.path
 
@@ -31,19 +30,19 @@ abbrev pub changed_parent : Entry → Node → Bool → Bool → Entry
 changed_parent before now on kid = set_kid (with_node before now) on kid
 
 -- The tree stays a tree where a parent's pointer and kid bit of a side change, and the child fits under it.
-pub pair_moves : (format : Format) (digest : Digest) (old new : Spots) (before : Entry) (k : List Bool) (on : Bool) (home : ℕ) (at now : Node) (kid : Bool) (spot : Spot) (pointer : Pointer)
-    → IsTree format digest old
+pub pair_moves : (longest : ℕ) (digest : Digest) (old new : Spots) (before : Entry) (k : List Bool) (on : Bool) (home : ℕ) (at now : Node) (kid : Bool) (spot : Spot) (pointer : Pointer)
+    → IsTree longest digest old
     → old before.path ≡ cached home before → node_of before.value ≡ Some at → side before.path k ≡ Some on
     → node_side now on ≡ Some pointer → pointer.path ≡ k
     → ((which : Bool) → which ≢ on → node_side now which ≡ node_side at which)
-    → IsOf format before.path (values.Node now) → IsKind format k spot → is_touched spot ≡ true
-    → LeadsBy format digest pointer.deferred (if kid then Some home else None) pointer.digest spot
-    → FitsUnder format digest old before.path k on spot
+    → IsOf longest before.path (values.Node now) → IsKind longest k spot → is_touched spot ≡ true
+    → LeadsBy digest pointer.deferred (if kid then Some home else None) pointer.digest spot
+    → FitsUnder digest old before.path k on spot
     → new before.path ≡ cached home (changed_parent before now on kid) → new k ≡ spot
     → ((j : List Bool) → before.path ≢ j → k ≢ j → new j ≡ old j)
-    → IsTree format digest new
-pair_moves format digest old new before k on home at now kid spot pointer tree was is_node below points to others kind child_kind touched leads fits parent_now child_now elsewhere =
-    two_move format digest old new before.path k on home before after spot pointer
+    → IsTree longest digest new
+pair_moves longest digest old new before k on home at now kid spot pointer tree was is_node below points to others kind child_kind touched leads fits parent_now child_now elsewhere =
+    two_move longest digest old new before.path k on home before after spot pointer
     (record {
       parent_before = was;
       parent_now = parent_now;
@@ -53,7 +52,7 @@ pair_moves format digest old new before k on home at now kid spot pointer tree w
       same_hold = refl;
       points = points;
       points_to = to;
-      leads = subst (λ (b : Bool). LeadsBy format digest pointer.deferred (if b then Some home else None) pointer.digest spot) (sym (kid_set (with_node before now) on kid)) leads;
+      leads = subst (λ (b : Bool). LeadsBy digest pointer.deferred (if b then Some home else None) pointer.digest spot) (sym (kid_set (with_node before now) on kid)) leads;
       other_pointer = λ which other. others which other ∙ ap (λ (o : Option Node). side_of o which) (sym is_node);
       other_home = λ which other. ap (λ (b : Bool). if b then Some home else None) (kid_set_other (with_node before now) on kid which other);
       between = fits.between;
@@ -71,56 +70,56 @@ pair_moves format digest old new before k on home at now kid spot pointer tree w
 -- ---- where the pointer led nowhere
 
 -- nothing is touched there
-pub nothing_there : (format : Format) (digest : Digest) (old : Spots) (p : List Bool) (on : Bool) → IsTree format digest old → is_touched (old p) ≡ true
+pub nothing_there : (longest : ℕ) (digest : Digest) (old : Spots) (p : List Bool) (on : Bool) → IsTree longest digest old → is_touched (old p) ≡ true
     → pointer_at (old p) on ≡ None → (j : List Bool) → is_touched (old j) ≡ true → side p j ≡ Some on → ⊥
-nothing_there format digest old p on tree above none j touched below =
+nothing_there longest digest old p on tree above none j touched below =
     subst (λ (o : Option Pointer). Covers o j) none (tree.cover p j on above touched below)
 
-pub fits_empty : (format : Format) (digest : Digest) (old : Spots) (p k : List Bool) (on : Bool) (spot : Spot) → IsTree format digest old
+pub fits_empty : (longest : ℕ) (digest : Digest) (old : Spots) (p k : List Bool) (on : Bool) (spot : Spot) → IsTree longest digest old
     → is_touched (old p) ≡ true → pointer_at (old p) on ≡ None → side p k ≡ Some on
     → ((which : Bool) → pointer_at spot which ≡ None)
-    → FitsUnder format digest old p k on spot
-fits_empty format digest old p k on spot tree above none below bare = record {
-  between = λ j touched under. absurd (nothing_there format digest old p on tree above none j touched under);
+    → FitsUnder digest old p k on spot
+fits_empty longest digest old p k on spot tree above none below bare = record {
+  between = λ j touched under. absurd (nothing_there longest digest old p on tree above none j touched under);
   child_link = λ which q is. absurd (none-some q (sym (bare which) ∙ is));
   child_cover = λ which j touched under.
-      absurd (nothing_there format digest old p on tree above none j touched (side-trans p k j on which below under));
+      absurd (nothing_there longest digest old p on tree above none j touched (side-trans p k j on which below under));
   alone = λ j which q apart is same.
-      nothing_there format digest old p on tree above none k
-      (subst (λ (i : List Bool). is_touched (old i) ≡ true) (sym same) (leads_touched format digest q.deferred (home_of (old j) which) q.digest (old q.path) (tree.link j which q is))) below;
+      nothing_there longest digest old p on tree above none k
+      (subst (λ (i : List Bool). is_touched (old i) ≡ true) (sym same) (leads_touched digest q.deferred (home_of (old j) which) q.digest (old q.path) (tree.link j which q is))) below;
 }
 
 -- ---- where the pointer led to the child
 
-pub fits_known : (format : Format) (digest : Digest) (old : Spots) (p k : List Bool) (on : Bool) (spot : Spot) (pointer : Pointer) → IsTree format digest old
+pub fits_known : (longest : ℕ) (digest : Digest) (old : Spots) (p k : List Bool) (on : Bool) (spot : Spot) (pointer : Pointer) → IsTree longest digest old
     → pointer_at (old p) on ≡ Some pointer → pointer.path ≡ k → is_touched (old k) ≡ true
     → ((which : Bool) → pointer_at spot which ≡ pointer_at (old k) which) → ((which : Bool) → home_of spot which ≡ home_of (old k) which)
-    → FitsUnder format digest old p k on spot
-fits_known format digest old p k on spot pointer tree points to touched pointers homes = record {
+    → FitsUnder digest old p k on spot
+fits_known longest digest old p k on spot pointer tree points to touched pointers homes = record {
   between = λ j there under.
       subst (λ (i : List Bool). is_prefix i j ≡ true) to
       (subst (λ (o : Option Pointer). Covers o j) points (tree.cover p j on (pointer_touched (old p) on pointer points) there under));
   child_link = λ which q is.
-      subst (λ (h : Option ℕ). Leads format digest h q (old q.path)) (sym (homes which)) (tree.link k which q (sym (pointers which) ∙ is));
+      subst (λ (h : Option ℕ). Leads digest h q (old q.path)) (sym (homes which)) (tree.link k which q (sym (pointers which) ∙ is));
   child_cover = λ which j there under. subst (λ (o : Option Pointer). Covers o j) (sym (pointers which)) (tree.cover k j which touched there under);
-  alone = one_parent format digest old p k on pointer tree touched points to;
+  alone = one_parent longest digest old p k on pointer tree touched points to;
 }
 
 -- ---- where the pointer led below the child
 
-pub fits_split : (format : Format) (digest : Digest) (old : Spots) (p k : List Bool) (on : Bool) (spot : Spot) (pointer : Pointer) (side_below : Bool) → IsTree format digest old
+pub fits_split : (longest : ℕ) (digest : Digest) (old : Spots) (p k : List Bool) (on : Bool) (spot : Spot) (pointer : Pointer) (side_below : Bool) → IsTree longest digest old
     → pointer_at (old p) on ≡ Some pointer → side p k ≡ Some on → side k pointer.path ≡ Some side_below
     → pointer_at spot side_below ≡ Some pointer → ((which : Bool) → which ≢ side_below → pointer_at spot which ≡ None)
     → home_of spot side_below ≡ home_of (old p) on
-    → FitsUnder format digest old p k on spot
-fits_split format digest old p k on spot pointer side_below tree points below further last bare home = record {
+    → FitsUnder digest old p k on spot
+fits_split longest digest old p k on spot pointer side_below tree points below further last bare home = record {
   between = λ j there under. is_prefix-trans k pointer.path j (prefix_of_side k pointer.path side_below further) (covered j there under);
   child_link = link;
   child_cover = λ which j there under. covers which j there under (side-prefix k pointer.path j side_below further (covered j there (side-trans p k j on which below under)));
   alone = λ j which q apart is same.
       above_no_prefix k pointer.path side_below further
       (covered k (subst (λ (i : List Bool). is_touched (old i) ≡ true) (sym same)
-      (leads_touched format digest q.deferred (home_of (old j) which) q.digest (old q.path) (tree.link j which q is))) below);
+      (leads_touched digest q.deferred (home_of (old j) which) q.digest (old q.path) (tree.link j which q is))) below);
 }
   where
     covered : (j : List Bool) → is_touched (old j) ≡ true → side p j ≡ Some on → is_prefix pointer.path j ≡ true
@@ -136,14 +135,14 @@ fits_split format digest old p k on spot pointer side_below tree points below fu
         go false true = inr false≢true
         go false false = inl refl
 
-    link : (which : Bool) (q : Pointer) → pointer_at spot which ≡ Some q → Leads format digest (home_of spot which) q (old q.path)
+    link : (which : Bool) (q : Pointer) → pointer_at spot which ≡ Some q → Leads digest (home_of spot which) q (old q.path)
     link which q is = go (this_side which)
       where
-        go : (which ≡ side_below) ⊎ (which ≢ side_below) → Leads format digest (home_of spot which) q (old q.path)
+        go : (which ≡ side_below) ⊎ (which ≢ side_below) → Leads digest (home_of spot which) q (old q.path)
         go (inl same) =
             let is_it : pointer ≡ q = same_Some pointer q (sym last ∙ ap (pointer_at spot) (sym same) ∙ is) in
-            subst (λ (r : Pointer). Leads format digest (home_of spot which) r (old r.path)) is_it
-            (subst (λ (h : Option ℕ). Leads format digest h pointer (old pointer.path)) (sym home ∙ ap (home_of spot) (sym same)) (tree.link p on pointer points))
+            subst (λ (r : Pointer). Leads digest (home_of spot which) r (old r.path)) is_it
+            (subst (λ (h : Option ℕ). Leads digest h pointer (old pointer.path)) (sym home ∙ ap (home_of spot) (sym same)) (tree.link p on pointer points))
         go (inr other) = absurd (none-some q (sym (bare which other) ∙ is))
 
     covers : (which : Bool) (j : List Bool) → is_touched (old j) ≡ true → side k j ≡ Some which → side k j ≡ Some side_below → Covers (pointer_at spot which) j

@@ -2,9 +2,9 @@
 use Rattle.std.proofs.Common.{◌≡◌, ℕ, zero, suc, ◌+◌, eqb, List, [], ◌∷◌, get_or, refl, ◌∙◌, ap, subst, arith}
 use Rattle.std.proofs.lemmas.Bool.{cond-true, cond-false, eq-eqb, ne_eqb}
 use Rattle.lamport_clocks.specs.declared.header.Header.{Header}
+use Rattle.record_text.specs.Longest.{longest_blob}
 use Rattle.log_codec.specs.declared.command.Command.{Command}
 use Rattle.record_hash.specs.Functions.{DigestFunctions}
-use Rattle.record_text.specs.Format.{short_keys}
 use Rattle.merkle_records.specs.Merkle.{GivesDigests}
 use Rattle.merkle_records.specs.Scheme.{Scheme, scheme_of}
 use Rattle.stamp_order.specs.Merged.{IsMerged, up_to, of_verifier}
@@ -24,7 +24,7 @@ use Rattle.soundness.proofs.TypedLaws.{read_typed}
 -- ---- logs that are read from bytes
 
 -- their commands are typed
-commands_typed : (logs : List (List ℕ)) → AreTyped short_keys (commands_of short_keys logs)
+commands_typed : (logs : List (List ℕ)) → AreTyped longest_blob (commands_of longest_blob logs)
 commands_typed [] = tt
 commands_typed (bytes ∷ logs) = (read_typed bytes, commands_typed logs)
 
@@ -33,11 +33,11 @@ pub certified_sound : (functions : DigestFunctions) (header : Header) (logs : Li
     → let histories = histories_read (scheme_of functions header) header logs in
     let count = certified_count (scheme_of functions header) header.first histories in
     GivesDigests functions.digest
-    → IsSerialOrCollides (scheme_of functions header) (exhibit_of short_keys header.first count histories)
+    → IsSerialOrCollides (scheme_of functions header) (exhibit_of header.first count histories)
     (certified_operations (scheme_of functions header) header.first histories)
 certified_sound functions header logs digests =
     let histories = histories_read (scheme_of functions header) header logs in
-    sound functions header (commands_of short_keys logs) (certified_count (scheme_of functions header) header.first histories) digests
+    sound functions header (commands_of longest_blob logs) (certified_count (scheme_of functions header) header.first histories) digests
     (commands_typed logs) (counted_balanced (scheme_of functions header) (order_of histories) header.first (sealed_by_all histories))
 
 -- ---- the schedule

@@ -3,10 +3,9 @@ use Rattle.std.proofs.Common.{◌≡◌, ◌≢◌, ◌⊎◌, ℕ, Bool, List, 
 use Rattle.std.proofs.lemmas.Bool.{eq-eqb, ne_eqb, cases_eq}
 use Rattle.std.proofs.lemmas.Option.{none-some, same_Some}
 use Rattle.tree_keys.specs.Bits.{number_of}
-use Rattle.tree_keys.specs.Path.{same_path}
+use Rattle.tree_keys.specs.Path.{same_path, IsData}
 use Rattle.tree_keys.proofs.PathLaws.{same_path-self, same_path-apart}
 use Rattle.record_text.specs.declared.value.Value.{Value}
-use Rattle.record_text.specs.Format.{Format, path_bits}
 use Rattle.merkle_records.specs.Merkle.{Digest}
 use Rattle.verifier_cache.specs.declared.entry.Entry.{Entry}
 use Rattle.verifier_commands.specs.Outcome.{blob_of}
@@ -66,15 +65,15 @@ shown_cases shown home next other path entry here elsewhere = go (cases_eq other
 -- ---- the world, once one record moves
 
 -- The record of a path moves, in or out of this verifier's cache or within it, and its data value stays or is written.
-pub world_one : (format : Format) (digest : Digest) (shown : AllShown) (last now_taken : LastEvicted) (stored now_stored : Stored) (spots : Spots) (home : ℕ) (next : Shown) (k : List Bool) (spot : Spot)
-    → IsWorld format digest shown last stored spots
-    → IsTree format digest (with_spot spots k spot)
+pub world_one : (longest : ℕ) (digest : Digest) (shown : AllShown) (last now_taken : LastEvicted) (stored now_stored : Stored) (spots : Spots) (home : ℕ) (next : Shown) (k : List Bool) (spot : Spot)
+    → IsWorld longest digest shown last stored spots
+    → IsTree longest digest (with_spot spots k spot)
     → ShowSame next (showing (shown home) k (cached_in home spot))
     → ((other : ℕ) → other ≢ home → cached_in other spot ≡ cached_in other (spots k))
     → ((path : List Bool) (value : Value) → with_spot spots k spot path ≡ merkle value → now_taken path ≡ Some value)
-    → ((path : List Bool) → length path ≡ path_bits format → blob_at (with_spot spots k spot path) ≡ now_stored (number_of path))
-    → IsWorld format digest (with_shown shown home next) now_taken now_stored (with_spot spots k spot)
-world_one format digest shown last now_taken stored now_stored spots home next k spot world tree shows others taken_is holds =
+    → ((path : List Bool) → IsData path → blob_at (with_spot spots k spot path) ≡ now_stored (number_of path))
+    → IsWorld longest digest (with_shown shown home next) now_taken now_stored (with_spot spots k spot)
+world_one longest digest shown last now_taken stored now_stored spots home next k spot world tree shows others taken_is holds =
     record { tree = tree; shows = all_show; was_evicted = taken_is; holds = holds }
   where
     all_show : (other : ℕ) (path : List Bool) → with_shown shown home next other path ≡ cached_in other (with_spot spots k spot path)
@@ -107,16 +106,16 @@ with_pair_other spots home after k j spot apart further =
     ∙ with_spot_other spots after.path j (cached home after) apart
 
 -- A parent in this verifier's cache and its child change, and keep their data values.
-pub world_pair : (format : Format) (digest : Digest) (shown : AllShown) (last now_taken : LastEvicted) (stored : Stored) (spots : Spots) (home : ℕ) (next : Shown) (before after : Entry) (k : List Bool) (spot : Spot)
-    → IsWorld format digest shown last stored spots
-    → IsTree format digest (with_pair spots home after k spot)
+pub world_pair : (longest : ℕ) (digest : Digest) (shown : AllShown) (last now_taken : LastEvicted) (stored : Stored) (spots : Spots) (home : ℕ) (next : Shown) (before after : Entry) (k : List Bool) (spot : Spot)
+    → IsWorld longest digest shown last stored spots
+    → IsTree longest digest (with_pair spots home after k spot)
     → spots after.path ≡ cached home before → after.path ≢ k
     → ShowSame next (showing_both (shown home) after k (cached_in home spot))
     → ((other : ℕ) → other ≢ home → cached_in other spot ≡ cached_in other (spots k))
     → blob_of after.value ≡ blob_of before.value → blob_at spot ≡ blob_at (spots k)
     → ((path : List Bool) (value : Value) → with_pair spots home after k spot path ≡ merkle value → now_taken path ≡ Some value)
-    → IsWorld format digest (with_shown shown home next) now_taken stored (with_pair spots home after k spot)
-world_pair format digest shown last now_taken stored spots home next before after k spot world tree was apart shows others same_blob child_blob taken_is =
+    → IsWorld longest digest (with_shown shown home next) now_taken stored (with_pair spots home after k spot)
+world_pair longest digest shown last now_taken stored spots home next before after k spot world tree was apart shows others same_blob child_blob taken_is =
     record { tree = tree; shows = all_show; was_evicted = taken_is; holds = holds }
   where
     new : Spots
@@ -166,7 +165,7 @@ world_pair format digest shown last now_taken stored spots home next before afte
             ∙ ap (cached_in other) (sym (with_pair_other spots home after k path spot away further)))
             (λ there. world.shows other path ∙ ap (cached_in other) (sym (with_pair_other spots home after k path spot away further)))
 
-    holds : (path : List Bool) → length path ≡ path_bits format → blob_at (new path) ≡ stored (number_of path)
+    holds : (path : List Bool) → IsData path → blob_at (new path) ≡ stored (number_of path)
     holds path wide = go (this_or_other k path) (this_or_other after.path path)
       where
         go : (k ≡ path) ⊎ (k ≢ path) → (after.path ≡ path) ⊎ (after.path ≢ path) → blob_at (new path) ≡ stored (number_of path)

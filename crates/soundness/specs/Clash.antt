@@ -3,7 +3,6 @@ use Rattle.std.specs.Prelude.{ℕ, Bool, true, false, List, [], ◌∷◌, Optio
 use Rattle.std.specs.Option.{option_or}
 use Rattle.tree_keys.specs.Path.{same_path}
 use Rattle.record_text.specs.declared.value.Value.{Value}
-use Rattle.record_text.specs.Format.{Format}
 use Rattle.record_text.specs.Value.{node_side}
 use Rattle.record_text.specs.Texts.{value_text}
 use Rattle.verifier_cache.specs.declared.entry.Entry.{Entry}
@@ -45,31 +44,31 @@ abbrev pub Strings : Type 0
 Strings = List ℕ × List ℕ
 
 -- the texts of what an evictM took out and what was then added, if they differ
-abbrev pub differing : Format → Option Value → Value → Option Strings
-differing format None added = None
-differing format (Some evicted) added =
-    if same_bytes (value_text format evicted) (value_text format added)
+abbrev pub differing : Option Value → Value → Option Strings
+differing None added = None
+differing (Some evicted) added =
+    if same_bytes (value_text evicted) (value_text added)
     then None
-    else Some (value_text format evicted, value_text format added)
+    else Some (value_text evicted, value_text added)
 
 -- what an addM shows: the child came in where the parent's pointer led to it, with another value than the last
 -- evictM took out
-abbrev pub clash_at : Format → LastEvicted → Bool → Entry → Option Strings
-clash_at format last false child = None
-clash_at format last true child = differing format (last child.path) child.value
+abbrev pub clash_at : LastEvicted → Bool → Entry → Option Strings
+clash_at last false child = None
+clash_at last true child = differing (last child.path) child.value
 
-abbrev pub clash_of : Format → LastEvicted → Change → Option Strings
-clash_of format last (did_add_m parent after child) = clash_at format last (is_known (above parent child.path) child.path) child
-clash_of format last (did_evict_m parent after child) = None
-clash_of format last (did_add_b child element) = None
-clash_of format last (did_evict_b child element) = None
-clash_of format last (did_evict_bm parent after child element) = None
-clash_of format last (did_get entry) = None
-clash_of format last (did_put before after) = None
-clash_of format last (did_next_epoch sealed) = None
+abbrev pub clash_of : LastEvicted → Change → Option Strings
+clash_of last (did_add_m parent after child) = clash_at last (is_known (above parent child.path) child.path) child
+clash_of last (did_evict_m parent after child) = None
+clash_of last (did_add_b child element) = None
+clash_of last (did_evict_b child element) = None
+clash_of last (did_evict_bm parent after child element) = None
+clash_of last (did_get entry) = None
+clash_of last (did_put before after) = None
+clash_of last (did_next_epoch sealed) = None
 
 -- The first clash among what was done.
-abbrev pub first_clash : Format → LastEvicted → List Change → Option Strings
-first_clash format last [] = None
-first_clash format last (change ∷ changes) =
-    option_or (clash_of format last change) (first_clash format (last_evicted_after last change) changes)
+abbrev pub first_clash : LastEvicted → List Change → Option Strings
+first_clash last [] = None
+first_clash last (change ∷ changes) =
+    option_or (clash_of last change) (first_clash (last_evicted_after last change) changes)

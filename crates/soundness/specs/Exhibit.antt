@@ -2,7 +2,6 @@
 use Rattle.std.specs.Prelude.{ℕ, zero, suc, List, map, Option, Some, None, if◌then◌else◌}
 use Rattle.record_text.specs.declared.exhibit.Exhibit.{Exhibit}
 use Rattle.record_text.specs.declared.exhibit.Exhibit.TheVariants as exhibits
-use Rattle.record_text.specs.Format.{Format}
 use Rattle.soundness.specs.History.{Event}
 use Rattle.soundness.specs.Certified.{order_of, order_within, added_in, evicted_in}
 use Rattle.soundness.specs.Clash.{Strings, none_evicted, first_clash}
@@ -21,7 +20,7 @@ exhibit_by events None (Some shown) = exhibits.Strings shown.0 shown.1
 exhibit_by events None None = exhibits.Clean
 
 -- The exhibit of so many epochs from the first on.
-abbrev pub exhibit_of : Format → ℕ → ℕ → List (List Event) → Exhibit
-exhibit_of format first count histories =
+abbrev pub exhibit_of : ℕ → ℕ → List (List Event) → Exhibit
+exhibit_of first count histories =
     exhibit_by (order_of histories) (first_uneven (order_of histories) first count)
-    (first_clash format none_evicted (map (λ event. event.change) (order_within first count histories)))
+    (first_clash none_evicted (map (λ event. event.change) (order_within first count histories)))

@@ -1,9 +1,8 @@
 -- What soundness knows of a step of a verifier: what its cache shows before and after, by what was done.
-use Rattle.std.specs.Prelude.{◌≡◌, Bool, false, List, Option, Some, None, Ok, length, if◌then◌else◌}
-use Rattle.tree_keys.specs.Path.{same_path}
+use Rattle.std.specs.Prelude.{ℕ, ◌≡◌, Bool, false, List, Option, Some, None, Ok, length, if◌then◌else◌}
+use Rattle.tree_keys.specs.Path.{same_path, IsData}
 use Rattle.record_text.specs.declared.value.Value.{Value}
 use Rattle.record_text.specs.declared.element.Element.{Element}
-use Rattle.record_text.specs.Format.{Format, path_bits}
 use Rattle.record_text.specs.Value.{IsOf}
 use Rattle.merkle_records.specs.Merkle.{Digest}
 use Rattle.verifier_cache.specs.declared.entry.Entry.{Entry}
@@ -35,24 +34,24 @@ abbrev pub showing_both : Shown → Entry → List Bool → Option Entry → Sho
 showing_both shown parent path child = showing (showing shown parent.path (Some parent)) path child
 
 -- a child came in under its parent, with this value
-pub record DidAddM (format : Format) (digest : Digest) (old new : Shown) (parent after child : Entry) : Type 0 where
+pub record DidAddM (longest : ℕ) (digest : Digest) (old new : Shown) (parent after child : Entry) : Type 0 where
   pub value : Value
   pub had_parent : old parent.path ≡ Some parent
-  pub kind : IsOf format child.path value
-  pub added : add_under format digest parent child.path value ≡ Ok (record { parent = after; child = child })
+  pub kind : IsOf longest child.path value
+  pub added : add_under digest parent child.path value ≡ Ok (record { parent = after; child = child })
   pub shown : ShowSame new (showing_both old after child.path (Some child))
 
 -- a child left into its parent
-pub record DidEvictM (format : Format) (digest : Digest) (old new : Shown) (parent after child : Entry) : Type 0 where
+pub record DidEvictM (digest : Digest) (old new : Shown) (parent after child : Entry) : Type 0 where
   pub had_parent : old parent.path ≡ Some parent
   pub had_child : old child.path ≡ Some child
-  pub evicted : evict_under format digest parent child ≡ Ok after
+  pub evicted : evict_under digest parent child ≡ Ok after
   pub shown : ShowSame new (showing_both old after child.path None)
 
 -- a record came in with its element
-pub record DidAddB (format : Format) (old new : Shown) (child : Entry) (element : Element) : Type 0 where
+pub record DidAddB (longest : ℕ) (old new : Shown) (child : Entry) (element : Element) : Type 0 where
   pub came_as : child ≡ new_entry element.path element.value B
-  pub kind : IsOf format element.path element.value
+  pub kind : IsOf longest element.path element.value
   pub shown : ShowSame new (showing old child.path (Some child))
 
 -- a record went out with an element
@@ -74,27 +73,27 @@ pub record DidEvictBM (old new : Shown) (parent after child : Entry) (element : 
   pub shown : ShowSame new (showing_both old after child.path None)
 
 -- a data value was read
-pub record DidGet (format : Format) (old new : Shown) (entry : Entry) : Type 0 where
+pub record DidGet (old new : Shown) (entry : Entry) : Type 0 where
   pub had : old entry.path ≡ Some entry
-  pub at_data : length entry.path ≡ path_bits format
+  pub at_data : IsData entry.path
   pub shown : ShowSame new old
 
 -- a data value was written
-pub record DidPut (format : Format) (old new : Shown) (before after : Entry) : Type 0 where
+pub record DidPut (longest : ℕ) (old new : Shown) (before after : Entry) : Type 0 where
   pub value : Value
   pub had : old before.path ≡ Some before
-  pub at_data : length before.path ≡ path_bits format
-  pub kind : IsOf format before.path value
+  pub at_data : IsData before.path
+  pub kind : IsOf longest before.path value
   pub wrote : after ≡ with_value before value
   pub shown : ShowSame new (showing old before.path (Some after))
 
 -- what a step did, by the change
-abbrev pub HasDone : Format → Digest → Shown → Shown → Change → Type 0
-HasDone format digest old new (did_add_m parent after child) = DidAddM format digest old new parent after child
-HasDone format digest old new (did_evict_m parent after child) = DidEvictM format digest old new parent after child
-HasDone format digest old new (did_add_b child element) = DidAddB format old new child element
-HasDone format digest old new (did_evict_b child element) = DidEvictB old new child element
-HasDone format digest old new (did_evict_bm parent after child element) = DidEvictBM old new parent after child element
-HasDone format digest old new (did_get entry) = DidGet format old new entry
-HasDone format digest old new (did_put before after) = DidPut format old new before after
-HasDone format digest old new (did_next_epoch sealed) = ShowSame new old
+abbrev pub HasDone : ℕ → Digest → Shown → Shown → Change → Type 0
+HasDone longest digest old new (did_add_m parent after child) = DidAddM longest digest old new parent after child
+HasDone longest digest old new (did_evict_m parent after child) = DidEvictM digest old new parent after child
+HasDone longest digest old new (did_add_b child element) = DidAddB longest old new child element
+HasDone longest digest old new (did_evict_b child element) = DidEvictB old new child element
+HasDone longest digest old new (did_evict_bm parent after child element) = DidEvictBM old new parent after child element
+HasDone longest digest old new (did_get entry) = DidGet old new entry
+HasDone longest digest old new (did_put before after) = DidPut longest old new before after
+HasDone longest digest old new (did_next_epoch sealed) = ShowSame new old

@@ -5,7 +5,6 @@ use Rattle.record_text.specs.declared.value.Pointer.{Pointer}
 use Rattle.record_text.specs.declared.value.Node.{Node}
 use Rattle.record_text.specs.declared.value.Value.{Value}
 use Rattle.record_text.specs.declared.element.Element.{Element}
-use Rattle.record_text.specs.Format.{Format}
 use Rattle.record_text.specs.Value.{IsOf, node_side}
 use Rattle.record_text.specs.Texts.{value_text}
 use Rattle.merkle_records.specs.Merkle.{Digest}
@@ -75,20 +74,20 @@ IsKidOf home (merkle value) = ⊥
 IsKidOf home (waiting element) = ⊥
 
 -- it is kept by this digest
-abbrev pub IsKeptBy : Format → Digest → List ℕ → Spot → Type 0
-IsKeptBy format digest kept untouched = ⊥
-IsKeptBy format digest kept (cached verifier entry) = ⊥
-IsKeptBy format digest kept (merkle value) = kept ≡ digest (value_text format value)
-IsKeptBy format digest kept (waiting element) = ⊥
+abbrev pub IsKeptBy : Digest → List ℕ → Spot → Type 0
+IsKeptBy digest kept untouched = ⊥
+IsKeptBy digest kept (cached verifier entry) = ⊥
+IsKeptBy digest kept (merkle value) = kept ≡ digest (value_text value)
+IsKeptBy digest kept (waiting element) = ⊥
 
 -- where a pointer with or without its flag leads, by the cache where parent and child stand together, if any
-abbrev pub LeadsBy : Format → Digest → Bool → Option ℕ → List ℕ → Spot → Type 0
-LeadsBy format digest true home kept spot = IsByElement spot
-LeadsBy format digest false None kept spot = IsKeptBy format digest kept spot
-LeadsBy format digest false (Some home) kept spot = IsKidOf home spot
+abbrev pub LeadsBy : Digest → Bool → Option ℕ → List ℕ → Spot → Type 0
+LeadsBy digest true home kept spot = IsByElement spot
+LeadsBy digest false None kept spot = IsKeptBy digest kept spot
+LeadsBy digest false (Some home) kept spot = IsKidOf home spot
 
-abbrev pub Leads : Format → Digest → Option ℕ → Pointer → Spot → Type 0
-Leads format digest home pointer spot = LeadsBy format digest pointer.deferred home pointer.digest spot
+abbrev pub Leads : Digest → Option ℕ → Pointer → Spot → Type 0
+Leads digest home pointer spot = LeadsBy digest pointer.deferred home pointer.digest spot
 
 -- the pointer is to this path or to one above it
 abbrev pub Covers : Option Pointer → List Bool → Type 0
@@ -96,16 +95,16 @@ Covers None path = ⊥
 Covers (Some pointer) path = is_prefix pointer.path path ≡ true
 
 -- what stands at a spot is the path's, and of its kind
-abbrev pub IsKind : Format → List Bool → Spot → Type 0
-IsKind format path untouched = Unit {0}
-IsKind format path (cached verifier entry) = (entry.path ≡ path) × IsOf format path entry.value
-IsKind format path (merkle value) = IsOf format path value
-IsKind format path (waiting element) = (element.path ≡ path) × IsOf format path element.value
+abbrev pub IsKind : ℕ → List Bool → Spot → Type 0
+IsKind longest path untouched = Unit {0}
+IsKind longest path (cached verifier entry) = (entry.path ≡ path) × IsOf longest path entry.value
+IsKind longest path (merkle value) = IsOf longest path value
+IsKind longest path (waiting element) = (element.path ≡ path) × IsOf longest path element.value
 
 -- The touched paths are a tree: each pointer leads to its child, and covers all that is touched on its side.
-pub record IsTree (format : Format) (digest : Digest) (spots : Spots) : Type 0 where
-  pub kind : (path : List Bool) → IsKind format path (spots path)
+pub record IsTree (longest : ℕ) (digest : Digest) (spots : Spots) : Type 0 where
+  pub kind : (path : List Bool) → IsKind longest path (spots path)
   pub link : (path : List Bool) (on : Bool) (pointer : Pointer) → pointer_at (spots path) on ≡ Some pointer
-      → Leads format digest (home_of (spots path) on) pointer (spots pointer.path)
+      → Leads digest (home_of (spots path) on) pointer (spots pointer.path)
   pub cover : (path other : List Bool) (on : Bool) → is_touched (spots path) ≡ true → is_touched (spots other) ≡ true
       → side path other ≡ Some on → Covers (pointer_at (spots path) on) other

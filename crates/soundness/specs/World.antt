@@ -2,11 +2,12 @@
 use Rattle.std.specs.Prelude.{◌≡◌, ◌⊎◌, ℕ, ◌≤◌, ◌==◌, Bool, List, [], ◌∷◌, map, length, Option, Some, None, if◌then◌else◌}
 use Rattle.std.specs.Option.{unwrap_or}
 use Rattle.tree_keys.specs.Bits.{number_of}
+use Rattle.tree_keys.specs.Path.{IsData}
 use Rattle.lamport_clocks.specs.declared.header.Header.{Header}
 use Rattle.record_text.specs.declared.value.Value.{Value}
 use Rattle.record_text.specs.declared.element.Element.{Element}
 use Rattle.record_text.specs.declared.operation.Operation.{Operation}
-use Rattle.record_text.specs.Format.{Format, format_of, path_bits}
+use Rattle.record_text.specs.Longest.{longest_of}
 use Rattle.merkle_records.specs.Merkle.{Digest}
 use Rattle.stamp_order.specs.Serial.{none_everywhere, map_after}
 use Rattle.verifier_cache.specs.declared.entry.Entry.{Entry}
@@ -55,12 +56,12 @@ Stored = ℕ → Option (List ℕ)
 
 -- The spots are a tree, the caches show them, a record that is kept by its digest is what an evictM took out, and the
 -- data values are those of the plain map.
-pub record IsWorld (format : Format) (digest : Digest) (shown : AllShown) (last : LastEvicted) (stored : Stored)
+pub record IsWorld (longest : ℕ) (digest : Digest) (shown : AllShown) (last : LastEvicted) (stored : Stored)
     (spots : Spots) : Type 0 where
-  pub tree : IsTree format digest spots
+  pub tree : IsTree longest digest spots
   pub shows : (home : ℕ) (path : List Bool) → shown home path ≡ cached_in home (spots path)
   pub was_evicted : (path : List Bool) (value : Value) → spots path ≡ merkle value → last path ≡ Some value
-  pub holds : (path : List Bool) → length path ≡ path_bits format → blob_at (spots path) ≡ stored (number_of path)
+  pub holds : (path : List Bool) → IsData path → blob_at (spots path) ≡ stored (number_of path)
 
 -- The elements that were evicted and not added back each wait at the spot of their path, none twice, and no others do.
 pub record IsWaiting (spots : Spots) (pending : List Element) : Type 0 where
@@ -132,7 +133,7 @@ stored_behind stored (operation ∷ operations) = stored_behind (map_after opera
 -- The spots agree with what the caches show behind these events, what was last evicted by them, and their plain map; and
 -- just what was evicted and not added back waits.
 pub record IsBehind (digest : Digest) (header : Header) (events : List Event) (spots : Spots) : Type 0 where
-  pub world : IsWorld (format_of header) digest (shown_behind (opening_shown header) events)
+  pub world : IsWorld (longest_of header) digest (shown_behind (opening_shown header) events)
       (last_evicted_behind none_evicted (changes_in events)) (stored_behind none_everywhere (operations_in events)) spots
   pub waits : IsWaiting spots (pending_behind [] (changes_in events))
 

@@ -3,13 +3,13 @@
 ghost use Rattle.std.specs.Prelude.{◌≡◌, ℕ, ◌≤◌, List, [], ◌∷◌, ◌++◌, None, get_or};
 ghost use Rattle.std.specs.List.{flat_map, AllByRecursion, IsDistinct};
 ghost use Rattle.lamport_clocks.specs.declared.header.Header.{Header};
+ghost use Rattle.record_text.specs.Longest.{longest_of};
 ghost use Rattle.log_codec.specs.declared.command.Command.{Command};
 ghost use Rattle.record_hash.specs.Functions.{DigestFunctions};
 ghost use Rattle.merkle_records.specs.Merkle.{GivesDigests};
 ghost use Rattle.merkle_records.specs.Scheme.{Scheme, scheme_of};
 ghost use Rattle.stamp_order.specs.Merged.{up_to, of_verifier};
 ghost use Rattle.record_text.specs.declared.element.Element.{Element};
-ghost use Rattle.record_text.specs.Format.{format_of};
 ghost use Rattle.soundness.specs.History.{Event, log_events, histories_of};
 ghost use Rattle.soundness.specs.StateHistory.{HistoryFromState};
 ghost use Rattle.soundness.specs.Certified.{event_moment, order_of, order_up_to, order_after, order_within, operations_in, operations_of, epochs_from, certified_count, certified_operations};
@@ -28,15 +28,15 @@ pub fn certified_is_serial_or_collides()
     ensures sound { (functions : DigestFunctions) (header : Header)
         (logs : List (List Command)) (count : ℕ)
         → let histories = histories_of (scheme_of functions header) header logs in
-        GivesDigests functions.digest → AreTyped (format_of header) logs → AreBalanced (scheme_of functions header) (order_of histories) header.first count
-        → IsSerialOrCollides (scheme_of functions header) (exhibit_of (format_of header) header.first count histories)
+        GivesDigests functions.digest → AreTyped (longest_of header) logs → AreBalanced (scheme_of functions header) (order_of histories) header.first count
+        → IsSerialOrCollides (scheme_of functions header) (exhibit_of header.first count histories)
         (operations_in (order_within header.first count histories)) }
     ensures certified { (functions : DigestFunctions) (header : Header)
         (logs : List (List ℕ))
         → let histories = histories_read (scheme_of functions header) header logs in
         let count = certified_count (scheme_of functions header) header.first histories in
         GivesDigests functions.digest
-        → IsSerialOrCollides (scheme_of functions header) (exhibit_of (format_of header) header.first count histories)
+        → IsSerialOrCollides (scheme_of functions header) (exhibit_of header.first count histories)
         (certified_operations (scheme_of functions header) header.first histories) }
 {}
 
@@ -105,10 +105,10 @@ pub fn operations_come_epoch_by_epoch()
 pub fn records_have_one_spot()
     ensures spots { (functions : DigestFunctions) (header : Header)
         (logs : List (List Command)) (last : ℕ) (front back : List Event)
-        → GivesDigests functions.digest → AreTyped (format_of header) logs
+        → GivesDigests functions.digest → AreTyped (longest_of header) logs
         → ArePermuted header.first last (order_of (histories_of (scheme_of functions header) header logs))
         → order_up_to last (histories_of (scheme_of functions header) header logs) ≡ front ++ back
-        → first_clash (format_of header) none_evicted (changes_in front) ≡ None
+        → first_clash none_evicted (changes_in front) ≡ None
         → HaveSpots functions.digest header front }
 {}
 
@@ -131,8 +131,8 @@ pub fn elements_added_later_wait()
     ensures waiting { (functions : DigestFunctions) (header : Header)
         (logs : List (List Command)) (last : ℕ)
         → let histories = histories_of (scheme_of functions header) header logs in
-        GivesDigests functions.digest → AreTyped (format_of header) logs → ArePermuted header.first last (order_of histories)
-        → first_clash (format_of header) none_evicted (changes_in (order_up_to last histories)) ≡ None
+        GivesDigests functions.digest → AreTyped (longest_of header) logs → ArePermuted header.first last (order_of histories)
+        → first_clash none_evicted (changes_in (order_up_to last histories)) ≡ None
         → (spots : Spots) × IsBehind functions.digest header (order_up_to last histories) spots
         × ((element : Element) → element.stamp.epoch ≤ last
         → 1 ≤ count_of element (added_among (order_after last histories)) → spots element.path ≡ waiting element) }
@@ -144,10 +144,10 @@ pub fn elements_added_later_wait()
 pub fn adds_take_what_is_there()
     ensures takes { (functions : DigestFunctions) (header : Header)
         (logs : List (List Command)) (last : ℕ) (front : List Event) (event : Event) (back : List Event)
-        → GivesDigests functions.digest → AreTyped (format_of header) logs
+        → GivesDigests functions.digest → AreTyped (longest_of header) logs
         → ArePermuted header.first last (order_of (histories_of (scheme_of functions header) header logs))
         → order_up_to last (histories_of (scheme_of functions header) header logs) ≡ front ++ event ∷ back
-        → first_clash (format_of header) none_evicted (changes_in (front ++ event ∷ [])) ≡ None
+        → first_clash none_evicted (changes_in (front ++ event ∷ [])) ≡ None
         → TakesFromSpots functions.digest header front event.change }
 {}
 

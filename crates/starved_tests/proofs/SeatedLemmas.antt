@@ -4,7 +4,7 @@ use Rattle.std.proofs.lemmas.Option.{same_Some}
 use Rattle.lamport_clocks.specs.declared.header.Header.{Header}
 use Rattle.lamport_clocks.specs.Clock.{opening_reading}
 use Rattle.record_text.specs.declared.element.Element.{Element}
-use Rattle.record_text.specs.Format.{short_keys}
+use Rattle.record_text.specs.Longest.{longest_blob}
 use Rattle.atomic_table.specs.Seated.{TableId}
 use Rattle.host_shard.specs.declared.content.Content.{Content}
 use Rattle.host_shard.specs.declared.content.Content.TheVariants.{Cold, Hot, Vacant}
@@ -35,7 +35,7 @@ no_vacant kept e = subst is_vacant e tt
     is_vacant Vacant = Unit {0}
 
 -- the epoch with which one content waits
-epoch_is : (content : Content) (element : Element) → pending short_keys (shown_content content) ≡ Some element → epoch_in (content ∷ []) ≡ element.stamp.epoch
+epoch_is : (content : Content) (element : Element) → pending (shown_content content) ≡ Some element → epoch_in (content ∷ []) ≡ element.stamp.epoch
 epoch_is (Cold shard) element is = ap (λ (e : Element). e.stamp.epoch) (same_Some _ element is)
 epoch_is (Hot found) element is = ap (λ (e : Element). e.stamp.epoch) (same_Some _ element is)
 epoch_is Vacant element is = absurd (no_element element is)
@@ -69,7 +69,7 @@ hot_first content (suc other) kept hot = absurd (no_vacant kept hot)
 place_of : (terms : Terms) → IsStart terms.contents → IsPlaceOf terms 0 1
 place_of terms start = record {
   there = subst (λ (contents : List Content). 0 < length contents) (sym start.is) (omega arith);
-  owns = subst (λ (contents : List Content). Owns short_keys (shown_content (get_or contents 0 Vacant)) 1) (sym start.is) start.owns;
+  owns = subst (λ (contents : List Content). Owns longest_blob (shown_content (get_or contents 0 Vacant)) 1) (sym start.is) start.owns;
   cold = λ other kept near hot same. hot_first start.content other kept (sym (ap (λ (contents : List Content). get_or contents other Vacant) start.is) ∙ hot);
 }
 

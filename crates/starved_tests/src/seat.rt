@@ -2,7 +2,7 @@
 ghost use Rattle.std.specs.Prelude.{◌≡◌, ◌≤◌, IfOk, IsTrue, length, map};
 ghost use Rattle.std.specs.List.{AllByRecursion};
 ghost use Rattle.lamport_clocks.specs.Clock.{is_open};
-ghost use Rattle.record_text.specs.Format.{short_keys};
+ghost use Rattle.record_text.specs.Longest.{longest_blob};
 ghost use Rattle.host_shard.specs.Content.{key_path};
 ghost use Rattle.host_shard.specs.Mirrors.{IsShard, IsKeyOf};
 ghost use Rattle.host_shard.specs.Shown.{shown, shown_content};
@@ -157,7 +157,7 @@ pub fn put_of(key: u64, byte: u8) -> Result<Request, Fault>
 /// Whether a content is the one in which a request for a key is served.
 pub fn owns(content: &Content, key: u64) -> bool
     ensures own { IsTrue result → IsFit (shown_content content.now)
-        → Owns short_keys (shown_content content.now) key }
+        → Owns longest_blob (shown_content content.now) key }
 {
     match content {
         Content::Cold(shard) => Path::of_key(key).is_below(&shard.frontier),
@@ -203,7 +203,7 @@ fn takes_all(clock: &Clock, places: &[Content]) -> bool
 
 // Whether each record in these places is of a key of the shard.
 fn owns_all(shard: &Shard, places: &[Content]) -> bool
-    ensures own { IsTrue result → AllByRecursion (λ found. IsKeyOf short_keys (shown shard.now) (key_path short_keys found.key))
+    ensures own { IsTrue result → AllByRecursion (λ found. IsKeyOf (shown shard.now) (key_path found.key))
         (hot_records (map shown_content places.now)) }
 {
     let (first, rest) = match places.split_first() {
@@ -226,9 +226,9 @@ fn close(
     hot: &mut [Content],
     clock: &mut Clock,
 ) -> Result<Commands, Fault>
-    requires fits { IsShard short_keys (shown shard.old) }
+    requires fits { IsShard longest_blob (shown shard.old) }
     requires places { length hot.old ≤ 4 }
-    ensures fits { IsShard short_keys (shown shard.new) }
+    ensures fits { IsShard longest_blob (shown shard.new) }
 {
     if !takes(clock, shard.stamp) || !takes_all(clock, hot) || !owns_all(shard, hot) {
         return Err(Fault::Amiss("a shard that is not to be moved"));

@@ -7,7 +7,6 @@ use Rattle.lamport_clocks.specs.Reading.{Reading}
 use Rattle.lamport_clocks.proofs.StampLaws.{IsLater-cmp}
 use Rattle.record_text.specs.declared.element.Element.{Element}
 use Rattle.record_text.specs.declared.request.Request.{Request}
-use Rattle.record_text.specs.Format.{short_keys}
 use Rattle.merkle_records.specs.Merkle.{Digest}
 use Rattle.soundness.specs.Timed.{IsEarlier, IsRising}
 use Rattle.host_shard.specs.declared.link.Link.{Link}
@@ -27,17 +26,17 @@ use Rattle.table_order.proofs.MirrorLemmas.{service_stamped}
 -- before.
 record IsEvictOf (worker : ℕ) (before later : Stamp) (content : Content) : Type 0 where
   pub element : Element
-  pub waits : pending short_keys content ≡ Some element
+  pub waits : pending content ≡ Some element
   pub own : element.verifier ≡ worker
   pub at : element.stamp ≡ later
   pub in_epoch : later.epoch ≡ before.epoch
   pub risen : before.counter < later.counter
 
 evict_after : (digest : Digest) (worker : ℕ) (content : Content) (links : List Link) (request : Request) (clock : Reading)
-    → AreLinks short_keys content request.key links
-    → IsEvictOf worker clock.at (clock_after content clock).at (content_after short_keys digest worker content links request clock)
+    → AreLinks content request.key links
+    → IsEvictOf worker clock.at (clock_after content clock).at (content_after digest worker content links request clock)
 evict_after digest worker (cold shard) links request clock way = record {
-  element = pending_shard (served short_keys digest worker shard links request clock);
+  element = pending_shard (served digest worker shard links request clock);
   waits = refl;
   own = refl;
   at = refl;
@@ -45,7 +44,7 @@ evict_after digest worker (cold shard) links request clock way = record {
   risen = omega arith;
 }
 evict_after digest worker (hot found) links request clock way = record {
-  element = pending_hot short_keys (served_hot worker found request clock);
+  element = pending_hot (served_hot worker found request clock);
   waits = refl;
   own = refl;
   at = refl;
@@ -60,7 +59,7 @@ evict_of : (terms : Terms) (service : Service) → told.IsServed terms service
 evict_of terms service served =
     subst (λ (c : Content). IsEvictOf service.worker service.clock.at service.later.at c) (sym served.plan.content)
     (subst (λ (r : Reading). IsEvictOf service.worker service.clock.at r.at
-    (content_after short_keys terms.digest service.worker (shown_content service.before) served.plan.links service.request service.clock)) (sym served.plan.clock)
+    (content_after terms.digest service.worker (shown_content service.before) served.plan.links service.request service.clock)) (sym served.plan.clock)
     (evict_after terms.digest service.worker (shown_content service.before) served.plan.links service.request service.clock served.plan.way))
 
 -- ---- a list of them

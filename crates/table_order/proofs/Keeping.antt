@@ -3,7 +3,7 @@ use Rattle.std.specs.Prelude.{◌≡◌, ℕ, ◌≤◌, List, Some, None}
 use Rattle.lamport_clocks.specs.Reading.{Reading}
 use Rattle.record_hash.specs.Functions.{DigestFunctions}
 use Rattle.record_text.specs.declared.request.Request.{Request}
-use Rattle.record_text.specs.Format.{short_keys}
+use Rattle.record_text.specs.Longest.{longest_blob}
 use Rattle.script_text.specs.declared.task.Task.{Task}
 use Rattle.host_shard.specs.Content.{Content}
 use Rattle.host_plan.specs.Plan.{CanServe, IsPlan, IsPastEnd, clock_after}
@@ -14,8 +14,8 @@ use Rattle.host_world.specs.ShippedHost.{shipped_host}
 -- a plan is what it does for the request, where no counter passes the end
 abbrev pub DoesPlans : DigestFunctions → Settings → List (List Task) → Type 0
 DoesPlans functions settings script = (worker : ℕ) (content after : Content) (request : Request) (clock later : Reading) (plan : Plan)
-    → CanServe short_keys functions.digest content request.key
-    → IsPlan short_keys functions.digest worker content request clock plan after later
+    → CanServe longest_blob functions.digest content request.key
+    → IsPlan functions.digest worker content request clock plan after later
     → (clock_after content clock).at.counter ≤ clock.end
     → (shipped_host functions settings script).serve worker clock content request
     ≡ Some (record { commands = plan.commands; after = after; clock = later })

@@ -4,8 +4,8 @@ use Rattle.std.proofs.lemmas.Bool.{cases_lt}
 use Rattle.std.proofs.lemmas.List.{ext_get_or, get_or-drop, get_or-take, get_or_past, length-map, length-take, length-drop}
 use Rattle.std.proofs.Math.ListN.{get_or-map}
 use Rattle.record_hash.specs.Functions.{DigestFunctions}
-use Rattle.record_text.specs.Format.{short_keys}
 use Rattle.record_text.specs.Value.{IsBlob}
+use Rattle.record_text.specs.Longest.{longest_blob}
 use Rattle.merkle_records.specs.Merkle.{Digest, GivesDigests}
 use Rattle.script_text.specs.declared.task.Task.{Task}
 use Rattle.host_core.specs.World.{World, shard_at}
@@ -30,20 +30,20 @@ use Rattle.table_order.proofs.PlaceLemmas.{place_back, five_seats, shard_there}
 
 -- ---- one shard
 
-module _ (digest : Digest) (seats : List Content) (mirrors : SeatsMirror short_keys digest seats) where
-  hot_place : (k : ℕ) (content : Content) → get_or mirrors.places k vacant ≡ content → ContentMirrors short_keys digest (hot_paths short_keys mirrors.places) content
+module _ (digest : Digest) (seats : List Content) (mirrors : SeatsMirror longest_blob digest seats) where
+  hot_place : (k : ℕ) (content : Content) → get_or mirrors.places k vacant ≡ content → ContentMirrors longest_blob digest (hot_paths mirrors.places) content
   hot_place k (cold shard) is = absurd (subst IsHotPlace is (place_there mirrors.places k mirrors.hot_alone))
-  hot_place k (hot found) is = one_of-all (λ r. IsBlob short_keys r.value) (hot_records mirrors.places) found mirrors.blobs (hot_there mirrors.places k found is)
+  hot_place k (hot found) is = one_of-all (λ r. IsBlob longest_blob r.value) (hot_records mirrors.places) found mirrors.blobs (hot_there mirrors.places k found is)
   hot_place k vacant is = tt
 
-  seat_of_shard : (seat : ℕ) → ContentMirrors short_keys digest (hot_paths short_keys mirrors.places) (get_or (cold mirrors.shard ∷ mirrors.places) seat vacant)
+  seat_of_shard : (seat : ℕ) → ContentMirrors longest_blob digest (hot_paths mirrors.places) (get_or (cold mirrors.shard ∷ mirrors.places) seat vacant)
   seat_of_shard zero = mirrors.mirrored
   seat_of_shard (suc k) = hot_place k (get_or mirrors.places k vacant) refl
 
   -- each seat's content mirrors
-  seat_mirrors : (seat : ℕ) → ContentMirrors short_keys digest (hot_paths short_keys seats) (get_or seats seat vacant)
+  seat_mirrors : (seat : ℕ) → ContentMirrors longest_blob digest (hot_paths seats) (get_or seats seat vacant)
   seat_mirrors seat =
-      subst (λ (xs : List Content). ContentMirrors short_keys digest (hot_paths short_keys xs) (get_or xs seat vacant)) (sym mirrors.is) (seat_of_shard seat)
+      subst (λ (xs : List Content). ContentMirrors longest_blob digest (hot_paths xs) (get_or xs seat vacant)) (sym mirrors.is) (seat_of_shard seat)
 
   small_seat : (seat : ℕ) (found : HotRecord) → get_or (cold mirrors.shard ∷ mirrors.places) seat vacant ≡ hot found → found.key < 2 ^ 64
   small_seat zero found is = absurd (no_hot is)
@@ -67,7 +67,7 @@ module _ (functions : DigestFunctions) (settings : Settings) (script : List (Lis
     in_shard : place / 5 < length world.shards
     in_shard = shard_there functions settings script world orderly terms made place there
 
-    abbrev mirrored : SeatsMirror short_keys functions.digest seats
+    abbrev mirrored : SeatsMirror longest_blob functions.digest seats
     mirrored = (orderly.shards (place / 5) in_shard).mirrors
 
     -- a place of the same shard
@@ -98,11 +98,11 @@ module _ (functions : DigestFunctions) (settings : Settings) (script : List (Lis
             ∙ ap shown_content (get_or-take 5 (drop (place / 5 * 5) terms.contents) i Vacant few ∙ get_or-drop (place / 5 * 5) terms.contents i Vacant)
             ∙ numbered i few
 
-    place_mirrors : ContentMirrors short_keys terms.digest (hot_keys_at terms place) (shown_content (first_at terms place))
+    place_mirrors : ContentMirrors longest_blob terms.digest (hot_keys_at terms place) (shown_content (first_at terms place))
     place_mirrors =
-        subst (λ (digest : Digest). ContentMirrors short_keys digest (hot_keys_at terms place) (shown_content (first_at terms place))) (sym made.digest)
-        (subst (λ (content : Content). ContentMirrors short_keys functions.digest (hot_keys_at terms place) content) (sym own)
-        (subst (λ (xs : List Content). ContentMirrors short_keys functions.digest (hot_paths short_keys xs) (get_or seats (place % 5) vacant)) (sym same_shard)
+        subst (λ (digest : Digest). ContentMirrors longest_blob digest (hot_keys_at terms place) (shown_content (first_at terms place))) (sym made.digest)
+        (subst (λ (content : Content). ContentMirrors longest_blob functions.digest (hot_keys_at terms place) content) (sym own)
+        (subst (λ (xs : List Content). ContentMirrors longest_blob functions.digest (hot_paths xs) (get_or seats (place % 5) vacant)) (sym same_shard)
         (seat_mirrors functions.digest seats mirrored (place % 5))))
 
     place_small : (kept : HotRecord) → first_at terms place ≡ Hot kept → kept.key < 2 ^ 64

@@ -9,7 +9,6 @@ use Rattle.lamport_clocks.specs.declared.header.Header.{Header}
 use Rattle.record_hash.specs.Functions.{DigestFunctions}
 use Rattle.record_text.specs.declared.element.Element.{Element}
 use Rattle.record_text.specs.declared.request.Request.{Request}
-use Rattle.record_text.specs.Format.{short_keys}
 use Rattle.merkle_records.specs.Merkle.{GivesDigests}
 use Rattle.script_text.specs.declared.task.Task.{Task}
 use Rattle.soundness.specs.Certified.{all_events}
@@ -66,7 +65,7 @@ some_contents (seats ∷ shards) some each =
 
 -- the elements with which a content waits: one, or none
 abbrev waits_with : Content → List Element
-waits_with content = waiting (pending short_keys content)
+waits_with content = waiting (pending content)
 
 -- what waits in shards waits in all their contents
 waits_in_all : {C : Type 0} (waits : C → List Element) (shards : List (Seats C))
@@ -116,13 +115,13 @@ stamped_in header epoch contents all place there = λ element waits. go element 
         subst (λ (content : Content). AllByRecursion IsGood (waits_with content)) (get_or-map shown_content contents place Vacant)
         (all-part IsGood waits_with vacant (map shown_content contents) place (omega (arith, there, length-map contents shown_content)) all)
 
-    go : (element : Element) → pending short_keys (shown_content (get_or contents place Vacant)) ≡ Some element
+    go : (element : Element) → pending (shown_content (get_or contents place Vacant)) ≡ Some element
         → (epoch_in contents ≡ epoch) ⊎ ((other : ℕ) → shown_content (get_or contents other Vacant) ≡ vacant)
         → IsStampOf header (epoch_in contents) element.stamp element.verifier
     go element waits (inl same) =
         subst (λ (e : ℕ). IsStampOf header e element.stamp element.verifier) (sym same)
-        (of_waiting IsGood (pending short_keys (shown_content (get_or contents place Vacant))) element waits here)
-    go element waits (inr none_waits) = absurd (none-some element (ap (pending short_keys) (sym (none_waits place)) ∙ waits))
+        (of_waiting IsGood (pending (shown_content (get_or contents place Vacant))) element waits here)
+    go element waits (inr none_waits) = absurd (none-some element (ap pending (sym (none_waits place)) ∙ waits))
 
 -- ---- a world at rest
 

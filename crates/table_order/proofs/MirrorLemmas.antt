@@ -9,7 +9,7 @@ use Rattle.lamport_clocks.specs.Reading.{Reading}
 use Rattle.lamport_clocks.specs.declared.header.Header.{Header}
 use Rattle.record_text.specs.declared.element.Element.{Element}
 use Rattle.record_text.specs.declared.request.Request.{Request}
-use Rattle.record_text.specs.Format.{short_keys}
+use Rattle.record_text.specs.Longest.{longest_blob}
 use Rattle.merkle_records.specs.Merkle.{Digest}
 use Rattle.host_shard.specs.declared.content.Content as code
 use Rattle.host_shard.specs.declared.content.Content.TheVariants.{Cold, Hot, Vacant}
@@ -58,7 +58,7 @@ hot_of_shard terms place found is = (start + here.0, omega (arith, few), there)
     there = sym (get_or-drop start terms.contents here.0 Vacant) ∙ sym (get_or-take 5 (drop start terms.contents) here.0 Vacant few) ∙ here.2
 
 -- keys of one path are one key
-same_key : (a b : ℕ) → a < 2 ^ 64 → b < 2 ^ 64 → key_path short_keys a ≡ key_path short_keys b → a ≡ b
+same_key : (a b : ℕ) → a < 2 ^ 64 → b < 2 ^ 64 → key_path a ≡ key_path b → a ≡ b
 same_key a b small also same = sym (number_back 64 a small) ∙ ap number_of same ∙ number_back 64 b also
 
 no_hot : (shard : _) (found : HotRecord) → Cold shard ≡ Hot found → ⊥
@@ -66,13 +66,13 @@ no_hot shard found is = cc
 
 -- a key that a place serves is none of its shard's hot keys, where it has the shard
 pub cold_at : (terms : Terms) (place key : ℕ) → MirrorsAtMaking terms → key < 2 ^ 64 → IsPlaceOf terms place key
-    → IsCold short_keys (hot_keys_at terms place) (shown_content (first_at terms place)) key
+    → IsCold (hot_keys_at terms place) (shown_content (first_at terms place)) key
 cold_at terms place key made small at = go (first_at terms place) refl
   where
-    go : (content : code.Content) → first_at terms place ≡ content → IsCold short_keys (hot_keys_at terms place) (shown_content content) key
+    go : (content : code.Content) → first_at terms place ≡ content → IsCold (hot_keys_at terms place) (shown_content content) key
     go (Cold shard) is = λ among.
-        let found = member-one (λ (r : HotRecord). key_path short_keys r.key) (hot_records (shard_at_making terms place)) (key_path short_keys key)
-        (among-member (hot_keys_at terms place) (key_path short_keys key) among) in
+        let found = member-one (λ (r : HotRecord). key_path r.key) (hot_records (shard_at_making terms place)) (key_path key)
+        (among-member (hot_keys_at terms place) (key_path key) among) in
         let other = hot_of_shard terms place found.0 found.1 in
         let same = same_key key found.0.key small (made.in_range other.0 found.0 other.2) found.2 in
         let here : other.0 ≡ place = at.cold other.0 found.0 other.1 other.2 (sym same) in
@@ -85,7 +85,7 @@ cold_at terms place key made small at = go (first_at terms place) refl
 -- what comes of a request is stamped by its worker, in the clock's epoch, with the clock's last counter
 after_stamped : (header : Header) (epoch : ℕ) (digest : Digest) (worker : ℕ) (content : Content) (links : List Link) (request : Request) (clock : Reading)
     → worker < header.verifiers → clock.at.epoch ≡ epoch → (clock_after content clock).at.counter ≤ header.end
-    → IsStamped header epoch (content_after short_keys digest worker content links request clock)
+    → IsStamped header epoch (content_after digest worker content links request clock)
 after_stamped header epoch digest worker (cold shard) links request clock known in_epoch within element is =
     subst (λ (e : Element). IsStampOf header epoch e.stamp e.verifier) (same_Some _ element is)
     (record { verifier = known; epoch_is = in_epoch; counter = within })
@@ -117,7 +117,7 @@ module _ (terms : Terms) (made : MirrorsAtMaking terms) (place : ℕ) (there : p
   led_from : (x y : code.Content) (services : List Service) → IsStill first (shown_content x) → MirrorsAt terms place x
       → told.Leads terms place x services y → AreInRange services → MirrorsAt terms place y
   led_from x y [] still_there fits leads small = record {
-    mirrors = subst (ContentMirrors short_keys terms.digest (hot_keys_at terms place)) (sym leads) fits.mirrors;
+    mirrors = subst (ContentMirrors longest_blob terms.digest (hot_keys_at terms place)) (sym leads) fits.mirrors;
     stamped = subst (IsStamped terms.header (phase_epoch terms)) (sym leads) fits.stamped;
   }
   led_from x y (service ∷ services) still_there fits leads small =
@@ -135,15 +135,15 @@ module _ (terms : Terms) (made : MirrorsAtMaking terms) (place : ℕ) (there : p
       still_before : IsStill first before
       still_before = subst (IsStill first) (sym leads.1) still_there
 
-      mirrors_before : ContentMirrors short_keys terms.digest (hot_keys_at terms place) before
-      mirrors_before = subst (ContentMirrors short_keys terms.digest (hot_keys_at terms place)) (sym leads.1) fits.mirrors
+      mirrors_before : ContentMirrors longest_blob terms.digest (hot_keys_at terms place) before
+      mirrors_before = subst (ContentMirrors longest_blob terms.digest (hot_keys_at terms place)) (sym leads.1) fits.mirrors
 
       still_behind : IsStill first (shown_content service.after)
       still_behind = subst (IsStill first) (sym leads.2.plan.content)
           (still_after terms.digest service.worker first before leads.2.plan.links service.request service.clock still_before)
 
-      mirrors_behind : ContentMirrors short_keys terms.digest (hot_keys_at terms place) (shown_content service.after)
-      mirrors_behind = plan_mirrors short_keys terms.digest service.worker (hot_keys_at terms place) before (shown_content service.after) service.request
+      mirrors_behind : ContentMirrors longest_blob terms.digest (hot_keys_at terms place) (shown_content service.after)
+      mirrors_behind = plan_mirrors longest_blob terms.digest service.worker (hot_keys_at terms place) before (shown_content service.after) service.request
           service.clock service.later service.plan made.digests leads.2.value mirrors_before
           (owns_still terms.digest (hot_keys_at terms place) first before service.request.key still_before mirrors_before at.owns)
           (cold_still (hot_keys_at terms place) first before service.request.key still_before (cold_at terms place service.request.key made small.0 at))

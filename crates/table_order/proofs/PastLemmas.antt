@@ -5,7 +5,7 @@ use Rattle.std.proofs.lemmas.Bool.{cases_lt}
 use Rattle.lamport_clocks.specs.Reading.{Reading}
 use Rattle.record_hash.specs.Functions.{DigestFunctions}
 use Rattle.record_text.specs.declared.request.Request.{Request}
-use Rattle.record_text.specs.Format.{short_keys}
+use Rattle.record_text.specs.Longest.{longest_blob}
 use Rattle.merkle_records.specs.Merkle.{Digest, GivesDigests}
 use Rattle.script_text.specs.declared.task.Task.{Task}
 use Rattle.tree_keys.specs.Path.{IsBelow}
@@ -81,9 +81,9 @@ still vacant = tt
 
 -- it owns the same keys, if it mirrors
 pub owns_still : (digest : Digest) (hot_keys : List (List Bool)) (old new : Content) (key : ℕ) → IsStill old new
-    → ContentMirrors short_keys digest hot_keys new → Owns short_keys old key → Owns short_keys new key
+    → ContentMirrors longest_blob digest hot_keys new → Owns longest_blob old key → Owns longest_blob new key
 owns_still digest hot_keys (cold old) (cold new) key same mirrors own =
-    (mirrors.fits, record { whole = own.1.whole; below = subst (λ (path : List Bool). IsBelow path (key_path short_keys key)) (sym same) own.1.below })
+    (mirrors.fits, record { whole = own.1.whole; below = subst (λ (path : List Bool). IsBelow path (key_path key)) (sym same) own.1.below })
 owns_still digest hot_keys (cold old) (hot new) key same mirrors own = absurd same
 owns_still digest hot_keys (cold old) vacant key same mirrors own = absurd same
 owns_still digest hot_keys (hot old) (cold new) key same mirrors own = absurd same
@@ -91,7 +91,7 @@ owns_still digest hot_keys (hot old) (hot new) key same mirrors own = same ∙ o
 owns_still digest hot_keys (hot old) vacant key same mirrors own = absurd same
 owns_still digest hot_keys vacant new key same mirrors own = absurd own
 
-pub cold_still : (hot_keys : List (List Bool)) (old new : Content) (key : ℕ) → IsStill old new → IsCold short_keys hot_keys old key → IsCold short_keys hot_keys new key
+pub cold_still : (hot_keys : List (List Bool)) (old new : Content) (key : ℕ) → IsStill old new → IsCold hot_keys old key → IsCold hot_keys new key
 cold_still hot_keys (cold old) (cold new) key same apart = apart
 cold_still hot_keys (cold old) (hot new) key same apart = tt
 cold_still hot_keys (cold old) vacant key same apart = tt
@@ -104,7 +104,7 @@ cold_still hot_keys vacant vacant key same apart = tt
 
 -- so does what comes of a request
 pub still_after : (digest : Digest) (worker : ℕ) (old content : Content) (links : List Link) (request : Request) (clock : Reading)
-    → IsStill old content → IsStill old (content_after short_keys digest worker content links request clock)
+    → IsStill old content → IsStill old (content_after digest worker content links request clock)
 still_after digest worker (cold old) (cold shard) links request clock same = same
 still_after digest worker (cold old) (hot found) links request clock same = same
 still_after digest worker (cold old) vacant links request clock same = same
@@ -126,11 +126,11 @@ module _ (functions : DigestFunctions) (settings : Settings) (script : List (Lis
     (digests : GivesDigests functions.digest) (does : DoesPlans functions settings script)
     (running : (worker : ℕ) → worker < length world.workers → (worker_at (shipped_host functions settings script) world worker).stopped ≡ false) where
   -- A service is what the host does, where it can be served at the content that it finds.
-  service_served : (service : Service) → told.IsServed terms service → CanServe short_keys functions.digest (shown_content service.before) service.request.key
+  service_served : (service : Service) → told.IsServed terms service → CanServe longest_blob functions.digest (shown_content service.before) service.request.key
       → IsServed (shipped_host functions settings script) world (serving_of service)
   service_served service served can =
       let by : service.worker < length world.workers = subst (λ (n : ℕ). service.worker < n) made.workers served.by in
-      let plan = subst (λ (digest : _). IsPlan short_keys digest service.worker (shown_content service.before) service.request service.clock service.plan (shown_content service.after) service.later) made.digest served.plan in
+      let plan = subst (λ (digest : _). IsPlan digest service.worker (shown_content service.before) service.request service.clock service.plan (shown_content service.after) service.later) made.digest served.plan in
       record {
         may = record {
           there = by;
@@ -150,22 +150,22 @@ module _ (functions : DigestFunctions) (settings : Settings) (script : List (Lis
 
   module _ (place : ℕ) (there : place < place_count terms) where
     abbrev hot_keys : List (List Bool)
-    hot_keys = hot_paths short_keys (orderly.shards (place / 5) (shard_there functions settings script world orderly terms made place there)).mirrors.places
+    hot_keys = hot_paths (orderly.shards (place / 5) (shard_there functions settings script world orderly terms made place there)).mirrors.places
 
     abbrev first : Content
     first = shown_content (first_at terms place)
 
     -- the first content of the place can serve the service's request
-    first_serves : (service : Service) → service.place ≡ place → told.IsServed terms service → IsSmall service → SeatServes short_keys functions.digest hot_keys first service.request
+    first_serves : (service : Service) → service.place ≡ place → told.IsServed terms service → IsSmall service → SeatServes longest_blob functions.digest hot_keys first service.request
     first_serves service at served small =
         let is_at : IsPlaceOf terms place service.request.key = subst (λ (n : ℕ). IsPlaceOf terms n service.request.key) at served.at in
-        subst (λ (c : Content). SeatServes short_keys functions.digest hot_keys c service.request) (made.contents place there)
-        (seat_serves short_keys functions.digest (shard_at world (place / 5)).contents
+        subst (λ (c : Content). SeatServes longest_blob functions.digest hot_keys c service.request) (made.contents place there)
+        (seat_serves longest_blob functions.digest (shard_at world (place / 5)).contents
         (orderly.shards (place / 5) (shard_there functions settings script world orderly terms made place there)).mirrors
         (place % 5) service.request small
         (owns_there functions settings script world orderly terms made place there service.request is_at served.value))
 
-    from_mirrored : (x y : code.Content) (services : List Service) → IsStill first (shown_content x) → ContentMirrors short_keys functions.digest hot_keys (shown_content x)
+    from_mirrored : (x y : code.Content) (services : List Service) → IsStill first (shown_content x) → ContentMirrors longest_blob functions.digest hot_keys (shown_content x)
         → told.Leads terms place x services y → AllByRecursion IsSmall services
         → AllByRecursion (λ service. IsServed (shipped_host functions settings script) world (serving_of service)) services
     from_mirrored x y [] same mirrors leads small = tt
@@ -175,32 +175,32 @@ module _ (functions : DigestFunctions) (settings : Settings) (script : List (Lis
         before : Content
         before = shown_content service.before
 
-        serves : SeatServes short_keys functions.digest hot_keys first service.request
+        serves : SeatServes longest_blob functions.digest hot_keys first service.request
         serves = first_serves service leads.0 leads.2 small.0
 
-        plan : IsPlan short_keys functions.digest service.worker before service.request service.clock service.plan (shown_content service.after) service.later
-        plan = subst (λ (digest : _). IsPlan short_keys digest service.worker before service.request service.clock service.plan (shown_content service.after) service.later) made.digest leads.2.plan
+        plan : IsPlan functions.digest service.worker before service.request service.clock service.plan (shown_content service.after) service.later
+        plan = subst (λ (digest : _). IsPlan digest service.worker before service.request service.clock service.plan (shown_content service.after) service.later) made.digest leads.2.plan
 
         same_before : IsStill first before
         same_before = subst (IsStill first) (sym leads.1) same
 
-        mirrors_before : ContentMirrors short_keys functions.digest hot_keys before
-        mirrors_before = subst (ContentMirrors short_keys functions.digest hot_keys) (sym leads.1) mirrors
+        mirrors_before : ContentMirrors longest_blob functions.digest hot_keys before
+        mirrors_before = subst (ContentMirrors longest_blob functions.digest hot_keys) (sym leads.1) mirrors
 
-        own : Owns short_keys before service.request.key
+        own : Owns longest_blob before service.request.key
         own = owns_still functions.digest hot_keys first before service.request.key same_before mirrors_before serves.own
 
-        apart : IsCold short_keys hot_keys before service.request.key
+        apart : IsCold hot_keys before service.request.key
         apart = cold_still hot_keys first before service.request.key same_before serves.cold_there
 
-        can : CanServe short_keys functions.digest before service.request.key
-        can = mirrors_serve short_keys functions.digest hot_keys before service.request.key mirrors_before own apart
+        can : CanServe longest_blob functions.digest before service.request.key
+        can = mirrors_serve longest_blob functions.digest hot_keys before service.request.key mirrors_before own apart
 
         same_after : IsStill first (shown_content service.after)
         same_after = subst (IsStill first) (sym plan.content) (still_after functions.digest service.worker first before plan.links service.request service.clock same_before)
 
-        mirrors_after : ContentMirrors short_keys functions.digest hot_keys (shown_content service.after)
-        mirrors_after = plan_mirrors short_keys functions.digest service.worker hot_keys before (shown_content service.after) service.request service.clock service.later service.plan
+        mirrors_after : ContentMirrors longest_blob functions.digest hot_keys (shown_content service.after)
+        mirrors_after = plan_mirrors longest_blob functions.digest service.worker hot_keys before (shown_content service.after) service.request service.clock service.later service.plan
             digests leads.2.value mirrors_before own apart plan
 
     -- Each service of the place's past is what the host does.

@@ -7,8 +7,8 @@ use Rattle.tree_keys.specs.Path.{side, is_prefix, IsBelow}
 use Rattle.tree_keys.proofs.SideLaws.{prefix_of_side}
 use Rattle.record_hash.specs.Functions.{DigestFunctions}
 use Rattle.record_text.specs.declared.request.Request.{Request}
-use Rattle.record_text.specs.Format.{short_keys}
 use Rattle.record_text.specs.Value.{IsBlob}
+use Rattle.record_text.specs.Longest.{longest_blob}
 use Rattle.script_text.specs.declared.task.Task.{Task}
 use Rattle.host_core.specs.Host.{Host}
 use Rattle.host_core.specs.World.{Place, World, shard_at}
@@ -50,7 +50,7 @@ prefix_below frontier path below = go (side frontier path) refl below
     go None is some = absurd (false≢true some)
     go (Some on) is some = prefix_of_side frontier path on is
 
-blob_test : (blob : Option (List ℕ)) → IsBlob short_keys blob → is_blob short_keys blob ≡ true
+blob_test : (blob : Option (List ℕ)) → IsBlob longest_blob blob → is_blob longest_blob blob ≡ true
 blob_test None fits = refl
 blob_test (Some bytes) fits = le-leb (length bytes) 64 fits
 
@@ -114,15 +114,15 @@ module _ (functions : DigestFunctions) (settings : Settings) (script : List (Lis
                     absurd (no_hot kept (sym is ∙ made.contents place there ∙ ap shown_content (ap (first_at terms) (sym is_same) ∙ found)))
 
     -- The key's place owns the request.
-    pub owns_there : IsBlob short_keys request.value → host.owns (place / 5) seats (place % 5) request ≡ true
+    pub owns_there : IsBlob longest_blob request.value → host.owns (place / 5) seats (place % 5) request ≡ true
     owns_there fits =
-        and_from (serves_key short_keys seats request.key here) (is_blob short_keys request.value)
-        (go here refl (subst (λ (c : Content). Owns short_keys c request.key) (sym (made.contents place there)) at.owns)) (blob_test request.value fits)
+        and_from (serves_key seats request.key here) (is_blob longest_blob request.value)
+        (go here refl (subst (λ (c : Content). Owns longest_blob c request.key) (sym (made.contents place there)) at.owns)) (blob_test request.value fits)
       where
-        go : (c : Content) → here ≡ c → Owns short_keys c request.key → serves_key short_keys seats request.key c ≡ true
+        go : (c : Content) → here ≡ c → Owns longest_blob c request.key → serves_key seats request.key c ≡ true
         go (cold shard) is own =
-            and_from (is_prefix shard.frontier (key_path short_keys request.key)) (not (list_any (is_hot_at request.key) seats))
-            (prefix_below shard.frontier (key_path short_keys request.key) own.1.below)
+            and_from (is_prefix shard.frontier (key_path request.key)) (not (list_any (is_hot_at request.key) seats))
+            (prefix_below shard.frontier (key_path request.key) own.1.below)
             (ap (λ (b : Bool). not b) (cold_seats shard is))
         go (hot found) is own = eq-eqb found.key request.key own
         go vacant is own = absurd own

@@ -3,9 +3,9 @@ use Rattle.std.specs.Prelude.{◌≡◌, ℕ, ◌*◌, ◌/◌, ◌^◌, ◌<◌
 use Rattle.std.specs.List.{flat_map, AllByRecursion}
 use mathlib.Core.Option.{some}
 use lib.ListN.{get_elem?}
+use Rattle.record_text.specs.Longest.{longest_blob}
 use Rattle.atomic_table.specs.Table.{State}
 use Rattle.record_text.specs.declared.element.Element.{Element}
-use Rattle.record_text.specs.Format.{short_keys}
 use Rattle.merkle_records.specs.Merkle.{GivesDigests}
 use Rattle.soundness.specs.Timed.{IsRising}
 use Rattle.host_shard.specs.declared.content.Content as code
@@ -33,7 +33,7 @@ shard_at_making terms place = map shown_content (take places_each (drop (place /
 
 -- the paths of the keys that are hot in this place's shard: those of the hot records that it had at the making
 abbrev pub hot_keys_at : Terms → ℕ → List (List Bool)
-hot_keys_at terms place = hot_paths short_keys (shard_at_making terms place)
+hot_keys_at terms place = hot_paths (shard_at_making terms place)
 
 -- The table is made of contents that mirror, each with the keys hot that have a hot record in its shard, and the hot keys have
 -- 64 bits. Its numbers are as a making asks, and digests have 32 bytes.
@@ -41,7 +41,7 @@ pub record MirrorsAtMaking (terms : Terms) : Type 0 where
   pub digests : GivesDigests terms.digest
   pub making : IsMaking terms.header terms.workers terms.contents
   pub mirrors : (place : ℕ) → place < place_count terms
-      → ContentMirrors short_keys terms.digest (hot_keys_at terms place) (shown_content (first_at terms place))
+      → ContentMirrors longest_blob terms.digest (hot_keys_at terms place) (shown_content (first_at terms place))
   pub in_range : (place : ℕ) (kept : HotRecord) → first_at terms place ≡ Hot kept → kept.key < 2 ^ 64
 
 -- ---- between two steps
@@ -66,7 +66,7 @@ IsInHand s place content =
 -- The content mirrors as at the making, with the same keys hot. The element with which it waits, if it does, is by a verifier
 -- of the bundle, of the phase's epoch, and its counter does not pass the end.
 pub record MirrorsAt (terms : Terms) (place : ℕ) (content : code.Content) : Type 0 where
-  pub mirrors : ContentMirrors short_keys terms.digest (hot_keys_at terms place) (shown_content content)
+  pub mirrors : ContentMirrors longest_blob terms.digest (hot_keys_at terms place) (shown_content content)
   pub stamped : IsStamped terms.header (phase_epoch terms) (shown_content content)
 
 -- ---- a worker
@@ -77,7 +77,7 @@ IsDesk s desk = (number : ℕ) × (get_elem? s.views number ≡ some (Working de
 
 -- the elements with which what these services left waits, in their order
 abbrev pub evicted_in : List Service → List Element
-evicted_in services = flat_map (λ service. waiting (pending short_keys (shown_content service.after))) services
+evicted_in services = flat_map (λ service. waiting (pending (shown_content service.after))) services
 
 -- Each service left one element. They are the worker's, of the phase's epoch and within the counters' end, and each has a later
 -- stamp than those before it.

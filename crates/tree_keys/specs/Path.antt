@@ -1,6 +1,26 @@
 -- How paths lie to each other, by their bits alone, and a path in a word of its tree's width.
-use Rattle.std.specs.Prelude.{ℕ, ◌-◌, ◌*◌, ◌/◌, ◌%◌, ◌^◌, ◌==◌, nat_le, ◌&&◌, Bool, true, false, List, [], ◌∷◌, length, Option, Some, None, IsSome, if◌then◌else◌}
+use Rattle.std.specs.Prelude.{◌≡◌, ◌<◌, ◌≤◌, ℕ, ◌-◌, ◌*◌, ◌/◌, ◌%◌, ◌^◌, ◌==◌, nat_le, ◌&&◌, Bool, true, false, List, [], ◌∷◌, length, Option, Some, None, IsSome, if◌then◌else◌}
 use Rattle.tree_keys.specs.Bits.{bits_of, number_of}
+
+-- the number of bits of a key
+abbrev pub key_bits : ℕ
+key_bits = 64
+
+-- no longer than a key
+abbrev pub IsPath : List Bool → Type 0
+IsPath path = length path ≤ key_bits
+
+-- a data path: it has all bits of a key
+abbrev pub IsData : List Bool → Type 0
+IsData path = length path ≡ key_bits
+
+-- the same as a test
+abbrev pub is_data : List Bool → Bool
+is_data path = length path == key_bits
+
+-- the path of a node: it is shorter than a key
+abbrev pub IsNodePath : List Bool → Type 0
+IsNodePath path = length path < key_bits
 
 -- two bits are the same
 abbrev pub same_bit : Bool → Bool → Bool

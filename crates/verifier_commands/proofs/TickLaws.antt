@@ -1,6 +1,7 @@
 -- How the clock moves with what a command did, which of two readings is later, and that the clock never falls.
 use Rattle.std.proofs.Common.{◌≡◌, ◌<◌, ◌≤◌, ◌⊎◌, inl, inr, not, nat_le, List, is_some, Ok, refl, sym, ◌∙◌, ap, arith}
 use Rattle.std.proofs.lemmas.Result.{IfOk-at_ok}
+use Rattle.tree_keys.specs.Path.{is_data}
 use Rattle.lamport_clocks.specs.declared.stamp.Stamp.{Stamp}
 use Rattle.lamport_clocks.specs.Stamp.{IsLater}
 use Rattle.lamport_clocks.specs.Reading.{Reading}
@@ -15,7 +16,7 @@ use Rattle.verifier_cache.specs.Cache.{entry_of}
 use Rattle.verifier_commands.specs.declared.state.State.{State}
 use Rattle.verifier_commands.specs.Change.{Change, did_add_m, did_evict_m, did_add_b, did_evict_b, did_evict_bm, did_get, did_put, did_next_epoch}
 use Rattle.verifier_commands.specs.Changes.{add_under, evict_under, defer_under, is_by_stamp}
-use Rattle.verifier_commands.specs.Transition.{Rules, is_root, is_data, is_full, transition}
+use Rattle.verifier_commands.specs.Transition.{Rules, is_root, is_full, transition}
 use Rattle.verifier_commands.proofs.InvertLaws.{need-ok, and_then-ok, timed-ok}
 
 -- ---- how the clock moves
@@ -43,13 +44,13 @@ ticks_step rules state (AddM path value parent) done is =
     let fresh = test-ok (is_some (entry_of path state.cache.entries)) _ _ done inner.1 in
     let room = test-ok (is_full state) _ _ done fresh.1 in
     let holder = need-ok (entry_of parent state.cache.entries) _ _ done room.1 in
-    let family = and_then-ok (add_under rules.scheme.format rules.scheme.digest holder.0 path value) _ done holder.2 in
+    let family = and_then-ok (add_under rules.scheme.digest holder.0 path value) _ done holder.2 in
     IfOk-at_ok (DidTick state) family.2 refl
 ticks_step rules state (EvictM path parent) done is =
     let inner = test-ok (is_root path) _ _ done is in
     let child = need-ok (entry_of path state.cache.entries) _ _ done inner.1 in
     let holder = need-ok (entry_of parent state.cache.entries) _ _ done child.2 in
-    let after = and_then-ok (evict_under rules.scheme.format rules.scheme.digest holder.0 child.0) _ done holder.2 in
+    let after = and_then-ok (evict_under rules.scheme.digest holder.0 child.0) _ done holder.2 in
     IfOk-at_ok (DidTick state) after.2 refl
 ticks_step rules state (AddB path value stamp verifier) done is =
     let inner = test-ok (is_root path) _ _ done is in
@@ -74,12 +75,12 @@ ticks_step rules state (EvictBM path parent stamp) done is =
     IfOk-at_ok (DidTick state) clock.2 clock.1
 ticks_step rules state (Get path value) done is =
     let entry = need-ok (entry_of path state.cache.entries) _ _ done is in
-    let data_path = test-ok (not (is_data rules.scheme.format path)) _ _ done entry.2 in
+    let data_path = test-ok (not (is_data path)) _ _ done entry.2 in
     let same = test-ok (not (same_value entry.0.value value)) _ _ done data_path.1 in
     IfOk-at_ok (DidTick state) same.1 refl
 ticks_step rules state (Put path value) done is =
     let entry = need-ok (entry_of path state.cache.entries) _ _ done is in
-    let data_path = test-ok (not (is_data rules.scheme.format path)) _ _ done entry.2 in
+    let data_path = test-ok (not (is_data path)) _ _ done entry.2 in
     IfOk-at_ok (DidTick state) data_path.1 refl
 ticks_step rules state NextEpoch done is =
     let turn = timed-ok (advanced state.clock) _ done is in

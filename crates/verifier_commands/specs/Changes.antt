@@ -9,7 +9,6 @@ use Rattle.record_text.specs.declared.value.Value.{Value}
 use Rattle.record_text.specs.declared.value.Value.TheVariants as values
 use Rattle.record_text.specs.declared.refusal.Refusal.{Refusal}
 use Rattle.record_text.specs.declared.refusal.Refusal.TheVariants as refusals
-use Rattle.record_text.specs.Format.{Format}
 use Rattle.record_text.specs.Value.{node_side, initial_value}
 use Rattle.record_text.specs.Texts.{value_text}
 use Rattle.merkle_records.specs.declared.cases.AddCase.{AddCase}
@@ -83,25 +82,25 @@ IsFirst cases.Split = Unit {0}
 IsFirst cases.Foreign = ⊥
 
 -- adding a path under a parent whose pointer leads so
-abbrev pub add_by : Format → Digest → Entry → Parent → List Bool → Value → AddCase → Result Family Refusal
-add_by format digest parent above path value cases.Foreign = Err refusals.Foreign
-add_by format digest parent above path value cases.Empty =
-    test (not (same_value value (initial_value format path))) refusals.NotInitial
-    (Ok (family_of parent above (after_add format digest above.node above.on path value) path None))
-add_by format digest parent above path value cases.Split =
-    test (not (same_value value (initial_value format path))) refusals.NotInitial
-    (Ok (family_of parent above (after_add format digest above.node above.on path value) path (leads_below path (node_side above.node above.on))))
-add_by format digest parent above path value cases.Same =
+abbrev pub add_by : Digest → Entry → Parent → List Bool → Value → AddCase → Result Family Refusal
+add_by digest parent above path value cases.Foreign = Err refusals.Foreign
+add_by digest parent above path value cases.Empty =
+    test (not (same_value value (initial_value path))) refusals.NotInitial
+    (Ok (family_of parent above (after_add digest above.node above.on path value) path None))
+add_by digest parent above path value cases.Split =
+    test (not (same_value value (initial_value path))) refusals.NotInitial
+    (Ok (family_of parent above (after_add digest above.node above.on path value) path (leads_below path (node_side above.node above.on))))
+add_by digest parent above path value cases.Same =
     test (is_deferred (node_side above.node above.on)) refusals.Deferred
-    (test (not (has_digest (node_side above.node above.on) (digest (value_text format value)))) refusals.WrongDigest
+    (test (not (has_digest (node_side above.node above.on) (digest (value_text value)))) refusals.WrongDigest
     (test (kid_of parent above.on) refusals.HasChild
-    (Ok (family_of parent above (after_add format digest above.node above.on path value) path None))))
+    (Ok (family_of parent above (after_add digest above.node above.on path value) path None))))
 
 -- Adding a path under a parent by its digest.
-abbrev pub add_under : Format → Digest → Entry → List Bool → Value → Result Family Refusal
-add_under format digest parent path value =
+abbrev pub add_under : Digest → Entry → List Bool → Value → Result Family Refusal
+add_under digest parent path value =
     need (above parent path) refusals.NotBelow
-    (λ above. add_by format digest parent above path value (case_of (node_side above.node above.on) path))
+    (λ above. add_by digest parent above path value (case_of (node_side above.node above.on) path))
 
 -- A record that came in by its digest leaves so where its kid bit is set and its pointer not deferred; one
 -- that came in deferred, where its kid bit is clear and its pointer deferred.
@@ -115,14 +114,14 @@ abbrev pub left_by : Entry → Parent → Node → Entry
 left_by parent above node = set_kid (with_node parent node) above.on false
 
 -- Evicting a child into its parent: the parent after it.
-abbrev pub evict_under : Format → Digest → Entry → Entry → Result Entry Refusal
-evict_under format digest parent child =
+abbrev pub evict_under : Digest → Entry → Entry → Result Entry Refusal
+evict_under digest parent child =
     need (above parent child.path) refusals.NotBelow
     (λ above.
     test (not (leads_to (node_side above.node above.on) child.path)) refusals.NotChild
     (test (has_kid child) refusals.HasChild
     (test (holds_wrong child.hold (kid_of parent above.on) (is_deferred (node_side above.node above.on))) refusals.WrongHold
-    (Ok (left_by parent above (after_evict format digest above.node above.on child.path child.value))))))
+    (Ok (left_by parent above (after_evict digest above.node above.on child.path child.value))))))
 
 -- it came in by its digest
 abbrev pub is_by_digest : Hold → Bool

@@ -1,6 +1,7 @@
 -- The transition of one verifier: what each command does, or the first refusal. The tests stand in the one
 -- order in which they are made.
 use Rattle.std.specs.Prelude.{ℕ, ◌==◌, nat_le, Bool, true, false, not, List, [], ◌∷◌, ◌++◌, length, is_some, Result, Ok, Err}
+use Rattle.tree_keys.specs.Path.{is_data}
 use Rattle.lamport_clocks.specs.declared.stamp.Stamp.{Stamp}
 use Rattle.lamport_clocks.specs.declared.clock.ClockFault.{ClockFault}
 use Rattle.lamport_clocks.specs.declared.clock.ClockFault.TheVariants as faults
@@ -10,7 +11,6 @@ use Rattle.record_text.specs.declared.value.Value.{Value}
 use Rattle.record_text.specs.declared.element.Element.{Element}
 use Rattle.record_text.specs.declared.refusal.Refusal.{Refusal}
 use Rattle.record_text.specs.declared.refusal.Refusal.TheVariants as refusals
-use Rattle.record_text.specs.Format.{Format, path_bits}
 use Rattle.log_codec.specs.declared.command.Command.{Command}
 use Rattle.log_codec.specs.declared.command.Command.TheVariants.{AddM, EvictM, AddB, EvictB, EvictBM, Get, Put, NextEpoch}
 use Rattle.merkle_records.specs.Merkle.{Digest}
@@ -34,10 +34,6 @@ abbrev pub is_root : List Bool → Bool
 is_root [] = true
 is_root (bit ∷ path) = false
 
--- a path with all of its bits
-abbrev pub is_data : Format → List Bool → Bool
-is_data format path = length path == path_bits format
-
 -- there is no room for another entry
 abbrev pub is_full : State → Bool
 is_full state = nat_le state.cache.room (length state.cache.entries)
@@ -58,25 +54,25 @@ abbrev pub evicted_as : ℕ → Entry → Stamp → Element
 evicted_as number entry stamp = record { path = entry.path; value = entry.value; stamp = stamp; verifier = number }
 
 -- Adding a path under its parent, by its digest.
-abbrev pub add_m : Format → Digest → State → List Bool → Value → List Bool → Step
-add_m format digest state path value parent =
+abbrev pub add_m : Digest → State → List Bool → Value → List Bool → Step
+add_m digest state path value parent =
     test (is_root path) refusals.IsRoot
     (test (is_some (entry_of path state.cache.entries)) refusals.AlreadyCached
     (test (is_full state) refusals.CacheFull
     (need (entry_of parent state.cache.entries) refusals.ParentNotCached
-    (λ holder. and_then (add_under format digest holder path value)
+    (λ holder. and_then (add_under digest holder path value)
     (λ family. Ok (
       did_add_m holder family.parent family.child,
       with_entries state (replaced family.parent state.cache.entries ++ family.child ∷ []),
     ))))))
 
 -- Evicting a path into its parent, which keeps its digest.
-abbrev pub evict_m : Format → Digest → State → List Bool → List Bool → Step
-evict_m format digest state path parent =
+abbrev pub evict_m : Digest → State → List Bool → List Bool → Step
+evict_m digest state path parent =
     test (is_root path) refusals.IsRoot
     (need (entry_of path state.cache.entries) refusals.NotCached
     (λ child. need (entry_of parent state.cache.entries) refusals.ParentNotCached
-    (λ holder. and_then (evict_under format digest holder child)
+    (λ holder. and_then (evict_under digest holder child)
     (λ after. Ok (
       did_evict_m holder after child,
       with_entries state (without path (replaced after state.cache.entries)),
@@ -122,18 +118,18 @@ evict_bm number state path parent stamp =
     ))))))
 
 -- Reading a data value, which must be this one.
-abbrev pub get : Format → State → List Bool → Value → Step
-get format state path value =
+abbrev pub get : State → List Bool → Value → Step
+get state path value =
     need (entry_of path state.cache.entries) refusals.NotCached
-    (λ entry. test (not (is_data format path)) refusals.NotData
+    (λ entry. test (not (is_data path)) refusals.NotData
     (test (not (same_value entry.value value)) refusals.WrongValue
     (Ok (did_get entry, state))))
 
 -- Writing a data value.
-abbrev pub put : Format → State → List Bool → Value → Step
-put format state path value =
+abbrev pub put : State → List Bool → Value → Step
+put state path value =
     need (entry_of path state.cache.entries) refusals.NotCached
-    (λ entry. test (not (is_data format path)) refusals.NotData
+    (λ entry. test (not (is_data path)) refusals.NotData
     (Ok (
       did_put entry (record entry { value = value }),
       with_entries state (replaced (record entry { value = value }) state.cache.entries),
@@ -154,11 +150,11 @@ pub record Rules : Type 0 where
 
 -- What each command does.
 abbrev pub transition : Rules → State → Command → Step
-transition rules state (AddM path value parent) = add_m rules.scheme.format rules.scheme.digest state path value parent
-transition rules state (EvictM path parent) = evict_m rules.scheme.format rules.scheme.digest state path parent
+transition rules state (AddM path value parent) = add_m rules.scheme.digest state path value parent
+transition rules state (EvictM path parent) = evict_m rules.scheme.digest state path parent
 transition rules state (AddB path value stamp verifier) = add_b rules.verifiers state path value stamp verifier
 transition rules state (EvictB path stamp) = evict_b rules.number state path stamp
 transition rules state (EvictBM path parent stamp) = evict_bm rules.number state path parent stamp
-transition rules state (Get path value) = get rules.scheme.format state path value
-transition rules state (Put path value) = put rules.scheme.format state path value
+transition rules state (Get path value) = get state path value
+transition rules state (Put path value) = put state path value
 transition rules state NextEpoch = next_epoch state

@@ -1,7 +1,6 @@
 //! What the commands that go by digests do to a parent and a child.
 ghost use Rattle.std.specs.Prelude.{◌≡◌, true, Some, Ok, Err, IfSome, IsSome, IfOk, ◌≢◌};
 ghost use Rattle.tree_keys.specs.Path.{side};
-ghost use Rattle.record_text.specs.Format.{short_keys};
 ghost use Rattle.record_text.specs.Value.{node_side};
 ghost use Rattle.verifier_commands.specs.Changes.{above, add_by, add_under, evict_under, defer_under, leads_to, is_deferred, has_digest, leads_below, holds_wrong, left_by, with_node, is_by_digest, IsFirst};
 ghost use Rattle.verifier_cache.specs.Entry.{set_kid};
@@ -83,7 +82,7 @@ fn add_first<D: Digests>(
 ) -> Result<Family, Refusal>
     requires on { side parent.now.path path.now ≡ Some above.now.on }
     requires first { IsFirst (case_of (node_side above.now.node above.now.on) path.now) }
-    ensures value { result ≡ add_by short_keys (D.functions d.now).digest parent.now above.now path.now value.now
+    ensures value { result ≡ add_by (D.functions d.now).digest parent.now above.now path.now value.now
         (case_of (node_side above.now.node above.now.on) path.now) }
     ensures parent { IfOk result (λ family. family.parent.path ≡ parent.now.path) }
     ensures child { IfOk result (λ family. family.child.path ≡ path.now) }
@@ -152,7 +151,7 @@ fn add_again<D: Digests>(
 ) -> Result<Family, Refusal>
     requires on { side parent.now.path path.now ≡ Some above.now.on }
     requires same { case_of (node_side above.now.node above.now.on) path.now ≡ Same }
-    ensures value { result ≡ add_by short_keys (D.functions d.now).digest parent.now above.now path.now value.now Same }
+    ensures value { result ≡ add_by (D.functions d.now).digest parent.now above.now path.now value.now Same }
     ensures parent { IfOk result (λ family. family.parent.path ≡ parent.now.path) }
     ensures child { IfOk result (λ family. family.child.path ≡ path.now) }
 {
@@ -181,7 +180,7 @@ pub(crate) fn add_under<D: Digests>(
     path: &Path,
     value: &Value,
 ) -> Result<Family, Refusal>
-    ensures value { result ≡ add_under short_keys (D.functions d.now).digest parent.now path.now value.now }
+    ensures value { result ≡ add_under (D.functions d.now).digest parent.now path.now value.now }
     ensures parent { IfOk result (λ family. family.parent.path ≡ parent.now.path) }
     ensures child { IfOk result (λ family. family.child.path ≡ path.now) }
 {
@@ -212,7 +211,7 @@ pub(crate) fn evict_under<D: Digests>(
     parent: &Entry,
     leaving: &Entry,
 ) -> Result<Entry, Refusal>
-    ensures value { result ≡ evict_under short_keys (D.functions d.now).digest parent.now leaving.now }
+    ensures value { result ≡ evict_under (D.functions d.now).digest parent.now leaving.now }
     ensures parent { IfOk result (λ after. after.path ≡ parent.now.path) }
     ensures apart { IfOk result (λ after. leaving.now.path ≢ after.path) }
 {

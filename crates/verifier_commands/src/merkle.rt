@@ -1,7 +1,6 @@
 //! The Merkle commands, which come and go by digests: the records that the sparse Merkle tree protects.
 ghost use Rattle.std.specs.Prelude.{IfOk};
 ghost use Rattle.base_words.specs.Follows.{Follows};
-ghost use Rattle.record_text.specs.Format.{short_keys};
 ghost use Rattle.verifier_commands.specs.Transition.{add_m, evict_m};
 ghost use Rattle.verifier_commands.specs.Outcome.{told};
 ghost use Rattle.verifier_commands.specs.Machine.{ClockMoves};
@@ -23,7 +22,7 @@ impl State {
         parent: &Path,
     ) -> Result<Outcome, Refusal>
         ensures follows { Follows result self.old self.new
-            (told (add_m short_keys (D.functions d.now).digest self.old path.now value.now parent.now)) }
+            (told (add_m (D.functions d.now).digest self.old path.now value.now parent.now)) }
         ensures clock { IfOk result (ClockMoves self.old.clock self.new.clock) }
     {
         if is_root(path) {
@@ -55,7 +54,7 @@ impl State {
         parent: &Path,
     ) -> Result<Outcome, Refusal>
         ensures follows { Follows result self.old self.new
-            (told (evict_m short_keys (D.functions d.now).digest self.old path.now parent.now)) }
+            (told (evict_m (D.functions d.now).digest self.old path.now parent.now)) }
         ensures clock { IfOk result (ClockMoves self.old.clock self.new.clock) }
     {
         if is_root(path) {

@@ -2,7 +2,6 @@
 ghost use Rattle.std.specs.Prelude.{◌≡◌, IsSome, IfSome, IfOk};
 ghost use Rattle.base_words.specs.Follows.{Follows};
 ghost use Rattle.verifier_commands.specs.Transition.{get, put, next_epoch};
-ghost use Rattle.record_text.specs.Format.{short_keys};
 ghost use Rattle.verifier_cache.specs.Entry.{with_value};
 ghost use Rattle.verifier_cache.specs.Cache.{entry_of, replaced};
 ghost use Rattle.verifier_commands.specs.Outcome.{told, blob_of};
@@ -18,7 +17,7 @@ impl State {
     /// A get: the value that is read.
     #[tactic(auto, using(crate::proofs::KeyLemmas::key_view))]
     pub(crate) fn get(&mut self, path: &Path, value: &Value) -> Result<Outcome, Refusal>
-        ensures follows { Follows result self.old self.new (told (get short_keys self.old path.now value.now)) }
+        ensures follows { Follows result self.old self.new (told (get self.old path.now value.now)) }
         ensures clock { IfOk result (ClockMoves self.old.clock self.new.clock) }
     {
         let Some(entry) = self.cache.entry(path) else {
@@ -36,7 +35,7 @@ impl State {
     /// A put: the value that is written.
     #[tactic(auto, using(crate::proofs::KeyLemmas::key_view))]
     pub(crate) fn put(&mut self, path: &Path, value: &Value) -> Result<Outcome, Refusal>
-        ensures follows { Follows result self.old self.new (told (put short_keys self.old path.now value.now)) }
+        ensures follows { Follows result self.old self.new (told (put self.old path.now value.now)) }
         ensures clock { IfOk result (ClockMoves self.old.clock self.new.clock) }
     {
         let own = self.cache.hint(path);

@@ -1,6 +1,5 @@
 //! The sums of the present epoch and of the one before.
 ghost use Rattle.std.specs.Prelude.{◌≡◌, ◌+◌, ◌<◌, ◌^◌};
-ghost use Rattle.record_text.specs.Format.{short_keys};
 ghost use Rattle.merkle_records.specs.Scheme.{Scheme};
 ghost use Rattle.verifier_commands.specs.Sums.{zero_sums, advanced_sums, add_to, evict_to, sums_after};
 ghost use Rattle.verifier_commands.specs.Machine.{AreBounded, ClockMoves, CountsAdd};
@@ -47,7 +46,7 @@ impl Sums {
     fn add<D: Digests>(&mut self, d: &D, epoch: u32, element: &Element)
         requires added { self.old.added.count + 1 < 2 ^ 31 }
         requires added_before { self.old.added_before.count + 1 < 2 ^ 31 }
-        ensures value { (scheme : Scheme) → scheme.format ≡ short_keys → scheme.lanes ≡ (D.functions d.now).lanes
+        ensures value { (scheme : Scheme) → scheme.lanes ≡ (D.functions d.now).lanes
             → self.new ≡ add_to scheme epoch self.old element.now }
         ensures counts { CountsAdd self.old self.new }
     {
@@ -62,7 +61,7 @@ impl Sums {
     // One element more was evicted.
     fn evict<D: Digests>(&mut self, d: &D, element: &Element)
         requires evicted { self.old.evicted.count + 1 < 2 ^ 31 }
-        ensures value { (scheme : Scheme) → scheme.format ≡ short_keys → scheme.lanes ≡ (D.functions d.now).lanes
+        ensures value { (scheme : Scheme) → scheme.lanes ≡ (D.functions d.now).lanes
             → self.new ≡ evict_to scheme self.old element.now }
         ensures count { self.new.evicted.count ≡ self.old.evicted.count + 1 }
         ensures others { self.new ≡ record self.old { evicted = self.new.evicted } }
@@ -82,7 +81,7 @@ impl Sums {
     )
         requires bounded { AreBounded self.old before.now }
         requires moved { ClockMoves before.now clock.now outcome.now }
-        ensures value { (scheme : Scheme) → scheme.format ≡ short_keys → scheme.lanes ≡ (D.functions d.now).lanes
+        ensures value { (scheme : Scheme) → scheme.lanes ≡ (D.functions d.now).lanes
             → self.new ≡ sums_after scheme before.now.at.epoch self.old outcome.now }
         ensures bounded { AreBounded self.new clock.now }
     {

@@ -1,8 +1,8 @@
 //! A verifier: its state and its sums, stepped command by command.
 ghost use Rattle.std.specs.Prelude.{◌≡◌, ◌<◌, ◌^◌, IfOk};
+ghost use Rattle.record_text.specs.Longest.{longest_of};
 ghost use Rattle.base_words.specs.Follows.{Follows};
 ghost use Rattle.lamport_clocks.specs.Header.{IsHeader};
-ghost use Rattle.record_text.specs.Format.{format_of};
 ghost use Rattle.log_codec.specs.Command.{IsCommand};
 ghost use Rattle.merkle_records.specs.Scheme.{scheme_of};
 ghost use Rattle.verifier_commands.specs.State.{opening};
@@ -63,7 +63,7 @@ impl Verifier {
     /// Takes one command: it answers what that did, or the first refusal. After a refusal the verifier is as
     /// before. No memory is taken.
     pub fn step<D: Digests>(&mut self, d: &D, command: &Command) -> Result<Effect, Refusal>
-        requires kind { IsCommand (format_of self.old.header) command.now }
+        requires kind { IsCommand (longest_of self.old.header) command.now }
         requires room { self.old.accepted < 2 ^ 63 }
         ensures follows { Follows result self.old self.new
             (stepped (scheme_of (D.functions d.now) self.old.header) self.old command.now) }

@@ -6,7 +6,6 @@ use Rattle.std.proofs.lemmas.List.Elements.{All-push}
 use Rattle.std.proofs.lemmas.Grind.{flat_map-append}
 use Rattle.record_hash.specs.Functions.{DigestFunctions}
 use Rattle.record_text.specs.declared.operation.Operation.{Operation}
-use Rattle.record_text.specs.Format.{short_keys}
 use Rattle.log_codec.specs.declared.command.Command.{Command}
 use Rattle.log_codec.specs.Command.{command_text}
 use Rattle.log_codec.specs.Log.{log_text}
@@ -105,18 +104,18 @@ oldest old new found x some is = is ∙ ap (λ (o : Option _). option_to_list o 
 
 -- commands that are written, with one more
 pub written-more : (commands : List Command) (k n : ℕ) (command : Command) (queued buffer after first : List ℕ) → n ≡ suc k → k < length commands
-    → command ≡ get_or commands k command → queued ++ buffer ≡ first ++ log_text short_keys (take k commands) → after ≡ buffer ++ command_text short_keys command
-    → queued ++ after ≡ first ++ log_text short_keys (take n commands)
+    → command ≡ get_or commands k command → queued ++ buffer ≡ first ++ log_text (take k commands) → after ≡ buffer ++ command_text command
+    → queued ++ after ≡ first ++ log_text (take n commands)
 written-more commands k n command queued buffer after first next there is so_far pushed =
     ap (λ (bytes : List ℕ). queued ++ bytes) pushed
-    ∙ sym (append_assoc queued buffer (command_text short_keys command))
-    ∙ ap (λ (bytes : List ℕ). bytes ++ command_text short_keys command) so_far
-    ∙ append_assoc first (log_text short_keys (take k commands)) (command_text short_keys command)
+    ∙ sym (append_assoc queued buffer (command_text command))
+    ∙ ap (λ (bytes : List ℕ). bytes ++ command_text command) so_far
+    ∙ append_assoc first (log_text (take k commands)) (command_text command)
     ∙ ap (λ (bytes : List ℕ). first ++ bytes)
-    (ap (λ (bytes : List ℕ). log_text short_keys (take k commands) ++ bytes) (sym (append-nil (command_text short_keys command)))
-    ∙ sym (flat_map-append (command_text short_keys) (take k commands) (command ∷ []))
-    ∙ sym (ap (λ (m : ℕ). log_text short_keys (take m commands)) next
-    ∙ ap (log_text short_keys) (take-suc commands k command there ∙ ap (λ (c : Command). take k commands ++ c ∷ []) (sym is))))
+    (ap (λ (bytes : List ℕ). log_text (take k commands) ++ bytes) (sym (append-nil (command_text command)))
+    ∙ sym (flat_map-append command_text (take k commands) (command ∷ []))
+    ∙ sym (ap (λ (m : ℕ). log_text (take m commands)) next
+    ∙ ap log_text (take-suc commands k command there ∙ ap (λ (c : Command). take k commands ++ c ∷ []) (sym is))))
 
 -- ---- how long parcels are
 

@@ -6,11 +6,10 @@ use Rattle.record_text.specs.declared.refusal.Refusal.TheVariants as refusals
 use Rattle.record_text.specs.declared.reader.TextFault.TheVariants as faults
 use Rattle.record_text.specs.Reading.{byte_at}
 use Rattle.record_text.specs.Fields.{Parsed}
-use Rattle.record_text.specs.Format.{Format}
 use Rattle.log_codec.specs.declared.command.Command.{Command}
 use Rattle.log_codec.specs.Command.{command_text, command_at, IsCommand}
 use Rattle.log_codec.proofs.CommandKeepsOnLaws.{command_shorter, keeps_on-command}
-use Rattle.log_codec.proofs.CommandLaws.{IsWideFor, command_again}
+use Rattle.log_codec.proofs.CommandLaws.{command_again}
 use Rattle.merkle_records.specs.Scheme.{Scheme}
 use Rattle.verifier_commands.specs.Event.{Event}
 use Rattle.verifier_commands.specs.Transition.{Step, transition}
@@ -22,9 +21,9 @@ use Rattle.verifier_run.specs.Progress.{Progress, between_commands, progress_beh
 -- ---- apart from what is kept
 
 -- no bytes begin no command yet
-pub no_command : (format : Format) → command_at format [] ≡ Err faults.Truncated
+pub no_command : (longest : ℕ) → command_at longest [] ≡ Err faults.Truncated
 unfolding command_at byte_at
-no_command format = refl
+no_command longest = refl
 
 same_behind : {A : Type 0} (course : Course A) (bytes : List ℕ) (parsed : Parsed Command) (more others : Command → List ℕ → Progress A) → ((command : Command) (rest : List ℕ) → parsed ≡ Ok (command, rest) → more command rest ≡ others command rest) → progress_behind course bytes parsed more ≡ progress_behind course bytes parsed others
 same_behind course bytes (Ok found) more others same = same found.0 found.1 refl
@@ -55,23 +54,23 @@ idle_empty : (refused : Option (ℕ × Refusal)) → IfSome refused (λ at. none
 idle_empty None = tt
 idle_empty (Some at) = refl
 
-pub between-commands : {A : Type 0} (format : Format) (course : Course A) → IsBetweenPieces format (between_commands course)
-between-commands format course = record { cut = no_command format; idle = idle_empty course.refused }
+pub between-commands : {A : Type 0} (longest : ℕ) (course : Course A) → IsBetweenPieces longest (between_commands course)
+between-commands longest course = record { cut = no_command longest; idle = idle_empty course.refused }
 
 -- what is between pieces where the course is open
-pub between-cut : {A : Type 0} (format : Format) (course : Course A) (bytes : List ℕ) → course.refused ≡ None → command_at format bytes ≡ Err faults.Truncated → IsBetweenPieces format (record { course = course; held = bytes })
-between-cut format course bytes none is = record { cut = is; idle = subst (λ (refused : Option (ℕ × Refusal)). IfSome refused (λ at. bytes ≡ [])) (sym none) tt }
+pub between-cut : {A : Type 0} (longest : ℕ) (course : Course A) (bytes : List ℕ) → course.refused ≡ None → command_at longest bytes ≡ Err faults.Truncated → IsBetweenPieces longest (record { course = course; held = bytes })
+between-cut longest course bytes none is = record { cut = is; idle = subst (λ (refused : Option (ℕ × Refusal)). IfSome refused (λ at. bytes ≡ [])) (sym none) tt }
 
 module _ {A : Type 0} (keeps : Event → List A) where
   -- ---- one step
 
   -- what one step makes of the bytes
   abbrev step_over : Scheme → Course A → List ℕ → (Command → List ℕ → Progress A) → Progress A
-  step_over scheme course bytes more = unless_refused course.refused course (progress_behind course bytes (command_at scheme.format bytes) more)
+  step_over scheme course bytes more = unless_refused course.refused course (progress_behind course bytes (command_at scheme.longest bytes) more)
 
   step_empty : (scheme : Scheme) (course : Course A) (more : Command → List ℕ → Progress A) → step_over scheme course [] more ≡ between_commands course
   step_empty scheme course more =
-      ap (λ (parsed : Parsed Command). unless_refused course.refused course (progress_behind course [] parsed more)) (no_command scheme.format)
+      ap (λ (parsed : Parsed Command). unless_refused course.refused course (progress_behind course [] parsed more)) (no_command scheme.longest)
       ∙ same_either course.refused course
 
   read_empty : (count : ℕ) (scheme : Scheme) (course : Course A) → read_up_to keeps count scheme course [] ≡ between_commands course
@@ -87,11 +86,11 @@ module _ {A : Type 0} (keeps : Event → List A) where
   read_enough (suc count) zero scheme course (byte ∷ bytes) enough others = absurd (omega arith)
   read_enough (suc count) (suc other) scheme course (byte ∷ bytes) enough others =
       ap (λ (progress : Progress A). unless_refused course.refused course progress)
-      (same_behind course (byte ∷ bytes) (command_at scheme.format (byte ∷ bytes))
+      (same_behind course (byte ∷ bytes) (command_at scheme.longest (byte ∷ bytes))
       (λ command rest. read_up_to keeps count scheme (after_command keeps scheme course command) rest)
       (λ command rest. read_up_to keeps other scheme (after_command keeps scheme course command) rest)
       (λ command rest e.
-      let shorter : length rest < length (byte ∷ bytes) = command_shorter scheme.format (byte ∷ bytes) command rest e in
+      let shorter : length rest < length (byte ∷ bytes) = command_shorter scheme.longest (byte ∷ bytes) command rest e in
       read_enough count other scheme (after_command keeps scheme course command) rest (omega arith) (omega arith)))
 
   -- Bytes are read by a first step, and the rest of them behind it.
@@ -101,11 +100,11 @@ module _ {A : Type 0} (keeps : Event → List A) where
       sym (step_empty scheme course (λ command rest. progress_over keeps scheme (after_command keeps scheme course command) rest))
   over-step scheme course (byte ∷ bytes) =
       ap (λ (progress : Progress A). unless_refused course.refused course progress)
-      (same_behind course (byte ∷ bytes) (command_at scheme.format (byte ∷ bytes))
+      (same_behind course (byte ∷ bytes) (command_at scheme.longest (byte ∷ bytes))
       (λ command rest. read_up_to keeps (length bytes) scheme (after_command keeps scheme course command) rest)
       (λ command rest. progress_over keeps scheme (after_command keeps scheme course command) rest)
       (λ command rest e.
-      let shorter : length rest < length (byte ∷ bytes) = command_shorter scheme.format (byte ∷ bytes) command rest e in
+      let shorter : length rest < length (byte ∷ bytes) = command_shorter scheme.longest (byte ∷ bytes) command rest e in
       read_enough (length bytes) (length rest) scheme (after_command keeps scheme course command) rest (omega arith) (omega arith)))
 
   -- ---- what the first step is
@@ -116,30 +115,30 @@ module _ {A : Type 0} (keeps : Event → List A) where
   pub over-refused : (scheme : Scheme) (course : Course A) (bytes : List ℕ) (at : ℕ × Refusal) → course.refused ≡ Some at → progress_over keeps scheme course bytes ≡ between_commands course
   over-refused scheme course bytes at e =
       over-step scheme course bytes
-      ∙ ap (λ (refused : Option (ℕ × Refusal)). unless_refused refused course (progress_behind course bytes (command_at scheme.format bytes) (λ command rest. progress_over keeps scheme (after_command keeps scheme course command) rest))) e
+      ∙ ap (λ (refused : Option (ℕ × Refusal)). unless_refused refused course (progress_behind course bytes (command_at scheme.longest bytes) (λ command rest. progress_over keeps scheme (after_command keeps scheme course command) rest))) e
 
   -- where the course is open: what the bytes do
-  over-open : (scheme : Scheme) (course : Course A) (bytes : List ℕ) (parsed : Parsed Command) → course.refused ≡ None → command_at scheme.format bytes ≡ parsed → progress_over keeps scheme course bytes ≡ progress_behind course bytes parsed (λ command rest. progress_over keeps scheme (after_command keeps scheme course command) rest)
+  over-open : (scheme : Scheme) (course : Course A) (bytes : List ℕ) (parsed : Parsed Command) → course.refused ≡ None → command_at scheme.longest bytes ≡ parsed → progress_over keeps scheme course bytes ≡ progress_behind course bytes parsed (λ command rest. progress_over keeps scheme (after_command keeps scheme course command) rest)
   over-open scheme course bytes parsed none is =
       over-step scheme course bytes
-      ∙ (ap (λ (refused : Option (ℕ × Refusal)). unless_refused refused course (progress_behind course bytes (command_at scheme.format bytes) (λ command rest. progress_over keeps scheme (after_command keeps scheme course command) rest))) none
+      ∙ (ap (λ (refused : Option (ℕ × Refusal)). unless_refused refused course (progress_behind course bytes (command_at scheme.longest bytes) (λ command rest. progress_over keeps scheme (after_command keeps scheme course command) rest))) none
       ∙ ap (λ (parsed : Parsed Command). progress_behind course bytes parsed (λ command rest. progress_over keeps scheme (after_command keeps scheme course command) rest)) is)
 
-  pub over-found : (scheme : Scheme) (course : Course A) (bytes : List ℕ) (command : Command) (rest : List ℕ) → course.refused ≡ None → command_at scheme.format bytes ≡ Ok (command, rest) → progress_over keeps scheme course bytes ≡ progress_over keeps scheme (after_command keeps scheme course command) rest
+  pub over-found : (scheme : Scheme) (course : Course A) (bytes : List ℕ) (command : Command) (rest : List ℕ) → course.refused ≡ None → command_at scheme.longest bytes ≡ Ok (command, rest) → progress_over keeps scheme course bytes ≡ progress_over keeps scheme (after_command keeps scheme course command) rest
   over-found scheme course bytes command rest none is = over-open scheme course bytes (Ok (command, rest)) none is
 
-  pub over-malformed : (scheme : Scheme) (course : Course A) (bytes : List ℕ) → course.refused ≡ None → command_at scheme.format bytes ≡ Err faults.Malformed → progress_over keeps scheme course bytes ≡ between_commands (refuse course refusals.Malformed)
+  pub over-malformed : (scheme : Scheme) (course : Course A) (bytes : List ℕ) → course.refused ≡ None → command_at scheme.longest bytes ≡ Err faults.Malformed → progress_over keeps scheme course bytes ≡ between_commands (refuse course refusals.Malformed)
   over-malformed scheme course bytes none is = over-open scheme course bytes (Err faults.Malformed) none is
 
-  pub over-cut : (scheme : Scheme) (course : Course A) (bytes : List ℕ) → course.refused ≡ None → command_at scheme.format bytes ≡ Err faults.Truncated → progress_over keeps scheme course bytes ≡ record { course = course; held = bytes }
+  pub over-cut : (scheme : Scheme) (course : Course A) (bytes : List ℕ) → course.refused ≡ None → command_at scheme.longest bytes ≡ Err faults.Truncated → progress_over keeps scheme course bytes ≡ record { course = course; held = bytes }
   over-cut scheme course bytes none is = over-open scheme course bytes (Err faults.Truncated) none is
 
   -- A command's text, alone, is one step.
-  pub over-text : (scheme : Scheme) (wide : IsWideFor scheme.format) (course : Course A) (command : Command) → course.refused ≡ None → IsCommand scheme.format command → progress_over keeps scheme course (command_text scheme.format command) ≡ between_commands (after_command keeps scheme course command)
-  over-text scheme wide course command none is =
-      let alone : command_at scheme.format (command_text scheme.format command) ≡ Ok (command, []) =
-      ap (command_at scheme.format) (sym (append-nil (command_text scheme.format command))) ∙ command_again scheme.format wide command [] is in
-      over-found scheme course (command_text scheme.format command) command [] none alone
+  pub over-text : (scheme : Scheme) (course : Course A) (command : Command) → course.refused ≡ None → IsCommand scheme.longest command → progress_over keeps scheme course (command_text command) ≡ between_commands (after_command keeps scheme course command)
+  over-text scheme course command none is =
+      let alone : command_at scheme.longest (command_text command) ≡ Ok (command, []) =
+      ap (command_at scheme.longest) (sym (append-nil (command_text command))) ∙ command_again scheme.longest command [] is in
+      over-found scheme course (command_text command) command [] none alone
       ∙ over-empty scheme (after_command keeps scheme course command)
 
   -- ---- in several pieces
@@ -150,21 +149,21 @@ module _ {A : Type 0} (keeps : Event → List A) where
   joined_up_to zero scheme course (byte ∷ piece) more enough = absurd (omega arith)
   joined_up_to (suc count) scheme course (byte ∷ piece) more enough =
       by_cases (fed keeps scheme (progress_over keeps scheme course (byte ∷ piece)) more ≡ progress_over keeps scheme course (byte ∷ piece ++ more))
-      course.refused (command_at scheme.format (byte ∷ piece))
+      course.refused (command_at scheme.longest (byte ∷ piece))
       (λ at e.
       ap (λ (progress : Progress A). fed keeps scheme progress more) (over-refused scheme course (byte ∷ piece) at e)
       ∙ (over-refused scheme course more at e
       ∙ sym (over-refused scheme course (byte ∷ piece ++ more) at e)))
       (λ command rest none is.
-      let shorter : length rest < length (byte ∷ piece) = command_shorter scheme.format (byte ∷ piece) command rest is in
-      let longer = (keeps_on-command scheme.format).found (byte ∷ piece) more command rest is in
+      let shorter : length rest < length (byte ∷ piece) = command_shorter scheme.longest (byte ∷ piece) command rest is in
+      let longer = (keeps_on-command scheme.longest).found (byte ∷ piece) more command rest is in
       ap (λ (progress : Progress A). fed keeps scheme progress more) (over-found scheme course (byte ∷ piece) command rest none is)
       ∙ (joined_up_to count scheme (after_command keeps scheme course command) rest more (omega arith)
       ∙ sym (over-found scheme course (byte ∷ piece ++ more) command (rest ++ more) none longer)))
       (λ none is.
       ap (λ (progress : Progress A). fed keeps scheme progress more) (over-malformed scheme course (byte ∷ piece) none is)
       ∙ (over-refused scheme (refuse course refusals.Malformed) more (course.machine.accepted, refusals.Malformed) refl
-      ∙ sym (over-malformed scheme course (byte ∷ piece ++ more) none ((keeps_on-command scheme.format).malformed (byte ∷ piece) more is))))
+      ∙ sym (over-malformed scheme course (byte ∷ piece ++ more) none ((keeps_on-command scheme.longest).malformed (byte ∷ piece) more is))))
       (λ none is.
       ap (λ (progress : Progress A). fed keeps scheme progress more) (over-cut scheme course (byte ∷ piece) none is))
 
@@ -179,21 +178,21 @@ module _ {A : Type 0} (keeps : Event → List A) where
 
   -- ---- what holds of every progress
 
-  between_up_to : (count : ℕ) (scheme : Scheme) (course : Course A) (bytes : List ℕ) → length bytes ≤ count → IsBetweenPieces scheme.format (progress_over keeps scheme course bytes)
-  between_up_to count scheme course [] enough = subst (IsBetweenPieces scheme.format) (sym (over-empty scheme course)) (between-commands scheme.format course)
+  between_up_to : (count : ℕ) (scheme : Scheme) (course : Course A) (bytes : List ℕ) → length bytes ≤ count → IsBetweenPieces scheme.longest (progress_over keeps scheme course bytes)
+  between_up_to count scheme course [] enough = subst (IsBetweenPieces scheme.longest) (sym (over-empty scheme course)) (between-commands scheme.longest course)
   between_up_to zero scheme course (byte ∷ bytes) enough = absurd (omega arith)
   between_up_to (suc count) scheme course (byte ∷ bytes) enough =
-      by_cases (IsBetweenPieces scheme.format (progress_over keeps scheme course (byte ∷ bytes))) course.refused (command_at scheme.format (byte ∷ bytes))
-      (λ at e. subst (IsBetweenPieces scheme.format) (sym (over-refused scheme course (byte ∷ bytes) at e)) (between-commands scheme.format course))
+      by_cases (IsBetweenPieces scheme.longest (progress_over keeps scheme course (byte ∷ bytes))) course.refused (command_at scheme.longest (byte ∷ bytes))
+      (λ at e. subst (IsBetweenPieces scheme.longest) (sym (over-refused scheme course (byte ∷ bytes) at e)) (between-commands scheme.longest course))
       (λ command rest none is.
-      let shorter : length rest < length (byte ∷ bytes) = command_shorter scheme.format (byte ∷ bytes) command rest is in
-      subst (IsBetweenPieces scheme.format) (sym (over-found scheme course (byte ∷ bytes) command rest none is))
+      let shorter : length rest < length (byte ∷ bytes) = command_shorter scheme.longest (byte ∷ bytes) command rest is in
+      subst (IsBetweenPieces scheme.longest) (sym (over-found scheme course (byte ∷ bytes) command rest none is))
       (between_up_to count scheme (after_command keeps scheme course command) rest (omega arith)))
-      (λ none is. subst (IsBetweenPieces scheme.format) (sym (over-malformed scheme course (byte ∷ bytes) none is)) (between-commands scheme.format (refuse course refusals.Malformed)))
-      (λ none is. subst (IsBetweenPieces scheme.format) (sym (over-cut scheme course (byte ∷ bytes) none is)) (between-cut scheme.format course (byte ∷ bytes) none is))
+      (λ none is. subst (IsBetweenPieces scheme.longest) (sym (over-malformed scheme course (byte ∷ bytes) none is)) (between-commands scheme.longest (refuse course refusals.Malformed)))
+      (λ none is. subst (IsBetweenPieces scheme.longest) (sym (over-cut scheme course (byte ∷ bytes) none is)) (between-cut scheme.longest course (byte ∷ bytes) none is))
 
   -- Bytes leave a run between two pieces.
-  pub over-between : (scheme : Scheme) (course : Course A) (bytes : List ℕ) → IsBetweenPieces scheme.format (progress_over keeps scheme course bytes)
+  pub over-between : (scheme : Scheme) (course : Course A) (bytes : List ℕ) → IsBetweenPieces scheme.longest (progress_over keeps scheme course bytes)
   over-between scheme course bytes = between_up_to (length bytes) scheme course bytes (omega arith)
 
   accepted_by : (scheme : Scheme) (course : Course A) (step : Step) → (after_step keeps course (done_by scheme course.machine step)).machine.accepted ≤ course.machine.accepted + 1
@@ -210,10 +209,10 @@ module _ {A : Type 0} (keeps : Event → List A) where
   weight_up_to count scheme course [] enough = subst (λ (progress : Progress A). weight progress ≤ course.machine.accepted + 0) (sym (over-empty scheme course)) (omega arith)
   weight_up_to zero scheme course (byte ∷ bytes) enough = absurd (omega arith)
   weight_up_to (suc count) scheme course (byte ∷ bytes) enough =
-      by_cases (weight (progress_over keeps scheme course (byte ∷ bytes)) ≤ course.machine.accepted + length (byte ∷ bytes)) course.refused (command_at scheme.format (byte ∷ bytes))
+      by_cases (weight (progress_over keeps scheme course (byte ∷ bytes)) ≤ course.machine.accepted + length (byte ∷ bytes)) course.refused (command_at scheme.longest (byte ∷ bytes))
       (λ at e. subst (λ (progress : Progress A). weight progress ≤ course.machine.accepted + length (byte ∷ bytes)) (sym (over-refused scheme course (byte ∷ bytes) at e)) (omega arith))
       (λ command rest none is.
-      let shorter : length rest < length (byte ∷ bytes) = command_shorter scheme.format (byte ∷ bytes) command rest is in
+      let shorter : length rest < length (byte ∷ bytes) = command_shorter scheme.longest (byte ∷ bytes) command rest is in
       let one = accepted-one scheme course command in
       let later = weight_up_to count scheme (after_command keeps scheme course command) rest (omega arith) in
       subst (λ (progress : Progress A). weight progress ≤ course.machine.accepted + length (byte ∷ bytes)) (sym (over-found scheme course (byte ∷ bytes) command rest none is)) (omega arith))

@@ -8,7 +8,6 @@ use Rattle.record_text.specs.declared.reader.TextFault.TheVariants as faults
 use Rattle.log_codec.specs.declared.command.Command.{Command}
 use Rattle.log_codec.specs.Command.{command_text, command_at, IsCommand}
 use Rattle.merkle_records.specs.Scheme.{Scheme}
-use Rattle.log_codec.proofs.CommandLaws.{IsWideFor}
 use Rattle.verifier_commands.specs.Event.{Event}
 use Rattle.verifier_run.specs.Course.{Course, refuse, after_command}
 use Rattle.verifier_run.specs.Progress.{Progress, between_commands, progress_over, fed}
@@ -31,18 +30,18 @@ rest_of_piece {A = A} keeps scheme start bytes taken now so_far =
     ∙ ap (λ (progress : Progress A). fed keeps scheme progress (drop taken bytes)) so_far.done)
 
 -- a command more
-pub more_taken : {A : Type 0} (keeps : Event → List A) (scheme : Scheme) (wide : IsWideFor scheme.format) (start : Course A) (bytes : List ℕ) (taken len : ℕ) (now after : Course A) (command : Command)
-    → HasRead keeps scheme start bytes taken now → now.refused ≡ None → IsCommand scheme.format command → take len (drop taken bytes) ≡ command_text scheme.format command
+pub more_taken : {A : Type 0} (keeps : Event → List A) (scheme : Scheme) (start : Course A) (bytes : List ℕ) (taken len : ℕ) (now after : Course A) (command : Command)
+    → HasRead keeps scheme start bytes taken now → now.refused ≡ None → IsCommand scheme.longest command → take len (drop taken bytes) ≡ command_text command
     → taken + len ≤ length bytes → after ≡ after_command keeps scheme now command → after.machine.accepted ≤ start.machine.accepted + (taken + len)
     → HasRead keeps scheme start bytes (taken + len) after
-more_taken {A = A} keeps scheme wide start bytes taken len now after command so_far none is spelled within is_after accepted = record {
+more_taken {A = A} keeps scheme start bytes taken len now after command so_far none is spelled within is_after accepted = record {
   within = within;
   accepted = accepted;
   done = ap (progress_over keeps scheme start) (take-add taken len bytes)
       ∙ (sym (over-joined keeps scheme start (take taken bytes) (take len (drop taken bytes)))
       ∙ (ap (λ (progress : Progress A). fed keeps scheme progress (take len (drop taken bytes))) so_far.done
       ∙ (ap (progress_over keeps scheme now) spelled
-      ∙ (over-text keeps scheme wide now command none is
+      ∙ (over-text keeps scheme now command none is
       ∙ ap between_commands (sym is_after)))));
 }
 
@@ -58,7 +57,7 @@ refused_there keeps scheme start bytes taken now at so_far is =
     ∙ (over-refused keeps scheme now (drop taken bytes) at is ∙ all_taken now bytes)
 
 pub malformed_there : {A : Type 0} (keeps : Event → List A) (scheme : Scheme) (start : Course A) (bytes : List ℕ) (taken : ℕ) (now after : Course A)
-    → HasRead keeps scheme start bytes taken now → now.refused ≡ None → command_at scheme.format (drop taken bytes) ≡ Err faults.Malformed → after ≡ refuse now refusals.Malformed
+    → HasRead keeps scheme start bytes taken now → now.refused ≡ None → command_at scheme.longest (drop taken bytes) ≡ Err faults.Malformed → after ≡ refuse now refusals.Malformed
     → progress_over keeps scheme start bytes ≡ record { course = after; held = drop (length bytes) bytes }
 malformed_there keeps scheme start bytes taken now after so_far none is is_after =
     rest_of_piece keeps scheme start bytes taken now so_far
@@ -66,7 +65,7 @@ malformed_there keeps scheme start bytes taken now after so_far none is is_after
     ∙ (ap between_commands (sym is_after) ∙ all_taken after bytes))
 
 pub cut_there : {A : Type 0} (keeps : Event → List A) (scheme : Scheme) (start : Course A) (bytes : List ℕ) (taken : ℕ) (now : Course A)
-    → HasRead keeps scheme start bytes taken now → now.refused ≡ None → command_at scheme.format (drop taken bytes) ≡ Err faults.Truncated
+    → HasRead keeps scheme start bytes taken now → now.refused ≡ None → command_at scheme.longest (drop taken bytes) ≡ Err faults.Truncated
     → progress_over keeps scheme start bytes ≡ record { course = now; held = drop taken bytes }
 cut_there keeps scheme start bytes taken now so_far none is =
     rest_of_piece keeps scheme start bytes taken now so_far ∙ over-cut keeps scheme now (drop taken bytes) none is

@@ -224,12 +224,12 @@ module _ {A : Type 0} (keeps : Event → List A) (epoch : A → ℕ)
       subst (λ (progress : Progress A). GoesOn epoch course progress.course) (sym (over-empty keeps scheme course)) (goes_on-refused epoch course course.refused)
   over_up_to zero scheme course (byte ∷ bytes) enough = absurd (omega arith)
   over_up_to (suc count) scheme course (byte ∷ bytes) enough =
-      by_cases (GoesOn epoch course (progress_over keeps scheme course (byte ∷ bytes)).course) course.refused (command_at scheme.format (byte ∷ bytes))
+      by_cases (GoesOn epoch course (progress_over keeps scheme course (byte ∷ bytes)).course) course.refused (command_at scheme.longest (byte ∷ bytes))
       (λ at e.
       subst (λ (progress : Progress A). GoesOn epoch course progress.course) (sym (over-refused keeps scheme course (byte ∷ bytes) at e))
       (goes_on-refused epoch course course.refused))
       (λ command rest none is.
-      let shorter : length rest < length (byte ∷ bytes) = command_shorter scheme.format (byte ∷ bytes) command rest is in
+      let shorter : length rest < length (byte ∷ bytes) = command_shorter scheme.longest (byte ∷ bytes) command rest is in
       let after = after_command keeps scheme course command in
       subst (λ (progress : Progress A). GoesOn epoch course progress.course) (sym (over-found keeps scheme course (byte ∷ bytes) command rest none is))
       (goes_on-then epoch course after (progress_over keeps scheme after rest).course (command_goes_on scheme course command)

@@ -6,7 +6,6 @@ use Rattle.lamport_clocks.specs.Reading.{Reading}
 use Rattle.multiset_sum.specs.declared.part.Part.{Part}
 use Rattle.record_text.specs.declared.operation.Operation.{Operation}
 use Rattle.record_text.specs.declared.refusal.Refusal.{Refusal}
-use Rattle.record_text.specs.Format.{Format}
 use Rattle.log_codec.specs.declared.command.Command.{Command}
 use Rattle.log_codec.specs.Command.{command_at}
 use Rattle.log_codec.proofs.CommandKeepsOnLaws.{command_shorter}
@@ -82,12 +81,12 @@ over_left_up_to count through scheme course [] enough past =
 over_left_up_to zero through scheme course (byte ∷ bytes) enough past = absurd (omega arith)
 over_left_up_to (suc count) through scheme course (byte ∷ bytes) enough past =
     by_cases (progress_over keeps_operations scheme (left_behind through course) (byte ∷ bytes) ≡ left_of through (progress_over keeps_operations scheme course (byte ∷ bytes)))
-    course.refused (command_at scheme.format (byte ∷ bytes))
+    course.refused (command_at scheme.longest (byte ∷ bytes))
     (λ at e.
     over-refused keeps_operations scheme (left_behind through course) (byte ∷ bytes) at e
     ∙ sym (ap (left_of through) (over-refused keeps_operations scheme course (byte ∷ bytes) at e)))
     (λ command rest none is.
-    let shorter : length rest < length (byte ∷ bytes) = command_shorter scheme.format (byte ∷ bytes) command rest is in
+    let shorter : length rest < length (byte ∷ bytes) = command_shorter scheme.longest (byte ∷ bytes) command rest is in
     let after = after_command keeps_operations scheme course command in
     over-found keeps_operations scheme (left_behind through course) (byte ∷ bytes) command rest none is
     ∙ (ap (λ (c : Course Operation). progress_over keeps_operations scheme c rest) (command_left through scheme course command past)
@@ -144,9 +143,9 @@ in_order-dropped clock some others operations parts stands = record {
 }
 
 -- a run is between two pieces as it was
-pub between-same : (format : Format) (course new : Course Operation) (held : List ℕ) → new.refused ≡ course.refused
-    → IsBetweenPieces format (record { course = course; held = held }) → IsBetweenPieces format (record { course = new; held = held })
-between-same format course new held same between = record {
+pub between-same : (longest : ℕ) (course new : Course Operation) (held : List ℕ) → new.refused ≡ course.refused
+    → IsBetweenPieces longest (record { course = course; held = held }) → IsBetweenPieces longest (record { course = new; held = held })
+between-same longest course new held same between = record {
   cut = between.cut;
   idle = subst (λ (refused : Option (ℕ × Refusal)). IfSome refused (λ at. held ≡ [])) (sym same) between.idle;
 }

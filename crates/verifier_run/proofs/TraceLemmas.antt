@@ -72,30 +72,30 @@ module _ {A : Type 0} (keeps : Event → List A) where
       behind_step scheme course rest log (performed scheme course.machine command) later
 
   further_up_to : (count : ℕ) (scheme : Scheme) (course : Course A) (bytes : List ℕ) → length bytes ≤ count → course.refused ≡ None
-      → ended (progress_over keeps scheme course bytes) ≡ between_commands (log_further scheme course (read_log scheme.format bytes))
+      → ended (progress_over keeps scheme course bytes) ≡ between_commands (log_further scheme course (read_log scheme.longest bytes))
   further_up_to count scheme course [] enough none =
       ap ended (over-empty keeps scheme course)
       ∙ (ap between_commands (as_open course none ∙ sym (no_commands scheme course whole))
-      ∙ ap (λ (log : Log). between_commands (log_further scheme course log)) (sym (read_log-empty scheme.format)))
+      ∙ ap (λ (log : Log). between_commands (log_further scheme course log)) (sym (read_log-empty scheme.longest)))
   further_up_to zero scheme course (byte ∷ bytes) enough none = absurd (omega arith)
   further_up_to (suc count) scheme course (byte ∷ bytes) enough none =
-      by_cases (ended (progress_over keeps scheme course (byte ∷ bytes)) ≡ between_commands (log_further scheme course (read_log scheme.format (byte ∷ bytes))))
-      course.refused (command_at scheme.format (byte ∷ bytes))
+      by_cases (ended (progress_over keeps scheme course (byte ∷ bytes)) ≡ between_commands (log_further scheme course (read_log scheme.longest (byte ∷ bytes))))
+      course.refused (command_at scheme.longest (byte ∷ bytes))
       (λ at e. absurd (cc))
       (λ command rest none is.
-      let shorter : length rest < length (byte ∷ bytes) = command_shorter scheme.format (byte ∷ bytes) command rest is in
+      let shorter : length rest < length (byte ∷ bytes) = command_shorter scheme.longest (byte ∷ bytes) command rest is in
       ap ended (over-found keeps scheme course (byte ∷ bytes) command rest none is)
-      ∙ (behind_command scheme course command rest (read_log scheme.format rest)
+      ∙ (behind_command scheme course command rest (read_log scheme.longest rest)
       (λ done. further_up_to count scheme (after_step keeps course (Ok done)) rest (omega arith) none)
-      ∙ ap (λ (log : Log). between_commands (log_further scheme course log)) (sym (read_log-step scheme.format (byte ∷ bytes) command rest is))))
+      ∙ ap (λ (log : Log). between_commands (log_further scheme course log)) (sym (read_log-step scheme.longest (byte ∷ bytes) command rest is))))
       (λ none is.
       ap ended (over-malformed keeps scheme course (byte ∷ bytes) none is)
       ∙ (ap between_commands (sym (no_commands scheme course (faulty faults.Malformed)))
-      ∙ ap (λ (log : Log). between_commands (log_further scheme course log)) (sym (read_log-fault scheme.format (byte ∷ bytes) faults.Malformed (omega arith) is))))
+      ∙ ap (λ (log : Log). between_commands (log_further scheme course log)) (sym (read_log-fault scheme.longest (byte ∷ bytes) faults.Malformed (omega arith) is))))
       (λ none is.
       ap ended (over-cut keeps scheme course (byte ∷ bytes) none is)
       ∙ (ap between_commands (sym (no_commands scheme course (faulty faults.Truncated)))
-      ∙ ap (λ (log : Log). between_commands (log_further scheme course log)) (sym (read_log-fault scheme.format (byte ∷ bytes) faults.Truncated (omega arith) is))))
+      ∙ ap (λ (log : Log). between_commands (log_further scheme course log)) (sym (read_log-fault scheme.longest (byte ∷ bytes) faults.Truncated (omega arith) is))))
 
   -- A whole log, from the opening on, comes to the course of its trace.
   pub log_comes_to_its_course : (scheme : Scheme) (machine : Machine) (log : List ℕ) → ended (fed keeps scheme (between_commands (opening_course machine)) log) ≡ between_commands (log_course keeps scheme machine log)

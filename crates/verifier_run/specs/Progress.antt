@@ -5,7 +5,6 @@ use Rattle.lamport_clocks.specs.declared.header.Header.{Header}
 use Rattle.record_text.specs.declared.refusal.Refusal.{Refusal}
 use Rattle.record_text.specs.declared.refusal.Refusal.TheVariants as refusals
 use Rattle.record_text.specs.declared.reader.TextFault.TheVariants as faults
-use Rattle.record_text.specs.Format.{Format}
 use Rattle.record_text.specs.Fields.{Parsed}
 use Rattle.log_codec.specs.declared.command.Command.{Command}
 use Rattle.log_codec.specs.Command.{command_at}
@@ -44,7 +43,7 @@ unfoldable pub read_up_to : {A : Type 0} → (Event → List A) → ℕ → Sche
 read_up_to keeps zero scheme course bytes = record { course = course; held = bytes }
 read_up_to keeps (suc count) scheme course bytes =
     unless_refused course.refused course
-    (progress_behind course bytes (command_at scheme.format bytes)
+    (progress_behind course bytes (command_at scheme.longest bytes)
     (λ command rest. read_up_to keeps count scheme (after_command keeps scheme course command) rest))
 
 -- the same, of as many commands as the bytes may hold
@@ -69,6 +68,6 @@ abbrev pub weight : {A : Type 0} → Progress A → ℕ
 weight progress = progress.course.machine.accepted + length progress.held
 
 -- Between two pieces the bytes held begin a command that is cut, and a refused course holds none.
-pub record IsBetweenPieces {A : Type 0} (format : Format) (progress : Progress A) : Type 0 where
-  pub cut : command_at format progress.held ≡ Err faults.Truncated
+pub record IsBetweenPieces {A : Type 0} (longest : ℕ) (progress : Progress A) : Type 0 where
+  pub cut : command_at longest progress.held ≡ Err faults.Truncated
   pub idle : IfSome progress.course.refused (λ refused. progress.held ≡ [])

@@ -2,7 +2,7 @@
 ghost use Rattle.std.specs.Prelude.{◌≡◌, ◌<◌, ◌^◌, ℕ, List, IfOk, IfErr, Err};
 ghost use Rattle.std.specs.List.{AllByRecursion};
 ghost use Rattle.std.specs.Option.{option_to_list};
-ghost use Rattle.record_text.specs.Format.{format_of};
+ghost use Rattle.record_text.specs.Longest.{longest_of};
 ghost use Rattle.log_codec.specs.Command.{IsCommand};
 ghost use Rattle.merkle_records.specs.Scheme.{scheme_of};
 ghost use Rattle.verifier_commands.specs.Event.{Event};
@@ -36,7 +36,7 @@ pub trait Kept: Drop {
         d: &D,
         command: &Command,
     ) -> Result<Yield<Self>, Refusal>
-        requires kind { IsCommand (format_of verifier.old.header) command.now }
+        requires kind { IsCommand (longest_of verifier.old.header) command.now }
         requires room { verifier.old.accepted < 2 ^ 63 }
         ensures yields { IfOk result (λ yield. Yields keeps yield
             (performed (scheme_of (D.functions d.now) verifier.old.header) verifier.old command.now) verifier.new) }

@@ -33,14 +33,14 @@ pub struct Run<T: Kept = Operation> {
 }
 
 impl<T: Kept> Model for Run<T> {
-    ghost use Rattle.record_text.specs.Format.{format_of};
+    ghost use Rattle.record_text.specs.Longest.{longest_of};
     ghost use Rattle.verifier_run.specs.Progress.{Progress, IsBetweenPieces};
 
     ghost Value = { Progress T };
 
     ghost view = { λ r. record { course = r.tracer; held = r.held.items } };
 
-    ghost invariant = { λ r. IsBetweenPieces (format_of r.tracer.machine.header) (record { course = r.tracer; held = r.held.items }) };
+    ghost invariant = { λ r. IsBetweenPieces (longest_of r.tracer.machine.header) (record { course = r.tracer; held = r.held.items }) };
 }
 
 impl<T: Kept> Run<T> {

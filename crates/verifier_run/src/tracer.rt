@@ -2,7 +2,7 @@
 ghost use Rattle.std.specs.Option.{option_to_list};
 ghost use Rattle.std.specs.Prelude.{◌≡◌, ◌+◌, ◌<◌, ◌≤◌, ◌^◌, ◌++◌, length, take, vec_len, vec_capacity, take_while, nat_le, IfOk, OnOk, OnErr};
 ghost use Rattle.lamport_clocks.specs.Header.{IsHeader};
-ghost use Rattle.record_text.specs.Format.{format_of};
+ghost use Rattle.record_text.specs.Longest.{longest_of};
 ghost use Rattle.log_codec.specs.Command.{IsCommand};
 ghost use Rattle.merkle_records.specs.Scheme.{scheme_of};
 ghost use Rattle.verifier_commands.specs.Machine.{opening_machine};
@@ -107,7 +107,7 @@ impl<T: Kept> Tracer<T> {
     /// Takes one command. For want of memory nothing of it is done.
     #[tactic(auto, unfolding(crate::specs::Course::after_command))]
     pub(crate) fn apply<D: Digests>(&mut self, d: &D, command: &Command) -> Result<(), Memory>
-        requires kind { IsCommand (format_of self.old.machine.header) command.now }
+        requires kind { IsCommand (longest_of self.old.machine.header) command.now }
         requires room { self.old.machine.accepted < 2 ^ 63 }
         ensures ok { OnOk result (self.new ≡ after_command T.keeps (scheme_of (D.functions d.now) self.old.machine.header) self.old command.now) }
         ensures err { OnErr result (self.new ≡ self.old) }

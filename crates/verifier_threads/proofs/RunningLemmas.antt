@@ -4,7 +4,6 @@ use Rattle.std.proofs.lemmas.List.{length-map}
 use Rattle.fv_outside.specs.Written.{Grows}
 use Rattle.record_hash.specs.Functions.{DigestFunctions}
 use Rattle.record_text.specs.declared.request.Request.{Request}
-use Rattle.record_text.specs.Format.{short_keys}
 use Rattle.log_codec.specs.Log.{log_text}
 use Rattle.bundle_report.specs.Report.{told_by}
 use Rattle.host_core.specs.Host.{Host}
@@ -90,7 +89,7 @@ module _ (receipts : Bool) (functions : DigestFunctions) (settings : Settings) (
   -- as many workers as verifiers, and as many runs
   pub running-workers : length world.workers ≡ settings.header.verifiers
   running-workers =
-      sym running.each ∙ sym (length-map running.logs (log_text short_keys)) ∙ running.keeps.runs.taken.whole
+      sym running.each ∙ sym (length-map running.logs log_text) ∙ running.keeps.runs.taken.whole
 
   -- events lead on
   pub running-led : (later : World Content) (next : Option ClockEnd) → GoesOn own_host world later end next

@@ -4,11 +4,11 @@ use Rattle.std.proofs.lemmas.List.{length-replicate, length-set}
 use Rattle.std.proofs.lemmas.Option.{none-some, same_Some}
 use Rattle.lamport_clocks.specs.Reading.{Reading}
 use Rattle.lamport_clocks.specs.Clock.{last_epoch}
+use Rattle.record_text.specs.Longest.{longest_blob}
 use Rattle.log_codec.specs.declared.command.Command.TheVariants.{NextEpoch}
 use Rattle.merkle_records.specs.Merkle.{Digest, GivesDigests}
 use Rattle.record_hash.specs.Functions.{DigestFunctions}
 use Rattle.record_text.specs.declared.request.Request.{Request}
-use Rattle.record_text.specs.Format.{short_keys}
 use Rattle.script_text.specs.declared.task.Task.{Task}
 use Rattle.host_core.specs.Host.{Done, Host}
 use Rattle.host_core.specs.World.{Place, Worker, World, fresh, worker_at, shard_at, set_up}
@@ -57,17 +57,17 @@ inside false done found is = same_Some done found is
 
 -- a request leaves the clock's end
 serve_end : (digest : Digest) (worker : ℕ) (clock : Reading) (content : Content) (request : Request) (done : Done Content)
-    → serve_at short_keys digest worker clock content request ≡ Some done → done.clock.end ≡ clock.end
+    → serve_at digest worker clock content request ≡ Some done → done.clock.end ≡ clock.end
 serve_end digest worker clock content request done is =
     sym (ap (λ (d : Done Content). d.clock.end) (inside (nat_lt clock.end (clock_after content clock).at.counter) _ done is)) ∙ end_after content clock
 
 -- a move leaves it
 move_end : (digest : Digest) (worker : ℕ) (threshold : Option ℕ) (stage : Stage) (done : Done (List Content))
-    → IsMoved short_keys digest worker threshold stage done → done.clock.end ≡ stage.clock.end
+    → IsMoved digest worker threshold stage done → done.clock.end ≡ stage.clock.end
 move_end digest worker threshold stage done is =
     ap (λ (clock : Reading). clock.end) is.clock
     ∙ ap (λ (s : Stage). s.clock.end) is.is.after
-    ∙ each-end short_keys digest worker (begun worker stage) is.is.descents
+    ∙ each-end longest_blob digest worker (begun worker stage) is.is.descents
     ∙ renewing_each-end stage.clock (touched_in stage.places)
 
 -- ---- what happens in a world
@@ -94,7 +94,7 @@ module _ (functions : DigestFunctions) (settings : Settings) (script : List (Lis
   module _ (world : World Content) (behind : IsBehindSetup functions settings script world) (orderly : IsOrderly functions settings script world)
       (bounded : IsBounded settings world) where
     serve_bounded : (i : ℕ) (place : Place) (request : Request) (what : Option (Done Content))
-        → serve_at short_keys functions.digest i (worker_at host world i).clock (get_or (shard_at world place.shard).contents place.seat vacant) request ≡ what
+        → serve_at functions.digest i (worker_at host world i).clock (get_or (shard_at world place.shard).contents place.seat vacant) request ≡ what
         → IsBounded settings (after_serve world i (worker_at host world i) place (shard_at world place.shard) what)
     serve_bounded i place request None is = worker_bounded settings world i (record (worker_at host world i) { stopped = true }) bounded (bounded.ends i)
     serve_bounded i place request (Some done) is =
@@ -105,7 +105,7 @@ module _ (functions : DigestFunctions) (settings : Settings) (script : List (Lis
         (serve_end functions.digest i clock (get_or (shard_at world place.shard).contents place.seat vacant) request done is ∙ bounded.ends i))
 
     move_bounded : (i s : ℕ) → s < length world.shards → (what : Option (Done (List Content)))
-        → move_seats short_keys functions.digest i settings.hot (stage_of (worker_at host world i).clock (shard_at world s).contents) ≡ what
+        → move_seats functions.digest i settings.hot (stage_of (worker_at host world i).clock (shard_at world s).contents) ≡ what
         → IsBounded settings (after_move world i (worker_at host world i) s what)
     move_bounded i s there None is = worker_bounded settings world i (record (worker_at host world i) { stuck = true }) bounded (bounded.ends i)
     move_bounded i s there (Some done) is =
@@ -115,7 +115,7 @@ module _ (functions : DigestFunctions) (settings : Settings) (script : List (Lis
         others_bounded settings (with_worker world i worker) _ refl
         (worker_bounded settings world i worker bounded
         (move_end functions.digest i settings.hot (stage_at mirrors.shard mirrors.places clock) done
-        (seats_moved short_keys functions.digest i settings.hot clock (shard_at world s).contents done digests behind.settings_fit.hot mirrors is) ∙ bounded.ends i))
+        (seats_moved longest_blob functions.digest i settings.hot clock (shard_at world s).contents done digests behind.settings_fit.hot mirrors is) ∙ bounded.ends i))
 
     advance_bounded : (i : ℕ) → IsBounded settings (after_advance world i (worker_at host world i))
     advance_bounded i = go ((worker_at host world i).clock.at.epoch == last_epoch)

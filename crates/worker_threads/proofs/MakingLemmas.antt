@@ -7,7 +7,7 @@ use Rattle.std.proofs.lemmas.List.{length-map, get_or_past}
 use Rattle.record_hash.specs.Functions.{DigestFunctions}
 use Rattle.record_text.specs.declared.element.Element.{Element}
 use Rattle.record_text.specs.declared.request.Request.{Request}
-use Rattle.record_text.specs.Format.{short_keys}
+use Rattle.record_text.specs.Longest.{longest_blob}
 use Rattle.script_text.specs.declared.task.Task.{Task}
 use Rattle.host_core.specs.Host.{Host}
 use Rattle.host_core.specs.World.{World, worker_at, shard_at, epoch_of}
@@ -63,15 +63,15 @@ module _ (functions : DigestFunctions) (settings : Settings) (script : List (Lis
 
     -- ---- the epoch
 
-    waits_in : (place : ℕ) → place < length contents → (element : Element) → pending short_keys (shown_content (get_or contents place Vacant)) ≡ Some element
+    waits_in : (place : ℕ) → place < length contents → (element : Element) → pending (shown_content (get_or contents place Vacant)) ≡ Some element
         → element.stamp.epoch ≡ epoch_of host world
     waits_in place there element found =
         let s = place / 5 in
         let here : s < length world.shards = omega (arith, there, as_many) in
         let epoch : epoch_of host world + moved_by (shard_at world s).moved ≡ epoch_of host world + 0 = ap (λ b. epoch_of host world + moved_by b) (orderly.unmoved phase s here) in
-        let waits = waits_there short_keys (λ e. e.stamp.epoch ≡ epoch_of host world + moved_by (shard_at world s).moved) (shard_at world s).contents (place % 5) (orderly.shards s here).stamped in
+        let waits = waits_there (λ e. e.stamp.epoch ≡ epoch_of host world + moved_by (shard_at world s).moved) (shard_at world s).contents (place % 5) (orderly.shards s here).stamped in
         let one = subst (λ (o : Option Element). AllByRecursion (λ e. e.stamp.epoch ≡ epoch_of host world + moved_by (shard_at world s).moved) (waiting o))
-        (ap (pending short_keys) (lent_at place there) ∙ found) waits in
+        (ap pending (lent_at place there) ∙ found) waits in
         omega (arith, one.0, epoch)
 
     pub epoch_is : 0 < length contents → epoch_in contents ≡ epoch_of host world
@@ -80,10 +80,10 @@ module _ (functions : DigestFunctions) (settings : Settings) (script : List (Lis
         first_shard : 0 < length world.shards
         first_shard = omega (arith, some, as_many)
 
-        at_first : (first : code.Content) (rest : List code.Content) → contents ≡ first ∷ rest → (element : Element) → pending short_keys (shown_content first) ≡ Some element
+        at_first : (first : code.Content) (rest : List code.Content) → contents ≡ first ∷ rest → (element : Element) → pending (shown_content first) ≡ Some element
             → element.stamp.epoch ≡ epoch_of host world
         at_first first rest is element found =
-            waits_in 0 some element (ap (λ (xs : List code.Content). pending short_keys (shown_content (get_or xs 0 Vacant))) is ∙ found)
+            waits_in 0 some element (ap (λ (xs : List code.Content). pending (shown_content (get_or xs 0 Vacant))) is ∙ found)
 
         no_vacant : (shard : Shard) → vacant ≡ cold shard → ⊥
         no_vacant shard same = cc
@@ -122,15 +122,15 @@ module _ (functions : DigestFunctions) (settings : Settings) (script : List (Lis
     pub place_is : (place : ℕ) (request : Request) → request.key < 2 ^ 64 → IsPlaceFor host world request place → IsPlaceOf terms place request.key
     place_is place request small is = record {
       there = there;
-      owns = subst (λ (c : Content). Owns short_keys c request.key) (lent_at terms.contents lent place there)
-          (seat_serves short_keys functions.digest seats mirrors (place % 5) request small is.owns).own;
+      owns = subst (λ (c : Content). Owns longest_blob c request.key) (lent_at terms.contents lent place there)
+          (seat_serves longest_blob functions.digest seats mirrors (place % 5) request small is.owns).own;
       cold = λ other kept near found same. alone other kept near found same (cases_lt other (length terms.contents));
     }
       where
         seats : List Content
         seats = (shard_at world (place / 5)).contents
 
-        mirrors : SeatsMirror short_keys functions.digest seats
+        mirrors : SeatsMirror longest_blob functions.digest seats
         mirrors = (orderly.shards (place / 5) is.there.0).mirrors
 
         there : place < length terms.contents
@@ -144,12 +144,12 @@ module _ (functions : DigestFunctions) (settings : Settings) (script : List (Lis
         alone other kept near found same (inr past) = absurd (no_vacant kept (sym (get_or_past terms.contents other Vacant past) ∙ found))
         alone other kept near found same (inl below) =
             let stage = stage_at mirrors.shard mirrors.places (worker_at host world 0).clock in
-            let apart = apart_by_number short_keys functions.digest 0 stage
-            (stage_mirrors short_keys functions.digest seats (worker_at host world 0).clock mirrors) in
+            let apart = apart_by_number longest_blob functions.digest 0 stage
+            (stage_mirrors longest_blob functions.digest seats (worker_at host world 0).clock mirrors) in
             let shows : get_or seats (other % 5) vacant ≡ hot kept =
             ap (λ (s : ℕ). get_or (shard_at world s).contents (other % 5) vacant) (sym near)
             ∙ lent_at terms.contents lent other below ∙ ap shown_content found in
-            let serves = (and_parts (serves_key short_keys seats request.key (get_or seats (place % 5) vacant)) (is_blob short_keys request.value) is.owns).0 in
+            let serves = (and_parts (serves_key seats request.key (get_or seats (place % 5) vacant)) (is_blob longest_blob request.value) is.owns).0 in
             let few = five (place / 5) is.there.0 in
             let seat : other % 5 ≡ place % 5 =
             serves_alone seats mirrors.shard mirrors.places mirrors.is apart (place % 5) (other % 5) request.key kept (omega (arith, few)) serves shows same in

@@ -4,7 +4,6 @@ use Rattle.std.specs.List.{AllByRecursion, list_any}
 use Rattle.std.proofs.lemmas.Bool.{false≢true, and_parts, eqb-true, eq-eqb}
 use Rattle.std.proofs.lemmas.List.Folds.{list_any_at}
 use Rattle.tree_keys.specs.Path.{is_prefix}
-use Rattle.record_text.specs.Format.{short_keys}
 use Rattle.host_shard.specs.declared.content.HotRecord.{HotRecord}
 use Rattle.host_shard.specs.Shard.{Shard}
 use Rattle.host_shard.specs.Content.{Content, cold, hot, vacant, key_path}
@@ -50,13 +49,13 @@ one_seat (hot found ∷ places) apart (suc j) (suc k) a b first second same = ap
 
 -- Where a seat serves the key, the key is hot at no other.
 pub serves_alone : (seats : List Content) (shard : Shard) (places : List Content) → seats ≡ cold shard ∷ places → AreApart (hot_records places)
-    → (seat other : ℕ) (key : ℕ) (kept : HotRecord) → other < length seats → serves_key short_keys seats key (get_or seats seat vacant) ≡ true
+    → (seat other : ℕ) (key : ℕ) (kept : HotRecord) → other < length seats → serves_key seats key (get_or seats seat vacant) ≡ true
     → get_or seats other vacant ≡ hot kept → kept.key ≡ key → other ≡ seat
 serves_alone seats shard places is apart seat other key kept there serves found same = go (get_or seats seat vacant) refl serves
   where
-    go : (content : Content) → get_or seats seat vacant ≡ content → serves_key short_keys seats key content ≡ true → other ≡ seat
+    go : (content : Content) → get_or seats seat vacant ≡ content → serves_key seats key content ≡ true → other ≡ seat
     go (cold own) here serves' =
-        let parts = and_parts (is_prefix own.frontier (key_path short_keys key)) (not (list_any (is_hot_at key) seats)) serves' in
+        let parts = and_parts (is_prefix own.frontier (key_path key)) (not (list_any (is_hot_at key) seats)) serves' in
         absurd (not_both (list_any (is_hot_at key) seats) parts.1
         (list_any_at (is_hot_at key) seats other vacant there (ap (is_hot_at key) found ∙ eq-eqb kept.key key same)))
     go (hot own) here serves' =

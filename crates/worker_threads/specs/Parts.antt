@@ -4,7 +4,6 @@ use Rattle.std.specs.List.{flat_map}
 use Rattle.std.specs.Option.{ForSome}
 use Rattle.lamport_clocks.specs.Reading.{Reading}
 use Rattle.record_text.specs.declared.request.Request.{Request}
-use Rattle.record_text.specs.Format.{short_keys}
 use Rattle.log_codec.specs.declared.command.Command.{Command}
 use Rattle.log_codec.specs.Log.{log_text}
 use Rattle.atomic_table.specs.Seated.{TableId}
@@ -82,5 +81,5 @@ pub record IsThrough (table : TableId) (tasks : List Task) (old new : WorkerThre
 
 -- Where memory was not wanting its outbox has just what is in its log.
 pub record HasPutAll (old new : WorkerThread) : Type 0 where
-  pub put : new.wanting ≡ false → put_in new.outbox ≡ log_text short_keys new.worker.log
+  pub put : new.wanting ≡ false → put_in new.outbox ≡ log_text new.worker.log
   pub lane : SameOutbox old.outbox new.outbox

@@ -1,5 +1,4 @@
 use Rattle.std.proofs.Common.{ℕ, ◌<◌, ◌≤◌, sym, ap, subst, ◌∙◌}
-use Rattle.record_text.specs.Format.{short_keys}
 use Rattle.host_plan.specs.Setup.{setup_commands, setup_contents}
 use Rattle.host_plan.proofs.SetupLemmas.{exponent}
 use Rattle.host_plan.proofs.starting.setup.Goals as goal
@@ -15,9 +14,9 @@ all_set_up-requires-clause-few c =
 pub returns-clause-commands : goal.returns-clause-commands
 returns-clause-commands c bits is =
     c.in_ok-all_set_up.ensures.commands
-    ∙ ap (λ (n : ℕ). setup_commands short_keys c.args.header.now.first n) (exponent c.args.shards c.ilog2-bits.result bits is c.ilog2-bits.ensures.power_le c.ilog2-bits.ensures.next_power_gt)
+    ∙ ap (λ (n : ℕ). setup_commands c.args.header.now.first n) (exponent c.args.shards c.ilog2-bits.result bits is c.ilog2-bits.ensures.power_le c.ilog2-bits.ensures.next_power_gt)
 
 pub returns-clause-contents : goal.returns-clause-contents
 returns-clause-contents c bits is =
     c.in_ok-all_set_up.ensures.contents
-    ∙ ap (λ (n : ℕ). setup_contents short_keys c.args.header.now.first n) (exponent c.args.shards c.ilog2-bits.result bits is c.ilog2-bits.ensures.power_le c.ilog2-bits.ensures.next_power_gt)
+    ∙ ap (λ (n : ℕ). setup_contents c.args.header.now.first n) (exponent c.args.shards c.ilog2-bits.result bits is c.ilog2-bits.ensures.power_le c.ilog2-bits.ensures.next_power_gt)

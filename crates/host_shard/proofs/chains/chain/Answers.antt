@@ -2,7 +2,7 @@ use Rattle.std.proofs.Common.{ℕ, ◌≤◌, Bool, List, length, subst, sym, �
 use Rattle.std.proofs.lemmas.Bool.{true≢false}
 use Rattle.tree_keys.specs.Path.{IsBelow}
 use Rattle.tree_keys.proofs.PathLaws.{is_prefix-length}
-use Rattle.record_text.specs.Format.{short_keys}
+use Rattle.record_text.specs.Longest.{longest_blob}
 use Rattle.host_shard.specs.Chain.{IsChain}
 use Rattle.host_shard.specs.Shard.{tree_of}
 use Rattle.host_shard.specs.Shown.{shown}
@@ -12,13 +12,13 @@ use Rattle.host_shard.proofs.chains.chain.Goals as goal
 
 pub loop-end-init : goal.loop-end-init
 loop-end-init c =
-    begun_with short_keys (tree_of (shown c.args.shard.now)) c.of_key-end.result c.args.shard.now.frontier c.args.shard.now.value c.in_ok-links.links.items c.toward-ahead.result
-    c.in_ok-links.ensures.items c.toward-ahead.ensures.value (frontier_kind short_keys (shown c.args.shard.now) c.requires.fits.kinds)
+    begun_with longest_blob (tree_of (shown c.args.shard.now)) c.of_key-end.result c.args.shard.now.frontier c.args.shard.now.value c.in_ok-links.links.items c.toward-ahead.result
+    c.in_ok-links.ensures.items c.toward-ahead.ensures.value (frontier_kind longest_blob (shown c.args.shard.now) c.requires.fits.kinds)
     (subst (λ (end : List Bool). IsBelow c.args.shard.now.frontier end) (sym c.of_key-end.ensures.bits) c.requires.own.below)
 
 pub loop-end-smaller : goal.loop-end-smaller
 loop-end-smaller c =
-    let next = begun_next short_keys (tree_of (shown c.args.shard.now)) c.of_key-end.result c.args.shard.now.frontier c.args.shard.now.value c.loop-end.links.items c.loop-end.at c.loop-end.ahead
+    let next = begun_next longest_blob (tree_of (shown c.args.shard.now)) c.of_key-end.result c.args.shard.now.frontier c.args.shard.now.value c.loop-end.links.items c.loop-end.at c.loop-end.ahead
     c.next_link-link.result c.of_key-end.ensures.whole c.requires.fits.kinds c.loop-end.invariant (λ same. true≢false (sym (c.is_same.ensures.same.1 same) ∙ c.loop-end-test.true)) c.next_link-link.ensures.value in
     let longer = next.1 in
     let end : length c.next_link-link.result.path ≤ 64 = subst (λ (n : ℕ). length c.next_link-link.result.path ≤ n) c.of_key-end.ensures.whole (is_prefix-length c.next_link-link.result.path c.of_key-end.result next.0.toward) in
@@ -26,12 +26,12 @@ loop-end-smaller c =
 
 pub loop-end-preserved : goal.loop-end-preserved
 loop-end-preserved c =
-    next_with short_keys (tree_of (shown c.args.shard.now)) c.of_key-end.result c.args.shard.now.frontier c.args.shard.now.value c.loop-end.links.items c.push.new.self.items c.loop-end.at
+    next_with longest_blob (tree_of (shown c.args.shard.now)) c.of_key-end.result c.args.shard.now.frontier c.args.shard.now.value c.loop-end.links.items c.push.new.self.items c.loop-end.at
     c.loop-end.ahead c.toward-ahead-in-loop-end.result c.next_link-link.result c.of_key-end.ensures.whole c.requires.fits.kinds c.loop-end.invariant
     (λ same. true≢false (sym (c.is_same.ensures.same.1 same) ∙ c.loop-end-test.true)) c.next_link-link.ensures.value c.in_ok-push.ensures.items c.toward-ahead-in-loop-end.ensures.value
 
 pub returns-clause-chain : goal.returns-clause-chain
 returns-clause-chain c =
-    subst (λ (end : List Bool). IsChain short_keys (tree_of (shown c.args.shard.now)) end c.args.shard.now.frontier c.args.shard.now.value c.loop-end.links.items) c.of_key-end.ensures.bits
-    (begun_end short_keys (tree_of (shown c.args.shard.now)) c.of_key-end.result c.args.shard.now.frontier c.args.shard.now.value c.loop-end.links.items c.loop-end.at c.loop-end.ahead c.loop-end.invariant
+    subst (λ (end : List Bool). IsChain (tree_of (shown c.args.shard.now)) end c.args.shard.now.frontier c.args.shard.now.value c.loop-end.links.items) c.of_key-end.ensures.bits
+    (begun_end (tree_of (shown c.args.shard.now)) c.of_key-end.result c.args.shard.now.frontier c.args.shard.now.value c.loop-end.links.items c.loop-end.at c.loop-end.ahead c.loop-end.invariant
     (c.is_same.ensures.same.0 c.loop-end-test.false))

@@ -2,8 +2,8 @@ use Rattle.std.proofs.Common.{ℕ, [], ◌∷◌, sym, subst}
 use mathlib.Core.Option.{none}
 use Rattle.lamport_clocks.specs.Reading.{Reading}
 use Rattle.record_text.specs.declared.request.Request.{Request}
-use Rattle.record_text.specs.Format.{short_keys}
 use Rattle.record_text.specs.Value.{IsBlob}
+use Rattle.record_text.specs.Longest.{longest_blob}
 use Rattle.atomic_table.specs.Table.{Allows, step}
 use Rattle.host_shard.specs.declared.content.Content.{Content}
 use Rattle.host_shard.specs.declared.content.Content.TheVariants.{Vacant}
@@ -35,7 +35,7 @@ load-requires g c =
     let lemma : Allows (IsKept terms) slots hand.seat.id me p (λ n. n) (stopped draft (step {S = Content} slots p 0 0 none) me) =
     ends terms hand.seat.id i p slots (services hand) (losses hand) (content hand) (history hand) (stop hand) draft ((p, Vacant) ∷ [])
     (subst (λ (q : Request). IsPlaceOf terms p q.key) request c.requires.place)
-    (subst (λ (q : Request). IsBlob short_keys q.value) request c.requires.value)
+    (subst (λ (q : Request). IsBlob longest_blob q.value) request c.requires.value)
     (subst (IsClockOf terms) clock c.requires.clock)
     (subst (TakesUp (services hand)) clock c.requires.chained)
     (subst (λ (t : Reading). IsPastEnd (shown_content (content hand)) t) clock c.requires.past) in (

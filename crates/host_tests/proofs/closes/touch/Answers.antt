@@ -1,5 +1,5 @@
 use Rattle.std.proofs.Common.{IsSome, subst, sym}
-use Rattle.record_text.specs.Format.{short_keys}
+use Rattle.record_text.specs.Longest.{longest_blob}
 use Rattle.host_shard.specs.Content.{key_path}
 use Rattle.host_shard.specs.Mirrors.{IsShard}
 use Rattle.host_shard.specs.Shard.{Shard}
@@ -9,6 +9,6 @@ pub loop-preserved : goal.loop-preserved
 loop-preserved g c =
     let fits = c.loop.invariant.fits in
     record {
-      fits = subst (IsShard short_keys) (sym c.touch.ensures.touched) (record { below_root = fits.below_root; no_data = fits.no_data; kinds = fits.kinds });
-      there = subst (λ (shard : Shard). IsSome (shard.records (key_path short_keys c.args.key))) (sym c.touch.ensures.touched) c.loop.invariant.there;
+      fits = subst (IsShard longest_blob) (sym c.touch.ensures.touched) (record { below_root = fits.below_root; no_data = fits.no_data; kinds = fits.kinds });
+      there = subst (λ (shard : Shard). IsSome (shard.records (key_path c.args.key))) (sym c.touch.ensures.touched) c.loop.invariant.there;
     }

@@ -1,5 +1,5 @@
 use Rattle.std.proofs.Common.{IsSome}
-use Rattle.record_text.specs.Format.{short_keys}
+use Rattle.record_text.specs.Longest.{longest_blob}
 use Rattle.host_shard.specs.Content.{key_path}
 use Rattle.host_shard.specs.Mirrors.{IsShard}
 use Rattle.host_shard.specs.Shown.{shown}
@@ -7,6 +7,6 @@ use Rattle.host_tests.proofs.closes.touch.Given as goal
 
 abbrev pub invariant-loop : goal.invariant-loop
 invariant-loop g l = record {
-  fits : IsShard short_keys (shown l.shard);
-  there : IsSome ((shown l.shard).records (key_path short_keys l.key));
+  fits : IsShard longest_blob (shown l.shard);
+  there : IsSome ((shown l.shard).records (key_path l.key));
 }

@@ -3,6 +3,6 @@ use Rattle.host_world.proofs.laws.a_chain_is_its_links.Goals as goal
 
 pub returns : goal.returns
 returns c = record {
-  there = λ format shard key fits own. shard_links_are format shard key fits own;
-  only = λ format shard key links fits own chain. shard_chain_is format shard key fits own links chain;
+  there = λ longest shard key fits own. shard_links_are longest shard key fits own;
+  only = λ longest shard key links fits own chain. shard_chain_is longest shard key fits own links chain;
 }

@@ -3,5 +3,5 @@ use Rattle.host_world.proofs.laws.what_is_moved_is_a_move.Goals as goal
 
 pub returns : goal.returns
 returns c = record {
-  moved = λ format digest worker threshold stage done digests some mirrors is. done_is_move format digest worker threshold stage digests some mirrors done is;
+  moved = λ longest digest worker threshold stage done digests some mirrors is. done_is_move longest digest worker threshold stage digests some mirrors done is;
 }

@@ -1,6 +1,6 @@
 use Rattle.std.proofs.Common.{rules, ◌≡◌, ℕ, List, ◌∷◌, map, sym, subst, ap, ◌∙◌, arith}
 use Rattle.std.specs.List.{AllByRecursion}
-use Rattle.record_text.specs.Format.{short_keys}
+use Rattle.record_text.specs.Longest.{longest_blob}
 use Rattle.host_shard.specs.declared.content.HotRecord.{HotRecord}
 use Rattle.host_shard.specs.Content.{key_path}
 use Rattle.host_shard.specs.Mirrors.{IsKeyOf, IsShard}
@@ -26,16 +26,16 @@ unreachable-requires g t c =
 
 pub rehash_back-requires-clause-fits : goal.rehash_back-requires-clause-fits
 rehash_back-requires-clause-fits g t c =
-    subst (IsShard short_keys) (sym c.in_ok-put_back.ensures.back)
-    (back_is short_keys (shown c.args.shard.now) c.in-Some.parts.0.now c.requires.fits
-    (subst (AllByRecursion (λ (f : HotRecord). IsKeyOf short_keys (shown c.args.shard.now) (key_path short_keys f.key))) c.in-Some.ensures.cases.0 c.requires.own_back).0
+    subst (IsShard longest_blob) (sym c.in_ok-put_back.ensures.back)
+    (back_is longest_blob (shown c.args.shard.now) c.in-Some.parts.0.now c.requires.fits
+    (subst (AllByRecursion (λ (f : HotRecord). IsKeyOf (shown c.args.shard.now) (key_path f.key))) c.in-Some.ensures.cases.0 c.requires.own_back).0
     c.in_ok-put_back.ensures.kind)
 
 pub returns-in-Err-clause-as_before : goal.returns-in-Err-clause-as_before
 returns-in-Err-clause-as_before g t c =
     let was = c.kept_of-was.ensures.value ∙ ap (values_of c.args.shard.now.records) c.of_key.ensures.bits in
     c.take_away.ensures.as_before (shown c.args.shard.now) (c.in-Err.ensures.as_before ∙ c.in_ok-put_back.ensures.back) was
-    (λ none. no_touches (record_at c.args.shard.now.records) (key_path short_keys c.in-Some.parts.0.now.key) (sym was ∙ none))
+    (λ none. no_touches (record_at c.args.shard.now.records) (key_path c.in-Some.parts.0.now.key) (sym was ∙ none))
 
 pub demote_each-requires : goal.demote_each-requires
 demote_each-requires g t c κs within =
@@ -52,7 +52,7 @@ demote_each-requires g t c κs within =
         (
           c.in-Ok.ensures.fits,
           (
-            (subst (AllByRecursion (λ (f : HotRecord). IsKeyOf short_keys new (key_path short_keys f.key))) is (rest_own_back old new back frontier c.requires.own_back)).1,
+            (subst (AllByRecursion (λ (f : HotRecord). IsKeyOf new (key_path f.key))) is (rest_own_back old new back frontier c.requires.own_back)).1,
             (
               rest_own old new c.args.keys.now frontier c.requires.own,
               (
@@ -83,9 +83,9 @@ pub returns-clause-as_before : goal.returns-clause-as_before
 returns-clause-as_before g t c =
     let was = c.kept_of-was.ensures.value ∙ ap (values_of c.args.shard.now.records) c.of_key.ensures.bits in
     let found : HotRecord = c.in-Some.parts.0.now in
-    let back : Shard = with_back short_keys (shown c.args.shard.now) found in
+    let back : Shard = with_back (shown c.args.shard.now) found in
     c.take_away-in-Err-demote_each.ensures.as_before (shown c.args.shard.now)
     (c.restore.ensures.restored back
     (subst (λ (s : Shard). IsSavedOf back c.in-Ok.saved s) (sym c.in-Err-demote_each.ensures.as_before)
     (subst (λ (s : Shard). IsSavedOf s c.in-Ok.saved (shown c.rehash_back.new.shard)) c.in_ok-put_back.ensures.back c.in-Ok.ensures.saved))) was
-    (λ none. no_touches (record_at c.args.shard.now.records) (key_path short_keys found.key) (sym was ∙ none))
+    (λ none. no_touches (record_at c.args.shard.now.records) (key_path found.key) (sym was ∙ none))

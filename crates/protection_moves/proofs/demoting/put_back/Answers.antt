@@ -1,6 +1,5 @@
 use Rattle.std.proofs.Common.{ℕ, List, Bool, Option, refl, ap, ◌∙◌}
 use Rattle.record_text.specs.declared.value.Value.TheVariants as values
-use Rattle.record_text.specs.Format.{short_keys}
 use Rattle.host_shard.specs.Records.{record_at, touches_of, new_record}
 use Rattle.host_shard.specs.Shard.{Shard}
 use Rattle.host_shard.specs.Shown.{shown}
@@ -14,8 +13,8 @@ returns-clause-back c =
     let path : List Bool = c.of_key-path.result in
     let kept = record_at c.args.shard.now.records in
     ap (λ (t : Tree). record old { records = t; touches = touches_of c.set.new.self })
-    (opened_values kept (record_at c.open.new.self) (record_at c.set.new.self) path (new_record short_keys path) (values.Blob c.copy.result) c.in_ok-open.ensures.opened c.set.ensures.set)
+    (opened_values kept (record_at c.open.new.self) (record_at c.set.new.self) path (new_record path) (values.Blob c.copy.result) c.in_ok-open.ensures.opened c.set.ensures.set)
     ∙ ap (λ (touches : List Bool → ℕ). record old { records = with_record old.records path (values.Blob c.copy.result); touches = touches })
-    (opened_touches kept (record_at c.open.new.self) (record_at c.set.new.self) path (new_record short_keys path) (values.Blob c.copy.result) refl c.in_ok-open.ensures.opened c.set.ensures.set)
+    (opened_touches kept (record_at c.open.new.self) (record_at c.set.new.self) path (new_record path) (values.Blob c.copy.result) refl c.in_ok-open.ensures.opened c.set.ensures.set)
     ∙ ap (λ (blob : Option (List ℕ)). record old { records = with_record old.records path (values.Blob blob) }) c.copy.ensures.value
     ∙ ap (λ (p : List Bool). record old { records = with_record old.records p (values.Blob c.args.found.now.value) }) c.of_key-path.ensures.bits

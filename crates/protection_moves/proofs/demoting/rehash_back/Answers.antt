@@ -1,6 +1,6 @@
 use Rattle.std.proofs.Common.{List, Bool, sym, subst}
 use Rattle.record_text.specs.declared.value.Value.TheVariants as values
-use Rattle.record_text.specs.Format.{short_keys}
+use Rattle.record_text.specs.Longest.{longest_blob}
 use Rattle.host_shard.specs.declared.link.Link.{Link}
 use Rattle.host_shard.specs.Chain.{IsChain}
 use Rattle.host_shard.specs.Content.{key_path}
@@ -14,33 +14,33 @@ use Rattle.protection_moves.proofs.demoting.rehash_back.Goals as goal
 pub returns-clause-back : goal.returns-clause-back
 returns-clause-back g c old is =
     let now : Shard = shown c.args.shard.now in
-    let path : List Bool = key_path short_keys c.args.found.now.key in
+    let path : List Bool = key_path c.args.found.now.key in
     returning_of (g.D.Digests.functions c.args.d.now).digest c.args.found.now old now (shown c.rehash.new.self) c.as_slice-along.result.now c.args.commands.now.items c.log_descent.new.commands.items
     c.pending.result c.copy.result is
-    (subst (λ (ls : List Link). IsChain short_keys (tree_of now) path now.frontier now.value ls) (sym c.as_slice-along.ensures.value) c.in_ok-links.ensures.chain)
+    (subst (λ (ls : List Link). IsChain (tree_of now) path now.frontier now.value ls) (sym c.as_slice-along.ensures.value) c.in_ok-links.ensures.chain)
     c.in_ok-log_descent.ensures.logged c.pending.ensures.value c.in_ok-rehash.ensures.rehashed c.copy.ensures.value
 
 pub returns-clause-saved : goal.returns-clause-saved
 returns-clause-saved g c =
     let digest = (g.D.Digests.functions c.args.d.now).digest in
-    saved_of short_keys digest (shown c.args.shard.now) (shown c.rehash.new.self) c.as_slice-along.result.now c.as_slice-along.result.now (values.Blob c.copy.result) c.in_ok-saved.saved
+    saved_of digest (shown c.args.shard.now) (shown c.rehash.new.self) c.as_slice-along.result.now c.as_slice-along.result.now (values.Blob c.copy.result) c.in_ok-saved.saved
     c.in_ok-saved.ensures.value c.in_ok-saved.ensures.records (λ path none. no_touches (record_at c.args.shard.now.records) path none)
     (λ k all. all) c.in_ok-rehash.ensures.rehashed
 
 pub returns-clause-typed : goal.returns-clause-typed
 returns-clause-typed g c =
     let now : Shard = shown c.args.shard.now in
-    let path : List Bool = key_path short_keys c.args.found.now.key in
-    back_typed short_keys now path c.as_slice-along.result.now c.pending.result c.args.commands.now.items c.log_descent.new.commands.items
+    let path : List Bool = key_path c.args.found.now.key in
+    back_typed longest_blob now path c.as_slice-along.result.now c.pending.result c.args.commands.now.items c.log_descent.new.commands.items
     c.requires.fits c.requires.own.whole
-    (subst (λ (ls : List Link). IsChain short_keys (tree_of now) path now.frontier now.value ls) (sym c.as_slice-along.ensures.value) c.in_ok-links.ensures.chain)
+    (subst (λ (ls : List Link). IsChain (tree_of now) path now.frontier now.value ls) (sym c.as_slice-along.ensures.value) c.in_ok-links.ensures.chain)
     c.pending.ensures.kind c.pending.ensures.stamp c.pending.ensures.verifier c.in_ok-log_descent.ensures.logged
 
 pub returns-clause-fits : goal.returns-clause-fits
 returns-clause-fits g c =
     let now : Shard = shown c.args.shard.now in
-    let path : List Bool = key_path short_keys c.args.found.now.key in
+    let path : List Bool = key_path c.args.found.now.key in
     returned_is (g.D.Digests.functions c.args.d.now).digest c.args.found.now now (shown c.rehash.new.self) c.as_slice-along.result.now c.pending.result c.copy.result
     (λ text. (g.met.D.Digests.text_digest_shape c.args.d.now text).size) c.requires.fits c.requires.own
-    (subst (λ (ls : List Link). IsChain short_keys (tree_of now) path now.frontier now.value ls) (sym c.as_slice-along.ensures.value) c.in_ok-links.ensures.chain)
+    (subst (λ (ls : List Link). IsChain (tree_of now) path now.frontier now.value ls) (sym c.as_slice-along.ensures.value) c.in_ok-links.ensures.chain)
     c.pending.ensures.value c.pending.ensures.kind c.in_ok-rehash.ensures.rehashed c.copy.ensures.value

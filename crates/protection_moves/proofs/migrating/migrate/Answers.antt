@@ -4,8 +4,8 @@ use Rattle.lamport_clocks.specs.declared.stamp.Stamp.{Stamp}
 use Rattle.lamport_clocks.specs.Clock.{is_open}
 use Rattle.lamport_clocks.specs.Reading.{Reading}
 use Rattle.record_text.specs.declared.element.Element.{Element}
-use Rattle.record_text.specs.Format.{short_keys}
 use Rattle.record_text.specs.Value.{IsOf}
+use Rattle.record_text.specs.Longest.{longest_blob}
 use Rattle.log_codec.specs.declared.command.Command.{Command}
 use Rattle.host_shard.specs.declared.content.HotRecord.{HotRecord}
 use Rattle.host_shard.specs.Content.{Content, key_path}
@@ -40,7 +40,7 @@ returns-in-None-clause-clock_end g c =
     let touched : List HotRecord = c.as_slice-touched.result.now in
     let returning : back ≡ untouched_in stage.places = c.as_slice-back.ensures.value ∙ c.untouched_in-returning.ensures.records in
     let staying : touched ≡ touched_in stage.places = c.as_slice-touched.ensures.value ∙ c.touched_in-staying.ensures.records in
-    let first : AreFirstPromotable short_keys stage c.args.threshold (vacancies stage.places + length back) keys =
+    let first : AreFirstPromotable stage c.args.threshold (vacancies stage.places + length back) keys =
     first_keys stage c.args.threshold back c.promotable_keys-promotable.result.items keys c.vacancies.result (length back)
     c.vacancies.ensures.value refl c.as_slice-keys.ensures.value (c.promotable_keys-promotable.ensures.first c.args.clock.now) in
     (λ same. past_at_start stage c.args.threshold back keys returning first touched staying c.in-None.ensures.past, λ past. refl)
@@ -60,7 +60,7 @@ returns-in-None-ended-clause-clock_end g c =
     let touched : List HotRecord = c.as_slice-touched.result.now in
     let returning : back ≡ untouched_in stage.places = c.as_slice-back.ensures.value ∙ c.untouched_in-returning.ensures.records in
     let staying : touched ≡ touched_in stage.places = c.as_slice-touched.ensures.value ∙ c.touched_in-staying.ensures.records in
-    let first : AreFirstPromotable short_keys stage c.args.threshold (vacancies stage.places + length back) keys =
+    let first : AreFirstPromotable stage c.args.threshold (vacancies stage.places + length back) keys =
     first_keys stage c.args.threshold back c.promotable_keys-promotable.result.items keys c.vacancies.result (length back)
     c.vacancies.ensures.value refl c.as_slice-keys.ensures.value (c.promotable_keys-promotable.ensures.first c.args.clock.now) in (
       λ same. is_past stage c.args.threshold back keys returning first touched staying
@@ -77,8 +77,8 @@ begin-requires-clause-open g c =
 
 pub begin-requires-clause-kind : goal.begin-requires-clause-kind
 begin-requires-clause-kind g c =
-    subst (λ (element : Element). IsOf short_keys element.path element.value) (sym c.pending.ensures.value)
-    (frontier_kind short_keys (shown c.args.shard.now) c.requires.fits.kinds)
+    subst (λ (element : Element). IsOf longest_blob element.path element.value) (sym c.pending.ensures.value)
+    (frontier_kind longest_blob (shown c.args.shard.now) c.requires.fits.kinds)
 
 pub returns-in_err-commands-clause-clock_end : goal.returns-in_err-commands-clause-clock_end
 returns-in_err-commands-clause-clock_end g c =
@@ -88,7 +88,7 @@ returns-in_err-commands-clause-clock_end g c =
     let touched : List HotRecord = c.as_slice-touched.result.now in
     let returning : back ≡ untouched_in stage.places = c.as_slice-back.ensures.value ∙ c.untouched_in-returning.ensures.records in
     let staying : touched ≡ touched_in stage.places = c.as_slice-touched.ensures.value ∙ c.touched_in-staying.ensures.records in
-    let first : AreFirstPromotable short_keys stage c.args.threshold (vacancies stage.places + length back) keys =
+    let first : AreFirstPromotable stage c.args.threshold (vacancies stage.places + length back) keys =
     first_keys stage c.args.threshold back c.promotable_keys-promotable.result.items keys c.vacancies.result (length back)
     c.vacancies.ensures.value refl c.as_slice-keys.ensures.value (c.promotable_keys-promotable.ensures.first c.args.clock.now) in
     let later : c.in-Some-ended.later ≡ end_clock stage c.args.threshold back keys returning first touched staying =
@@ -107,12 +107,12 @@ returns-in_err-commands-clause-clock_end g c =
 
 pub demote_each-requires-clause-own_back : goal.demote_each-requires-clause-own_back
 demote_each-requires-clause-own_back g c =
-    subst (AllByRecursion (λ (f : HotRecord). IsKeyOf short_keys (shown c.args.shard.now) (key_path short_keys f.key))) (sym (c.as_slice-back.ensures.value ∙ c.untouched_in-returning.ensures.records))
-    (untouched_all (λ f. IsKeyOf short_keys (shown c.args.shard.now) (key_path short_keys f.key)) (map shown_content c.args.hot.now) c.requires.hot_own)
+    subst (AllByRecursion (λ (f : HotRecord). IsKeyOf (shown c.args.shard.now) (key_path f.key))) (sym (c.as_slice-back.ensures.value ∙ c.untouched_in-returning.ensures.records))
+    (untouched_all (λ f. IsKeyOf (shown c.args.shard.now) (key_path f.key)) (map shown_content c.args.hot.now) c.requires.hot_own)
 
 pub demote_each-requires-clause-own : goal.demote_each-requires-clause-own
 demote_each-requires-clause-own g c =
-    subst (AllByRecursion (λ (k : ℕ). IsKeyOf short_keys (shown c.args.shard.now) (key_path short_keys k))) (sym c.as_slice-keys.ensures.value) c.promotable_keys-promotable.ensures.own
+    subst (AllByRecursion (λ (k : ℕ). IsKeyOf (shown c.args.shard.now) (key_path k))) (sym c.as_slice-keys.ensures.value) c.promotable_keys-promotable.ensures.own
 
 pub demote_each-requires-clause-open : goal.demote_each-requires-clause-open
 demote_each-requires-clause-open g c =
@@ -128,7 +128,7 @@ returns-in_err-new-clause-clock_end g c =
     let touched : List HotRecord = c.as_slice-touched.result.now in
     let returning : back ≡ untouched_in stage.places = c.as_slice-back.ensures.value ∙ c.untouched_in-returning.ensures.records in
     let staying : touched ≡ touched_in stage.places = c.as_slice-touched.ensures.value ∙ c.touched_in-staying.ensures.records in
-    let first : AreFirstPromotable short_keys stage c.args.threshold (vacancies stage.places + length back) keys =
+    let first : AreFirstPromotable stage c.args.threshold (vacancies stage.places + length back) keys =
     first_keys stage c.args.threshold back c.promotable_keys-promotable.result.items keys c.vacancies.result (length back)
     c.vacancies.ensures.value refl c.as_slice-keys.ensures.value (c.promotable_keys-promotable.ensures.first c.args.clock.now) in
     let later : c.in-Some-ended.later ≡ end_clock stage c.args.threshold back keys returning first touched staying =
@@ -158,7 +158,7 @@ returns-clause-moved g c =
     let touched : List HotRecord = c.as_slice-touched.result.now in
     let returning : back ≡ untouched_in stage.places = c.as_slice-back.ensures.value ∙ c.untouched_in-returning.ensures.records in
     let staying : touched ≡ touched_in stage.places = c.as_slice-touched.ensures.value ∙ c.touched_in-staying.ensures.records in
-    let first : AreFirstPromotable short_keys stage c.args.threshold (vacancies stage.places + length back) keys =
+    let first : AreFirstPromotable stage c.args.threshold (vacancies stage.places + length back) keys =
     first_keys stage c.args.threshold back c.promotable_keys-promotable.result.items keys c.vacancies.result (length back)
     c.vacancies.ensures.value refl c.as_slice-keys.ensures.value (c.promotable_keys-promotable.ensures.first c.args.clock.now) in
     let digest = (g.D.Digests.functions c.args.d.now).digest in
@@ -171,12 +171,12 @@ returns-clause-moved g c =
       clock = c.in-Some-ended.later;
     } in
     let forgotten : Shard = record left { touches = λ k. 0 } in
-    subst (λ (logged : List Command). IsMove short_keys digest c.args.worker c.args.threshold stage logged
+    subst (λ (logged : List Command). IsMove digest c.args.worker c.args.threshold stage logged
     (became (shown c.forget_touches.new.self) (map shown_content c.place_each.new.places) c.at-shard.result)) (sym c.of.ensures.commands)
     (is_move stage c.args.threshold back keys returning first touched staying digest c.args.worker c.in-Some.between c.in-Some-ended.later c.in_ok-commands.commands.items c.demote_each.new.commands.items left placed
     (became (shown c.forget_touches.new.self) (map shown_content c.place_each.new.places) c.at-shard.result)
     c.in-Some.ensures.begun c.in-Some-ended.ensures.ended
-    (c.in_ok-commands.ensures.logged ∙ ap (λ (element : Element). renewing_commands short_keys c.args.clock.now touched ++ taking_in element ∷ []) c.pending.ensures.value)
+    (c.in_ok-commands.ensures.logged ∙ ap (λ (element : Element). renewing_commands c.args.clock.now touched ++ taking_in element ∷ []) c.pending.ensures.value)
     (c.in_ok-new.ensures.done (λ k. 0) renewed)
     (ap (λ (shard : Shard). became shard (map shown_content c.place_each.new.places) c.at-shard.result) c.forget_touches.ensures.forgotten
     ∙ ap (λ (places : List Content). became forgotten places c.at-shard.result)
@@ -193,7 +193,7 @@ returns-clause-clock_end g c =
     let touched : List HotRecord = c.as_slice-touched.result.now in
     let returning : back ≡ untouched_in stage.places = c.as_slice-back.ensures.value ∙ c.untouched_in-returning.ensures.records in
     let staying : touched ≡ touched_in stage.places = c.as_slice-touched.ensures.value ∙ c.touched_in-staying.ensures.records in
-    let first : AreFirstPromotable short_keys stage c.args.threshold (vacancies stage.places + length back) keys =
+    let first : AreFirstPromotable stage c.args.threshold (vacancies stage.places + length back) keys =
     first_keys stage c.args.threshold back c.promotable_keys-promotable.result.items keys c.vacancies.result (length back)
     c.vacancies.ensures.value refl c.as_slice-keys.ensures.value (c.promotable_keys-promotable.ensures.first c.args.clock.now) in
     let later : c.in-Some-ended.later ≡ end_clock stage c.args.threshold back keys returning first touched staying =
@@ -213,7 +213,7 @@ returns-clause-clock_end g c =
 pub returns-clause-fits : goal.returns-clause-fits
 returns-clause-fits g c =
     let fits = c.in_ok-new.ensures.fits in
-    subst (λ (shard : Shard). IsShard short_keys (record shard { stamp = c.at-shard.result; evictor = c.args.worker })) (sym c.forget_touches.ensures.forgotten)
+    subst (λ (shard : Shard). IsShard longest_blob (record shard { stamp = c.at-shard.result; evictor = c.args.worker })) (sym c.forget_touches.ensures.forgotten)
     (record { below_root = fits.below_root; no_data = fits.no_data; kinds = fits.kinds })
 
 pub returns-clause-open : goal.returns-clause-open

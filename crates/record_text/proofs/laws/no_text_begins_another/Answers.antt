@@ -1,12 +1,11 @@
-use Rattle.record_text.specs.Format.{short_keys}
-use Rattle.record_text.proofs.FieldLaws.{wide64}
 use Rattle.record_text.proofs.OneTextLaws.{one_path, one_value, one_stamp, one_element}
+use Rattle.record_text.specs.Longest.{longest_blob}
 use Rattle.record_text.proofs.laws.no_text_begins_another.Goals as goal
 
 pub returns : goal.returns
 returns c = record {
-  paths = one_path short_keys wide64;
-  values = one_value short_keys wide64;
+  paths = one_path;
+  values = one_value longest_blob;
   stamps = one_stamp;
-  elements = one_element short_keys wide64;
+  elements = one_element longest_blob;
 }

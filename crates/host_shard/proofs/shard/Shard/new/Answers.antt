@@ -1,6 +1,6 @@
 use Rattle.std.proofs.Common.{[], sym, subst, ap, ◌∙◌}
 use Rattle.record_text.specs.declared.value.Value.{Value}
-use Rattle.record_text.specs.Format.{short_keys}
+use Rattle.record_text.specs.Longest.{longest_blob}
 use Rattle.host_shard.specs.Records.{Listed, values_of, touches_of}
 use Rattle.host_shard.specs.Shard.{Shard}
 use Rattle.host_shard.specs.Mirrors.{IsShard}
@@ -21,5 +21,5 @@ made c listed value = record {
 pub returns-clause-fits : goal.returns-clause-fits
 unfolding made
 returns-clause-fits c some short =
-    subst (IsShard short_keys) (sym (ap (λ (listed : Listed). made c listed c.initial.result) c.new.ensures.empty ∙ ap (made c []) c.initial.ensures.value))
-    (new_is short_keys c.args.frontier c.args.stamp c.args.evictor some short)
+    subst (IsShard longest_blob) (sym (ap (λ (listed : Listed). made c listed c.initial.result) c.new.ensures.empty ∙ ap (made c []) c.initial.ensures.value))
+    (new_is longest_blob c.args.frontier c.args.stamp c.args.evictor some short)

@@ -1,6 +1,5 @@
 use Rattle.std.proofs.Common.{◌≡◌, List, [], ◌∷◌, refl, sym, ap, ◌∙◌, subst, Some, None, rules}
 use Rattle.lamport_clocks.specs.Reading.{Reading}
-use Rattle.record_text.specs.Format.{short_keys}
 use Rattle.merkle_records.specs.Merkle.{Digest}
 use Rattle.host_shard.specs.declared.content.Content as code
 use Rattle.host_shard.specs.declared.content.Content.TheVariants.{Vacant}
@@ -65,7 +64,7 @@ note-requires-clause-service g c =
           at = c.requires.place;
           value = c.value_fits.ensures.fits;
           clock = subst (IsClockOf t) (sym same) c.requires.clock;
-          plan = subst (λ (p : Digest × Content × Reading). IsPlan short_keys p.0 hand.number p.1 c.args.request.now p.2 c.in-Ok.plan (shown_content c.plan.new.content) c.plan.new.clock)
+          plan = subst (λ (p : Digest × Content × Reading). IsPlan p.0 hand.number p.1 c.args.request.now p.2 c.in-Ok.plan (shown_content c.plan.new.content) c.plan.new.clock)
               (λ i. (c.requires.digests i, sym found i, sym same i)) c.in-Ok.ensures.planned;
           within = λ past. within (subst (λ (p : Content × Reading). IsPastEnd p.0 p.1) (λ i. (found i, same i)) past);
         };

@@ -1,8 +1,8 @@
 use Rattle.std.proofs.Common.{◌≡◌, List, [], ◌∷◌, ◌++◌, map, false, Some, Err, is_ok, is_some, ap, sym, subst, ◌∙◌, refl, arith}
 use Rattle.std.proofs.lemmas.Bool.{false≢true}
 use Rattle.std.proofs.lemmas.List.{length-map}
+use Rattle.record_text.specs.Longest.{longest_blob}
 use Rattle.log_codec.specs.declared.command.Command.{Command}
-use Rattle.record_text.specs.Format.{short_keys}
 use Rattle.host_core.specs.Host.{Done}
 use Rattle.host_core.specs.World.{Worker}
 use Rattle.host_core.specs.WorldEvent.{logging}
@@ -46,13 +46,13 @@ returns-in-Ok-clause-moved g c is =
     let stage : Stage = shown_stage c.in-Cold.shard c.args.hot.now c.self.inside.clock in
     let new : Stage = shown_stage c.migrate.new.shard c.migrate.new.hot c.migrate.new.clock in
     let done : Done (List Content) = record { commands = c.in-Ok.commands; after = seats_of new; clock = new.clock } in
-    let within = λ (past : IsPastEnd short_keys c.args.threshold stage). false≢true (ap is_ok (sym (c.migrate.ensures.clock_end.1 past) ∙ c.in-Ok.is)) in
+    let within = λ (past : IsPastEnd c.args.threshold stage). false≢true (ap is_ok (sym (c.migrate.ensures.clock_end.1 past) ∙ c.in-Ok.is)) in
     record {
       done = done;
-      is = subst (λ (content : place.Content). move_seats short_keys digest c.args.number c.args.threshold (stage_of c.args.self.now.clock (shown_content content ∷ map shown_content c.args.hot.now)) ≡ Some done)
+      is = subst (λ (content : place.Content). move_seats digest c.args.number c.args.threshold (stage_of c.args.self.now.clock (shown_content content ∷ map shown_content c.args.hot.now)) ≡ Some done)
           (sym c.in-Cold.is)
-          (subst (λ (w : Worker). move_seats short_keys digest c.args.number c.args.threshold (stage_of w.clock (cold (shown c.in-Cold.shard) ∷ map shown_content c.args.hot.now)) ≡ Some done) c.self.view_is
-          (move_is_done short_keys digest c.args.number c.args.threshold stage (λ text. (g.met.D.Digests.text_digest_shape c.args.d.now text).size) c.requires.threshold mirrors
+          (subst (λ (w : Worker). move_seats digest c.args.number c.args.threshold (stage_of w.clock (cold (shown c.in-Cold.shard) ∷ map shown_content c.args.hot.now)) ≡ Some done) c.self.view_is
+          (move_is_done longest_blob digest c.args.number c.args.threshold stage (λ text. (g.met.D.Digests.text_digest_shape c.args.d.now text).size) c.requires.threshold mirrors
           new c.in-Ok.commands within c.in-Ok.ensures.moved));
       after_it = refl;
       logged = subst (λ (w : Worker). the_view (record {
@@ -77,8 +77,8 @@ returns-in-Err-ClockEnd-clause-within g c =
     let can = subst (λ (w : Worker). CanTakeSeats digest w.clock (shown_content c.args.first.now ∷ map shown_content c.args.hot.now)) (sym c.self.view_is) c.requires.seats in
     let mirrors = (taken_in digest c.self.inside.clock c.args.first.now c.in-Cold.shard c.args.hot.now c.in-Cold.is can).mirrors in
     let stage : Stage = shown_stage c.in-Cold.shard c.args.hot.now c.self.inside.clock in
-    subst (λ (content : place.Content). false ≡ is_some (move_seats short_keys digest c.args.number c.args.threshold (stage_of c.args.self.now.clock (shown_content content ∷ map shown_content c.args.hot.now))))
+    subst (λ (content : place.Content). false ≡ is_some (move_seats digest c.args.number c.args.threshold (stage_of c.args.self.now.clock (shown_content content ∷ map shown_content c.args.hot.now))))
     (sym c.in-Cold.is)
-    (subst (λ (w : Worker). false ≡ is_some (move_seats short_keys digest c.args.number c.args.threshold (stage_of w.clock (cold (shown c.in-Cold.shard) ∷ map shown_content c.args.hot.now)))) c.self.view_is
-    (sym (ap is_some (move_past short_keys digest c.args.number c.args.threshold stage (λ text. (g.met.D.Digests.text_digest_shape c.args.d.now text).size) c.requires.threshold mirrors
+    (subst (λ (w : Worker). false ≡ is_some (move_seats digest c.args.number c.args.threshold (stage_of w.clock (cold (shown c.in-Cold.shard) ∷ map shown_content c.args.hot.now)))) c.self.view_is
+    (sym (ap is_some (move_past longest_blob digest c.args.number c.args.threshold stage (λ text. (g.met.D.Digests.text_digest_shape c.args.d.now text).size) c.requires.threshold mirrors
     (c.migrate.ensures.clock_end.0 (c.in-Err-ClockEnd.is ∙ ap Err c.in-Err-ClockEnd.field-0-is))))))

@@ -1,7 +1,6 @@
 use Rattle.std.proofs.Common.{◌≡◌, ◌<◌, List, [], Bool, set, get_or, length, Ok, true, is_ok, ap, sym, subst, ◌∙◌, arith}
 use Rattle.std.proofs.lemmas.List.{length-map, map-set, get_or_read, set-set}
 use Rattle.std.proofs.lemmas.Bool.{false≢true}
-use Rattle.record_text.specs.Format.{short_keys}
 use Rattle.host_core.specs.World.{Worker, Seats, fresh, unmoved}
 use Rattle.host_core.specs.WorldEvent.{after_move}
 use Rattle.host_shard.specs.Content.{Content}
@@ -46,7 +45,7 @@ returns-then-branch-clause-stepped g c =
     let there : s < length old.shards.items = omega (arith, c.requires.may.shard, length-map old.shards.items shown_seats) in
     let seats = read_shown shown_seats old.shards.items s c.index_mut-seats.result.now (unmoved []) there c.index_mut-seats.ensures.value in
     let worker = get_or_read old.workers.items i c.index_mut-mover.result.now c.requires.may.there c.index_mut-mover.ensures.value (fresh old.settings.header) in
-    let moving = λ (w : Worker) (contents : List Content). move_seats short_keys (g.D.Digests.functions old.d.now).digest i old.settings.hot (stage_of w.clock contents) in
+    let moving = λ (w : Worker) (contents : List Content). move_seats (g.D.Digests.functions old.d.now).digest i old.settings.hot (stage_of w.clock contents) in
     ap (λ (shards : List (Seats Content)). record world { shards = shards; workers = set old.workers.items i c.move_by.new.worker })
     (map-set shown_seats old.shards.items s c.move_by.new.self)
     ∙ ap (λ (moved : Bool). record world { shards = set world.shards s (record { contents = contents_of c.move_by.new.self; moved = moved }); workers = set old.workers.items i c.move_by.new.worker })
@@ -65,7 +64,7 @@ returns-clause-stepped g c =
     let there : s < length old.shards.items = omega (arith, c.requires.may.shard, length-map old.shards.items shown_seats) in
     let seats = read_shown shown_seats old.shards.items s c.index_mut-seats.result.now (unmoved []) there c.index_mut-seats.ensures.value in
     let worker = get_or_read old.workers.items i c.index_mut-mover.result.now c.requires.may.there c.index_mut-mover.ensures.value (fresh old.settings.header) in
-    let moving = λ (w : Worker) (contents : List Content). move_seats short_keys (g.D.Digests.functions old.d.now).digest i old.settings.hot (stage_of w.clock contents) in
+    let moving = λ (w : Worker) (contents : List Content). move_seats (g.D.Digests.functions old.d.now).digest i old.settings.hot (stage_of w.clock contents) in
     let not = λ (ok : c.move_by.result ≡ Ok true). false≢true (sym c.if-branch.false ∙ one_answer c.move_by.result c.in_ok-move_by.field-0 true c.in_ok-move_by.was ok) in
     let stuck = c.get_stuck.ensures.stuck
     ∙ ap (λ (w : Worker). record w { stuck = true })

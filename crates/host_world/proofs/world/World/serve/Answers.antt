@@ -1,7 +1,7 @@
 use Rattle.std.proofs.Common.{◌≡◌, ◌/◌, ◌%◌, ◌<◌, List, [], set, get_or, length, Ok, true, is_ok, ap, sym, subst, ◌∙◌, arith}
 use Rattle.std.proofs.lemmas.List.{length-map, map-set, get_or_read, set-set}
 use Rattle.std.proofs.lemmas.Bool.{false≢true}
-use Rattle.record_text.specs.Format.{short_keys}
+use Rattle.record_text.specs.Longest.{longest_blob}
 use Rattle.host_core.specs.World.{Worker, Seats, fresh, unmoved}
 use Rattle.host_core.specs.WorldEvent.{after_serve}
 use Rattle.host_plan.specs.Plan.{Owns, IsOpenAt}
@@ -18,7 +18,7 @@ serve-requires-clause-own g c =
     let old = c.args.self.now in
     let there : c.args.place / 5 < length old.shards.items = omega (arith, c.requires.may.there.0, length-map old.shards.items shown_seats) in
     let seats = read_shown shown_seats old.shards.items (c.args.place / 5) c.index_mut-seats.result.now (unmoved []) there c.index_mut-seats.ensures.value in
-    subst (λ (s : Seats Content). Owns short_keys (get_or s.contents (c.args.place % 5) vacant) c.args.request.now.key) seats
+    subst (λ (s : Seats Content). Owns longest_blob (get_or s.contents (c.args.place % 5) vacant) c.args.request.now.key) seats
     (serves_with (g.D.Digests.functions (digests_of old)) old.settings (requests_of old) (λ text. (g.met.D.Digests.text_digest_shape old.d.now text).size) c.requires.behind.0 (shown_world old) c.requires.behind.1.behind
     c.args.worker (place_of c.args.place) c.args.request.now c.requires.may).0
 
@@ -53,7 +53,7 @@ returns-then-branch-clause-stepped g c =
     let there : c.args.place / 5 < length old.shards.items = omega (arith, c.requires.may.there.0, length-map old.shards.items shown_seats) in
     let seats = read_shown shown_seats old.shards.items (c.args.place / 5) c.index_mut-seats.result.now (unmoved []) there c.index_mut-seats.ensures.value in
     let worker = get_or_read old.workers.items i c.index_mut-server.result.now c.requires.may.serving.there c.index_mut-server.ensures.value (fresh old.settings.header) in
-    let serving = serve_at short_keys (g.D.Digests.functions old.d.now).digest i in
+    let serving = serve_at (g.D.Digests.functions old.d.now).digest i in
     ap (λ (shards : List (Seats Content)). record world { shards = shards; workers = set old.workers.items i c.serve.new.worker })
     (map-set shown_seats old.shards.items (c.args.place / 5) c.serve.new.self)
     ∙ after_served world i place c.index_mut-server.result.now c.serve.new.worker (shown_seats c.index_mut-seats.result.now) (shown_seats c.serve.new.self) _
@@ -72,7 +72,7 @@ returns-clause-stepped g c =
     let there : c.args.place / 5 < length old.shards.items = omega (arith, c.requires.may.there.0, length-map old.shards.items shown_seats) in
     let seats = read_shown shown_seats old.shards.items (c.args.place / 5) c.index_mut-seats.result.now (unmoved []) there c.index_mut-seats.ensures.value in
     let worker = get_or_read old.workers.items i c.index_mut-server.result.now c.requires.may.serving.there c.index_mut-server.ensures.value (fresh old.settings.header) in
-    let serving = serve_at short_keys (g.D.Digests.functions old.d.now).digest i in
+    let serving = serve_at (g.D.Digests.functions old.d.now).digest i in
     let not = λ (ok : c.serve.result ≡ Ok true). false≢true (sym c.if-branch.false ∙ one_answer c.serve.result c.in_ok-serve.field-0 true c.in_ok-serve.was ok) in
     let stopped = c.stop.ensures.stopped
     ∙ ap (λ (w : Worker). record w { stopped = true })

@@ -1,6 +1,5 @@
 use Rattle.std.proofs.Common.{◌≡◌, ◌+◌, ◌-◌, List, [], ℕ, sym, ap, ◌∙◌, ◌++◌, length, take, length-append, length-take, arith}
-use Rattle.record_text.specs.Format.{short_keys}
-use Rattle.record_text.proofs.FieldLaws.{wide64}
+use Rattle.record_text.specs.Longest.{longest_blob}
 use Rattle.log_codec.specs.Command.{command_at}
 use Rattle.merkle_records.specs.Scheme.{scheme_of}
 use Rattle.verifier_run.specs.Progress.{Progress, fed}
@@ -23,26 +22,26 @@ returns-in_default-clause-stop g c =
 pub overflow_sub-result : goal.overflow_sub-result
 overflow_sub-result g c =
     let text = c.as_slice.ensures.value ∙ c.append.ensures.items in
-    let longer = longer_than_held short_keys wide64 c.self.inside.held.items c.front.result.now c.in-Read.command c.in-Read.len c.self.invariant.cut c.in-Read.ensures.kind
+    let longer = longer_than_held longest_blob c.self.inside.held.items c.front.result.now c.in-Read.command c.in-Read.len c.self.invariant.cut c.in-Read.ensures.kind
     (ap (take c.in-Read.len) (sym text) ∙ c.in-Read.ensures.found) in
     omega (arith, longer, c.len-held.ensures.value)
 
 pub invariant_of-self-in-Read : goal.invariant_of-self-in-Read
-invariant_of-self-in-Read g c = between-held short_keys c.apply.new.self c.clear.new.self.items c.clear.ensures
+invariant_of-self-in-Read g c = between-held longest_blob c.apply.new.self c.clear.new.self.items c.clear.ensures
 
 pub invariant_of-self-in-Malformed : goal.invariant_of-self-in-Malformed
-invariant_of-self-in-Malformed g c = between-held short_keys c.refuse.new.self c.clear-in-Malformed.new.self.items c.clear-in-Malformed.ensures
+invariant_of-self-in-Malformed g c = between-held longest_blob c.refuse.new.self c.clear-in-Malformed.new.self.items c.clear-in-Malformed.ensures
 
 pub returns-in-Ok-clause-ok : goal.returns-in-Ok-clause-ok
 returns-in-Ok-clause-ok g c =
     let some = some_held (length c.self.inside.held.items) c.is_empty.result c.is_empty.ensures c.if-is_empty.false in
     let text = c.as_slice.ensures.value ∙ (c.append.ensures.items ∙ ap (λ (more : List ℕ). c.self.inside.held.items ++ more) c.front.ensures.value) in
     let spelled = ap (take c.in-Read.len) (sym text) ∙ c.in-Read.ensures.found in
-    let longer = longer_than_held short_keys wide64 c.self.inside.held.items (take c.min-room.result c.args.piece.now) c.in-Read.command c.in-Read.len c.self.invariant.cut c.in-Read.ensures.kind spelled in
+    let longer = longer_than_held longest_blob c.self.inside.held.items (take c.min-room.result c.args.piece.now) c.in-Read.command c.in-Read.len c.self.invariant.cut c.in-Read.ensures.kind spelled in
     let whole = ap (λ (bytes : List ℕ). length bytes) text ∙ length-append c.self.inside.held.items (take c.min-room.result c.args.piece.now) in
-    completed g.T.Kept.keeps (scheme_of (g.D.Digests.functions c.args.d.now) c.args.self.now.course.machine.header) wide64 c.self.inside.tracer c.apply.new.self c.self.inside.held.items c.args.piece.now c.clear.new.self.items
+    completed g.T.Kept.keeps (scheme_of (g.D.Digests.functions c.args.d.now) c.args.self.now.course.machine.header) c.self.inside.tracer c.apply.new.self c.self.inside.held.items c.args.piece.now c.clear.new.self.items
     c.min-room.result c.in-Read.len c.in-Read.command
-    (none_refused_yet short_keys c.self.inside.tracer c.self.inside.held.items c.self.invariant some) c.in-Read.ensures.kind spelled longer
+    (none_refused_yet longest_blob c.self.inside.tracer c.self.inside.held.items c.self.invariant some) c.in-Read.ensures.kind spelled longer
     (omega (arith, whole, c.in-Read.ensures.within, length-take c.min-room.result c.args.piece.now)) c.in-Ok.ensures.ok c.clear.ensures
     ∙ (ap (λ (n : ℕ). fed g.T.Kept.keeps (scheme_of (g.D.Digests.functions c.args.d.now) c.args.self.now.course.machine.header) (record { course = c.self.inside.tracer; held = c.self.inside.held.items }) (take (c.in-Read.len - n) c.args.piece.now)) (sym c.len-held.ensures.value)
     ∙ ap (λ (progress : Progress g.row.T.Denot). fed g.T.Kept.keeps (scheme_of (g.D.Digests.functions c.args.d.now) c.args.self.now.course.machine.header) progress (take (c.in-Read.len - c.len-held.result) c.args.piece.now)) c.self.view_is)
@@ -52,8 +51,8 @@ returns-in-Malformed-clause-ok g c =
     let some = some_held (length c.self.inside.held.items) c.is_empty.result c.is_empty.ensures c.if-is_empty.false in
     let text = c.as_slice.ensures.value ∙ (c.append.ensures.items ∙ ap (λ (more : List ℕ). c.self.inside.held.items ++ more) c.front.ensures.value) in
     malformed_behind g.T.Kept.keeps (scheme_of (g.D.Digests.functions c.args.d.now) c.args.self.now.course.machine.header) c.self.inside.tracer c.refuse.new.self c.self.inside.held.items (take c.min-room.result c.args.piece.now) c.clear-in-Malformed.new.self.items
-    (none_refused_yet short_keys c.self.inside.tracer c.self.inside.held.items c.self.invariant some)
-    (ap (command_at short_keys) (sym text) ∙ c.in-Malformed.ensures.exact) c.refuse.ensures.refused c.clear-in-Malformed.ensures
+    (none_refused_yet longest_blob c.self.inside.tracer c.self.inside.held.items c.self.invariant some)
+    (ap (command_at longest_blob) (sym text) ∙ c.in-Malformed.ensures.exact) c.refuse.ensures.refused c.clear-in-Malformed.ensures
     ∙ ap (λ (progress : Progress g.row.T.Denot). fed g.T.Kept.keeps (scheme_of (g.D.Digests.functions c.args.d.now) c.args.self.now.course.machine.header) progress (take c.min-room.result c.args.piece.now)) c.self.view_is
 
 pub returns-in-Truncated-clause-ok : goal.returns-in-Truncated-clause-ok
@@ -61,13 +60,13 @@ returns-in-Truncated-clause-ok g c =
     let some = some_held (length c.self.inside.held.items) c.is_empty.result c.is_empty.ensures c.if-is_empty.false in
     let longer = c.append.ensures.items ∙ ap (λ (more : List ℕ). c.self.inside.held.items ++ more) c.front.ensures.value in
     cut_behind g.T.Kept.keeps (scheme_of (g.D.Digests.functions c.args.d.now) c.args.self.now.course.machine.header) c.self.inside.tracer c.self.inside.held.items (take c.min-room.result c.args.piece.now) c.append.new.held.items
-    (none_refused_yet short_keys c.self.inside.tracer c.self.inside.held.items c.self.invariant some)
-    (ap (command_at short_keys) (sym (c.as_slice.ensures.value ∙ longer)) ∙ c.in-Truncated.ensures.exact) longer
+    (none_refused_yet longest_blob c.self.inside.tracer c.self.inside.held.items c.self.invariant some)
+    (ap (command_at longest_blob) (sym (c.as_slice.ensures.value ∙ longer)) ∙ c.in-Truncated.ensures.exact) longer
     ∙ ap (λ (progress : Progress g.row.T.Denot). fed g.T.Kept.keeps (scheme_of (g.D.Digests.functions c.args.d.now) c.args.self.now.course.machine.header) progress (take c.min-room.result c.args.piece.now)) c.self.view_is
 
 pub returns-in-Truncated-clause-none_held : goal.returns-in-Truncated-clause-none_held
 returns-in-Truncated-clause-none_held g c = λ less.
     let longer = c.append.ensures.items ∙ ap (λ (more : List ℕ). c.self.inside.held.items ++ more) c.front.ensures.value in
     let room : length c.self.inside.held.items + c.min-room.result ≡ 104 = omega (arith, less, c.min-room.ensures, c.remaining_capacity.ensures) in
-    let ended = piece_ended c.self.inside.held.items c.args.piece.now c.min-room.result (ap (command_at short_keys) (sym (c.as_slice.ensures.value ∙ longer)) ∙ c.in-Truncated.ensures.exact) room in
+    let ended = piece_ended c.self.inside.held.items c.args.piece.now c.min-room.result (ap (command_at longest_blob) (sym (c.as_slice.ensures.value ∙ longer)) ∙ c.in-Truncated.ensures.exact) room in
     absurd (omega (arith, ended, less))

@@ -1,5 +1,5 @@
 use Rattle.std.proofs.Common.{◌≡◌, List, [], ℕ, sym, ap, subst, ◌∙◌, ◌++◌, length, drop, arith}
-use Rattle.record_text.specs.Format.{short_keys}
+use Rattle.record_text.specs.Longest.{longest_blob}
 use Rattle.verifier_run.specs.Progress.{Progress, fed, IsBetweenPieces}
 use Rattle.merkle_records.specs.Scheme.{scheme_of}
 use Rattle.verifier_run.proofs.PieceLemmas.{gone_on, left_is_short, left_between}
@@ -16,7 +16,7 @@ invariant_of-self-2 g c =
     let none : c.self.inside.held.items ≡ [] = ap (λ (progress : Progress g.row.T.Denot). progress.held) c.self.view_is ∙ c.requires.none_held in
     let held : c.append.new.held.items ≡ drop c.in_ok-taken.taken c.args.piece.now =
     c.append.ensures.items ∙ (ap (λ (held : List ℕ). held ++ c.behind.result.now) none ∙ c.behind.ensures.value) in
-    subst (λ (held : List ℕ). IsBetweenPieces short_keys (record { course = c.follow.new.tracer; held = held })) (sym held)
+    subst (λ (held : List ℕ). IsBetweenPieces longest_blob (record { course = c.follow.new.tracer; held = held })) (sym held)
     (left_between g.T.Kept.keeps (scheme_of (g.D.Digests.functions c.args.d.now) c.args.self.now.course.machine.header) c.self.inside.tracer c.follow.new.tracer c.args.piece.now (drop c.in_ok-taken.taken c.args.piece.now) c.in_ok-taken.ensures.ok)
 
 pub returns-clause-ok : goal.returns-clause-ok

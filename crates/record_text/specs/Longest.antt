@@ -1,0 +1,11 @@
+-- How long data values may be.
+use Rattle.std.specs.Prelude.{ℕ}
+use Rattle.lamport_clocks.specs.declared.header.Header.{Header}
+
+-- the most bytes that a data value of the code can have
+abbrev pub longest_blob : ℕ
+longest_blob = 64
+
+-- the most bytes of a data value in a bundle with this header
+abbrev pub longest_of : Header → ℕ
+longest_of header = longest_blob
