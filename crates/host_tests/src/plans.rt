@@ -239,14 +239,11 @@ fn request_by(number: u64) -> Option<Request> {
         2 => Some(number.to_be_bytes()),
         _ => Some([7; 8]),
     };
-    Some(Request {
-        put: (number >> 59) % 2 == 1,
-        key,
-        value: match &value {
-            Some(bytes) => Blob::of_bytes(bytes)?,
-            None => Blob::none(),
-        },
-    })
+    let value = match &value {
+        Some(bytes) => Blob::of_bytes(bytes)?,
+        None => Blob::none(),
+    };
+    Some(Request::new((number >> 59) % 2 == 1, key, value))
 }
 
 // Serves so many requests, and compares each answer with what a plain map has at the key.
@@ -332,11 +329,7 @@ fn hot_at_5(rt: &impl Abort) -> Content
 fn get_at_5() -> Request
     ensures key { result.key ≡ 5 }
 {
-    Request {
-        put: false,
-        key: 5,
-        value: Blob::none(),
-    }
+    Request::new(false, 5, Blob::none())
 }
 
 // A hot record was evicted with this counter by this verifier, and touched so often.

@@ -42,22 +42,14 @@ fn header() -> Header
 fn put_at_5(rt: &impl Abort, byte: u8) -> Request
     ensures request { result ≡ put_five (Some (byte ∷ [])) }
 {
-    Request {
-        put: true,
-        key: 5,
-        value: Blob::of_bytes(&[byte]).expect(rt, "no value"),
-    }
+    Request::new(true, 5, Blob::of_bytes(&[byte]).expect(rt, "no value"))
 }
 
 // A get of the key 5.
 fn get_at_5() -> Request
     ensures request { result ≡ get_five }
 {
-    Request {
-        put: false,
-        key: 5,
-        value: Blob::none(),
-    }
+    Request::new(false, 5, Blob::none())
 }
 
 // A script's next line asks a worker for this.

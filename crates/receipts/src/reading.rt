@@ -73,14 +73,9 @@ fn operation_in(text: &[u8]) -> Option<Operation>
         epoch: u32_in(&text[1..5]),
         counter: u32_in(&text[5..9]),
     };
-    Some(Operation {
-        stamp,
-        verifier: u16_in(&text[9..11]),
-        index: u64_in(&text[11..19]),
-        put,
-        key,
-        value,
-    })
+    let verifier = u16_in(&text[9..11]);
+    let index = u64_in(&text[11..19]);
+    Some(Operation::new(stamp, verifier, index, put, key, value))
 }
 
 // Whether it is a put, by the tag of the command.

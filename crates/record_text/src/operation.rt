@@ -20,17 +20,38 @@ pub struct Operation {
 }
 
 impl Operation {
+    /// What the command with this number in a verifier's log did, behind which the clock was the stamp.
+    pub const fn new(
+        stamp: Stamp,
+        verifier: u16,
+        index: u64,
+        put: bool,
+        key: u64,
+        value: Blob,
+    ) -> Self
+        ensures value { result ≡ record { stamp = stamp; verifier = verifier; index = index; put = put; key = key; value = value } }
+    {
+        Operation {
+            stamp,
+            verifier,
+            index,
+            put,
+            key,
+            value,
+        }
+    }
+
     /// The same once more.
     pub fn copy(&self) -> Self
         ensures value { result ≡ self.now }
     {
-        Operation {
-            stamp: self.stamp,
-            verifier: self.verifier,
-            index: self.index,
-            put: self.put,
-            key: self.key,
-            value: self.value.copy(),
-        }
+        Operation::new(
+            self.stamp,
+            self.verifier,
+            self.index,
+            self.put,
+            self.key,
+            self.value.copy(),
+        )
     }
 }

@@ -14,14 +14,17 @@ pub struct Request {
 }
 
 impl Request {
+    /// A get or a put of a key, with what is put.
+    pub const fn new(put: bool, key: u64, value: Blob) -> Self
+        ensures value { result ≡ record { put = put; key = key; value = value } }
+    {
+        Request { put, key, value }
+    }
+
     /// The same once more.
     pub fn copy(&self) -> Self
         ensures value { result ≡ self.now }
     {
-        Request {
-            put: self.put,
-            key: self.key,
-            value: self.value.copy(),
-        }
+        Request::new(self.put, self.key, self.value.copy())
     }
 }

@@ -79,6 +79,6 @@ fn read_task(
     let Some(value) = value else {
         return Err(Cause::Hex);
     };
-    let request = Request { put, key, value };
+    let request = Request::new(put, key, value);
     Ok(Line::Task(Task { worker, request }))
 }

@@ -56,5 +56,5 @@ pub(crate) fn request_of(shard: usize, bits: u8, round: u64) -> Request
     } else {
         Blob::none()
     };
-    Request { put, key, value }
+    Request::new(put, key, value)
 }

@@ -108,14 +108,14 @@ fn value_of(rt: &impl Abort, row: &str) -> Blob {
 
 // The operation of a row.
 fn operation_of(rt: &impl Abort, row: &str) -> Operation {
-    Operation {
-        stamp: stamp(number(rt, row, 0), number(rt, row, 1)),
-        verifier: number(rt, row, 2),
-        index: 9,
-        put: number(rt, row, 3),
-        key: number(rt, row, 4),
-        value: value_of(rt, row),
-    }
+    Operation::new(
+        stamp(number(rt, row, 0), number(rt, row, 1)),
+        number(rt, row, 2),
+        9,
+        number(rt, row, 3),
+        number(rt, row, 4),
+        value_of(rt, row),
+    )
 }
 
 // Writes the last line, and answers whether it could.

@@ -37,17 +37,11 @@ fn operation_of(rt: &impl Abort, text: &str) -> Operation {
         "none" => Blob::none(),
         value => Blob::of_bytes(value.as_bytes()).expect(rt, "long"),
     };
-    Operation {
-        stamp: Stamp {
-            epoch: 0,
-            counter: 0,
-        },
-        verifier,
-        index: 0,
-        put,
-        key: 0,
-        value,
-    }
+    let stamp = Stamp {
+        epoch: 0,
+        counter: 0,
+    };
+    Operation::new(stamp, verifier, 0, put, 0, value)
 }
 
 // The operations of a row.

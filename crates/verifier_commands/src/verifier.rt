@@ -129,12 +129,5 @@ fn effect_of(number: u16, accepted: u64, at: Stamp, sums: &Sums, outcome: &Outco
         | Outcome::EvictB(_)
         | Outcome::EvictBM(_) => return Effect::Plain,
     };
-    Effect::Did(Operation {
-        stamp: at,
-        verifier: number,
-        index: accepted,
-        put,
-        key,
-        value,
-    })
+    Effect::Did(Operation::new(at, number, accepted, put, key, value))
 }

@@ -19,17 +19,12 @@ fn put_at(rt: &impl Abort, text: &str) -> Operation {
         .split_once('.')
         .expect(rt, "a verifier without an index");
     let index = index.parse().expect(rt, "a number");
-    Operation {
-        stamp: Stamp {
-            epoch: epoch.parse().expect(rt, "a number"),
-            counter: counter.parse().expect(rt, "a number"),
-        },
-        verifier: verifier.parse().expect(rt, "a number"),
-        index,
-        put: true,
-        key: index,
-        value: Blob::none(),
-    }
+    let stamp = Stamp {
+        epoch: epoch.parse().expect(rt, "a number"),
+        counter: counter.parse().expect(rt, "a number"),
+    };
+    let verifier = verifier.parse().expect(rt, "a number");
+    Operation::new(stamp, verifier, index, true, index, Blob::none())
 }
 
 fn puts_at(rt: &impl Abort, alloc: Global, texts: &str) -> Vec<Operation> {

@@ -84,17 +84,12 @@ fn in_pieces(rt: &impl Abort, alloc: Global, d: &ShaDigests, log: &[u8], size: u
 
 // A get or put of "ab" at key 5, as the command of this number.
 fn ab_at_5(rt: &impl Abort, index: u64, put: bool) -> Operation {
-    Operation {
-        stamp: Stamp {
-            epoch: 0,
-            counter: 0,
-        },
-        verifier: 0,
-        index,
-        put,
-        key: 5,
-        value: Blob::of_bytes(b"ab").expect(rt, "a value that is too long"),
-    }
+    let stamp = Stamp {
+        epoch: 0,
+        counter: 0,
+    };
+    let value = Blob::of_bytes(b"ab").expect(rt, "a value that is too long");
+    Operation::new(stamp, 0, index, put, 5, value)
 }
 
 // How many bytes a piece has.
