@@ -19,7 +19,7 @@ use Rattle.verifier_commands.specs.Outcome.{outcome_of}
 use Rattle.verifier_commands.specs.Sums.{zero_sums, add_to, evict_to, advanced_sums, sums_after}
 use Rattle.verifier_commands.specs.Machine.{Machine}
 use Rattle.soundness.specs.Certified.{added_by, evicted_by, of_epoch, sum_over}
-use Rattle.verifier_commands.proofs.TickLaws.{Ticks}
+use Rattle.verifier_commands.specs.Ticks.{Ticks}
 
 -- ---- one element more
 

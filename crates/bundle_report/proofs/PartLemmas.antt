@@ -24,8 +24,10 @@ use Rattle.verifier_commands.specs.Trace.{changed, trace, trace_behind, events_f
 use Rattle.verifier_run.specs.Kept.{parts_of, part_in}
 use Rattle.soundness.specs.History.{Event, log_events}
 use Rattle.soundness.specs.Certified.{added_by, evicted_by, added_in, evicted_in, sum_over, epochs_in, sealed_by, sealed_count, epochs_from}
-use Rattle.verifier_commands.proofs.TickLaws.{Ticks, ticks_step}
-use Rattle.soundness.proofs.HistoryLaws.{IsTicking, events-tick}
+use Rattle.verifier_commands.specs.Ticks.{Ticks}
+use Rattle.verifier_commands.proofs.TickLaws.{ticks_step}
+use Rattle.soundness.specs.IsHistory.{IsTicking}
+use Rattle.soundness.proofs.HistoryLaws.{events-tick}
 use Rattle.bundle_report.proofs.CountedLemmas.{Keeps, keeps-opening, keeps-after}
 use Rattle.bundle_report.proofs.SealedLemmas.{sealed_in, log-sealed, closed-added, closed-evicted, of_epoch-front}
 

@@ -18,8 +18,10 @@ use Rattle.verifier_commands.specs.State.{opening}
 use Rattle.verifier_commands.specs.Change.{Change, did_add_m, did_evict_m, did_add_b, did_evict_b, did_evict_bm, did_get, did_put, did_next_epoch}
 use Rattle.soundness.specs.History.{Event, log_events}
 use Rattle.soundness.specs.Certified.{added_by, evicted_by, of_epoch, added_in, evicted_in, epochs_in, sealed_by, sealed_count, epochs_from}
-use Rattle.verifier_commands.proofs.TickLaws.{Ticks, ticks-epoch, ticks-first}
-use Rattle.soundness.proofs.HistoryLaws.{IsTicking, log-ticks}
+use Rattle.verifier_commands.specs.Ticks.{Ticks}
+use Rattle.verifier_commands.proofs.TickLaws.{ticks-epoch, ticks-first}
+use Rattle.soundness.specs.IsHistory.{IsTicking}
+use Rattle.soundness.proofs.HistoryLaws.{log-ticks}
 
 -- ---- the epochs that are sealed
 

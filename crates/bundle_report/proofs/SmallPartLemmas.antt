@@ -27,7 +27,8 @@ use Rattle.verifier_commands.proofs.BoundLaws.{bounded_add, bounded_evict, bound
 use Rattle.multiset_sum.specs.Sum.{with_lanes}
 use Rattle.verifier_commands.specs.Trace.{changed, trace, trace_behind}
 use Rattle.verifier_run.specs.Kept.{parts_of, part_in}
-use Rattle.verifier_commands.proofs.TickLaws.{Ticks, ticks_step}
+use Rattle.verifier_commands.specs.Ticks.{Ticks}
+use Rattle.verifier_commands.proofs.TickLaws.{ticks_step}
 use Rattle.bundle_report.specs.RunReport.{courses_from, parts_at}
 
 -- there is room for the sums of a part

@@ -13,7 +13,8 @@ use Rattle.verifier_commands.specs.declared.state.State.{State}
 use Rattle.verifier_commands.specs.Change.{Change, did_add_m, did_evict_m, did_add_b, did_evict_b, did_evict_bm, did_get, did_put, did_next_epoch}
 use Rattle.verifier_commands.specs.Outcome.{blob_of}
 use Rattle.verifier_commands.specs.Transition.{Rules, Step}
-use Rattle.verifier_commands.proofs.TickLaws.{Ticks, ticks_step, ticks-epoch}
+use Rattle.verifier_commands.specs.Ticks.{Ticks}
+use Rattle.verifier_commands.proofs.TickLaws.{ticks_step, ticks-epoch}
 use Rattle.lamport_clocks.proofs.ClockLaws.{advanced-ok}
 use Rattle.soundness.specs.History.{Event}
 use Rattle.soundness.specs.StateHistory.{machinery_under}

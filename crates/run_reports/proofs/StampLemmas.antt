@@ -15,13 +15,14 @@ use Rattle.merkle_records.specs.Scheme.{Scheme}
 use Rattle.stamp_order.proofs.InOrderLaws.{every-append}
 use Rattle.verifier_commands.specs.State.{opening}
 use Rattle.verifier_commands.specs.Change.{Change, did_add_m, did_evict_m, did_add_b, did_evict_b, did_evict_bm, did_get, did_put, did_next_epoch}
-use Rattle.verifier_commands.proofs.TickLaws.{Ticks}
+use Rattle.verifier_commands.specs.Ticks.{Ticks}
 use Rattle.soundness.specs.History.{Event, log_events, histories_from}
 use Rattle.soundness.specs.Certified.{all_events, evicted_by}
 use Rattle.soundness.specs.Timed.{added_among, evicted_among}
 use Rattle.soundness.specs.Permutation.{same_element, count_of, is_permutation}
 use Rattle.soundness.proofs.PermutationLaws.{same_element-true, same_element-self, count_permuted}
-use Rattle.soundness.proofs.HistoryLaws.{IsTicking, log-ticks}
+use Rattle.soundness.specs.IsHistory.{IsTicking}
+use Rattle.soundness.proofs.HistoryLaws.{log-ticks}
 
 -- ---- what is evicted
 

@@ -1,29 +1,27 @@
 -- No element is evicted twice: those of one verifier have rising stamps, and those of others another number.
-use Rattle.std.proofs.Common.{◌≡◌, ℕ, suc, ◌+◌, ◌≤◌, Bool, true, false, eqb, List, [], ◌∷◌, ◌++◌, if◌then◌else◌, refl, sym, ◌∙◌, ap, subst, inl, inr, arith}
-use Rattle.merkle_records.specs.Scheme.{Scheme}
+use Rattle.std.proofs.Common.{◌≡◌, ℕ, ◌+◌, ◌≤◌, Bool, true, false, eqb, List, [], ◌∷◌, ◌++◌, if◌then◌else◌, refl, sym, ◌∙◌, ap, subst, inl, inr, arith}
 use Rattle.std.specs.List.{AllByRecursion, IsDistinct}
 use Rattle.std.specs.Ordering.{is_lt}
 use Rattle.std.specs.declared.cmp.Ordering.{Ordering}
 use Rattle.std.specs.declared.cmp.Ordering.TheVariants.{Less, Equal, Greater}
-use Rattle.std.proofs.lemmas.Bool.{false≢true, true≢false, cond_both, eq-eqb}
+use Rattle.std.proofs.lemmas.Bool.{false≢true, true≢false, eq-eqb}
 use Rattle.lamport_clocks.specs.declared.header.Header.{Header}
 use Rattle.lamport_clocks.specs.declared.stamp.Stamp.{Stamp}
 use Rattle.lamport_clocks.specs.Stamp.{stamp_cmp, IsLater}
 use Rattle.lamport_clocks.proofs.StampLaws.{IsLater-cmp}
 use Rattle.record_text.specs.declared.element.Element.{Element}
-use Rattle.log_codec.specs.declared.command.Command.{Command}
-use Rattle.stamp_order.specs.Merged.{comes_before, of_verifier}
-use Rattle.stamp_order.proofs.InOrderLaws.{every-weaker, every-append, every-in_order}
-use Rattle.soundness.specs.History.{Event, log_events, histories_from, histories_of}
-use Rattle.soundness.specs.Certified.{event_moment, evicted_by, all_events, order_of}
+use Rattle.stamp_order.specs.Merged.{of_verifier}
+use Rattle.stamp_order.proofs.InOrderLaws.{every-weaker}
+use Rattle.soundness.specs.History.{Event}
+use Rattle.soundness.specs.Certified.{event_moment, evicted_by, order_of}
 use Rattle.soundness.specs.Timed.{IsEarlier, evicted_among, IsRising}
 use Rattle.soundness.specs.Permutation.{same_element, count_of}
 use Rattle.soundness.proofs.PermutationLaws.{same_element-true, same_element-self, one_more}
 use Rattle.soundness.proofs.ScheduleLemmas.{count-append, all_behind}
-use Rattle.soundness.proofs.HistoryLaws.{IsOfLog, log-epochs}
-use Rattle.soundness.proofs.OrderLemmas.{history_of, part_of_order}
-use Rattle.soundness.proofs.RisingLaws.{log_own, log_rising}
-use Rattle.soundness.proofs.SoundLaws.{are_histories}
+use Rattle.soundness.specs.IsHistory.{IsTimely, AreTimely}
+use Rattle.soundness.proofs.HistoryLaws.{IsOfLog, timely-epochs}
+use Rattle.soundness.proofs.OrderLemmas.{history_of, order_each, timely_of, part_of_order}
+use Rattle.soundness.proofs.RisingLaws.{timely_rising}
 
 -- ---- at most once, and distinct
 
@@ -101,18 +99,16 @@ rising_once (y ∷ ys) rising x = go (same_element x y) refl (rising_once ys ris
         )
     go false apart once = once
 
-module _ (scheme : Scheme) (header : Header) where
-  log_once : (number : ℕ) (commands : List Command)
-      → AreOnce (evicted_among (log_events scheme header number commands))
-  log_once number commands =
-      rising_once (evicted_among (log_events scheme header number commands))
-      (log_rising scheme header number commands)
+timely_once : (header : Header) (number : ℕ) (events : List Event) → IsTimely header number events
+    → AreOnce (evicted_among events)
+timely_once header number events timely =
+    rising_once (evicted_among events) (timely_rising header number events timely)
 
-  -- The elements that a log evicts are distinct.
-  pub log_distinct : (number : ℕ) (commands : List Command)
-      → IsDistinct same_element (evicted_among (log_events scheme header number commands))
-  log_distinct number commands =
-      distinct_once (evicted_among (log_events scheme header number commands)) (log_once number commands)
+-- The elements that one verifier evicts are distinct.
+pub timely_distinct : (header : Header) (number : ℕ) (events : List Event) → IsTimely header number events
+    → IsDistinct same_element (evicted_among events)
+timely_distinct header number events timely =
+    distinct_once (evicted_among events) (timely_once header number events timely)
 
 -- ---- all verifiers'
 
@@ -172,45 +168,25 @@ count_own x (event ∷ events) own = go (eqb event.verifier x.verifier) refl (co
     go false other further =
         omega (arith, count-append x here (evicted_among events), none_other x event.verifier here other own.0, further)
 
-module _ (scheme : Scheme) (header : Header) where
-  all_own : (number : ℕ) (logs : List (List Command))
-      → AreOwn (all_events (histories_from scheme header number logs))
-  all_own number [] = tt
-  all_own number (log ∷ logs) =
-      every-append
-      (λ event. AllByRecursion (λ element. element.verifier ≡ event.verifier) (evicted_by event.change))
-      (log_events scheme header number log)
-      (all_events (histories_from scheme header (suc number) logs))
-      (own_events number header (log_events scheme header number log)
-      (log_own scheme header number log) (log-epochs scheme header number log))
-      (all_own (suc number) logs)
+order_own : (header : Header) (histories : List (List Event)) → AreTimely header 0 histories
+    → AreOwn (order_of histories)
+order_own header histories timely =
+    order_each (λ event. AllByRecursion (λ element. element.verifier ≡ event.verifier) (evicted_by event.change))
+    (IsTimely header)
+    (λ number events is. own_events number header events is.own (timely-epochs header number events is)) 0 histories timely
 
-  order_own : (logs : List (List Command)) → AreOwn (order_of (histories_of scheme header logs))
-  order_own logs =
-      every-in_order (comes_before event_moment)
-      (λ event. AllByRecursion (λ element. element.verifier ≡ event.verifier) (evicted_by event.change))
-      (all_events (histories_of scheme header logs)) (all_own 0 logs)
+-- Each element is evicted at most once.
+pub order_once : (header : Header) (histories : List (List Event)) → AreTimely header 0 histories
+    → AreOnce (evicted_among (order_of histories))
+order_once header histories timely x =
+    subst (λ (n : ℕ). n ≤ 1)
+    (sym (count_own x (order_of histories) (order_own header histories timely)
+    ∙ ap (λ (events : List Event). count_of x (evicted_among events))
+    (part_of_order header histories timely x.verifier)))
+    (timely_once header x.verifier (history_of 0 histories x.verifier) (timely_of header histories timely x.verifier) x)
 
-  history_once : (number : ℕ) (logs : List (List Command)) (v : ℕ)
-      → AreOnce (evicted_among (history_of scheme header number logs v))
-  history_once number [] v x = omega arith
-  history_once number (log ∷ logs) v x =
-      cond_both (eqb number v) (log_events scheme header number log)
-      (history_of scheme header (suc number) logs v) (λ events. count_of x (evicted_among events) ≤ 1)
-      (λ _. log_once scheme header number log x) (λ _. history_once (suc number) logs v x)
-
-  -- Each element is evicted at most once.
-  pub order_once : (logs : List (List Command))
-      → AreOnce (evicted_among (order_of (histories_of scheme header logs)))
-  order_once logs x =
-      subst (λ (n : ℕ). n ≤ 1)
-      (sym (count_own x (order_of (histories_of scheme header logs)) (order_own logs)
-      ∙ ap (λ (events : List Event). count_of x (evicted_among events))
-      (part_of_order scheme header (are_histories scheme header) logs x.verifier)))
-      (history_once 0 logs x.verifier x)
-
-  -- The elements that all logs evict are distinct.
-  pub order_distinct : (logs : List (List Command))
-      → IsDistinct same_element (evicted_among (order_of (histories_of scheme header logs)))
-  order_distinct logs =
-      distinct_once (evicted_among (order_of (histories_of scheme header logs))) (order_once logs)
+-- The elements that all verifiers evict are distinct.
+pub order_distinct : (header : Header) (histories : List (List Event)) → AreTimely header 0 histories
+    → IsDistinct same_element (evicted_among (order_of histories))
+order_distinct header histories timely =
+    distinct_once (evicted_among (order_of histories)) (order_once header histories timely)

@@ -5,16 +5,16 @@ use Rattle.std.specs.List.{flat_map, AllByRecursion}
 use Rattle.std.proofs.lemmas.Bool.{ne_eqb, eqb-true, eqb-false}
 use Rattle.lamport_clocks.specs.declared.header.Header.{Header}
 use Rattle.record_text.specs.declared.operation.Operation.{Operation}
-use Rattle.log_codec.specs.declared.command.Command.{Command}
 use Rattle.stamp_order.specs.Merged.{comes_before, IsMerged}
-use Rattle.stamp_order.proofs.InOrderLaws.{every-weaker, every-filter, every-append, every-in_order, IsInOrder-filter}
+use Rattle.stamp_order.proofs.InOrderLaws.{every-weaker, every-filter, every-append, IsInOrder-filter}
 use Rattle.stamp_order.proofs.MomentLaws.{comes_before-order}
 use Rattle.verifier_commands.specs.Change.{Change, did_add_m, did_evict_m, did_add_b, did_evict_b, did_evict_bm, did_get, did_put, did_next_epoch}
-use Rattle.soundness.specs.History.{Event, log_events, histories_from, histories_of}
-use Rattle.soundness.specs.Certified.{event_moment, all_events, order_of, order_up_to, operations_by, operations_in, operations_of, epochs_from, certified_count, order_within, certified_operations}
-use Rattle.soundness.proofs.HistoryLaws.{IsOfLog, log-epochs}
+use Rattle.soundness.specs.History.{Event}
+use Rattle.soundness.specs.Certified.{event_moment, order_of, order_up_to, operations_by, operations_in, operations_of, epochs_from, certified_count, order_within, certified_operations}
+use Rattle.soundness.specs.IsHistory.{IsTimely, AreTimely}
+use Rattle.soundness.proofs.HistoryLaws.{IsOfLog, timely-epochs}
 use Rattle.soundness.proofs.SplitLaws.{epoch_not_before}
-use Rattle.soundness.proofs.OrderLemmas.{order_sorted}
+use Rattle.soundness.proofs.OrderLemmas.{order_each, order_sorted}
 use Rattle.soundness.proofs.SoundLaws.{all_within}
 
 -- ---- operations epoch by epoch
@@ -136,51 +136,38 @@ sorted_by_epoch epoch (event ∷ events) sorted from =
 
 -- ---- the merged order
 
-module _ (scheme : Scheme) (header : Header) where
-  -- all events are of the header's first epoch or of later ones
-  all_from_first : (number : ℕ) (logs : List (List Command))
-      → AllByRecursion (λ event. header.first ≤ event.at.epoch)
-      (all_events (histories_from scheme header number logs))
-  all_from_first number [] = tt
-  all_from_first number (log ∷ logs) =
-      let events = log_events scheme header number log in
-      every-append (λ event. header.first ≤ event.at.epoch) events
-      (all_events (histories_from scheme header (suc number) logs))
-      (every-weaker (IsOfLog number header) (λ event. header.first ≤ event.at.epoch) (λ event is. is.1) events
-      (log-epochs scheme header number log))
-      (all_from_first (suc number) logs)
+-- all events are of the header's first epoch or of later ones
+pub order_from_first : (header : Header) (histories : List (List Event)) → AreTimely header 0 histories
+    → AllByRecursion (λ event. header.first ≤ event.at.epoch) (order_of histories)
+order_from_first header histories timely =
+    order_each (λ event. header.first ≤ event.at.epoch) (IsTimely header)
+    (λ number events is. every-weaker (IsOfLog number header) (λ event. header.first ≤ event.at.epoch) (λ event of. of.1)
+    events (timely-epochs header number events is)) 0 histories timely
 
-  -- So they are in the merged order.
-  pub order_from_first : (logs : List (List Command))
-      → AllByRecursion (λ event. header.first ≤ event.at.epoch) (order_of (histories_of scheme header logs))
-  order_from_first logs =
-      every-in_order (comes_before event_moment) (λ event. header.first ≤ event.at.epoch)
-      (all_events (histories_of scheme header logs)) (all_from_first 0 logs)
+-- The operations of so many epochs, written epoch by epoch, are what they were.
+pub within_by_epochs : (header : Header) (histories : List (List Event)) (count : ℕ) → AreTimely header 0 histories
+    → let operations = operations_in (order_within header.first count histories) in
+    flat_map (λ epoch. operations_of epoch operations) (epochs_from header.first count) ≡ operations
+within_by_epochs header histories zero timely = refl
+within_by_epochs header histories (suc count) timely =
+    let last = header.first + count in
+    let order = order_of histories in
+    let events = order_up_to last histories in
+    written-whole (suc count) header.first (operations_in events)
+    (sorted_by_epoch header.first events
+    (IsInOrder-filter (comes_before event_moment) (comes_before-order event_moment) (λ event. nat_le event.at.epoch last) order
+    (order_sorted histories))
+    (every-filter (λ event. header.first ≤ event.at.epoch) (λ event. nat_le event.at.epoch last) order
+    (order_from_first header histories timely)))
+    (within_events (header.first + suc count) events
+    (every-weaker (λ event. event.at.epoch ≤ last) (λ event. event.at.epoch < header.first + suc count)
+    (λ event up. omega (arith, up)) events (all_within last order)))
 
-  -- The operations of so many epochs, written epoch by epoch, are what they were.
-  pub within_by_epochs : (logs : List (List Command)) (count : ℕ)
-      → let operations = operations_in (order_within header.first count (histories_of scheme header logs)) in
-      flat_map (λ epoch. operations_of epoch operations) (epochs_from header.first count) ≡ operations
-  within_by_epochs logs zero = refl
-  within_by_epochs logs (suc count) =
-      let last = header.first + count in
-      let order = order_of (histories_of scheme header logs) in
-      let events = order_up_to last (histories_of scheme header logs) in
-      written-whole (suc count) header.first (operations_in events)
-      (sorted_by_epoch header.first events
-      (IsInOrder-filter (comes_before event_moment) (comes_before-order event_moment) (λ event. nat_le event.at.epoch last) order
-      (order_sorted (histories_of scheme header logs)))
-      (every-filter (λ event. header.first ≤ event.at.epoch) (λ event. nat_le event.at.epoch last) order (order_from_first logs)))
-      (within_events (header.first + suc count) events
-      (every-weaker (λ event. event.at.epoch ≤ last) (λ event. event.at.epoch < header.first + suc count)
-      (λ event up. omega (arith, up)) events (all_within last order)))
-
-  -- So are the certified operations.
-  pub certified_by_epochs : (logs : List (List Command))
-      → let histories = histories_of scheme header logs in
-      let operations = certified_operations scheme header.first histories in
-      flat_map (λ epoch. operations_of epoch operations)
-      (epochs_from header.first (certified_count scheme header.first histories))
-      ≡ operations
-  certified_by_epochs logs =
-      within_by_epochs logs (certified_count scheme header.first (histories_of scheme header logs))
+-- So are the certified operations.
+pub certified_by_epochs : (scheme : Scheme) (header : Header) (histories : List (List Event)) → AreTimely header 0 histories
+    → let operations = certified_operations scheme header.first histories in
+    flat_map (λ epoch. operations_of epoch operations)
+    (epochs_from header.first (certified_count scheme header.first histories))
+    ≡ operations
+certified_by_epochs scheme header histories timely =
+    within_by_epochs header histories (certified_count scheme header.first histories) timely

@@ -18,18 +18,12 @@ use Rattle.verifier_commands.specs.State.{opening}
 use Rattle.verifier_commands.specs.Transition.{Step, transition}
 use Rattle.verifier_commands.specs.Machine.{Machine, rules_for, opening_machine}
 use Rattle.verifier_commands.specs.Trace.{events_from, events_behind, changed}
-use Rattle.verifier_commands.proofs.TickLaws.{Ticks, ticks_step, IsUpTo, up_to-trans, up_to-epoch, ticks-up_to}
+use Rattle.verifier_commands.proofs.TickLaws.{ticks_step, IsUpTo, up_to-trans, up_to-epoch, ticks-up_to}
 use Rattle.soundness.specs.History.{Event, log_events}
 use Rattle.soundness.specs.Certified.{event_moment, order_of}
+use Rattle.soundness.specs.IsHistory.{IsTicking, IsTimely}
 
 -- ---- the events of a log
-
--- Each event is of the verifier and of the next index, and the clock moved to where it shows with what was done.
-abbrev pub IsTicking : ℕ → ℕ → Reading → List Event → Type 0
-IsTicking number index clock [] = Unit {0}
-IsTicking number index clock (event ∷ events) =
-    (next : Reading) × (event.verifier ≡ number) × (event.index ≡ index) × (event.at ≡ next.at)
-    × Ticks clock next event.change × IsTicking number (suc index) next events
 
 -- what a step did, and what was done behind it
 ticking_behind : (scheme : Scheme) (machine : Machine) (command : Command) (commands : List Command) (step : Step)
@@ -100,6 +94,33 @@ events-merged number index clock (event ∷ events) ticks = (
   events-merged number (suc index) ticks.0 events ticks.5,
 )
 
+-- ---- timely events
+
+-- They stand in the order of their moments.
+pub timely-merged : (header : Header) (number : ℕ) (events : List Event) → IsTimely header number events
+    → IsMerged event_moment events
+timely-merged header number events timely =
+    events-merged number 0 (opening number header).clock events timely.ticks
+
+-- of the verifier, and of an epoch from the header's first on
+abbrev pub IsOfLog : ℕ → Header → Event → Type 0
+IsOfLog number header event = (event.verifier ≡ number) × (header.first ≤ event.at.epoch)
+
+-- Each of them is so.
+pub timely-epochs : (header : Header) (number : ℕ) (events : List Event) → IsTimely header number events
+    → AllByRecursion (IsOfLog number header) events
+timely-epochs header number events timely =
+    every-weaker (IsBehind number 0 (opening number header).clock.at) (IsOfLog number header)
+    (λ event behind. (behind.0, up_to-epoch (opening number header).clock.at event.at behind.2)) events
+    (every-behind number 0 (opening number header).clock events timely.ticks)
+
+-- Each is the verifier's.
+pub timely-whose : (header : Header) (number : ℕ) (events : List Event) → IsTimely header number events
+    → AllByRecursion (λ event. event.verifier ≡ number) events
+timely-whose header number events timely =
+    every-weaker (IsOfLog number header) (λ event. event.verifier ≡ number) (λ event is. is.0) events
+    (timely-epochs header number events timely)
+
 -- ---- a whole log
 
 -- how the events of a log tick
@@ -121,16 +142,3 @@ order_of-one scheme header number commands =
     let events = log_events scheme header number commands in
     ap (λ (all : List Event). merged event_moment all) (append-nil events)
     ∙ merged-fixed event_moment events (log-merged scheme header number commands)
-
--- of the verifier, and of an epoch from the header's first on
-abbrev pub IsOfLog : ℕ → Header → Event → Type 0
-IsOfLog number header event = (event.verifier ≡ number) × (header.first ≤ event.at.epoch)
-
--- Each event of a log is so.
-pub log-epochs : (scheme : Scheme) (header : Header) (number : ℕ) (commands : List Command)
-    → AllByRecursion (IsOfLog number header) (log_events scheme header number commands)
-log-epochs scheme header number commands =
-    every-weaker (IsBehind number 0 (opening number header).clock.at) (IsOfLog number header)
-    (λ event behind. (behind.0, up_to-epoch (opening number header).clock.at event.at behind.2))
-    (log_events scheme header number commands)
-    (every-behind number 0 (opening number header).clock _ (log-ticks scheme header number commands))

@@ -35,9 +35,10 @@ use Rattle.record_text.specs.Same.{same_value}
 use Rattle.verifier_commands.specs.Transition.{Rules, Step, is_root, is_full, transition, add_m, evict_m, add_b, evict_b, evict_bm, get, put, next_epoch}
 use Rattle.verifier_commands.specs.Machine.{Machine, rules_for}
 use Rattle.verifier_commands.specs.Trace.{events_from, events_behind, changed}
-use Rattle.soundness.specs.History.{Event}
-use Rattle.soundness.specs.Showing.{Shown, HasDone, shown_by, showing, ShowSame}
+use Rattle.soundness.specs.Showing.{Shown, HasDone, shown_by, showing, ShowSame, shown_after}
+use Rattle.soundness.specs.IsHistory.{IsChain}
 use Rattle.verifier_commands.proofs.InvertLaws.{need-ok, and_then-ok, timed-ok}
+use Rattle.soundness.proofs.ToldLemmas.{did_shown, retold}
 use Rattle.soundness.proofs.ShownLemmas.{found_own, shown-replaced, shown-without, shown-append, distinct-replaced, shown-joined, distinct-joined, shown-left, distinct-left}
 
 -- ---- each keeps its path
@@ -311,33 +312,31 @@ lawful rules state command change after ranges distinct is =
 
 -- ---- a log
 
--- each event is what a step did to what the one before it left
-abbrev pub IsChain : ℕ → Digest → Shown → List Event → Type 0
-IsChain longest digest shown [] = Unit {0}
-IsChain longest digest shown (event ∷ events) =
-    (next : Shown) × HasDone longest digest shown next event.change × IsChain longest digest next events
-
 -- what a step did, and a chain behind it
-chain_behind : (scheme : Scheme) (machine : Machine) (command : Command) (commands : List Command) (step : Step)
-    → IsTyped scheme.longest command → AreDistinct machine.state.cache.entries
+chain_behind : (scheme : Scheme) (machine : Machine) (shown : Shown) (command : Command) (commands : List Command) (step : Step)
+    → ShowSame (shown_by machine.state) shown → IsTyped scheme.longest command → AreDistinct machine.state.cache.entries
     → transition (rules_for scheme machine) machine.state command ≡ step
-    → ((after : Machine) → AreDistinct after.state.cache.entries
-    → IsChain scheme.longest scheme.digest (shown_by after.state) (events_from scheme after commands))
-    → IsChain scheme.longest scheme.digest (shown_by machine.state) (events_behind scheme machine commands step)
-chain_behind scheme machine command commands (Ok done) range distinct is further =
-    let law = lawful_step (rules_for scheme machine) machine.state command done range distinct is in
-    (shown_by done.1, law.0, further (changed scheme machine done) law.1)
-chain_behind scheme machine command commands (Err refusal) range distinct is further = tt
+    → ((after : Machine) (told : Shown) → ShowSame (shown_by after.state) told → AreDistinct after.state.cache.entries
+    → IsChain scheme.longest scheme.digest told (events_from scheme after commands))
+    → IsChain scheme.longest scheme.digest shown (events_behind scheme machine commands step)
+chain_behind scheme machine shown command commands (Ok done) same range distinct is further =
+    let law = lawful_step (rules_for scheme machine) machine.state command done range distinct is in (
+      retold scheme.longest scheme.digest (shown_by machine.state) shown (shown_by done.1) same done.0 law.0,
+      λ fresh. further (changed scheme machine done) (shown_after shown done.0)
+          (did_shown scheme.longest scheme.digest (shown_by machine.state) shown (shown_by done.1) same done.0 law.0) law.1,
+    )
+chain_behind scheme machine shown command commands (Err refusal) same range distinct is further = tt
 
--- The events of a log are a chain from the verifier with which it begins.
-pub log_run : (scheme : Scheme) (machine : Machine) (commands : List Command)
+-- The events of a log are a chain from what the verifier with which it begins shows.
+pub log_run : (scheme : Scheme) (machine : Machine) (shown : Shown) (commands : List Command)
+    → ShowSame (shown_by machine.state) shown
     → AllByRecursion (IsTyped scheme.longest) commands → AreDistinct machine.state.cache.entries
-    → IsChain scheme.longest scheme.digest (shown_by machine.state) (events_from scheme machine commands)
+    → IsChain scheme.longest scheme.digest shown (events_from scheme machine commands)
 unfolding traced
-log_run scheme machine [] ranges distinct = tt
-log_run scheme machine (command ∷ commands) ranges distinct =
-    chain_behind scheme machine command commands (transition (rules_for scheme machine) machine.state command) ranges.0 distinct refl
-    (λ after fresh. log_run scheme after commands ranges.1 fresh)
+log_run scheme machine shown [] same ranges distinct = tt
+log_run scheme machine shown (command ∷ commands) same ranges distinct =
+    chain_behind scheme machine shown command commands (transition (rules_for scheme machine) machine.state command) same ranges.0 distinct refl
+    (λ after told alike fresh. log_run scheme after told commands alike ranges.1 fresh)
 
 -- ---- the start
 

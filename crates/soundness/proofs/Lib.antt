@@ -1,6 +1,7 @@
 -- How soundness is proved, in reading order: what a step does, the tree, the world and each command, what
 -- waits, the schedule, the merged order, and the whole.
 mod ShownLemmas
+mod ToldLemmas
 mod LawfulLemmas
 mod MovedLemmas
 mod PairLemmas
@@ -18,13 +19,14 @@ mod ScheduleLemmas
 pub mod HistoryLaws
 pub mod StateHistoryLaws
 mod TimedLemmas
+pub mod RisingLaws
+mod LogHistoryLemmas
 pub mod SplitLaws
 mod OrderLemmas
 mod OpeningLemmas
 pub mod CertifiedLaws
 pub mod SoundLaws
 pub mod TypedLaws
-pub mod RisingLaws
 pub mod WholeLaws
 mod EpochLaws
 mod DistinctLemmas

@@ -1,25 +1,24 @@
--- The merged order of all logs' events: each verifier's part is its history, so the events up to an epoch are a run.
+-- The merged order of all histories: each verifier's part is its history, so the events up to an epoch are a run.
 use Rattle.std.proofs.Common.{◌≡◌, ◌≢◌, ◌⊎◌, ℕ, suc, ◌<◌, nat_le, eqb, Bool, true, false, if◌then◌else◌, List, [], ◌∷◌, ◌++◌, append-nil, refl, sym, ◌∙◌, ap, subst, inl, inr, filter, arith}
-use Rattle.merkle_records.specs.Scheme.{Scheme}
 use Rattle.std.specs.List.{AllByRecursion}
-use Rattle.std.proofs.lemmas.Bool.{cond_both, cond-true, cond-false, eq-eqb, ne_eqb, cases_eq}
+use Rattle.std.proofs.lemmas.Bool.{cond-true, cond-false, eq-eqb, ne_eqb, cases_eq}
 use Rattle.std.proofs.lemmas.List.Elements.{filter-append}
 use Rattle.lamport_clocks.specs.declared.header.Header.{Header}
-use Rattle.log_codec.specs.declared.command.Command.{Command}
-use Rattle.soundness.specs.Typed.{IsTyped}
+use Rattle.merkle_records.specs.Merkle.{Digest}
 use Rattle.stamp_order.specs.Merged.{comes_before, IsMerged, up_to, of_verifier}
 use Rattle.stamp_order.proofs.InOrderLaws.{every-weaker, every-append, every-in_order}
 use Rattle.stamp_order.proofs.MergedLaws.{merged-sorts, merged-of_verifier}
 use Rattle.verifier_commands.specs.State.{opening}
-use Rattle.soundness.specs.History.{Event, log_events, histories_from, histories_of}
+use Rattle.soundness.specs.History.{Event}
 use Rattle.soundness.specs.Certified.{event_moment, all_events, order_of, order_up_to}
 use Rattle.soundness.specs.Showing.{shown_by}
 use Rattle.soundness.specs.Timed.{IsTimed, AreTimed}
 use Rattle.soundness.specs.World.{opening_shown}
-use Rattle.soundness.proofs.LawfulLemmas.{IsChain}
+use Rattle.soundness.specs.IsHistory.{IsChain, IsTimely, IsHistory, EachByNumber, AreTimely, AreHistories}
 use Rattle.soundness.proofs.RunLemmas.{IsRun, run_of_parts}
-use Rattle.soundness.proofs.TimedLemmas.{log_timed}
-use Rattle.soundness.proofs.SplitLaws.{SplitsAt, split_up_to, log_run_up_to}
+use Rattle.soundness.proofs.HistoryLaws.{timely-merged, timely-whose}
+use Rattle.soundness.proofs.TimedLemmas.{timely_timed}
+use Rattle.soundness.proofs.SplitLaws.{SplitsAt, split_up_to, chain_up_to}
 
 -- ---- filters
 
@@ -63,21 +62,49 @@ module _ {X : Type 0} where
 
 -- ---- each verifier's part
 
--- What is taken of the logs under a header: each log's events stand in the order of their moments, and are of the
--- log's verifier.
-pub record AreHistories (scheme : Scheme) (header : Header) : Type 0 where
-  pub sorted : (number : ℕ) (commands : List Command)
-      → IsMerged event_moment (log_events scheme header number commands)
-  pub whose : (number : ℕ) (commands : List Command)
-      → AllByRecursion (λ event. event.verifier ≡ number) (log_events scheme header number commands)
+-- the history of verifier v, where the first is of the verifier of this number; none where no history is v's
+abbrev pub history_of : ℕ → List (List Event) → ℕ → List Event
+history_of number [] v = []
+history_of number (history ∷ histories) v = if eqb number v then history else history_of (suc number) histories v
 
--- the history of verifier v, where the first log is of the verifier of this number; none where no log is v's
-abbrev pub history_of : Scheme → Header → ℕ → List (List Command) → ℕ → List Event
-history_of scheme header number [] v = []
-history_of scheme header number (log ∷ logs) v =
-    if eqb number v
-    then log_events scheme header number log
-    else history_of scheme header (suc number) logs v
+-- What holds of each history holds of v's, if it holds of none.
+history_each : (holds : ℕ → List Event → Type 0) → ((v : ℕ) → holds v []) → (number : ℕ) (histories : List (List Event))
+    → EachByNumber holds number histories → (v : ℕ) → holds v (history_of number histories v)
+history_each holds none number [] each v = none v
+history_each holds none number (history ∷ histories) each v =
+    go (cases_eq number v) (history_each holds none (suc number) histories each.1 v)
+  where
+    behind : List Event
+    behind = history_of (suc number) histories v
+
+    go : (number ≡ v) ⊎ (number ≡ v → ⊥) → holds v behind → holds v (if eqb number v then history else behind)
+    go (inl same) rest =
+        subst (λ (b : Bool). holds v (if b then history else behind)) (sym (eq-eqb number v same))
+        (subst (λ (n : ℕ). holds n history) same each.0)
+    go (inr apart) rest =
+        subst (λ (b : Bool). holds v (if b then history else behind)) (sym (ne_eqb number v apart)) rest
+
+-- What holds of each event of histories holds of each in the merged order.
+pub order_each : (P : Event → Type 0) (holds : ℕ → List Event → Type 0)
+    → ((number : ℕ) (events : List Event) → holds number events → AllByRecursion P events)
+    → (number : ℕ) (histories : List (List Event)) → EachByNumber holds number histories
+    → AllByRecursion P (order_of histories)
+order_each P holds every number histories each =
+    every-in_order (comes_before event_moment) P (all_events histories) (all_each number histories each)
+  where
+    all_each : (number : ℕ) (histories : List (List Event)) → EachByNumber holds number histories
+        → AllByRecursion P (all_events histories)
+    all_each number [] each = tt
+    all_each number (history ∷ histories) each =
+        every-append P history (all_events histories) (every number history each.0)
+        (all_each (suc number) histories each.1)
+
+-- Histories are timely.
+pub are_timely : (longest : ℕ) (digest : Digest) (header : Header) (number : ℕ) (histories : List (List Event))
+    → AreHistories longest digest header number histories → AreTimely header number histories
+are_timely longest digest header number [] are = tt
+are_timely longest digest header number (history ∷ histories) are =
+    (are.0.timely, are_timely longest digest header (suc number) histories are.1)
 
 -- where all events are of one verifier, all are its part
 part_own : (number v : ℕ) (events : List Event) → number ≡ v
@@ -97,133 +124,87 @@ part_other number v events apart all =
     (every-weaker (λ event. event.verifier ≡ number) (λ event. eqb event.verifier v ≡ false)
     (λ event own. ne_eqb event.verifier v (λ same. apart (sym own ∙ same))) events all)
 
-module _ (scheme : Scheme) (header : Header) where
+module _ (header : Header) where
   -- a verifier before the first has no part
-  part_before : AreHistories scheme header → (number : ℕ) (logs : List (List Command)) (v : ℕ) → v < number
-      → of_verifier event_moment v (all_events (histories_from scheme header number logs)) ≡ []
-  part_before known number [] v below = refl
-  part_before known number (log ∷ logs) v below =
-      let events = log_events scheme header number log in
-      let others = all_events (histories_from scheme header (suc number) logs) in
-      filter-append (λ event. eqb event.verifier v) events others
+  part_before : (number : ℕ) (histories : List (List Event)) → AreTimely header number histories → (v : ℕ) → v < number
+      → of_verifier event_moment v (all_events histories) ≡ []
+  part_before number [] timely v below = refl
+  part_before number (history ∷ histories) timely v below =
+      let others = all_events histories in
+      filter-append (λ event. eqb event.verifier v) history others
       ∙ ap (λ zs. zs ++ of_verifier event_moment v others)
-      (part_other number v events (λ same. absurd (omega arith)) (known.whose number log))
-      ∙ part_before known (suc number) logs v (omega arith)
+      (part_other number v history (λ same. absurd (omega arith)) (timely-whose header number history timely.0))
+      ∙ part_before (suc number) histories timely.1 v (omega arith)
 
   -- A verifier's part of all events is its history.
-  pub part_of_all : AreHistories scheme header → (number : ℕ) (logs : List (List Command)) (v : ℕ)
-      → of_verifier event_moment v (all_events (histories_from scheme header number logs))
-      ≡ history_of scheme header number logs v
-  part_of_all known number [] v = refl
-  part_of_all known number (log ∷ logs) v = go (cases_eq number v) (part_of_all known (suc number) logs v)
+  pub part_of_all : (number : ℕ) (histories : List (List Event)) → AreTimely header number histories → (v : ℕ)
+      → of_verifier event_moment v (all_events histories) ≡ history_of number histories v
+  part_of_all number [] timely v = refl
+  part_of_all number (history ∷ histories) timely v =
+      go (cases_eq number v) (part_of_all (suc number) histories timely.1 v)
     where
-      events : List Event
-      events = log_events scheme header number log
-
       others : List Event
-      others = all_events (histories_from scheme header (suc number) logs)
+      others = all_events histories
 
       behind : List Event
-      behind = history_of scheme header (suc number) logs v
+      behind = history_of (suc number) histories v
 
       go : (number ≡ v) ⊎ (number ≡ v → ⊥) → of_verifier event_moment v others ≡ behind
-          → of_verifier event_moment v (events ++ others) ≡ (if eqb number v then events else behind)
+          → of_verifier event_moment v (history ++ others) ≡ (if eqb number v then history else behind)
       go (inl same) rest =
-          filter-append (λ event. eqb event.verifier v) events others
-          ∙ ap (λ zs. zs ++ of_verifier event_moment v others) (part_own number v events same (known.whose number log))
-          ∙ ap (λ zs. events ++ zs) (part_before known (suc number) logs v (omega arith))
-          ∙ append-nil events
-          ∙ sym (ap (λ (b : Bool). if b then events else behind) (eq-eqb number v same))
-      go (inr apart) rest =
-          filter-append (λ event. eqb event.verifier v) events others
+          filter-append (λ event. eqb event.verifier v) history others
           ∙ ap (λ zs. zs ++ of_verifier event_moment v others)
-          (part_other number v events apart (known.whose number log))
+          (part_own number v history same (timely-whose header number history timely.0))
+          ∙ ap (λ zs. history ++ zs) (part_before (suc number) histories timely.1 v (omega arith))
+          ∙ append-nil history
+          ∙ sym (ap (λ (b : Bool). if b then history else behind) (eq-eqb number v same))
+      go (inr apart) rest =
+          filter-append (λ event. eqb event.verifier v) history others
+          ∙ ap (λ zs. zs ++ of_verifier event_moment v others)
+          (part_other number v history apart (timely-whose header number history timely.0))
           ∙ rest
-          ∙ sym (ap (λ (b : Bool). if b then events else behind) (ne_eqb number v apart))
+          ∙ sym (ap (λ (b : Bool). if b then history else behind) (ne_eqb number v apart))
 
-  -- a verifier's history stands in order
-  history_sorted : AreHistories scheme header → (number : ℕ) (logs : List (List Command)) (v : ℕ)
-      → IsMerged event_moment (history_of scheme header number logs v)
-  history_sorted known number [] v = tt
-  history_sorted known number (log ∷ logs) v =
-      cond_both (eqb number v) (log_events scheme header number log)
-      (history_of scheme header (suc number) logs v) (IsMerged event_moment)
-      (λ _. known.sorted number log) (λ _. history_sorted known (suc number) logs v)
+  -- Each verifier's history is timely.
+  pub timely_of : (histories : List (List Event)) → AreTimely header 0 histories → (v : ℕ)
+      → IsTimely header v (history_of 0 histories v)
+  timely_of histories timely = history_each (IsTimely header) (λ v. record { ticks = tt; own = tt }) 0 histories timely
 
   -- A verifier's part of the merged order is its history.
-  pub part_of_order : AreHistories scheme header → (logs : List (List Command)) (v : ℕ)
-      → of_verifier event_moment v (order_of (histories_of scheme header logs))
-      ≡ history_of scheme header 0 logs v
-  part_of_order known logs v =
-      let events = all_events (histories_of scheme header logs) in
-      let part = part_of_all known 0 logs v in
+  pub part_of_order : (histories : List (List Event)) → AreTimely header 0 histories → (v : ℕ)
+      → of_verifier event_moment v (order_of histories) ≡ history_of 0 histories v
+  part_of_order histories timely v =
+      let events = all_events histories in
+      let part = part_of_all 0 histories timely v in
       merged-of_verifier event_moment v events
-      (subst (IsMerged event_moment) (sym part) (history_sorted known 0 logs v)) ∙ part
+      (subst (IsMerged event_moment) (sym part)
+      (timely-merged header v (history_of 0 histories v) (timely_of histories timely v))) ∙ part
 
   -- And so it is up to an epoch.
-  pub part_up_to : AreHistories scheme header → (logs : List (List Command)) (epoch v : ℕ)
-      → of_verifier event_moment v (order_up_to epoch (histories_of scheme header logs))
-      ≡ up_to event_moment epoch (history_of scheme header 0 logs v)
-  part_up_to known logs epoch v =
-      filter-swap (λ event. eqb event.verifier v) (λ event. nat_le event.at.epoch epoch)
-      (order_of (histories_of scheme header logs))
-      ∙ ap (up_to event_moment epoch) (part_of_order known logs v)
+  pub part_up_to : (histories : List (List Event)) → AreTimely header 0 histories → (epoch v : ℕ)
+      → of_verifier event_moment v (order_up_to epoch histories) ≡ up_to event_moment epoch (history_of 0 histories v)
+  part_up_to histories timely epoch v =
+      filter-swap (λ event. eqb event.verifier v) (λ event. nat_le event.at.epoch epoch) (order_of histories)
+      ∙ ap (up_to event_moment epoch) (part_of_order histories timely v)
 
-  -- ---- the run
-
-  -- a verifier's history up to an epoch is a chain from its opening
-  history_chain : AreHistories scheme header → (number : ℕ) (logs : List (List Command)) (epoch v : ℕ)
-      → AllByRecursion (AllByRecursion (IsTyped scheme.longest)) logs
-      → IsChain scheme.longest scheme.digest (shown_by (opening v header))
-      (up_to event_moment epoch (history_of scheme header number logs v))
-  history_chain known number [] epoch v ranges = tt
-  history_chain known number (log ∷ logs) epoch v ranges =
-      go (cases_eq number v) (history_chain known (suc number) logs epoch v ranges.1)
-    where
-      events : List Event
-      events = log_events scheme header number log
-
-      behind : List Event
-      behind = history_of scheme header (suc number) logs v
-
-      chain : List Event → Type 0
-      chain zs = IsChain scheme.longest scheme.digest (shown_by (opening v header)) (up_to event_moment epoch zs)
-
-      go : (number ≡ v) ⊎ (number ≡ v → ⊥) → chain behind → chain (if eqb number v then events else behind)
-      go (inl same) rest =
-          subst (λ (b : Bool). chain (if b then events else behind)) (sym (eq-eqb number v same))
-          (subst (λ (n : ℕ). IsChain scheme.longest scheme.digest (shown_by (opening n header)) (up_to event_moment epoch events))
-          same (log_run_up_to scheme header number epoch log ranges.0 (known.sorted number log)))
-      go (inr apart) rest =
-          subst (λ (b : Bool). chain (if b then events else behind)) (sym (ne_eqb number v apart)) rest
-
-  -- The events of all logs up to an epoch, in the merged order, are a run from the opening.
-  pub order_run : AreHistories scheme header → (logs : List (List Command)) (epoch : ℕ)
-      → AllByRecursion (AllByRecursion (IsTyped scheme.longest)) logs
-      → IsRun scheme.longest scheme.digest (opening_shown header) (order_up_to epoch (histories_of scheme header logs))
-  order_run known logs epoch ranges =
-      let events = order_up_to epoch (histories_of scheme header logs) in
-      run_of_parts scheme.longest scheme.digest (opening_shown header) events
-      (λ v. subst (IsChain scheme.longest scheme.digest (shown_by (opening v header))) (sym (part_up_to known logs epoch v))
-      (history_chain known 0 logs epoch v ranges))
-
-  -- ---- the elements
-
-  -- those of all events, one history after another, are timed
-  all_timed : (number : ℕ) (logs : List (List Command))
-      → AreTimed header.first (all_events (histories_from scheme header number logs))
-  all_timed number [] = tt
-  all_timed number (log ∷ logs) =
-      every-append (λ event. IsTimed header.first event.at event.change) (log_events scheme header number log)
-      (all_events (histories_from scheme header (suc number) logs))
-      (log_timed scheme header number log) (all_timed (suc number) logs)
+  -- The events of all histories up to an epoch, in the merged order, are a run from the opening.
+  pub order_run : (longest : ℕ) (digest : Digest) (histories : List (List Event)) (epoch : ℕ)
+      → AreHistories longest digest header 0 histories
+      → IsRun longest digest (opening_shown header) (order_up_to epoch histories)
+  order_run longest digest histories epoch are =
+      let timely = are_timely longest digest header 0 histories are in
+      let history = history_each (IsHistory longest digest header)
+      (λ v. record { timely = record { ticks = tt; own = tt }; chain = tt }) 0 histories are in
+      run_of_parts longest digest (opening_shown header) (order_up_to epoch histories)
+      (λ v. subst (IsChain longest digest (shown_by (opening v header))) (sym (part_up_to histories timely epoch v))
+      (chain_up_to longest digest header v epoch (history_of 0 histories v) (history v)))
 
   -- The elements of all events in the merged order are timed.
-  pub order_timed : (logs : List (List Command))
-      → AreTimed header.first (order_of (histories_of scheme header logs))
-  order_timed logs =
-      every-in_order (comes_before event_moment) (λ event. IsTimed header.first event.at event.change)
-      (all_events (histories_of scheme header logs)) (all_timed 0 logs)
+  pub order_timed : (histories : List (List Event)) → AreTimely header 0 histories
+      → AreTimed header.first (order_of histories)
+  order_timed histories timely =
+      order_each (λ event. IsTimed header.first event.at event.change) (IsTimely header) (timely_timed header) 0 histories
+      timely
 
 -- ---- the order of any histories
 

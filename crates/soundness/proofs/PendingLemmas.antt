@@ -1,8 +1,6 @@
 -- The elements that wait at the end of the merged order up to an epoch are those that come in later epochs.
 use Rattle.std.proofs.Common.{◌≡◌, ℕ, zero, suc, ◌+◌, ◌<◌, ◌≤◌, nat_lt, nat_le, filter, Bool, true, false, List, [], ◌∷◌, ◌++◌, Option, None, append-nil, refl, sym, ◌∙◌, ap, subst, arith}
 use Rattle.record_hash.specs.Functions.{DigestFunctions}
-use Rattle.record_text.specs.Longest.{longest_blob}
-use Rattle.merkle_records.specs.Scheme.{scheme_of, Scheme}
 use Rattle.std.specs.List.{AllByRecursion}
 use Rattle.std.specs.Option.{unwrap_or}
 use Rattle.std.proofs.lemmas.Bool.Decides.{nat_tests}
@@ -10,22 +8,22 @@ use Rattle.std.proofs.lemmas.List.Elements.{filter-append}
 use Rattle.lamport_clocks.specs.declared.header.Header.{Header}
 use Rattle.lamport_clocks.specs.declared.stamp.Stamp.{Stamp}
 use Rattle.record_text.specs.declared.element.Element.{Element}
-use Rattle.log_codec.specs.declared.command.Command.{Command}
+use Rattle.record_text.specs.Longest.{longest_blob}
 use Rattle.merkle_records.specs.Merkle.{GivesDigests}
 use Rattle.stamp_order.proofs.InOrderLaws.{every-weaker, every-append, every-filter}
 use Rattle.verifier_commands.specs.Change.{Change, did_add_m, did_evict_m, did_add_b, did_evict_b, did_evict_bm, did_get, did_put, did_next_epoch}
-use Rattle.soundness.specs.History.{Event, histories_of}
+use Rattle.soundness.specs.History.{Event}
 use Rattle.soundness.specs.Certified.{added_by, evicted_by, added_in, evicted_in, order_of, order_up_to, order_after}
 use Rattle.soundness.specs.Timed.{IsTimed, AreTimed, added_among, evicted_among}
 use Rattle.soundness.specs.Clash.{none_evicted, first_clash}
 use Rattle.soundness.specs.Permutation.{same_element, count_of}
 use Rattle.soundness.specs.Scheduled.{IsScheduledBy, IsScheduled, ArePermuted}
-use Rattle.soundness.specs.Sound.{AreTyped}
+use Rattle.soundness.specs.IsHistory.{AreTimely, AreHistories}
 use Rattle.soundness.specs.Spot.{waiting, Spots}
 use Rattle.soundness.specs.World.{changes_in, pending_after, pending_behind, IsPending, IsBehind}
 use Rattle.soundness.proofs.PermutationLaws.{same_element-true, one_more, count_without, count_permuted}
 use Rattle.soundness.proofs.ScheduleLemmas.{count_adds, count_evicts, count_in_epoch, all_behind}
-use Rattle.soundness.proofs.OrderLemmas.{filter-all, filter-none, order_timed, order_splits}
+use Rattle.soundness.proofs.OrderLemmas.{filter-all, filter-none, are_timely, order_timed, order_splits}
 use Rattle.soundness.proofs.SoundLaws.{all_within}
 use Rattle.soundness.proofs.WholeLaws.{order_scheduled}
 use Rattle.soundness.proofs.EpochLaws.{order_from_first}
@@ -180,10 +178,7 @@ parts last histories = record {
         ∙ filter-all is_later split.0
         (every-weaker (λ event. last < event.at.epoch) (λ event. is_later event ≡ true) passed split.0 split.2)
 
-module _ (scheme : Scheme) (header : Header) (logs : List (List Command)) (last : ℕ) where
-  abbrev histories : List (List Event)
-  histories = histories_of scheme header logs
-
+module _ (header : Header) (histories : List (List Event)) (last : ℕ) (timely : AreTimely header 0 histories) where
   abbrev front : List Event
   front = order_up_to last histories
 
@@ -200,7 +195,7 @@ module _ (scheme : Scheme) (header : Header) (logs : List (List Command)) (last 
     even : count_of x (added_among front) + count_of x (added_among back) ≡ count_of x (evicted_among front)
 
   back_timed : AreTimed header.first (front ++ back)
-  back_timed = subst (AreTimed header.first) (parts last histories).whole (order_timed scheme header logs)
+  back_timed = subst (AreTimed header.first) (parts last histories).whole (order_timed header histories timely)
 
   -- nothing of an epoch up to the last goes in later ones
   none_later : (x : Element) → x.stamp.epoch ≤ last → count_of x (evicted_among back) ≡ 0
@@ -220,7 +215,7 @@ module _ (scheme : Scheme) (header : Header) (logs : List (List Command)) (last 
       → x.stamp.epoch ≤ last → Counts x
   counts permuted x from within = record {
     once = omega (arith, evicted_once, gone, count_evicts x front back);
-    balance = omega (arith, behind_balance x [] front (order_scheduled scheme header logs last permuted));
+    balance = omega (arith, behind_balance x [] front (order_scheduled header histories last timely permuted));
     even = omega (arith, same, gone, count_adds x front back, count_evicts x front back);
   }
     where
@@ -230,7 +225,7 @@ module _ (scheme : Scheme) (header : Header) (logs : List (List Command)) (last 
       evicted_once : count_of x (evicted_among (front ++ back)) ≤ 1
       evicted_once =
           subst (λ (events : List Event). count_of x (evicted_among events) ≤ 1) whole
-          (order_once scheme header logs x)
+          (order_once header histories timely x)
 
       gone : count_of x (evicted_among back) ≡ 0
       gone = none_later x within
@@ -271,19 +266,19 @@ module _ (scheme : Scheme) (header : Header) (logs : List (List Command)) (last 
   pending_later x permuted there = omega (arith, there, of.once, of.even, of.balance)
     where
       went : 1 ≤ count_of x (evicted_among front)
-      went = omega (arith, there, behind_balance x [] front (order_scheduled scheme header logs last permuted))
+      went = omega (arith, there, behind_balance x [] front (order_scheduled header histories last timely permuted))
 
       front_timed : AreTimed header.first front
       front_timed =
           every-filter (λ event. IsTimed header.first event.at event.change) (λ event. nat_le event.at.epoch last)
-          (order_of histories) (order_timed scheme header logs)
+          (order_of histories) (order_timed header histories timely)
 
       from : header.first ≤ x.stamp.epoch
       from =
           counted_holds (λ element. header.first ≤ element.stamp.epoch) x (evicted_among front)
           (evicted_epochs (λ epoch. header.first ≤ epoch) header.first front front_timed
           (every-filter (λ event. header.first ≤ event.at.epoch) (λ event. nat_le event.at.epoch last)
-          (order_of histories) (order_from_first scheme header logs))) went
+          (order_of histories) (order_from_first header histories timely))) went
 
       within : x.stamp.epoch ≤ last
       within =
@@ -295,17 +290,17 @@ module _ (scheme : Scheme) (header : Header) (logs : List (List Command)) (last 
       of = counts permuted x from within
 
 -- And its path's spot waits with it.
-pub later_waiting : (functions : DigestFunctions) (header : Header) (logs : List (List Command)) (last : ℕ)
-    → let histories = histories_of (scheme_of functions header) header logs in
-    GivesDigests functions.digest → AreTyped longest_blob logs → ArePermuted header.first last (order_of histories)
+pub later_waiting : (functions : DigestFunctions) (header : Header) (histories : List (List Event)) (last : ℕ)
+    → GivesDigests functions.digest → AreHistories longest_blob functions.digest header 0 histories
+    → ArePermuted header.first last (order_of histories)
     → first_clash none_evicted (changes_in (order_up_to last histories)) ≡ None
     → (spots : Spots) × IsBehind functions.digest header (order_up_to last histories) spots
     × ((x : Element) → x.stamp.epoch ≤ last → 1 ≤ count_of x (added_among (order_after last histories)) → spots x.path ≡ waiting x)
-later_waiting functions header logs last digests typed permuted free =
-    let scheme = scheme_of functions header in
-    let front = order_up_to last (histories_of scheme header logs) in
-    let stand = one_spot functions header logs last front [] digests typed permuted (sym (append-nil front)) free in (
+later_waiting functions header histories last digests are permuted free =
+    let front = order_up_to last histories in
+    let timely = are_timely longest_blob functions.digest header 0 histories are in
+    let stand = one_spot functions header histories last front [] digests are permuted (sym (append-nil front)) free in (
       stand.0,
       stand.1,
-      λ x within there. stand.1.waits.each x (omega (arith, (later_pending scheme header logs last x permuted within there).waits)),
+      λ x within there. stand.1.waits.each x (omega (arith, (later_pending header histories last timely x permuted within there).waits)),
     )

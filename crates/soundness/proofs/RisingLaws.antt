@@ -31,9 +31,11 @@ use Rattle.verifier_commands.specs.Trace.{events_from, events_behind, changed}
 use Rattle.soundness.specs.History.{Event, log_events}
 use Rattle.soundness.specs.Certified.{evicted_by}
 use Rattle.soundness.specs.Timed.{IsEarlier, evicted_among, IsRising}
+use Rattle.soundness.specs.IsHistory.{IsTicking, IsTimely}
 use Rattle.verifier_commands.proofs.InvertLaws.{need-ok, and_then-ok, timed-ok}
-use Rattle.verifier_commands.proofs.TickLaws.{Ticks, IsUpTo, ticks-up_to}
-use Rattle.soundness.proofs.HistoryLaws.{IsTicking, log-ticks}
+use Rattle.verifier_commands.specs.Ticks.{Ticks}
+use Rattle.verifier_commands.proofs.TickLaws.{IsUpTo, ticks-up_to}
+use Rattle.soundness.proofs.HistoryLaws.{log-ticks}
 
 -- ---- whose they are
 
@@ -185,7 +187,13 @@ rising_ticking number index clock (event ∷ events) ticks =
     (above_ticking number (suc index) ticks.0 events ticks.5)
     (rising_ticking number (suc index) ticks.0 events ticks.5)
 
--- The stamps of the elements that a log evicts rise.
+-- The stamps of the elements that timely events evict rise.
+pub timely_rising : (header : Header) (number : ℕ) (events : List Event) → IsTimely header number events
+    → IsRising (evicted_among events)
+timely_rising header number events timely =
+    rising_ticking number 0 (opening number header).clock events timely.ticks
+
+-- And so those do that a log evicts.
 pub log_rising : (scheme : Scheme) (header : Header) (number : ℕ) (commands : List Command)
     → IsRising (evicted_among (log_events scheme header number commands))
 log_rising scheme header number commands =

@@ -5,15 +5,18 @@ use Rattle.merkle_records.specs.Merkle.{Digest}
 use Rattle.stamp_order.specs.Merged.{of_verifier}
 use Rattle.soundness.specs.History.{Event}
 use Rattle.soundness.specs.Certified.{event_moment}
-use Rattle.soundness.specs.Showing.{Shown, HasDone}
+use Rattle.soundness.specs.Showing.{Shown, HasDone, shown_after, IsFresh}
+use Rattle.soundness.specs.IsHistory.{IsChain}
 use Rattle.soundness.specs.World.{AllShown, with_shown}
-use Rattle.soundness.proofs.LawfulLemmas.{IsChain}
 
--- Each event is a step of its verifier's cache, from these caches on.
+-- Each event does what it tells to what its verifier's cache shows, from these caches on, as long as adds are of paths that
+-- aren't shown.
 abbrev pub IsRun : ℕ → Digest → AllShown → List Event → Type 0
 IsRun longest digest shown [] = Unit {0}
 IsRun longest digest shown (event ∷ events) =
-    (next : Shown) × HasDone longest digest (shown event.verifier) next event.change × IsRun longest digest (with_shown shown event.verifier next) events
+    let next = shown_after (shown event.verifier) event.change in
+    HasDone longest digest (shown event.verifier) next event.change
+    × (IsFresh (shown event.verifier) event.change → IsRun longest digest (with_shown shown event.verifier next) events)
 
 -- ---- runs from chains
 
@@ -22,7 +25,7 @@ pub chain_front : (longest : ℕ) (digest : Digest) (shown : Shown) (front back 
     → IsChain longest digest shown (front ++ back) → IsChain longest digest shown front
 chain_front longest digest shown [] back chain = tt
 chain_front longest digest shown (event ∷ front) back chain =
-    (chain.0, chain.1, chain_front longest digest chain.0 front back chain.2)
+    (chain.0, λ fresh. chain_front longest digest (shown_after shown event.change) front back (chain.1 fresh))
 
 -- the first event and those of its verifier behind it are its verifier's part
 own_part : (event : Event) (events : List Event)
@@ -41,22 +44,25 @@ pub run_of_parts : (longest : ℕ) (digest : Digest) (shown : AllShown) (events 
     → IsRun longest digest shown events
 run_of_parts longest digest shown [] parts = tt
 run_of_parts longest digest shown (event ∷ events) parts =
-    (own.0, own.1, run_of_parts longest digest (with_shown shown event.verifier own.0) events further)
+    (own.0, λ fresh. run_of_parts longest digest (with_shown shown event.verifier next) events (further fresh))
   where
+    next : Shown
+    next = shown_after (shown event.verifier) event.change
+
     own : IsChain longest digest (shown event.verifier) (event ∷ of_verifier event_moment event.verifier events)
     own = subst (IsChain longest digest (shown event.verifier)) (own_part event events) (parts event.verifier)
 
-    further : (v : ℕ)
-        → IsChain longest digest (with_shown shown event.verifier own.0 v) (of_verifier event_moment v events)
-    further v = go (cases_eq v event.verifier)
+    further : IsFresh (shown event.verifier) event.change → (v : ℕ)
+        → IsChain longest digest (with_shown shown event.verifier next v) (of_verifier event_moment v events)
+    further fresh v = go (cases_eq v event.verifier)
       where
         go : (v ≡ event.verifier) ⊎ (v ≡ event.verifier → ⊥)
-            → IsChain longest digest (with_shown shown event.verifier own.0 v) (of_verifier event_moment v events)
+            → IsChain longest digest (with_shown shown event.verifier next v) (of_verifier event_moment v events)
         go (inl same) =
             subst (λ (s : Shown). IsChain longest digest s (of_verifier event_moment v events))
-            (sym (ap (λ (b : Bool). if b then own.0 else shown v) (eq-eqb v event.verifier same)))
-            (subst (λ (w : ℕ). IsChain longest digest own.0 (of_verifier event_moment w events)) (sym same) own.2)
+            (sym (ap (λ (b : Bool). if b then next else shown v) (eq-eqb v event.verifier same)))
+            (subst (λ (w : ℕ). IsChain longest digest next (of_verifier event_moment w events)) (sym same) (own.1 fresh))
         go (inr apart) =
             subst (λ (s : Shown). IsChain longest digest s (of_verifier event_moment v events))
-            (sym (ap (λ (b : Bool). if b then own.0 else shown v) (ne_eqb v event.verifier apart)))
+            (sym (ap (λ (b : Bool). if b then next else shown v) (ne_eqb v event.verifier apart)))
             (subst (IsChain longest digest (shown v)) (other_part event events v apart) (parts v))

@@ -1,5 +1,5 @@
 -- A run in which each element that comes was waiting is serial, or its first clash is a collision.
-use Rattle.std.proofs.Common.{◌≡◌, ◌≢◌, ◌⊎◌, ℕ, zero, suc, ◌≤◌, Bool, true, false, List, [], ◌∷◌, map, Option, Some, None, refl, sym, ◌∙◌, ap, subst, inl, inr, arith, eqb}
+use Rattle.std.proofs.Common.{◌≡◌, ◌≢◌, ◌⊎◌, ℕ, zero, suc, ◌≤◌, Bool, true, false, List, [], ◌∷◌, map, Option, Some, None, is_some, IsNone, refl, sym, ◌∙◌, ap, subst, inl, inr, arith, eqb}
 use Rattle.std.specs.Option.{option_or}
 use Rattle.std.specs.Map.{update}
 use Rattle.std.proofs.lemmas.Bool.{true≢false}
@@ -16,14 +16,14 @@ use Rattle.soundness.specs.Clash.{LastEvicted, Strings, last_evicted_after, clas
 use Rattle.soundness.specs.Collision.{IsCollision}
 use Rattle.soundness.specs.Permutation.{same_element, count_of, without_one}
 use Rattle.soundness.specs.Scheduled.{IsScheduledBy, IsScheduled}
-use Rattle.soundness.specs.Showing.{HasDone}
+use Rattle.soundness.specs.Showing.{Shown, DidAddM, HasDone, shown_after, IsFresh}
 use Rattle.soundness.specs.Spot.{Spot, untouched, cached, merkle, waiting, Spots, IsKind}
-use Rattle.soundness.specs.World.{AllShown, with_shown, Stored, IsWorld, IsWaiting}
+use Rattle.soundness.specs.World.{cached_in, AllShown, with_shown, Stored, IsWorld, IsWaiting, TakesWhatIsThere}
 use Rattle.soundness.proofs.PermutationLaws.{same_element-true, same_element-self, one_more, count_without}
 use Rattle.soundness.proofs.MovedLemmas.{this_or_other}
 use Rattle.soundness.proofs.WorldLemmas.{spot_of_shown}
 use Rattle.soundness.proofs.JoinLemmas.{KeepsWaiting, KeepsElsewhere, not_waiting}
-use Rattle.soundness.proofs.KnownLemmas.{HasOneText, Clashes, Passes, join_step}
+use Rattle.soundness.proofs.KnownLemmas.{HasOneText, Clashes, Passes, join_step, join_takes}
 use Rattle.soundness.proofs.LeaveLemmas.{LeftAt, leave_step, defer_step}
 use Rattle.soundness.proofs.SingleLemmas.{come_step, go_step, same_step, read_value, write_step}
 use Rattle.soundness.proofs.RunLemmas.{IsRun}
@@ -137,6 +137,58 @@ free_at longest digest shown last stored spots home child element world had path
     not_waiting (spots element.path) (cached home child) x
     (ap spots path ∙ spot_of_shown home (spots child.path) child (sym (world.shows home child.path) ∙ had)) refl there
 
+-- ---- what comes
+
+-- What comes takes what is there, where it shows no clash.
+pub takes_there : (longest : ℕ) (digest : Digest) → HasOneText longest → (home : ℕ) (shown : AllShown) (next : Shown)
+    (last : LastEvicted) (stored : Stored) (spots : Spots) (pending : List Element) (behind : List Element → Type 0)
+    → IsWorld longest digest shown last stored spots → IsWaiting spots pending
+    → (change : Change) → HasDone longest digest (shown home) next change → IsScheduledBy pending change behind
+    → clash_of last change ≡ None
+    → TakesWhatIsThere last spots change
+takes_there longest digest one home shown next last stored spots pending behind world waits = go
+  where
+    joined : (parent after child : Entry) → (spots child.path ≡ untouched) ⊎ (spots child.path ≡ merkle child.value)
+        → TakesWhatIsThere last spots (did_add_m parent after child)
+    joined parent after child (inl is) = inl is
+    joined parent after child (inr is) = inr (is, world.was_evicted child.path child.value is)
+
+    go : (change : Change) → HasDone longest digest (shown home) next change → IsScheduledBy pending change behind
+        → clash_of last change ≡ None → TakesWhatIsThere last spots change
+    go (did_add_m parent after child) did scheduled free =
+        joined parent after child
+        (join_takes longest digest shown last stored spots home next parent after child one world did free)
+    go (did_evict_m parent after child) did scheduled free = tt
+    go (did_add_b child element) did scheduled free =
+        let there = waits.each element (waits_once_out element pending scheduled.0 scheduled.1) in
+        (ap (λ (e : Entry). spots e.path) did.came_as ∙ there, ap (λ (e : Entry). e.value) did.came_as)
+    go (did_evict_b child element) did scheduled free = tt
+    go (did_evict_bm parent after child element) did scheduled free = tt
+    go (did_get entry) did scheduled free = tt
+    go (did_put before after) did scheduled free = tt
+    go (did_next_epoch sealed) did scheduled free = tt
+
+-- What takes what is there comes to a path that no cache shows.
+pub fresh_there : (longest : ℕ) (digest : Digest) (shown : AllShown) (last : LastEvicted) (stored : Stored) (spots : Spots)
+    (home : ℕ) → IsWorld longest digest shown last stored spots
+    → (change : Change) → TakesWhatIsThere last spots change → IsFresh (shown home) change
+fresh_there longest digest shown last stored spots home world = go
+  where
+    not_shown : (path : List Bool) (spot : Spot) → spots path ≡ spot → cached_in home spot ≡ None → IsNone (shown home path)
+    not_shown path spot is none =
+        ap (λ (o : Option Entry). is_some o) (world.shows home path ∙ ap (cached_in home) is ∙ none)
+
+    go : (change : Change) → TakesWhatIsThere last spots change → IsFresh (shown home) change
+    go (did_add_m parent after child) (inl is) = not_shown child.path untouched is refl
+    go (did_add_m parent after child) (inr is) = not_shown child.path (merkle child.value) is.0 refl
+    go (did_add_b child element) takes = not_shown child.path (waiting element) takes.0 refl
+    go (did_evict_m parent after child) takes = tt
+    go (did_evict_b child element) takes = tt
+    go (did_evict_bm parent after child element) takes = tt
+    go (did_get entry) takes = tt
+    go (did_put before after) takes = tt
+    go (did_next_epoch sealed) takes = tt
+
 -- ---- the run
 
 -- the first clash is a collision
@@ -163,18 +215,25 @@ pub run_keeps : (longest : ℕ) (digest : Digest) → HasOneText longest → Giv
     → Collides digest last events ⊎ IsSound last stored events
 run_keeps longest digest one digests [] shown last stored spots pending world waits run scheduled = inr (refl, tt)
 run_keeps longest digest one digests (event ∷ events) shown last stored spots pending world waits run scheduled =
-    go (λ last stored spots pending world waits scheduled.
-    run_keeps longest digest one digests events (with_shown shown event.verifier run.0) last stored spots pending world waits run.2 scheduled)
-    event.change run.1 scheduled
+    go (λ last stored spots pending world waits run scheduled.
+    run_keeps longest digest one digests events next_shown last stored spots pending world waits run scheduled)
+    event.change run.1 run.0 scheduled
   where
+    next : Shown
+    next = shown_after (shown event.verifier) event.change
+
     next_shown : AllShown
-    next_shown = with_shown shown event.verifier run.0
+    next_shown = with_shown shown event.verifier next
 
     Further : Type 0
     Further =
         (last : LastEvicted) (stored : Stored) (spots : Spots) (pending : List Element)
-        → IsWorld longest digest next_shown last stored spots → IsWaiting spots pending → IsScheduled pending events
+        → IsWorld longest digest next_shown last stored spots → IsWaiting spots pending → IsRun longest digest next_shown events → IsScheduled pending events
         → Collides digest last events ⊎ IsSound last stored events
+
+    -- what follows is a run, where an add is of a path that isn't shown
+    RunsOn : Change → Type 0
+    RunsOn change = IsFresh (shown event.verifier) change → IsRun longest digest next_shown events
 
     Behind : Change → Type 0
     Behind change = CollidesBehind digest last change events ⊎ (IsFree last change events × IsSerialFrom stored (operations_in (record event { change = change } ∷ events)))
@@ -193,56 +252,60 @@ run_keeps longest digest one digests (event ∷ events) shown last stored spots 
       same sound.1,
     )
 
-    joined : Further → (parent after child : Entry) → IsScheduled pending events
+    joined : Further → (parent after child : Entry) → RunsOn (did_add_m parent after child) → DidAddM longest digest (shown event.verifier) next parent after child → IsScheduled pending events
         → Clashes digest last (did_add_m parent after child) ⊎ Passes longest digest next_shown last last stored spots (did_add_m parent after child)
         → Behind (did_add_m parent after child)
-    joined further parent after child scheduled (inl clashes) = inl (
+    joined further parent after child on did scheduled (inl clashes) = inl (
       clashes.0,
       ap (λ (o : Option Strings). option_or o (first_clash last (map (λ (event : Event). event.change) events))) clashes.1,
       clashes.2,
     )
-    joined further parent after child scheduled (inr passes) =
+    joined further parent after child on did scheduled (inr passes) =
         let world_then = passes.1 in
+        let takes = takes_there longest digest one event.verifier shown next last stored spots pending (λ after. IsScheduled after events) world waits (did_add_m parent after child) did scheduled passes.0 in
+        let fresh = fresh_there longest digest shown last stored spots event.verifier world (did_add_m parent after child) takes in
         plain (did_add_m parent after child) passes.0 (λ serial. serial)
-        (further last stored world_then.0 pending world_then.1 (wait_on spots world_then.0 pending world_then.2 world_then.3 waits) scheduled)
+        (further last stored world_then.0 pending world_then.1 (wait_on spots world_then.0 pending world_then.2 world_then.3 waits) (on fresh) scheduled)
 
-    went : Further → (change : Change) (element : Element) → clash_of last change ≡ None → last_evicted_after last change ≡ last
+    went : Further → (change : Change) (element : Element) → IsRun longest digest next_shown events → clash_of last change ≡ None → last_evicted_after last change ≡ last
         → (IsSerialFrom stored (operations_in events) → IsSerialFrom stored (operations_in (record event { change = change } ∷ events)))
         → ((x : Element) → spots element.path ≡ waiting x → ⊥)
         → LeftAt longest digest next_shown last stored spots element.path (waiting element) → IsScheduled (element ∷ pending) events → Behind change
-    went further change element none same quiet free left scheduled =
+    went further change element run none same quiet free left scheduled =
         plain change none quiet
         (subst (λ (t : LastEvicted). Collides digest t events ⊎ IsSound t stored events) (sym same)
-        (further last stored left.0 (element ∷ pending) left.1 (wait_more spots left.0 pending element left.2 left.3 left.4 free waits) scheduled))
+        (further last stored left.0 (element ∷ pending) left.1 (wait_more spots left.0 pending element left.2 left.3 left.4 free waits) run scheduled))
 
-    go : Further → (change : Change) → HasDone longest digest (shown event.verifier) run.0 change → IsScheduledBy pending change (λ after. IsScheduled after events) → Behind change
-    go further (did_add_m parent after child) did scheduled =
-        joined further parent after child scheduled (join_step longest digest shown last stored spots event.verifier run.0 parent after child one digests world did)
-    go further (did_evict_m parent after child) did scheduled =
-        let world_then = leave_step longest digest shown last stored spots event.verifier run.0 parent after child digests world did in
+    go : Further → (change : Change) → RunsOn change → HasDone longest digest (shown event.verifier) next change → IsScheduledBy pending change (λ after. IsScheduled after events) → Behind change
+    go further (did_add_m parent after child) on did scheduled =
+        joined further parent after child on did scheduled (join_step longest digest shown last stored spots event.verifier next parent after child one digests world did)
+    go further (did_evict_m parent after child) on did scheduled =
+        let world_then = leave_step longest digest shown last stored spots event.verifier next parent after child digests world did in
         plain (did_evict_m parent after child) refl (λ serial. serial)
-        (further (last_evicted_after last (did_evict_m parent after child)) stored world_then.0 pending world_then.1 (wait_on spots world_then.0 pending world_then.2 world_then.3 waits) scheduled)
-    go further (did_add_b child element) did scheduled =
-        let back = come_step longest digest shown last stored spots event.verifier run.0 child element world did (waits.each element (waits_once_out element pending scheduled.0 scheduled.1)) in
+        (further (last_evicted_after last (did_evict_m parent after child)) stored world_then.0 pending world_then.1 (wait_on spots world_then.0 pending world_then.2 world_then.3 waits) (on tt) scheduled)
+    go further (did_add_b child element) on did scheduled =
+        let takes = takes_there longest digest one event.verifier shown next last stored spots pending (λ after. IsScheduled after events) world waits (did_add_b child element) did scheduled refl in
+        let fresh = fresh_there longest digest shown last stored spots event.verifier world (did_add_b child element) takes in
+        let back = come_step longest digest shown last stored spots event.verifier next child element world did (waits.each element (waits_once_out element pending scheduled.0 scheduled.1)) in
         plain (did_add_b child element) refl (λ serial. serial)
-        (further last stored back.0 scheduled.0 back.1 (wait_less spots back.0 pending scheduled.0 element scheduled.1 back.2 back.3 (waits_own longest digest shown last stored spots world) waits) scheduled.2)
-    go further (did_evict_b child element) did scheduled =
-        went further (did_evict_b child element) element refl refl (λ serial. serial) (free_at longest digest shown last stored spots event.verifier child element world did.had_child did.path)
-        (go_step longest digest shown last stored spots event.verifier run.0 child element world did) scheduled
-    go further (did_evict_bm parent after child element) did scheduled =
-        went further (did_evict_bm parent after child element) element refl refl (λ serial. serial) (free_at longest digest shown last stored spots event.verifier child element world did.had_child did.path)
-        (defer_step longest digest shown last stored spots event.verifier run.0 parent after child element world did) scheduled
-    go further (did_get entry) did scheduled =
+        (further last stored back.0 scheduled.0 back.1 (wait_less spots back.0 pending scheduled.0 element scheduled.1 back.2 back.3 (waits_own longest digest shown last stored spots world) waits) (on fresh) scheduled.2)
+    go further (did_evict_b child element) on did scheduled =
+        went further (did_evict_b child element) element (on tt) refl refl (λ serial. serial) (free_at longest digest shown last stored spots event.verifier child element world did.had_child did.path)
+        (go_step longest digest shown last stored spots event.verifier next child element world did) scheduled
+    go further (did_evict_bm parent after child element) on did scheduled =
+        went further (did_evict_bm parent after child element) element (on tt) refl refl (λ serial. serial) (free_at longest digest shown last stored spots event.verifier child element world did.had_child did.path)
+        (defer_step longest digest shown last stored spots event.verifier next parent after child element world did) scheduled
+    go further (did_get entry) on did scheduled =
         plain (did_get entry) refl
-        (λ serial. (λ get. read_value longest digest shown last stored spots event.verifier run.0 entry world did, serial))
-        (further last stored spots pending (same_step longest digest shown last stored spots event.verifier run.0 world did.shown) waits scheduled)
-    go further (did_put before after) did scheduled =
-        let world_then = write_step longest digest shown last stored spots event.verifier run.0 before after world did in
-        written (further last (update eqb stored (number_of after.path) (blob_of after.value)) world_then.0 pending world_then.1 (wait_on spots world_then.0 pending world_then.2 world_then.3 waits) scheduled)
+        (λ serial. (λ get. read_value longest digest shown last stored spots event.verifier next entry world did, serial))
+        (further last stored spots pending (same_step longest digest shown last stored spots event.verifier next world did.shown) waits (on tt) scheduled)
+    go further (did_put before after) on did scheduled =
+        let world_then = write_step longest digest shown last stored spots event.verifier next before after world did in
+        written (further last (update eqb stored (number_of after.path) (blob_of after.value)) world_then.0 pending world_then.1 (wait_on spots world_then.0 pending world_then.2 world_then.3 waits) (on tt) scheduled)
       where
         written : Collides digest last events ⊎ IsSound last (update eqb stored (number_of after.path) (blob_of after.value)) events → Behind (did_put before after)
         written (inl collides) = inl collides
         written (inr sound) = inr (sound.0, (λ get. absurd (true≢false get), sound.1))
-    go further (did_next_epoch sealed) did scheduled =
+    go further (did_next_epoch sealed) on did scheduled =
         plain (did_next_epoch sealed) refl (λ serial. serial)
-        (further last stored spots pending (same_step longest digest shown last stored spots event.verifier run.0 world did) waits scheduled)
+        (further last stored spots pending (same_step longest digest shown last stored spots event.verifier next world did) waits (on tt) scheduled)

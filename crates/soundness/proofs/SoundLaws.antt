@@ -10,17 +10,17 @@ use Rattle.record_text.specs.Longest.{longest_blob}
 use Rattle.log_codec.specs.declared.command.Command.{Command}
 use Rattle.record_hash.specs.Functions.{DigestFunctions}
 use Rattle.merkle_records.specs.Merkle.{GivesDigests}
-use Rattle.merkle_records.specs.Scheme.{Scheme, scheme_of}
+use Rattle.merkle_records.specs.Scheme.{scheme_of}
 use Rattle.stamp_order.specs.Serial.{none_everywhere}
 use Rattle.stamp_order.specs.Merged.{IsMerged, up_to}
-use Rattle.stamp_order.proofs.InOrderLaws.{every-weaker}
-use Rattle.soundness.specs.History.{Event, log_events, histories_of}
+use Rattle.soundness.specs.History.{Event, histories_of}
 use Rattle.soundness.specs.Certified.{operations_in, event_moment, order_of, order_up_to, order_within, added_in, evicted_in, sum_over}
 use Rattle.soundness.specs.Clash.{Strings, none_evicted, first_clash}
 use Rattle.soundness.specs.Collision.{Collides}
 use Rattle.soundness.specs.Exhibit.{first_uneven, exhibit_by, exhibit_of}
 use Rattle.soundness.specs.Timed.{IsTimed}
 use Rattle.soundness.specs.Typed.{IsTyped}
+use Rattle.soundness.specs.IsHistory.{AreHistories}
 use Rattle.soundness.specs.Sound.{AreBalanced, IsSerialOrCollides}
 use Rattle.soundness.specs.Permutation.{count_of}
 use Rattle.soundness.specs.Spot.{untouched, waiting}
@@ -30,8 +30,8 @@ use Rattle.soundness.proofs.KnownLemmas.{HasOneText}
 use Rattle.soundness.proofs.PermutationLaws.{count_permuted}
 use Rattle.soundness.proofs.SerialLemmas.{run_keeps, Collides as CollidesAt, IsSound}
 use Rattle.soundness.proofs.ScheduleLemmas.{AreEven, scheduled}
-use Rattle.soundness.proofs.HistoryLaws.{IsOfLog, log-merged, log-epochs}
-use Rattle.soundness.proofs.OrderLemmas.{AreHistories, order_run, order_timed, order_sorted, order_splits}
+use Rattle.soundness.proofs.LogHistoryLemmas.{logs_histories}
+use Rattle.soundness.proofs.OrderLemmas.{are_timely, order_run, order_timed, order_sorted, order_splits}
 use Rattle.soundness.proofs.OpeningLemmas.{opening_spots, opening_world}
 use Rattle.soundness.proofs.CertifiedLaws.{same_sum-true, even_where_none, uneven_where_some}
 
@@ -39,14 +39,6 @@ use Rattle.soundness.proofs.CertifiedLaws.{same_sum-true, even_where_none, uneve
 pub one_text : HasOneText longest_blob
 one_text path a b is_a is_b same =
     (one_value longest_blob path path a b [] [] refl is_a is_b (ap (λ (text : List ℕ). text ++ []) same)).0
-
--- the events of logs are in order, and each log's are its verifier's
-pub are_histories : (scheme : Scheme) (header : Header) → AreHistories scheme header
-are_histories scheme header = record {
-  sorted = log-merged scheme header;
-  whose = λ number commands. every-weaker (IsOfLog number header) (λ event. event.verifier ≡ number)
-      (λ event is. is.0) (log_events scheme header number commands) (log-epochs scheme header number commands);
-}
 
 -- events up to an epoch are of no later one
 pub all_within : (epoch : ℕ) (events : List Event) → AllByRecursion (λ event. event.at.epoch ≤ epoch) (up_to event_moment epoch events)
@@ -66,16 +58,14 @@ none_waiting = record { each = λ x there. absurd (omega (arith, there)); once =
     only [] x there = absurd (not_waiting (opening_spots []) (opening_spots []) x refl refl there)
     only (bit ∷ path) x there = absurd (not_waiting (opening_spots (bit ∷ path)) untouched x refl refl there)
 
-pub sound : (functions : DigestFunctions) (header : Header) (logs : List (List Command)) (count : ℕ)
-    → GivesDigests functions.digest → AllByRecursion (AllByRecursion (IsTyped longest_blob)) logs
-    → AreBalanced (scheme_of functions header) (order_of (histories_of (scheme_of functions header) header logs)) header.first count
-    → IsSerialOrCollides (scheme_of functions header) (exhibit_of header.first count (histories_of (scheme_of functions header) header logs))
-    (operations_in (order_within header.first count (histories_of (scheme_of functions header) header logs)))
-sound functions header logs count digests typed balanced = by (first_uneven order header.first count) refl
+-- Of any histories.
+pub histories_sound : (functions : DigestFunctions) (header : Header) (histories : List (List Event)) (count : ℕ)
+    → GivesDigests functions.digest → AreHistories longest_blob functions.digest header 0 histories
+    → AreBalanced (scheme_of functions header) (order_of histories) header.first count
+    → IsSerialOrCollides (scheme_of functions header) (exhibit_of header.first count histories)
+    (operations_in (order_within header.first count histories))
+histories_sound functions header histories count digests are balanced = by (first_uneven order header.first count) refl
   where
-    histories : List (List Event)
-    histories = histories_of (scheme_of functions header) header logs
-
     order : List Event
     order = order_of histories
 
@@ -92,11 +82,12 @@ sound functions header logs count digests typed balanced = by (first_uneven orde
         let split = order_splits (header.first + n) histories in
         run_keeps longest_blob functions.digest one_text digests (order_up_to (header.first + n) histories) (opening_shown header) none_evicted none_everywhere opening_spots []
         (opening_world functions.digest header) none_waiting
-        (order_run (scheme_of functions header) header (are_histories (scheme_of functions header) header) logs (header.first + n) typed)
+        (order_run header longest_blob functions.digest histories (header.first + n) are)
         (scheduled header.first (header.first + n) (order_up_to (header.first + n) histories) split.0
         (all_within (header.first + n) order)
         (subst (λ (l : List Event). IsMerged event_moment l) split.1 (order_sorted histories))
-        (subst (λ (l : List Event). AllByRecursion (λ event. IsTimed header.first event.at event.change) l) split.1 (order_timed (scheme_of functions header) header logs))
+        (subst (λ (l : List Event). AllByRecursion (λ event. IsTimed header.first event.at event.change) l) split.1
+        (order_timed header histories (are_timely longest_blob functions.digest header 0 histories are)))
         (subst (λ (l : List Event). AreEven header.first (header.first + n) l) split.1 even))
 
     all_even : (n : ℕ) → first_uneven order header.first (suc n) ≡ None → AreEven header.first (header.first + n) order
@@ -123,3 +114,13 @@ sound functions header logs count digests typed balanced = by (first_uneven orde
         let uneven = uneven_where_some order header.first count epoch is in
         inr (subst (Collides (scheme_of functions header)) (sym (ap (λ (o : Option ℕ). exhibit_by order o clash) is))
         (uneven.2, same_sum-true (sum_over (scheme_of functions header) (added_in epoch order)) (sum_over (scheme_of functions header) (evicted_in epoch order)) (balanced epoch uneven.0 uneven.1)))
+
+-- And so of those of logs.
+pub sound : (functions : DigestFunctions) (header : Header) (logs : List (List Command)) (count : ℕ)
+    → GivesDigests functions.digest → AllByRecursion (AllByRecursion (IsTyped longest_blob)) logs
+    → AreBalanced (scheme_of functions header) (order_of (histories_of (scheme_of functions header) header logs)) header.first count
+    → IsSerialOrCollides (scheme_of functions header) (exhibit_of header.first count (histories_of (scheme_of functions header) header logs))
+    (operations_in (order_within header.first count (histories_of (scheme_of functions header) header logs)))
+sound functions header logs count digests typed balanced =
+    histories_sound functions header (histories_of (scheme_of functions header) header logs) count digests
+    (logs_histories (scheme_of functions header) header 0 logs typed) balanced

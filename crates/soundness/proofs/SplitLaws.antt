@@ -1,23 +1,21 @@
 -- What stands in the order of its moments begins with what is in the epochs up to any one.
 use Rattle.std.proofs.Common.{◌≡◌, ◌⊎◌, ℕ, ◌<◌, ◌≤◌, nat_le, Bool, true, false, List, [], ◌∷◌, ◌++◌, refl, sym, ◌∙◌, ap, subst, inl, inr, arith}
-use Rattle.merkle_records.specs.Scheme.{Scheme}
 use Rattle.std.specs.List.{AllByRecursion}
 use Rattle.std.proofs.lemmas.Bool.{true≢false, cases_lt, cond-true, cond-false}
 use Rattle.std.proofs.lemmas.Bool.Decides.{nat_tests}
 use Rattle.lamport_clocks.specs.declared.header.Header.{Header}
-use Rattle.log_codec.specs.declared.command.Command.{Command}
-use Rattle.soundness.specs.Typed.{IsTyped}
+use Rattle.merkle_records.specs.Merkle.{Digest}
 use Rattle.stamp_order.specs.declared.moment.Moment.{Moment}
 use Rattle.stamp_order.specs.Moment.{is_before}
 use Rattle.stamp_order.specs.Merged.{comes_before, IsMerged, up_to}
 use Rattle.stamp_order.proofs.InOrderLaws.{every-weaker}
 use Rattle.stamp_order.proofs.MomentLaws.{is_before-epoch}
 use Rattle.verifier_commands.specs.State.{opening}
-use Rattle.verifier_commands.specs.Machine.{opening_machine}
-use Rattle.soundness.specs.History.{log_events}
+use Rattle.soundness.specs.History.{Event}
 use Rattle.soundness.specs.Certified.{event_moment}
 use Rattle.soundness.specs.Showing.{shown_by}
-use Rattle.soundness.proofs.LawfulLemmas.{IsChain, log_run, opening-distinct}
+use Rattle.soundness.specs.IsHistory.{IsChain, IsHistory}
+use Rattle.soundness.proofs.HistoryLaws.{timely-merged}
 use Rattle.soundness.proofs.RunLemmas.{chain_front}
 
 -- what doesn't come before a moment is not in an earlier epoch
@@ -63,18 +61,11 @@ module _ {X : Type 0} (at : X → Moment) where
           ) in
           (x ∷ xs, ap (λ zs. zs ++ x ∷ xs) (sym (up_to-later epoch (x ∷ xs) all)), all)
 
--- The events of a log in the epochs up to one are a chain, where the log's events stand in order.
-pub log_run_up_to : (scheme : Scheme) (header : Header) (number epoch : ℕ)
-    (commands : List Command)
-    → AllByRecursion (IsTyped scheme.longest) commands
-    → IsMerged event_moment (log_events scheme header number commands)
-    → IsChain scheme.longest scheme.digest (shown_by (opening number header))
-    (up_to event_moment epoch (log_events scheme header number commands))
-log_run_up_to scheme header number epoch commands ranges sorted =
-    let events = log_events scheme header number commands in
-    let split = split_up_to event_moment epoch events sorted in
-    let whole : IsChain scheme.longest scheme.digest (shown_by (opening number header)) events =
-    log_run scheme (opening_machine number header) commands ranges
-    (opening-distinct number header) in
-    chain_front scheme.longest scheme.digest (shown_by (opening number header)) (up_to event_moment epoch events) split.0
-    (subst (IsChain scheme.longest scheme.digest (shown_by (opening number header))) split.1 whole)
+-- The events of a history in the epochs up to one are a chain.
+pub chain_up_to : (longest : ℕ) (digest : Digest) (header : Header) (number epoch : ℕ) (events : List Event)
+    → IsHistory longest digest header number events
+    → IsChain longest digest (shown_by (opening number header)) (up_to event_moment epoch events)
+chain_up_to longest digest header number epoch events history =
+    let split = split_up_to event_moment epoch events (timely-merged header number events history.timely) in
+    chain_front longest digest (shown_by (opening number header)) (up_to event_moment epoch events) split.0
+    (subst (IsChain longest digest (shown_by (opening number header))) split.1 history.chain)

@@ -1,80 +1,34 @@
 -- Behind each front of a run that shows no clash, the spots agree with what the front left, and what comes next takes
 -- what is there.
-use Rattle.std.proofs.Common.{◌≡◌, ◌⊎◌, ℕ, Bool, true, false, List, [], ◌∷◌, ◌++◌, Option, Some, None, eqb, if◌then◌else◌, refl, sym, ◌∙◌, ap, subst, inl, inr}
+use Rattle.std.proofs.Common.{◌≡◌, ◌⊎◌, ℕ, List, [], ◌∷◌, ◌++◌, Option, Some, None, refl, sym, ◌∙◌, ap, subst, inl, inr}
 use Rattle.record_hash.specs.Functions.{DigestFunctions}
-use Rattle.record_text.specs.Longest.{longest_blob}
-use Rattle.merkle_records.specs.Scheme.{scheme_of}
 use Rattle.std.specs.Option.{unwrap_or, option_or}
 use Rattle.std.proofs.lemmas.Option.{none-some}
-use Rattle.tree_keys.specs.Path.{same_path}
 use Rattle.lamport_clocks.specs.declared.header.Header.{Header}
 use Rattle.record_text.specs.declared.element.Element.{Element}
 use Rattle.record_text.specs.declared.operation.Operation.{Operation}
-use Rattle.log_codec.specs.declared.command.Command.{Command}
+use Rattle.record_text.specs.Longest.{longest_blob}
 use Rattle.merkle_records.specs.Merkle.{Digest, GivesDigests}
 use Rattle.stamp_order.specs.Serial.{none_everywhere, map_after}
 use Rattle.verifier_cache.specs.declared.entry.Entry.{Entry}
 use Rattle.verifier_commands.specs.Change.{Change, did_add_m, did_evict_m, did_add_b, did_evict_b, did_evict_bm, did_get, did_put, did_next_epoch}
-use Rattle.soundness.specs.History.{Event, histories_of}
+use Rattle.soundness.specs.History.{Event}
 use Rattle.soundness.specs.Certified.{order_of, order_up_to, operations_by, operations_in}
 use Rattle.soundness.specs.Clash.{LastEvicted, Strings, none_evicted, last_evicted_after, clash_of, first_clash}
 use Rattle.soundness.specs.Scheduled.{IsScheduledBy, IsScheduled, ArePermuted}
-use Rattle.soundness.specs.Showing.{Shown, showing, ShowSame, showing_both, HasDone}
-use Rattle.soundness.specs.Spot.{untouched, merkle, waiting, Spots}
-use Rattle.soundness.specs.Sound.{AreTyped}
-use Rattle.soundness.specs.World.{AllShown, with_shown, Stored, IsWorld, IsWaiting, opening_shown, shown_after, shown_behind, changes_in, last_evicted_behind, pending_after, pending_behind, stored_behind, IsBehind, HaveSpots, TakesWhatIsThere, TakesFromSpots}
-use Rattle.soundness.proofs.KnownLemmas.{HasOneText, Clashes, Passes, join_step, join_takes}
+use Rattle.soundness.specs.Showing.{Shown, HasDone, shown_after, IsFresh}
+use Rattle.soundness.specs.IsHistory.{AreHistories}
+use Rattle.soundness.specs.Spot.{waiting, Spots}
+use Rattle.soundness.specs.World.{AllShown, with_shown, Stored, IsWorld, IsWaiting, opening_shown, shown_behind, changes_in, last_evicted_behind, pending_after, pending_behind, stored_behind, IsBehind, HaveSpots, TakesFromSpots}
+use Rattle.soundness.proofs.KnownLemmas.{HasOneText, Clashes, Passes, join_step}
 use Rattle.soundness.proofs.LeaveLemmas.{LeftAt, leave_step, defer_step}
 use Rattle.soundness.proofs.SingleLemmas.{come_step, go_step, same_step, write_step}
 use Rattle.soundness.proofs.RunLemmas.{IsRun}
-use Rattle.soundness.proofs.SerialLemmas.{wait_on, wait_more, wait_less, waits_once_out, waits_own, free_at}
-use Rattle.soundness.proofs.OrderLemmas.{order_run}
+use Rattle.soundness.proofs.SerialLemmas.{wait_on, wait_more, wait_less, waits_once_out, waits_own, free_at, takes_there, fresh_there}
+use Rattle.soundness.proofs.OrderLemmas.{are_timely, order_run}
 use Rattle.soundness.proofs.OpeningLemmas.{opening_spots, opening_world}
-use Rattle.soundness.proofs.SoundLaws.{one_text, are_histories, none_waiting}
+use Rattle.soundness.proofs.SoundLaws.{one_text, none_waiting}
 use Rattle.soundness.proofs.WholeLaws.{order_scheduled}
-
--- ---- what the caches show
-
--- all caches show the same of each path
-abbrev AllShowSame : AllShown → AllShown → Type 0
-AllShowSame a b = (home : ℕ) → ShowSame (a home) (b home)
-
-showing_same : (a b : Shown) (path : List Bool) (entry : Option Entry) → ShowSame a b
-    → ShowSame (showing a path entry) (showing b path entry)
-showing_same a b path entry same other =
-    ap (λ (o : Option Entry). if same_path path other then entry else o) (same other)
-
-both_same : (a b : Shown) (parent : Entry) (path : List Bool) (child : Option Entry) → ShowSame a b
-    → ShowSame (showing_both a parent path child) (showing_both b parent path child)
-both_same a b parent path child same =
-    showing_same (showing a parent.path (Some parent)) (showing b parent.path (Some parent)) path child
-    (showing_same a b parent.path (Some parent) same)
-
--- what a step leaves in its cache is what its change tells
-did_shown : (longest : ℕ) (digest : Digest) (old told new : Shown) → ShowSame old told → (change : Change)
-    → HasDone longest digest old new change → ShowSame new (shown_after told change)
-did_shown longest digest old told new same (did_add_m parent after child) did path =
-    did.shown path ∙ both_same old told after child.path (Some child) same path
-did_shown longest digest old told new same (did_evict_m parent after child) did path =
-    did.shown path ∙ both_same old told after child.path None same path
-did_shown longest digest old told new same (did_add_b child element) did path =
-    did.shown path ∙ showing_same old told child.path (Some child) same path
-did_shown longest digest old told new same (did_evict_b child element) did path =
-    did.shown path ∙ showing_same old told child.path None same path
-did_shown longest digest old told new same (did_evict_bm parent after child element) did path =
-    did.shown path ∙ both_same old told after child.path None same path
-did_shown longest digest old told new same (did_get entry) did path = did.shown path ∙ same path
-did_shown longest digest old told new same (did_put before after) did path =
-    did.shown path ∙ showing_same old told before.path (Some after) same path
-did_shown longest digest old told new same (did_next_epoch sealed) did path = did path ∙ same path
-
-with_same : (a b : AllShown) (home : ℕ) (new told : Shown) → AllShowSame a b → ShowSame new told
-    → AllShowSame (with_shown a home new) (with_shown b home told)
-with_same a b home new told same here other path = go (eqb other home)
-  where
-    go : (is : Bool) → (if is then new else a other) path ≡ (if is then told else b other) path
-    go true = here path
-    go false = same other path
 
 -- ---- folds
 
@@ -173,59 +127,17 @@ module _ (longest : ℕ) (digest : Digest) (one : HasOneText longest) where
       go (did_next_epoch sealed) did scheduled free =
           (spots, same_step longest digest shown last stored spots home next world did, waits, scheduled)
 
-  -- And it takes what is there.
-  takes_there : (home : ℕ) (shown : AllShown) (next : Shown) (last : LastEvicted) (stored : Stored) (spots : Spots)
-      (pending : List Element) (behind : List Element → Type 0)
-      → IsWorld longest digest shown last stored spots → IsWaiting spots pending
-      → (change : Change) → HasDone longest digest (shown home) next change → IsScheduledBy pending change behind
-      → clash_of last change ≡ None
-      → TakesWhatIsThere last spots change
-  takes_there home shown next last stored spots pending behind world waits = go
-    where
-      joined : (parent after child : Entry) → (spots child.path ≡ untouched) ⊎ (spots child.path ≡ merkle child.value)
-          → TakesWhatIsThere last spots (did_add_m parent after child)
-      joined parent after child (inl is) = inl is
-      joined parent after child (inr is) = inr (is, world.was_evicted child.path child.value is)
-
-      go : (change : Change) → HasDone longest digest (shown home) next change → IsScheduledBy pending change behind
-          → clash_of last change ≡ None → TakesWhatIsThere last spots change
-      go (did_add_m parent after child) did scheduled free =
-          joined parent after child
-          (join_takes longest digest shown last stored spots home next parent after child one world did free)
-      go (did_evict_m parent after child) did scheduled free = tt
-      go (did_add_b child element) did scheduled free =
-          let there = waits.each element (waits_once_out element pending scheduled.0 scheduled.1) in
-          (ap (λ (e : Entry). spots e.path) did.came_as ∙ there, ap (λ (e : Entry). e.value) did.came_as)
-      go (did_evict_b child element) did scheduled free = tt
-      go (did_evict_bm parent after child element) did scheduled free = tt
-      go (did_get entry) did scheduled free = tt
-      go (did_put before after) did scheduled free = tt
-      go (did_next_epoch sealed) did scheduled free = tt
-
 -- ---- a front
 
 -- What stands behind a front: a world whose caches show what is told and in which these wait, and the events that go
 -- on from there.
 record Stand (longest : ℕ) (digest : Digest) (told : AllShown) (last : LastEvicted) (stored : Stored)
     (pending : List Element) (back : List Event) : Type 0 where
-  shown : AllShown
-  same : AllShowSame shown told
   spots : Spots
-  world : IsWorld longest digest shown last stored spots
+  world : IsWorld longest digest told last stored spots
   waits : IsWaiting spots pending
-  run : IsRun longest digest shown back
+  run : IsRun longest digest told back
   scheduled : IsScheduled pending back
-
--- the world of a stand, by what is told
-world_told : (longest : ℕ) (digest : Digest) (told : AllShown) (last : LastEvicted) (stored : Stored)
-    (pending : List Element) (back : List Event) (stand : Stand longest digest told last stored pending back)
-    → IsWorld longest digest told last stored stand.spots
-world_told longest digest told last stored pending back stand = record {
-  tree = stand.world.tree;
-  shows = λ home path. sym (stand.same home path) ∙ stand.world.shows home path;
-  was_evicted = stand.world.was_evicted;
-  holds = stand.world.holds;
-}
 
 -- what the caches are told to show behind an event
 abbrev told_behind : AllShown → Event → AllShown
@@ -239,26 +151,28 @@ module _ (longest : ℕ) (digest : Digest) (one : HasOneText longest) (digests :
       → Stand longest digest (told_behind told event) (last_evicted_after last event.change)
       (stored_behind stored (operations_by event event.change)) (pending_after pending event.change) back
   stand_on event back told last stored pending stand free = record {
-    shown = with_shown stand.shown event.verifier next;
-    same = with_same stand.shown told event.verifier next (shown_after (told event.verifier) event.change) stand.same
-        (did_shown longest digest (stand.shown event.verifier) (told event.verifier) next (stand.same event.verifier)
-        event.change stand.run.1);
     spots = now.0;
     world = now.1;
     waits = now.2;
-    run = stand.run.2;
+    run = stand.run.1 fresh;
     scheduled = now.3;
   }
     where
       next : Shown
-      next = stand.run.0
+      next = shown_after (told event.verifier) event.change
 
-      now : Moved longest digest (with_shown stand.shown event.verifier next) (last_evicted_after last event.change)
+      fresh : IsFresh (told event.verifier) event.change
+      fresh =
+          fresh_there longest digest told last stored stand.spots event.verifier stand.world event.change
+          (takes_there longest digest one event.verifier told next last stored stand.spots pending
+          (λ after. IsScheduled after back) stand.world stand.waits event.change stand.run.0 stand.scheduled free)
+
+      now : Moved longest digest (told_behind told event) (last_evicted_after last event.change)
           (stored_behind stored (operations_by event event.change)) (pending_after pending event.change)
           (λ after. IsScheduled after back)
       now =
-          moved longest digest one digests event stand.shown next last stored stand.spots pending
-          (λ after. IsScheduled after back) stand.world stand.waits event.change stand.run.1 stand.scheduled free
+          moved longest digest one digests event told next last stored stand.spots pending
+          (λ after. IsScheduled after back) stand.world stand.waits event.change stand.run.0 stand.scheduled free
 
   -- A whole front on, where it shows no clash.
   stand_behind : (front back : List Event) (told : AllShown) (last : LastEvicted) (stored : Stored) (pending : List Element)
@@ -294,58 +208,61 @@ StandBehind digest header front back =
     Stand longest_blob digest (shown_behind (opening_shown header) front) (last_evicted_behind none_evicted (changes_in front))
     (stored_behind none_everywhere (operations_in front)) (pending_behind [] (changes_in front)) back
 
-module _ (functions : DigestFunctions) (header : Header) (logs : List (List Command)) (last : ℕ) where
+module _ (functions : DigestFunctions) (header : Header) (histories : List (List Event)) (last : ℕ) where
   -- at the opening
-  at_opening : AreTyped longest_blob logs → ArePermuted header.first last (order_of (histories_of (scheme_of functions header) header logs))
-      → StandBehind functions.digest header [] (order_up_to last (histories_of (scheme_of functions header) header logs))
-  at_opening typed permuted = record {
-    shown = opening_shown header;
-    same = λ home path. refl;
+  at_opening : AreHistories longest_blob functions.digest header 0 histories
+      → ArePermuted header.first last (order_of histories)
+      → StandBehind functions.digest header [] (order_up_to last histories)
+  at_opening are permuted = record {
     spots = opening_spots;
     world = opening_world functions.digest header;
     waits = none_waiting;
-    run = order_run (scheme_of functions header) header (are_histories (scheme_of functions header) header) logs last typed;
-    scheduled = order_scheduled (scheme_of functions header) header logs last permuted;
+    run = order_run header longest_blob functions.digest histories last are;
+    scheduled = order_scheduled header histories last (are_timely longest_blob functions.digest header 0 histories are)
+        permuted;
   }
 
   -- behind a front
-  stand_at : (front back : List Event) → GivesDigests functions.digest → AreTyped longest_blob logs
-      → ArePermuted header.first last (order_of (histories_of (scheme_of functions header) header logs))
-      → order_up_to last (histories_of (scheme_of functions header) header logs) ≡ front ++ back
+  stand_at : (front back : List Event) → GivesDigests functions.digest
+      → AreHistories longest_blob functions.digest header 0 histories
+      → ArePermuted header.first last (order_of histories)
+      → order_up_to last histories ≡ front ++ back
       → first_clash none_evicted (changes_in front) ≡ None
       → StandBehind functions.digest header front back
-  stand_at front back digests typed permuted is free =
+  stand_at front back digests are permuted is free =
       stand_behind longest_blob functions.digest one_text digests front back (opening_shown header) none_evicted none_everywhere []
-      (subst (λ (l : List Event). StandBehind functions.digest header [] l) is (at_opening typed permuted)) free
+      (subst (λ (l : List Event). StandBehind functions.digest header [] l) is (at_opening are permuted)) free
 
   -- the spots of a stand agree with what the front left
   placed : (front back : List Event) (stand : StandBehind functions.digest header front back)
       → IsBehind functions.digest header front stand.spots
-  placed front back stand =
-      record { world = world_told longest_blob functions.digest _ _ _ _ back stand; waits = stand.waits }
+  placed front back stand = record { world = stand.world; waits = stand.waits }
 
   -- Each path has one spot.
-  pub one_spot : (front back : List Event) → GivesDigests functions.digest → AreTyped longest_blob logs
-      → ArePermuted header.first last (order_of (histories_of (scheme_of functions header) header logs))
-      → order_up_to last (histories_of (scheme_of functions header) header logs) ≡ front ++ back
+  pub one_spot : (front back : List Event) → GivesDigests functions.digest
+      → AreHistories longest_blob functions.digest header 0 histories
+      → ArePermuted header.first last (order_of histories)
+      → order_up_to last histories ≡ front ++ back
       → first_clash none_evicted (changes_in front) ≡ None
       → HaveSpots functions.digest header front
-  one_spot front back digests typed permuted is free =
-      let stand = stand_at front back digests typed permuted is free in
+  one_spot front back digests are permuted is free =
+      let stand = stand_at front back digests are permuted is free in
       (stand.spots, placed front back stand)
 
   -- The next event takes what is there.
-  pub takes_next : (front : List Event) (event : Event) (back : List Event) → GivesDigests functions.digest → AreTyped longest_blob logs
-      → ArePermuted header.first last (order_of (histories_of (scheme_of functions header) header logs))
-      → order_up_to last (histories_of (scheme_of functions header) header logs) ≡ front ++ event ∷ back
+  pub takes_next : (front : List Event) (event : Event) (back : List Event) → GivesDigests functions.digest
+      → AreHistories longest_blob functions.digest header 0 histories
+      → ArePermuted header.first last (order_of histories)
+      → order_up_to last histories ≡ front ++ event ∷ back
       → first_clash none_evicted (changes_in (front ++ event ∷ [])) ≡ None
       → TakesFromSpots functions.digest header front event.change
-  takes_next front event back digests typed permuted is free =
+  takes_next front event back digests are permuted is free =
       let parts = no_clash_front none_evicted front event free in
-      let stand = stand_at front (event ∷ back) digests typed permuted is parts.0 in (
+      let stand = stand_at front (event ∷ back) digests are permuted is parts.0 in (
         stand.spots,
         placed front (event ∷ back) stand,
-        takes_there longest_blob functions.digest one_text event.verifier stand.shown stand.run.0 _ _ stand.spots _
-            (λ after. IsScheduled after back) stand.world stand.waits event.change stand.run.1 stand.scheduled
+        takes_there longest_blob functions.digest one_text event.verifier (shown_behind (opening_shown header) front)
+            (shown_after (shown_behind (opening_shown header) front event.verifier) event.change) _ _ stand.spots _
+            (λ after. IsScheduled after back) stand.world stand.waits event.change stand.run.0 stand.scheduled
             parts.1,
       )

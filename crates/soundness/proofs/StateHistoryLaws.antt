@@ -12,7 +12,8 @@ use Rattle.verifier_commands.specs.declared.state.State.{State}
 use Rattle.verifier_commands.specs.Sums.{zero_sums}
 use Rattle.soundness.specs.History.{Event}
 use Rattle.soundness.specs.StateHistory.{events_from, events_behind, refusal_from, refusal_behind, machinery_under, machinery_of, HistoryFromState}
-use Rattle.soundness.proofs.HistoryLaws.{IsTicking, events-tick}
+use Rattle.soundness.specs.IsHistory.{IsTicking}
+use Rattle.soundness.proofs.HistoryLaws.{events-tick}
 
 events_step : (scheme : Scheme) (machine : Machine) (commands : List Command) (step : Step)
     → ((after : Machine) → machine_events scheme after commands

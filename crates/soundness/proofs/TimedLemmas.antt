@@ -1,6 +1,5 @@
--- What the clock tells of the elements that come and go holds of each event of a log.
+-- What the clock tells of the elements that come and go holds of each of timely events.
 use Rattle.std.proofs.Common.{◌≡◌, ℕ, suc, ◌≤◌, List, [], ◌∷◌, Ok, refl, sym, ◌∙◌, ap, subst, inl, inr, arith}
-use Rattle.merkle_records.specs.Scheme.{Scheme}
 use Rattle.std.specs.Ordering.{is_lt}
 use Rattle.lamport_clocks.specs.declared.header.Header.{Header}
 use Rattle.lamport_clocks.specs.declared.stamp.Stamp.{Stamp}
@@ -9,13 +8,13 @@ use Rattle.lamport_clocks.specs.Clock.{received}
 use Rattle.lamport_clocks.proofs.StampLaws.{IsLater-cmp}
 use Rattle.lamport_clocks.proofs.ClockLaws.{open_epochs, received-ok, received-above, sent-at}
 use Rattle.record_text.specs.declared.element.Element.{Element}
-use Rattle.log_codec.specs.declared.command.Command.{Command}
 use Rattle.verifier_commands.specs.State.{opening}
 use Rattle.verifier_commands.specs.Change.{Change, did_add_m, did_evict_m, did_add_b, did_evict_b, did_evict_bm, did_get, did_put, did_next_epoch}
-use Rattle.soundness.specs.History.{Event, log_events}
+use Rattle.soundness.specs.History.{Event}
 use Rattle.soundness.specs.Timed.{IsOfBefore, IsTimed, AreTimed}
-use Rattle.verifier_commands.proofs.TickLaws.{Ticks, ticks-epoch, ticks-first}
-use Rattle.soundness.proofs.HistoryLaws.{IsTicking, log-ticks}
+use Rattle.soundness.specs.IsHistory.{IsTicking, IsTimely}
+use Rattle.verifier_commands.specs.Ticks.{Ticks}
+use Rattle.verifier_commands.proofs.TickLaws.{ticks-epoch, ticks-first}
 
 -- ---- the clock
 
@@ -59,7 +58,7 @@ timed_ticks first old new (did_get entry) from is = tt
 timed_ticks first old new (did_put before after) from is = tt
 timed_ticks first old new (did_next_epoch sealed) from is = tt
 
--- ---- a log
+-- ---- a history
 
 -- The elements of events are timed where the clock ticks with them.
 pub timed_ticking : (first number index : ℕ) (clock : Reading) (events : List Event) → IsFrom first clock
@@ -72,9 +71,9 @@ timed_ticking first number index clock (event ∷ events) from ticks = (
       (from_ticks first clock ticks.0 event.change from ticks.4) ticks.5,
 )
 
--- The elements of a log's events are timed.
-pub log_timed : (scheme : Scheme) (header : Header) (number : ℕ) (commands : List Command)
-    → AreTimed header.first (log_events scheme header number commands)
-log_timed scheme header number commands =
-    timed_ticking header.first number 0 (opening number header).clock (log_events scheme header number commands)
-    (record { begins = refl; reached = omega arith }) (log-ticks scheme header number commands)
+-- The elements of timely events are timed.
+pub timely_timed : (header : Header) (number : ℕ) (events : List Event) → IsTimely header number events
+    → AreTimed header.first events
+timely_timed header number events timely =
+    timed_ticking header.first number 0 (opening number header).clock events
+    (record { begins = refl; reached = omega arith }) timely.ticks

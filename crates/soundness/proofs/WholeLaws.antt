@@ -8,7 +8,8 @@ use Rattle.record_hash.specs.Functions.{DigestFunctions}
 use Rattle.merkle_records.specs.Merkle.{GivesDigests}
 use Rattle.merkle_records.specs.Scheme.{Scheme, scheme_of}
 use Rattle.stamp_order.specs.Merged.{IsMerged, up_to, of_verifier}
-use Rattle.soundness.specs.History.{Event, log_events, histories_from, histories_of}
+use Rattle.soundness.specs.History.{Event, histories_of}
+use Rattle.soundness.specs.IsHistory.{AreTimely}
 use Rattle.soundness.specs.Certified.{certified_operations, event_moment, order_of, order_up_to, added_in, evicted_in, certified_count, sealed_by_all}
 use Rattle.soundness.specs.Exhibit.{exhibit_of}
 use Rattle.soundness.specs.Timed.{AreTimed}
@@ -18,7 +19,8 @@ use Rattle.soundness.proofs.PermutationLaws.{count_permuted}
 use Rattle.soundness.proofs.ScheduleLemmas.{AreEven, scheduled}
 use Rattle.soundness.proofs.OrderLemmas.{history_of, part_up_to, order_timed, order_sorted, order_splits}
 use Rattle.soundness.proofs.CertifiedLaws.{counted_balanced}
-use Rattle.soundness.proofs.SoundLaws.{are_histories, all_within, sound}
+use Rattle.soundness.proofs.LogHistoryLemmas.{logs_timely}
+use Rattle.soundness.proofs.SoundLaws.{all_within, sound}
 use Rattle.soundness.proofs.TypedLaws.{read_typed}
 
 -- ---- logs that are read from bytes
@@ -43,41 +45,43 @@ certified_sound functions header logs digests =
 -- ---- the schedule
 
 -- Where each epoch up to the last is even, the events up to it are scheduled.
-pub order_scheduled : (scheme : Scheme) (header : Header) (logs : List (List Command))
-    (last : ℕ)
-    → ArePermuted header.first last (order_of (histories_of scheme header logs))
-    → IsScheduled [] (order_up_to last (histories_of scheme header logs))
-order_scheduled scheme header logs last permuted =
-    let histories = histories_of scheme header logs in
+pub order_scheduled : (header : Header) (histories : List (List Event)) (last : ℕ) → AreTimely header 0 histories
+    → ArePermuted header.first last (order_of histories)
+    → IsScheduled [] (order_up_to last histories)
+order_scheduled header histories last timely permuted =
     let order = order_of histories in
     let split = order_splits last histories in
     let even : AreEven header.first last order = λ epoch from up x.
     count_permuted (added_in epoch order) (evicted_in epoch order) (permuted epoch from up) x in
     scheduled header.first last (order_up_to last histories) split.0 (all_within last order)
     (subst (λ (l : List Event). IsMerged event_moment l) split.1 (order_sorted histories))
-    (subst (λ (l : List Event). AreTimed header.first l) split.1 (order_timed scheme header logs))
+    (subst (λ (l : List Event). AreTimed header.first l) split.1 (order_timed header histories timely))
     (subst (λ (l : List Event). AreEven header.first last l) split.1 even)
 
 -- ---- each log's part
 
 -- a verifier's history is the one at its place
-history_there : (scheme : Scheme) (header : Header) (number : ℕ) (logs : List (List Command))
-    (i v : ℕ) → v ≡ number + i
-    → history_of scheme header number logs v ≡ get_or (histories_from scheme header number logs) i []
-history_there scheme header number [] i v is = refl
-history_there scheme header number (log ∷ logs) zero v is =
-    cond-true (eqb number v) (log_events scheme header number log)
-    (history_of scheme header (suc number) logs v) (eq-eqb number v (omega (arith, is)))
-history_there scheme header number (log ∷ logs) (suc i) v is =
-    cond-false (eqb number v) (log_events scheme header number log)
-    (history_of scheme header (suc number) logs v) (ne_eqb number v (λ same. absurd (omega (arith, same, is))))
-    ∙ history_there scheme header (suc number) logs i v (omega (arith, is))
+history_there : (number : ℕ) (histories : List (List Event)) (i v : ℕ) → v ≡ number + i
+    → history_of number histories v ≡ get_or histories i []
+history_there number [] i v is = refl
+history_there number (history ∷ histories) zero v is =
+    cond-true (eqb number v) history (history_of (suc number) histories v) (eq-eqb number v (omega (arith, is)))
+history_there number (history ∷ histories) (suc i) v is =
+    cond-false (eqb number v) history (history_of (suc number) histories v)
+    (ne_eqb number v (λ same. absurd (omega (arith, same, is))))
+    ∙ history_there (suc number) histories i v (omega (arith, is))
 
 -- A verifier's part of the merged order up to an epoch is its history up to that epoch.
+pub histories_part : (header : Header) (histories : List (List Event)) (epoch v : ℕ) → AreTimely header 0 histories
+    → of_verifier event_moment v (order_up_to epoch histories) ≡ up_to event_moment epoch (get_or histories v [])
+histories_part header histories epoch v timely =
+    part_up_to header histories timely epoch v
+    ∙ ap (up_to event_moment epoch) (history_there 0 histories v v (omega arith))
+
+-- And so it is of logs.
 pub order_part : (scheme : Scheme) (header : Header) (logs : List (List Command))
     (epoch v : ℕ)
     → of_verifier event_moment v (order_up_to epoch (histories_of scheme header logs))
     ≡ up_to event_moment epoch (get_or (histories_of scheme header logs) v [])
 order_part scheme header logs epoch v =
-    part_up_to scheme header (are_histories scheme header) logs epoch v
-    ∙ ap (up_to event_moment epoch) (history_there scheme header 0 logs v v (omega arith))
+    histories_part header (histories_of scheme header logs) epoch v (logs_timely scheme header 0 logs)

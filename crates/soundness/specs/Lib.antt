@@ -7,6 +7,7 @@ pub mod Spot
 pub mod Typed
 pub mod Showing
 pub mod Timed
+pub mod IsHistory
 pub mod Permutation
 pub mod Exhibit
 pub mod Collision

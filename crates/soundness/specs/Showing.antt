@@ -1,5 +1,5 @@
 -- What soundness knows of a step of a verifier: what its cache shows before and after, by what was done.
-use Rattle.std.specs.Prelude.{ℕ, ◌≡◌, Bool, false, List, Option, Some, None, Ok, length, if◌then◌else◌}
+use Rattle.std.specs.Prelude.{ℕ, ◌≡◌, Bool, false, List, Option, Some, None, IsNone, Ok, length, if◌then◌else◌}
 use Rattle.tree_keys.specs.Path.{same_path, IsData}
 use Rattle.record_text.specs.declared.value.Value.{Value}
 use Rattle.record_text.specs.declared.element.Element.{Element}
@@ -97,3 +97,25 @@ HasDone longest digest old new (did_evict_bm parent after child element) = DidEv
 HasDone longest digest old new (did_get entry) = DidGet old new entry
 HasDone longest digest old new (did_put before after) = DidPut longest old new before after
 HasDone longest digest old new (did_next_epoch sealed) = ShowSame new old
+
+-- what a cache shows, once this was done
+abbrev pub shown_after : Shown → Change → Shown
+shown_after shown (did_add_m parent after child) = showing_both shown after child.path (Some child)
+shown_after shown (did_evict_m parent after child) = showing_both shown after child.path None
+shown_after shown (did_add_b child element) = showing shown child.path (Some child)
+shown_after shown (did_evict_b child element) = showing shown child.path None
+shown_after shown (did_evict_bm parent after child element) = showing_both shown after child.path None
+shown_after shown (did_get entry) = shown
+shown_after shown (did_put before after) = showing shown before.path (Some after)
+shown_after shown (did_next_epoch sealed) = shown
+
+-- an add is of a path that isn't shown
+abbrev pub IsFresh : Shown → Change → Type 0
+IsFresh shown (did_add_m parent after child) = IsNone (shown child.path)
+IsFresh shown (did_evict_m parent after child) = Unit {0}
+IsFresh shown (did_add_b child element) = IsNone (shown child.path)
+IsFresh shown (did_evict_b child element) = Unit {0}
+IsFresh shown (did_evict_bm parent after child element) = Unit {0}
+IsFresh shown (did_get entry) = Unit {0}
+IsFresh shown (did_put before after) = Unit {0}
+IsFresh shown (did_next_epoch sealed) = Unit {0}

@@ -19,7 +19,7 @@ use Rattle.soundness.specs.Certified.{operations_in}
 use Rattle.soundness.specs.Clash.{LastEvicted, none_evicted, last_evicted_after}
 use Rattle.soundness.specs.Timed.{added_among, evicted_among}
 use Rattle.soundness.specs.Permutation.{count_of, without_one}
-use Rattle.soundness.specs.Showing.{Shown, shown_by, showing, showing_both}
+use Rattle.soundness.specs.Showing.{Shown, shown_by, shown_after}
 use Rattle.soundness.specs.Spot.{Spot, untouched, cached, merkle, waiting, Spots, value_at, IsTree}
 
 -- ---- what a spot shows
@@ -74,17 +74,6 @@ pub record IsWaiting (spots : Spots) (pending : List Element) : Type 0 where
 -- what each verifier's cache shows at the start
 abbrev pub opening_shown : Header → AllShown
 opening_shown header = λ number. shown_by (opening number header)
-
--- what a cache shows, once this was done
-abbrev pub shown_after : Shown → Change → Shown
-shown_after shown (did_add_m parent after child) = showing_both shown after child.path (Some child)
-shown_after shown (did_evict_m parent after child) = showing_both shown after child.path None
-shown_after shown (did_add_b child element) = showing shown child.path (Some child)
-shown_after shown (did_evict_b child element) = showing shown child.path None
-shown_after shown (did_evict_bm parent after child element) = showing_both shown after child.path None
-shown_after shown (did_get entry) = shown
-shown_after shown (did_put before after) = showing shown before.path (Some after)
-shown_after shown (did_next_epoch sealed) = shown
 
 -- what each verifier's cache shows behind events
 abbrev pub shown_behind : AllShown → List Event → AllShown

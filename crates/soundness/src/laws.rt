@@ -12,6 +12,8 @@ ghost use Rattle.stamp_order.specs.Merged.{up_to, of_verifier};
 ghost use Rattle.record_text.specs.declared.element.Element.{Element};
 ghost use Rattle.soundness.specs.History.{Event, log_events, histories_of};
 ghost use Rattle.soundness.specs.StateHistory.{HistoryFromState};
+ghost use Rattle.soundness.specs.Typed.{IsTyped};
+ghost use Rattle.soundness.specs.IsHistory.{IsTimely, AreTimely, IsHistory, AreHistories};
 ghost use Rattle.soundness.specs.Certified.{event_moment, order_of, order_up_to, order_after, order_within, operations_in, operations_of, epochs_from, certified_count, certified_operations};
 ghost use Rattle.soundness.specs.Timed.{AreTimed, added_among, evicted_among, IsRising};
 ghost use Rattle.soundness.specs.Permutation.{same_element, count_of};
@@ -23,8 +25,15 @@ ghost use Rattle.soundness.specs.Spot.{waiting, Spots};
 ghost use Rattle.soundness.specs.World.{changes_in, pending_behind, IsPending, IsBehind, HaveSpots, TakesFromSpots};
 
 /// Of epochs that are balanced, from the first on, the gets and puts are serial and there is nothing to
-/// exhibit, or the exhibit collides. Whatever bytes the logs are, so it is of the certified epochs.
+/// exhibit, or the exhibit collides. So it is of any histories, and so of those of logs. Whatever bytes the logs
+/// are, so it is of the certified epochs.
 pub fn certified_is_serial_or_collides()
+    ensures histories { (functions : DigestFunctions) (header : Header)
+        (histories : List (List Event)) (count : ℕ)
+        → GivesDigests functions.digest → AreHistories (longest_of header) functions.digest header 0 histories
+        → AreBalanced (scheme_of functions header) (order_of histories) header.first count
+        → IsSerialOrCollides (scheme_of functions header) (exhibit_of header.first count histories)
+        (operations_in (order_within header.first count histories)) }
     ensures sound { (functions : DigestFunctions) (header : Header)
         (logs : List (List Command)) (count : ℕ)
         → let histories = histories_of (scheme_of functions header) header logs in
@@ -40,59 +49,70 @@ pub fn certified_is_serial_or_collides()
         (certified_operations (scheme_of functions header) header.first histories) }
 {}
 
-/// A clock is above the stamps that it took in, and an evicted element is stamped with it. A verifier evicts
-/// elements of its own number alone, and each of them is stamped above those before it.
-pub fn evicted_elements_are_timed()
-    ensures timed { (functions : DigestFunctions) (header : Header)
-        (number : ℕ) (commands : List Command)
-        → AreTimed header.first (log_events (scheme_of functions header) header number commands) }
+/// The events of a log are timely, whatever its commands, and a history where the value that each brings in is of
+/// its path's kind. This is all that is owed of the commands of a log: every other law here is of histories.
+pub fn logs_have_histories()
     ensures own { (functions : DigestFunctions) (header : Header)
         (number : ℕ) (commands : List Command)
         → AllByRecursion (λ element. element.verifier ≡ number)
         (evicted_among (log_events (scheme_of functions header) header number commands)) }
-    ensures rising { (functions : DigestFunctions) (header : Header)
+    ensures timely { (functions : DigestFunctions) (header : Header)
         (number : ℕ) (commands : List Command)
-        → IsRising (evicted_among (log_events (scheme_of functions header) header number commands)) }
+        → IsTimely header number (log_events (scheme_of functions header) header number commands) }
+    ensures history { (functions : DigestFunctions) (header : Header)
+        (number : ℕ) (commands : List Command)
+        → AllByRecursion (IsTyped (longest_of header)) commands
+        → IsHistory (longest_of header) functions.digest header number (log_events (scheme_of functions header) header number commands) }
+    ensures all_timely { (functions : DigestFunctions) (header : Header)
+        (logs : List (List Command)) → AreTimely header 0 (histories_of (scheme_of functions header) header logs) }
+    ensures all_histories { (functions : DigestFunctions) (header : Header)
+        (logs : List (List Command)) → AreTyped (longest_of header) logs
+        → AreHistories (longest_of header) functions.digest header 0 (histories_of (scheme_of functions header) header logs) }
+{}
+
+/// A clock is above the stamps that it took in, and an evicted element is stamped with it. Each element that a
+/// verifier evicts is stamped above those before it.
+pub fn evicted_elements_are_timed()
+    ensures timed { (header : Header) (number : ℕ) (events : List Event)
+        → IsTimely header number events → AreTimed header.first events }
+    ensures rising { (header : Header) (number : ℕ) (events : List Event)
+        → IsTimely header number events → IsRising (evicted_among events) }
 {}
 
 /// No element is evicted twice: those that a verifier evicts are distinct, and so are those of all verifiers together.
 pub fn evicted_elements_are_distinct()
-    ensures of_one { (functions : DigestFunctions) (header : Header)
-        (number : ℕ) (commands : List Command)
-        → IsDistinct same_element (evicted_among (log_events (scheme_of functions header) header number commands)) }
-    ensures of_all { (functions : DigestFunctions) (header : Header)
-        (logs : List (List Command))
-        → IsDistinct same_element (evicted_among (order_of (histories_of (scheme_of functions header) header logs))) }
+    ensures of_one { (header : Header) (number : ℕ) (events : List Event)
+        → IsTimely header number events → IsDistinct same_element (evicted_among events) }
+    ensures of_all { (header : Header) (histories : List (List Event))
+        → AreTimely header 0 histories → IsDistinct same_element (evicted_among (order_of histories)) }
 {}
 
 /// Where of each epoch up to one the added elements are a permutation of the evicted ones, each element that
 /// comes in the merged order up to that epoch was evicted before, and was not yet added back.
 pub fn even_epochs_are_scheduled()
-    ensures scheduled { (functions : DigestFunctions) (header : Header)
-        (logs : List (List Command)) (last : ℕ)
-        → ArePermuted header.first last (order_of (histories_of (scheme_of functions header) header logs))
-        → IsScheduled [] (order_up_to last (histories_of (scheme_of functions header) header logs)) }
+    ensures scheduled { (header : Header) (histories : List (List Event)) (last : ℕ)
+        → AreTimely header 0 histories → ArePermuted header.first last (order_of histories)
+        → IsScheduled [] (order_up_to last histories) }
 {}
 
 /// A verifier's events in the merged order up to an epoch are its history up to that epoch, in its order.
 pub fn merged_order_keeps_each_log()
-    ensures part { (functions : DigestFunctions) (header : Header)
-        (logs : List (List Command)) (epoch verifier : ℕ)
-        → of_verifier event_moment verifier (order_up_to epoch (histories_of (scheme_of functions header) header logs))
-        ≡ up_to event_moment epoch (get_or (histories_of (scheme_of functions header) header logs) verifier []) }
+    ensures part { (header : Header) (histories : List (List Event)) (epoch verifier : ℕ)
+        → AreTimely header 0 histories
+        → of_verifier event_moment verifier (order_up_to epoch histories)
+        ≡ up_to event_moment epoch (get_or histories verifier []) }
 {}
 
 /// The certified operations, written epoch by epoch, are the certified operations, in that order. So it is of any
 /// number of epochs from the first on.
 pub fn operations_come_epoch_by_epoch()
-    ensures within { (functions : DigestFunctions) (header : Header)
-        (logs : List (List Command)) (count : ℕ)
-        → let operations = operations_in (order_within header.first count (histories_of (scheme_of functions header) header logs)) in
+    ensures within { (header : Header) (histories : List (List Event)) (count : ℕ)
+        → AreTimely header 0 histories
+        → let operations = operations_in (order_within header.first count histories) in
         flat_map (λ epoch. operations_of epoch operations) (epochs_from header.first count) ≡ operations }
-    ensures certified { (functions : DigestFunctions) (header : Header)
-        (logs : List (List Command))
-        → let histories = histories_of (scheme_of functions header) header logs in
-        let operations = certified_operations (scheme_of functions header) header.first histories in
+    ensures certified { (functions : DigestFunctions) (header : Header) (histories : List (List Event))
+        → AreTimely header 0 histories
+        → let operations = certified_operations (scheme_of functions header) header.first histories in
         flat_map (λ epoch. operations_of epoch operations)
         (epochs_from header.first (certified_count (scheme_of functions header) header.first histories)) ≡ operations }
 {}
@@ -104,10 +124,10 @@ pub fn operations_come_epoch_by_epoch()
 /// added back wait, and the data values are those of the plain map.
 pub fn records_have_one_spot()
     ensures spots { (functions : DigestFunctions) (header : Header)
-        (logs : List (List Command)) (last : ℕ) (front back : List Event)
-        → GivesDigests functions.digest → AreTyped (longest_of header) logs
-        → ArePermuted header.first last (order_of (histories_of (scheme_of functions header) header logs))
-        → order_up_to last (histories_of (scheme_of functions header) header logs) ≡ front ++ back
+        (histories : List (List Event)) (last : ℕ) (front back : List Event)
+        → GivesDigests functions.digest → AreHistories (longest_of header) functions.digest header 0 histories
+        → ArePermuted header.first last (order_of histories)
+        → order_up_to last histories ≡ front ++ back
         → first_clash none_evicted (changes_in front) ≡ None
         → HaveSpots functions.digest header front }
 {}
@@ -116,22 +136,18 @@ pub fn records_have_one_spot()
 /// epochs that come in later ones are just those that wait at the end of the merged order up to that one: each was
 /// evicted there once and not added back. Where that order shows no clash, the spot of its path waits with it.
 pub fn elements_added_later_wait()
-    ensures pending { (functions : DigestFunctions) (header : Header)
-        (logs : List (List Command)) (last : ℕ) (element : Element)
-        → let histories = histories_of (scheme_of functions header) header logs in
-        ArePermuted header.first last (order_of histories) → element.stamp.epoch ≤ last
+    ensures pending { (header : Header) (histories : List (List Event)) (last : ℕ) (element : Element)
+        → AreTimely header 0 histories → ArePermuted header.first last (order_of histories) → element.stamp.epoch ≤ last
         → 1 ≤ count_of element (added_among (order_after last histories))
         → IsPending element (order_up_to last histories) }
-    ensures added { (functions : DigestFunctions) (header : Header)
-        (logs : List (List Command)) (last : ℕ) (element : Element)
-        → let histories = histories_of (scheme_of functions header) header logs in
-        ArePermuted header.first last (order_of histories)
+    ensures added { (header : Header) (histories : List (List Event)) (last : ℕ) (element : Element)
+        → AreTimely header 0 histories → ArePermuted header.first last (order_of histories)
         → 1 ≤ count_of element (pending_behind [] (changes_in (order_up_to last histories)))
         → count_of element (added_among (order_after last histories)) ≡ 1 }
     ensures waiting { (functions : DigestFunctions) (header : Header)
-        (logs : List (List Command)) (last : ℕ)
-        → let histories = histories_of (scheme_of functions header) header logs in
-        GivesDigests functions.digest → AreTyped (longest_of header) logs → ArePermuted header.first last (order_of histories)
+        (histories : List (List Event)) (last : ℕ)
+        → GivesDigests functions.digest → AreHistories (longest_of header) functions.digest header 0 histories
+        → ArePermuted header.first last (order_of histories)
         → first_clash none_evicted (changes_in (order_up_to last histories)) ≡ None
         → (spots : Spots) × IsBehind functions.digest header (order_up_to last histories) spots
         × ((element : Element) → element.stamp.epoch ≤ last
@@ -143,10 +159,10 @@ pub fn elements_added_later_wait()
 /// brings waiting, and its record has the element's value.
 pub fn adds_take_what_is_there()
     ensures takes { (functions : DigestFunctions) (header : Header)
-        (logs : List (List Command)) (last : ℕ) (front : List Event) (event : Event) (back : List Event)
-        → GivesDigests functions.digest → AreTyped (longest_of header) logs
-        → ArePermuted header.first last (order_of (histories_of (scheme_of functions header) header logs))
-        → order_up_to last (histories_of (scheme_of functions header) header logs) ≡ front ++ event ∷ back
+        (histories : List (List Event)) (last : ℕ) (front : List Event) (event : Event) (back : List Event)
+        → GivesDigests functions.digest → AreHistories (longest_of header) functions.digest header 0 histories
+        → ArePermuted header.first last (order_of histories)
+        → order_up_to last histories ≡ front ++ event ∷ back
         → first_clash none_evicted (changes_in (front ++ event ∷ [])) ≡ None
         → TakesFromSpots functions.digest header front event.change }
 {}

@@ -7,6 +7,10 @@
 //! elements that were added of it is the sum over those that were evicted. No digest and no sum is trusted
 //! here: the laws hold for whatever functions these are, and what an attack would have to find is the exhibit.
 //!
+//! The laws are of lists of histories, and know of no command: `IsHistory` says what is a history. That the
+//! events of a log are one is the only law on commands (`logs_have_histories`), so it is the only one that another
+//! version of the command format owes.
+//!
 //! What makes it so is told by two laws more: behind each front of that order that shows no clash, each path
 //! has one spot, and each add takes what is there.
 //!
@@ -20,6 +24,6 @@ mod laws;
 pub use laws::{
     adds_take_what_is_there, certified_is_serial_or_collides, elements_added_later_wait,
     even_epochs_are_scheduled, evicted_elements_are_distinct, evicted_elements_are_timed,
-    histories_are_told_from_states, merged_order_keeps_each_log, operations_come_epoch_by_epoch,
-    records_have_one_spot,
+    histories_are_told_from_states, logs_have_histories, merged_order_keeps_each_log,
+    operations_come_epoch_by_epoch, records_have_one_spot,
 };

@@ -15,22 +15,12 @@ use Rattle.verifier_cache.specs.Entry.{has_kid}
 use Rattle.verifier_cache.specs.Cache.{entry_of}
 use Rattle.verifier_commands.specs.declared.state.State.{State}
 use Rattle.verifier_commands.specs.Change.{Change, did_add_m, did_evict_m, did_add_b, did_evict_b, did_evict_bm, did_get, did_put, did_next_epoch}
+use Rattle.verifier_commands.specs.Ticks.{Ticks}
 use Rattle.verifier_commands.specs.Changes.{add_under, evict_under, defer_under, is_by_stamp}
 use Rattle.verifier_commands.specs.Transition.{Rules, is_root, is_full, transition}
 use Rattle.verifier_commands.proofs.InvertLaws.{need-ok, and_then-ok, timed-ok}
 
 -- ---- how the clock moves
-
--- With a change the clock stands, takes in the stamp of what came, goes to the stamp of what went, or turns.
-abbrev pub Ticks : Reading → Reading → Change → Type 0
-Ticks old new (did_add_m parent after child) = new ≡ old
-Ticks old new (did_evict_m parent after child) = new ≡ old
-Ticks old new (did_add_b child element) = received old element.stamp ≡ Ok new
-Ticks old new (did_evict_b child element) = sent old element.stamp ≡ Ok new
-Ticks old new (did_evict_bm parent after child element) = sent old element.stamp ≡ Ok new
-Ticks old new (did_get entry) = new ≡ old
-Ticks old new (did_put before after) = new ≡ old
-Ticks old new (did_next_epoch sealed) = advanced old ≡ Ok (sealed, new)
 
 -- the clock moved with what was done
 abbrev pub DidTick : State → Change × State → Type 0

@@ -7,5 +7,6 @@ pub mod Transition
 pub mod Outcome
 pub mod Sums
 pub mod Machine
+pub mod Ticks
 pub mod Event
 pub mod Trace

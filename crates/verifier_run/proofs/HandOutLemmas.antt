@@ -22,7 +22,8 @@ use Rattle.verifier_commands.specs.Outcome.{outcome_of}
 use Rattle.verifier_commands.specs.Transition.{Step, transition}
 use Rattle.verifier_commands.specs.Machine.{Machine, effect_of, rules_for, opening_machine}
 use Rattle.verifier_commands.specs.Trace.{done_with, done_by, performed}
-use Rattle.verifier_commands.proofs.TickLaws.{Ticks, ticks_step, ticks-epoch, ticks-first}
+use Rattle.verifier_commands.specs.Ticks.{Ticks}
+use Rattle.verifier_commands.proofs.TickLaws.{ticks_step, ticks-epoch, ticks-first}
 use Rattle.verifier_run.specs.declared.kept.Yield.{Yield}
 use Rattle.verifier_run.specs.Kept.{part_in, Yields}
 use Rattle.verifier_run.specs.Course.{Course, opening_course, after_step, after_command}

@@ -3,5 +3,5 @@ use Rattle.soundness.proofs.laws.adds_take_what_is_there.Goals as goal
 
 pub returns : goal.returns
 returns c = record {
-  takes = λ functions header logs last front event back. takes_next functions header logs last front event back;
+  takes = λ functions header histories last front event back. takes_next functions header histories last front event back;
 }

@@ -1,10 +1,9 @@
-use Rattle.merkle_records.specs.Scheme.{scheme_of}
 use Rattle.soundness.proofs.PendingLemmas.{later_pending, pending_later, later_waiting}
 use Rattle.soundness.proofs.laws.elements_added_later_wait.Goals as goal
 
 pub returns : goal.returns
 returns c = record {
-  pending = λ functions header. later_pending (scheme_of functions header) header;
-  added = λ functions header. pending_later (scheme_of functions header) header;
+  pending = λ header histories last element timely. later_pending header histories last timely element;
+  added = λ header histories last element timely. pending_later header histories last timely element;
   waiting = later_waiting;
 }

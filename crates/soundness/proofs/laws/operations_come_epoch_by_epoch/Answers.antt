@@ -4,6 +4,6 @@ use Rattle.soundness.proofs.laws.operations_come_epoch_by_epoch.Goals as goal
 
 pub returns : goal.returns
 returns c = record {
-  within = λ functions header. within_by_epochs (scheme_of functions header) header;
+  within = within_by_epochs;
   certified = λ functions header. certified_by_epochs (scheme_of functions header) header;
 }
