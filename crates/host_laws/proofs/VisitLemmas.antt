@@ -87,7 +87,7 @@ carried_link-own at hold node middle left on path taken last clock told none =
 
 module _ (rules : Rules) (tree base : Tree) (clock : Reading) (request : Request)
     (lead : LeadTo rules.scheme.longest rules.scheme.digest tree (key_path request.key)) where
-  -- the format, and the path of the key
+  -- the longest value, and the path of the key
   abbrev longest : ℕ
   longest = rules.scheme.longest
 

@@ -1,5 +1,5 @@
 -- The pointers of a stage that mirrors, on the way to a whole key.
-use Rattle.std.proofs.Common.{◌≡◌, ◌≢◌, ◌⊎◌, ◌<◌, Bool, true, false, List, [], ◌∷◌, map, length, Option, Some, IsSome, if◌then◌else◌, refl, sym, ◌∙◌, ap, inl, inr, arith}
+use Rattle.std.proofs.Common.{ℕ, ◌≡◌, ◌≢◌, ◌⊎◌, ◌<◌, Bool, true, false, List, [], ◌∷◌, map, length, Option, Some, IsSome, if◌then◌else◌, refl, sym, ◌∙◌, ap, inl, inr, arith}
 use Rattle.tree_keys.specs.Path.{side, is_prefix, same_path, IsData, IsNodePath}
 use Rattle.tree_keys.proofs.SideLaws.{prefix_cases, side-trans}
 use Rattle.record_text.specs.declared.value.Pointer.{Pointer}
@@ -47,7 +47,7 @@ side-prefix-of front at path on begins below = go (prefix_cases front at begins)
     go (inl same) = (on, ap (λ (k : List Bool). side k path) same ∙ below)
     go (inr above) = (above.0, side-trans front at path above.0 on above.1 below)
 
-module _ (digest : Digest) (stage : Stage) (mirrors : StageMirrors longest digest stage) where
+module _ (longest : ℕ) (digest : Digest) (stage : Stage) (mirrors : StageMirrors longest digest stage) where
   abbrev shard : Shard
   shard = stage.shard
 

@@ -62,7 +62,7 @@ module _ (longest : ℕ) (digest : Digest) (stage : Stage) (mirrors : StageMirro
     pub end : tree (key_path found.key) ≡ Some (values.Blob found.value)
     end =
         ap (λ (b : Bool). if b then Some shard.value else with_record shard.records key value key)
-        (same_path-apart key shard.frontier (λ same. apart_from digest stage mirrors key whole (sym same)))
+        (same_path-apart key shard.frontier (λ same. apart_from longest digest stage mirrors key whole (sym same)))
         ∙ ap (λ (b : Bool). if b then Some value else shard.records key) (same_path-self key)
 
     -- all others are as before
@@ -144,7 +144,7 @@ module _ (longest : ℕ) (digest : Digest) (stage : Stage) (mirrors : StageMirro
       back_ground = record {
         kinds = kinds;
         whole = whole;
-        apart = apart_from digest stage mirrors key whole;
+        apart = apart_from longest digest stage mirrors key whole;
         is_top = λ k. refl;
         way = back_way;
         end = end;
@@ -156,7 +156,7 @@ module _ (longest : ℕ) (digest : Digest) (stage : Stage) (mirrors : StageMirro
           → (step : IsStep longest tree (key_path found.key) true at v link)
           → (step.pointer.deferred ≡ false) × (step.pointer.digest ≡ digest (value_text link.taken))
       back_sound at v link apart step =
-          let kept = above_is_kept digest stage mirrors key at step.on step.pointer whole (pointer_back at step.on step.pointer step.is_in)
+          let kept = above_is_kept longest digest stage mirrors key at step.on step.pointer whole (pointer_back at step.on step.pointer step.is_in)
           (ap (λ (k : List Bool). is_prefix k key) step.to ∙ step.begins)
           (λ same. false≢true (sym apart ∙ (ap (λ (k : List Bool). same_path k key) (sym step.to ∙ same) ∙ same_path-self key))) in (
             kept.0,

@@ -51,7 +51,7 @@ module _ (longest : ℕ) (digest : Digest) (stage : Stage) (mirrors : StageMirro
     last = last_value stage.shard.value links
 
     apart : stage.shard.frontier ≢ key_path key
-    apart = apart_from digest stage mirrors path_to can.own.whole
+    apart = apart_from longest digest stage mirrors path_to can.own.whole
 
     -- its record is the shard's
     pub recorded : old (key_path key) ≡ stage.shard.records (key_path key)
@@ -106,7 +106,7 @@ module _ (longest : ℕ) (digest : Digest) (stage : Stage) (mirrors : StageMirro
             go : (b : Bool) → same_path link.path path_to ≡ b → step.pointer.deferred ≡ false
             go true same = step.late_if_last (same_path-true link.path path_to same)
             go false other =
-                (above_is_kept digest stage mirrors path_to at step.on step.pointer can.own.whole step.is_in (ap (λ (k : List Bool). is_prefix k path_to) step.to ∙ step.begins)
+                (above_is_kept longest digest stage mirrors path_to at step.on step.pointer can.own.whole step.is_in (ap (λ (k : List Bool). is_prefix k path_to) step.to ∙ step.begins)
                 (λ same. false≢true (sym other ∙ (ap (λ (k : List Bool). same_path k path_to) (sym step.to ∙ same) ∙ same_path-self path_to)))).0
 
         kept : IsKept digest old step.pointer

@@ -130,7 +130,7 @@ runs_back : (rules : Rules) (entries : List Entry) (room : ℕ) (stage : Stage) 
     → IsOne (hot_records stage.places) found → CanDo rules stage (demotes found) → AreLinks stage.shard (demotes found) links
     → TransferRuns rules entries room stage (demotes found) links
 runs_back rules entries room stage found [] bare roomy mirrors is_hot can chain =
-    absurd (apart_from rules.scheme.digest stage mirrors (key_path found.key) (length-bits_of key_bits found.key) chain)
+    absurd (apart_from rules.scheme.longest rules.scheme.digest stage mirrors (key_path found.key) (length-bits_of key_bits found.key) chain)
 runs_back rules entries room stage found (link ∷ more) bare roomy mirrors is_hot can chain = record {
   told = way.told;
   runs = way.works entries room (clear-bare entries shard.frontier bare no_root)
@@ -192,7 +192,7 @@ runs_hot : (rules : Rules) (entries : List Entry) (room : ℕ) (stage : Stage) (
     → IsPromotable stage key → CanDo rules stage (promotes key) → AreLinks stage.shard (promotes key) links
     → TransferRuns rules entries room stage (promotes key) links
 runs_hot rules entries room stage key [] bare roomy mirrors fit can chain =
-    absurd (apart_from rules.scheme.digest stage mirrors (key_path key) fit.own.whole chain)
+    absurd (apart_from rules.scheme.longest rules.scheme.digest stage mirrors (key_path key) fit.own.whole chain)
 runs_hot rules entries room stage key (link ∷ more) bare roomy mirrors fit can chain = record {
   told = way.told;
   runs = way.works entries room (clear-bare entries shard.frontier bare no_root)

@@ -17,12 +17,12 @@ abbrev pub IsSide : List Bool → Bool → Option Pointer → Type 0
 IsSide node side None = Unit {0}
 IsSide node side (Some pointer) = IsPointer node side pointer
 
--- none, or bytes that are not too many
+-- none, or at most so many bytes
 abbrev pub IsBlob : ℕ → Option (List ℕ) → Type 0
 IsBlob longest None = Unit {0}
 IsBlob longest (Some bytes) = length bytes ≤ longest
 
--- the value is of the path's kind
+-- the value is of the path's kind, and data has at most so many bytes
 abbrev pub IsOf : ℕ → List Bool → Value → Type 0
 IsOf longest path (values.Blob blob) = IsData path × IsBlob longest blob
 IsOf longest path (values.Node node) = IsNodePath path × IsSide path false node.side0 × IsSide path true node.side1
